@@ -1,0 +1,198 @@
+#!/usr/bin/env python3
+"""Times `fdref replay` on scripts of growing length, and looks at its memory.
+
+usage: bench/replay.py [--runs N] [PROGRAM]
+
+PROGRAM is crates/fdref/out/fdref where none is given. The scripts are the same at each call. Each
+begins with one join. The first three then repeat a burst of 86 acts: two openings of one file, 40
+writes of 8 bytes through the one and 40 reads of 8 bytes through the other, their closings, and the
+opening and closing of one of five other names. The writes are spelled `61*8`, so that 999,000 acts
+fit into a script. A time is the best of N runs (3), from the start of the program to its end, with
+the output going to a file. The growth is the cost of an act over its cost in the script before:
+1.00 where the cost does not depend on the length of the run.
+
+`64 KiB` has writes of 65,536 bytes spread over files of sixteen writes each, since a file holds
+1,048,576 bytes. In the spelling `61*65536` there are 1,000 of them. In the spelling `x6162..` each
+takes 131,085 bytes of a script that holds 16,777,216 at most, so there are 127 of them; their bytes
+differ, since that is what such a spelling is for. The peak is what the system tells of the child,
+which cannot be less than what this script itself holds when it starts the child.
+"""
+
+import argparse
+import os
+import subprocess
+import sys
+import tempfile
+import time
+
+TOP = os.path.dirname(os.path.dirname(os.path.abspath(__file__)))
+SCRIPT_MOST = 16_777_216
+FILE_MOST = 1_048_576
+RECORDS_MOST = 1_000_000
+BIG = 65_536
+BURST = 40
+BURST_ACTS = 2 * BURST + 6
+
+
+class Script:
+    """A script that is written to a file as it grows, with the closing line that its run must end in."""
+
+    def __init__(self, name, path):
+        self.name = name
+        self.path = path
+        self.acts = 0
+        self.size = 0
+        self.bytes_in = 0
+        self.bytes_out = 0
+        self.file = open(path, "w", encoding="ascii")
+
+    def act(self, line):
+        self.file.write(f"{line}\n")
+        self.acts += 1
+        self.size += len(line) + 1
+
+    def write(self, fd, spelling, size):
+        self.act(f"p0 write {fd} {spelling}")
+        self.bytes_in += size
+
+    def read(self, fd, size):
+        self.act(f"p0 read {fd} {size}")
+        self.bytes_out += size
+
+    def done(self):
+        self.file.close()
+        assert self.size <= SCRIPT_MOST, f"{self.name}: a script of {self.size} bytes is too long"
+        assert self.limit() <= RECORDS_MOST, f"{self.name}: {self.acts} acts are too many"
+        return self
+
+    def limit(self):
+        # what the run needs beyond its records: one place for its process, and one more
+        return self.acts + 2
+
+    def closing(self):
+        return f"records {self.acts} in {self.bytes_in} out {self.bytes_out}\n".encode()
+
+
+def mix(path, acts):
+    """One join, and then bursts up to the number of acts. The file is written and read from its start in each burst."""
+    script = Script(f"{acts:,} acts", path)
+    script.act("join")
+    turn = 0
+    while script.acts + BURST_ACTS <= acts:
+        script.act("p0 open log w,creat")
+        script.act("p0 open log r")
+        for step in range(BURST):
+            script.write(0, f"{(turn + step) % 256:02x}*8", 8)
+            script.read(1, 8)
+        script.act("p0 close 1")
+        script.act("p0 close 0")
+        script.act(f"p0 open n{turn % 5} w,creat")
+        script.act("p0 close 0")
+        turn += 1
+    # the rest, so that the script has as many acts as it is named by
+    while script.acts < acts:
+        script.act("p0 close 9")
+    return script.done()
+
+
+def big(path, name, count, spell):
+    """Writes of 64 KiB over files of sixteen writes each."""
+    script = Script(name, path)
+    script.act("join")
+    each = FILE_MOST // BIG
+    for at in range(count):
+        if at % each == 0:
+            script.act(f"p0 open big{at // each} w,creat")
+        script.write(0, spell(at), BIG)
+        if at % each == each - 1 or at == count - 1:
+            script.act("p0 close 0")
+    return script.done()
+
+
+def counted(at):
+    return f"{at % 256:02x}*{BIG}"
+
+
+def spelled(at):
+    return "x" + bytes((at + step) % 256 for step in range(256)).hex() * (BIG // 256)
+
+
+class Measure:
+    """One run: its seconds, and the most memory that it held, in bytes."""
+
+    def __init__(self, seconds, memory):
+        self.seconds = seconds
+        self.memory = memory
+
+
+def once(program, words, source, target):
+    """Runs the program once, from one file to another."""
+    with open(source, "rb") as reading, open(target, "wb") as writing:
+        start = time.perf_counter()
+        child = subprocess.Popen([program, *words], stdin=reading, stdout=writing)
+        # wait4 tells the memory of this one child
+        _, status, usage = os.wait4(child.pid, 0)
+        seconds = time.perf_counter() - start
+        child.returncode = os.waitstatus_to_exitcode(status)
+    if child.returncode != 0:
+        sys.exit(f"{' '.join(words)}: the program ended with status {child.returncode}")
+    return Measure(seconds, usage.ru_maxrss * 1024)
+
+
+def run(program, script, target):
+    """Runs the program once on a script, and checks how its output ends."""
+    measured = once(program, ["replay", "--records", str(script.limit())], script.path, target)
+    wanted = b"\n" + script.closing()
+    with open(target, "rb") as it:
+        it.seek(max(0, os.path.getsize(target) - len(wanted)))
+        end = it.read()
+    if end != wanted:
+        sys.exit(f"{script.name}: the output ends with {end!r}, and not with {wanted!r}")
+    return measured
+
+
+def measure(program, script, target, runs):
+    measures = [run(program, script, target) for _ in range(runs)]
+    return Measure(min(it.seconds for it in measures), max(it.memory for it in measures))
+
+
+def table(program, runs, folder):
+    """Prints a line for each script as it is done, and the growth over all."""
+    path, target = os.path.join(folder, "script"), os.path.join(folder, "out")
+    floor = once(program, ["--version"], os.devnull, target).memory
+    print(f"best of {runs} runs; a peak of {floor / 2**20:.1f} MiB or less is this script's own")
+    print(f"{'script':<18} {'acts':>9} {'seconds':>9} {'acts/s':>11} {'us/act':>10} {'growth':>7} {'peak MiB':>9} {'bytes/act':>10}")
+
+    def line(script, before=None):
+        measured = measure(program, script, target, runs)
+        cost = measured.seconds / script.acts * 1e6
+        growth = f"{cost / before:.2f}" if before else "-"
+        print(
+            f"{script.name:<18} {script.acts:>9,} {measured.seconds:>9.3f} {script.acts / measured.seconds:>11,.0f} "
+            f"{cost:>10.3f} {growth:>7} {measured.memory / 2**20:>9.1f} {measured.memory / script.acts:>10,.0f}",
+            flush=True,
+        )
+        return cost
+
+    costs = []
+    for acts in (10_000, 100_000, 999_000):
+        costs.append(line(mix(path, acts), costs[-1] if costs else None))
+    print(f"growth of the cost of an act from 10,000 to 999,000 acts: {costs[-1] / costs[0]:.2f}")
+    line(big(path, "64 KiB, 61*65536", 1_000, counted))
+    line(big(path, "64 KiB, x6162..", 127, spelled))
+
+
+def main():
+    parser = argparse.ArgumentParser(description="Times `fdref replay` on scripts of growing length.")
+    parser.add_argument("--runs", type=int, default=3, help="runs of each script, of which the best counts")
+    parser.add_argument("program", nargs="?", default=os.path.join(TOP, "crates", "fdref", "out", "fdref"))
+    given = parser.parse_args()
+    program = os.path.abspath(given.program)
+    if not os.access(program, os.X_OK):
+        sys.exit(f"{program} is not there: ./fdref --version builds it")
+    with tempfile.TemporaryDirectory() as folder:
+        table(program, given.runs, folder)
+
+
+if __name__ == "__main__":
+    main()

@@ -1,0 +1,37 @@
+use crate::call::Call;
+use crate::outcome::Outcome;
+
+/// The actor of the closing, which is no process.
+pub const HOUSE: u32 = 4_294_967_295;
+
+/// What one record is about.
+#[derive(Clone, Debug, Drop)]
+pub enum Act {
+    /// A new process, already attached; the actor is its number.
+    Join,
+    /// The actor, a child that waits, is attached.
+    Attach,
+    /// The actor's call.
+    Call(Call),
+    /// The actor's parked call is taken up.
+    Resume,
+    /// The actor ends.
+    Exit,
+    /// The run is closed.
+    CloseRun,
+}
+
+/// One entry of a run: who did what, and what came of it. Its place is its position, from 0.
+#[derive(Clone, Debug, Drop)]
+pub struct Record {
+    pub actor: u32,
+    pub act: Act,
+    pub outcome: Outcome,
+}
+
+/// An act as a script gives it; a join has no actor yet.
+#[derive(Clone, Debug, Drop)]
+pub enum ScriptAct {
+    Join,
+    Call { process: u32, call: Call },
+}

@@ -1,0 +1,36 @@
+/// The recorded refusals, with the error numbers of records and answers (XSH 2.3, Error Numbers, and the pages of the calls).
+#[derive(Clone, Copy, Debug, PartialEq, Eq)]
+pub enum Errno {
+    /// Bad file descriptor.
+    EBADF = 1,
+    /// Invalid argument.
+    EINVAL = 2,
+    /// Illegal seek: a position on a pipe or FIFO.
+    ESPIPE = 3,
+    /// File too large: a write at the size limit or past it.
+    EFBIG = 4,
+    /// An offset past the greatest of its type.
+    EOVERFLOW = 5,
+    /// No such name.
+    ENOENT = 6,
+    /// The name exists.
+    EEXIST = 7,
+    /// Too many links.
+    EMLINK = 8,
+    /// A name of more than 64 bytes.
+    ENAMETOOLONG = 9,
+    /// No descriptor of the process is free.
+    EMFILE = 10,
+    /// Too many open file descriptions.
+    ENFILE = 11,
+    /// No room for a further name.
+    ENOSPC = 12,
+    /// The call would wait, or there are too many processes.
+    EAGAIN = 13,
+    /// A pipe without a reader.
+    EPIPE = 14,
+    /// A FIFO without a reader.
+    ENXIO = 15,
+    /// No such process.
+    ESRCH = 16,
+}

@@ -1,0 +1,11 @@
+//! The words that every layer speaks: calls, acts, outcomes and records, with the limits of their fields.
+#![tactic(auto)]
+
+pub mod act;
+pub mod bounded;
+pub mod call;
+pub mod errno;
+pub mod flags;
+pub mod limits;
+pub mod outcome;
+pub mod refusal;

@@ -1,0 +1,46 @@
+use crate::bounded::Content;
+use crate::errno::Errno;
+
+/// What a file is, as fstat tells it.
+#[derive(Clone, Copy, Debug, PartialEq, Eq)]
+pub enum Kind {
+    Regular,
+    Fifo,
+    Pipe,
+}
+
+/// What fstat tells: the kind, the size in bytes and the number of names.
+#[derive(Clone, Copy, Debug, PartialEq, Eq)]
+pub struct Stat {
+    pub kind: Kind,
+    pub size: u64,
+    pub links: u32,
+}
+
+/// The answer that ends a call.
+#[derive(Clone, Debug, Drop)]
+pub enum Reply {
+    /// The call has no value.
+    Done,
+    /// A descriptor, an offset, a process number, or how many bytes moved.
+    Number(u64),
+    /// What was read.
+    Data(Content),
+    /// The two ends of a pipe, the reading one first.
+    Pair(u32, u32),
+    /// What fstat tells.
+    Stat(Stat),
+    /// The call is refused, and changed nothing.
+    Error(Errno),
+}
+
+/// What a record says of its act. A count of bytes moved is the total of the call so far.
+#[derive(Clone, Debug, Drop)]
+pub enum Outcome {
+    /// The call has ended.
+    Reply(Reply),
+    /// The call waits, and moved so many bytes at once.
+    Parked { moved: u32 },
+    /// The call goes on waiting, with so many bytes moved.
+    Part { moved: u32 },
+}

@@ -1,0 +1,36 @@
+-- Each line computes.
+use Rattle.std.proofs.Common.{refl}
+use Rattle.clap.proofs.OnLiterals.{clap_on_literals}
+use Rattle.fdref.proofs.job.lines_read.Goals as goal
+
+pub returns-clause-plain : goal.returns-clause-plain
+unfolding clap_on_literals
+returns-clause-plain c = (refl, refl)
+
+pub returns-clause-apart : goal.returns-clause-apart
+unfolding clap_on_literals
+returns-clause-apart c = (refl, refl)
+
+pub returns-clause-joined : goal.returns-clause-joined
+unfolding clap_on_literals
+returns-clause-joined c = (refl, refl)
+
+pub returns-clause-missing : goal.returns-clause-missing
+unfolding clap_on_literals
+returns-clause-missing c = refl
+
+pub returns-clause-help : goal.returns-clause-help
+unfolding clap_on_literals
+returns-clause-help c = refl
+
+pub returns-clause-version : goal.returns-clause-version
+unfolding clap_on_literals
+returns-clause-version c = refl
+
+pub returns-clause-surplus : goal.returns-clause-surplus
+unfolding clap_on_literals
+returns-clause-surplus c = refl
+
+pub returns-clause-twice : goal.returns-clause-twice
+unfolding clap_on_literals
+returns-clause-twice c = refl

@@ -1,0 +1,11 @@
+pub mod KeptLemmas
+pub mod CountLemmas
+pub mod SweepLemmas
+pub mod ReferredLemmas
+pub mod DropLemmas
+pub mod FileLemmas
+pub mod ViewLemmas
+pub mod AnyLemmas
+pub mod CloseLemmas
+pub mod OpenLemmas
+pub mod PlanLemmas

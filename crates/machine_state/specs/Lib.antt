@@ -1,0 +1,5 @@
+pub mod Referred
+pub mod Targets
+pub mod Held
+pub mod View
+pub mod Change

@@ -1,0 +1,63 @@
+ghost use Rattle.std.specs.Prelude.{◌≡◌, ◌+◌, ◌≤◌, [], List, ℕ, length, vec_capacity, OnOk};
+ghost use Rattle.plain_world.specs.Bytes.{splice};
+
+use plain_world::contents::{overwrite, pad};
+use std::alloc::{AllocError, Global};
+use std::marker::Model;
+
+/// The bytes of a regular file. Contracts see their list, and for how many bytes there is room.
+#[derive(Drop)]
+pub struct Buffer {
+    bytes: Vec<u8>,
+}
+
+impl Model for Buffer {
+    ghost Value = { List ℕ × ℕ };
+
+    ghost view = { λ buffer. (buffer.bytes.items, vec_capacity buffer.bytes) };
+}
+
+impl Buffer {
+    /// The bytes of a new file.
+    pub fn new(alloc: Global) -> Self
+        ensures { result.0 ≡ [] }
+    {
+        Buffer {
+            bytes: Vec::new(alloc),
+        }
+    }
+
+    /// All the bytes.
+    pub fn bytes(&self) -> &[u8]
+        ensures { result.now ≡ self.now.0 }
+    {
+        self.bytes.as_slice()
+    }
+
+    /// Makes room for so many bytes in all.
+    pub fn reserve(&mut self, len: usize) -> Result<(), AllocError>
+        ensures bytes { self.new.0 ≡ self.old.0 }
+        ensures room { OnOk result (len ≤ self.new.1) }
+    {
+        if len > self.bytes.len() {
+            self.bytes.reserve(len - self.bytes.len())?;
+        }
+        Ok(())
+    }
+
+    /// Writes `new` from `start` on; a gap before it is filled with zeros.
+    pub fn write(&mut self, start: usize, new: &[u8])
+        requires { start + length new.now ≤ self.old.1 }
+        ensures { self.new.0 ≡ splice self.old.0 start new.now }
+    {
+        pad(&mut self.bytes, start);
+        overwrite(&mut self.bytes, start, new);
+    }
+
+    /// Drops all bytes.
+    pub fn clear(&mut self)
+        ensures { self.new.0 ≡ [] }
+    {
+        self.bytes.clear();
+    }
+}

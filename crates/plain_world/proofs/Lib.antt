@@ -1,0 +1,9 @@
+pub mod CallLaws
+pub mod NameLemmas
+pub mod OpenLemmas
+pub mod Rows
+pub mod SlotLemmas
+pub mod SpliceLaws
+pub mod SweepLaws
+pub mod SweepLemmas
+pub mod RunLaws

@@ -1,0 +1,94 @@
+-- What a sweep leaves, and that it leaves nothing for the next one.
+use Rattle.std.proofs.Common.{◌≡◌, ℕ, zero, suc, ◌+◌, ◌∙◌, Bool, true, false, ◌&&◌, cond, List, [], ◌∷◌, Option, None, Some, map, refl, ap, arith}
+use Rattle.std.specs.Option.{is_some, option_map}
+use Rattle.plain_world.specs.Places.{slot, kept, kept_from}
+use Rattle.plain_world.specs.Laws.{SweepSettles, StepSettles, SweepLeaves}
+use Rattle.plain_world.specs.Faults.{Stepped}
+use Rattle.plain_world.specs.Step.{swept, effect}
+use Rattle.plain_world.specs.Sweep.{is_referred, is_open, is_wanted, open_pipe, without_gone_pipe, sweep}
+use Rattle.plain_world.specs.declared.world.Description.{Description}
+use Rattle.plain_world.specs.declared.world.File.{File}
+use Rattle.plain_world.specs.declared.world.File.TheVariants as file
+
+kept_from_again : {T : Type 0} (keeps : ℕ → Bool) (m : ℕ) (xs : List (Option T)) → kept_from keeps m (kept_from keeps m xs) ≡ kept_from keeps m xs
+kept_from_again keeps m [] = refl
+kept_from_again keeps m (x ∷ xs) =
+    let tail = kept_from_again keeps (suc m) xs in
+    elim (keeps m) as (λ b. cond b (cond b x None) None ∷ kept_from keeps (suc m) (kept_from keeps (suc m) xs) ≡ cond b x None ∷ kept_from keeps (suc m) xs) [
+      | true ↦ ap (λ ys. x ∷ ys) tail
+      | false ↦ ap (λ ys. None ∷ ys) tail
+    ]
+
+mapped_from_again : {T : Type 0} (f : Option T → Option T) → f None ≡ None → ((x : Option T) → f (f x) ≡ f x) →
+    (keeps : ℕ → Bool) (m : ℕ) (xs : List (Option T)) →
+    kept_from keeps m (map f (kept_from keeps m (map f xs))) ≡ kept_from keeps m (map f xs)
+mapped_from_again f none twice keeps m [] = refl
+mapped_from_again f none twice keeps m (x ∷ xs) =
+    let tail = mapped_from_again f none twice keeps (suc m) xs in
+    elim (keeps m) as (λ b. cond b (f (cond b (f x) None)) None ∷ kept_from keeps (suc m) (map f (kept_from keeps (suc m) (map f xs))) ≡ cond b (f x) None ∷ kept_from keeps (suc m) (map f xs)) [
+      | true ↦ rw (twice x, tail)
+      | false ↦ ap (λ ys. None ∷ ys) tail
+    ]
+
+open_pipe_again : (ds : List (Option Description)) (pipe : ℕ) (b : Bool) → is_open ds pipe ≡ b → open_pipe ds (cond b (Some pipe) None) ≡ cond b (Some pipe) None
+open_pipe_again ds pipe true e = rw e
+open_pipe_again ds pipe false e = refl
+
+forgets_once : (ds : List (Option Description)) (f : Option File) → without_gone_pipe ds (without_gone_pipe ds f) ≡ without_gone_pipe ds f
+forgets_once ds None = refl
+forgets_once ds (Some (file.Regular bytes)) = refl
+forgets_once ds (Some (file.Fifo fifo)) = ap (λ pipe. Some (file.Fifo (record fifo { pipe = pipe }))) (once fifo.pipe)
+  where
+    once : (pipe : Option ℕ) → open_pipe ds (open_pipe ds pipe) ≡ open_pipe ds pipe
+    once None = refl
+    once (Some pipe) = open_pipe_again ds pipe (is_open ds pipe) refl
+
+pub sweep_settles : SweepSettles
+sweep_settles w =
+    let ds = kept (is_referred w.processes) w.descriptions in
+    let descriptions : kept (is_referred w.processes) ds ≡ ds = kept_from_again (is_referred w.processes) 0 w.descriptions in
+    rw (descriptions, kept_from_again (is_open ds) 0 w.pipes, mapped_from_again (without_gone_pipe ds) refl (forgets_once ds) (is_wanted w.names ds) 0 w.files)
+
+swept_settles : (e : Option Stepped) (s : Stepped) → option_map swept e ≡ Some s → sweep s.world ≡ s.world
+swept_settles None s h = cc
+swept_settles (Some e) s h =
+    let is : swept e ≡ s = cc in
+    rw (← is) (sweep_settles e.world)
+
+pub step_settles : StepSettles
+step_settles lim w actor act s h = swept_settles (effect lim w actor act) s h
+
+slot_kept_from : {T : Type 0} (keeps : ℕ → Bool) (m : ℕ) (xs : List (Option T)) (n : ℕ) →
+    is_some (slot (kept_from keeps m xs) n) ≡ (is_some (slot xs n) && keeps (m + n))
+slot_kept_from keeps m [] n = refl
+slot_kept_from keeps m (x ∷ xs) zero =
+    let e : m + 0 ≡ m = omega arith in
+    rw e (at x (keeps m))
+  where
+    at : {T : Type 0} (x : Option T) (b : Bool) → is_some (cond b x None) ≡ (is_some x && b)
+    at None true = refl
+    at None false = refl
+    at (Some x) true = refl
+    at (Some x) false = refl
+slot_kept_from keeps m (x ∷ xs) (suc n) =
+    let e : m + suc n ≡ suc m + n = omega arith in
+    rw e (slot_kept_from keeps (suc m) xs n)
+
+slot_kept : {T : Type 0} (keeps : ℕ → Bool) (xs : List (Option T)) (n : ℕ) → is_some (slot (kept keeps xs) n) ≡ (is_some (slot xs n) && keeps n)
+slot_kept keeps xs n = let e : 0 + n ≡ n = omega arith in rw e at (slot_kept_from keeps 0 xs n)
+
+still_there : (ds : List (Option Description)) (files : List (Option File)) (n : ℕ) → is_some (slot (map (without_gone_pipe ds) files) n) ≡ is_some (slot files n)
+still_there ds [] n = refl
+still_there ds (None ∷ files) zero = refl
+still_there ds (Some (file.Regular bytes) ∷ files) zero = refl
+still_there ds (Some (file.Fifo fifo) ∷ files) zero = refl
+still_there ds (f ∷ files) (suc n) = still_there ds files n
+
+pub sweep_leaves : SweepLeaves
+sweep_leaves w =
+    let ds = kept (is_referred w.processes) w.descriptions in
+    record {
+      descriptions = λ n. slot_kept (is_referred w.processes) w.descriptions n;
+      pipes = λ n. slot_kept (is_open ds) w.pipes n;
+      files = λ n. slot_kept (is_wanted w.names ds) (map (without_gone_pipe ds) w.files) n ∙ ap (λ b. b && is_wanted w.names ds n) (still_there ds w.files n);
+    }

@@ -1,0 +1,16 @@
+pub mod Bytes
+pub mod Names
+pub mod Places
+pub mod Counts
+pub mod Sweep
+pub mod Faults
+pub mod Descriptors
+pub mod Join
+pub mod Open
+pub mod Close
+pub mod Read
+pub mod Write
+pub mod Step
+pub mod History
+pub mod Laws
+pub mod RunLaws

@@ -1,0 +1,21 @@
+ghost use Rattle.std.specs.Prelude.{◌≡◌};
+ghost use Rattle.plain_world.specs.History.{empty_world};
+
+use crate::names::Names;
+use crate::slots::Slots;
+use crate::world::World;
+use std::alloc::Global;
+
+/// The world in which a run begins: there is nothing.
+pub fn empty_world(alloc: Global) -> World
+    ensures { result ≡ empty_world }
+{
+    World {
+        files: Slots::new(alloc),
+        pipes: Slots::new(alloc),
+        descriptions: Slots::new(alloc),
+        processes: Slots::new(alloc),
+        names: Names::new(alloc),
+        closed: false,
+    }
+}

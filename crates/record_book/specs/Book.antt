@@ -1,0 +1,47 @@
+-- What contracts see of a book, and what holds of each.
+use Rattle.std.specs.Prelude.{◌≡◌, ℕ, ◌+◌, Bool, nat_le, List, ◌∷◌, [], ◌++◌, Some, length, if◌then◌else◌}
+use Rattle.std.specs.Option.{option_map, option_map_or}
+use Rattle.call_types.specs.Lim.{RunLimits}
+use Rattle.call_types.specs.declared.act.Act.{Act}
+use Rattle.call_types.specs.declared.act.Record.{Record}
+use Rattle.plain_world.specs.Places.{live}
+use Rattle.plain_world.specs.Step.{step}
+use Rattle.plain_world.specs.History.{world_of}
+use Rattle.plain_world.specs.declared.world.World.{World}
+use Rattle.record_book.specs.Seat.{Receipted, SeatState}
+
+-- the limits of a run, and its records so far
+pub record BookState : Type 0 where
+  pub limits : RunLimits
+  pub history : List Record
+
+-- the world after the records so far
+abbrev pub world_now : BookState → World
+world_now b = world_of b.limits.lim b.history
+
+-- how many records the exits and the closing of a run will take (own)
+abbrev pub exits_left : World → ℕ
+exits_left w = if w.closed then live w.processes else live w.processes + 1
+
+-- whether the records that are free are enough for the exits and the closing (own)
+abbrev pub is_kept : ℕ → World → ℕ → Bool
+is_kept records w len = nat_le (len + exits_left w) records
+
+-- the world after an act; an act that is no step leaves it
+abbrev pub world_after : BookState → ℕ → Act → World
+world_after b actor act = option_map_or (λ s. s.world) (step b.limits.lim (world_now b) actor act) (world_now b)
+
+-- one record of this act is appended, with the model's outcome, and its receipt tells its place
+pub record Appends (old new : BookState) (actor : ℕ) (act : Act) (receipt : Receipted) : Type 0 where
+  pub outcome : option_map (λ s. s.outcome) (step old.limits.lim (world_now old) actor act) ≡ Some receipt.record_is.outcome
+  pub actor_is : receipt.record_is.actor ≡ actor
+  pub act_is : receipt.record_is.act ≡ act
+  pub place : receipt.place ≡ length old.history
+  pub history : new.history ≡ old.history ++ receipt.record_is ∷ []
+  pub limits : new.limits ≡ old.limits
+
+-- the seat has one more receipt, and has seen all records up to it
+pub record Receives (old new : SeatState) (receipt : Receipted) : Type 0 where
+  pub pid : new.pid ≡ old.pid
+  pub seen : new.seen ≡ receipt.place + 1
+  pub receipts : new.receipts ≡ old.receipts ++ receipt ∷ []

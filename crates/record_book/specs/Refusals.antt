@@ -1,0 +1,43 @@
+-- The refusals that are not recorded, in their order.
+use Rattle.std.specs.Prelude.{◌≡◌, ℕ, ◌+◌, Bool, not, nat_lt, List, [], ◌∷◌, Option, None, Some, length, if◌then◌else◌}
+use Rattle.call_types.specs.declared.act.Act.{Act}
+use Rattle.call_types.specs.declared.act.Act.TheVariants as act
+use Rattle.call_types.specs.declared.call.Call.{Call}
+use Rattle.call_types.specs.declared.refusal.Refusal.{Refusal}
+use Rattle.call_types.specs.declared.refusal.Refusal.TheVariants.{NoMemory, RunFull, Waiting, NotHere, Foreign}
+use Rattle.plain_world.specs.Places.{slot}
+use Rattle.plain_world.specs.Step.{is_here, is_parked}
+use Rattle.record_book.specs.Seat.{SeatState}
+use Rattle.record_book.specs.Book.{BookState, world_now, world_after, is_kept}
+
+-- the refusal of the first condition that holds
+abbrev pub first_refusal : List (Bool × Refusal) → Option Refusal
+first_refusal [] = None
+first_refusal (r ∷ rs) = if r.0 then Some r.1 else first_refusal rs
+
+-- whether too few records would be left behind the record of this act
+abbrev pub is_too_full : BookState → ℕ → Act → Bool
+is_too_full b actor act = not (is_kept b.limits.records (world_after b actor act) (length b.history + 1))
+
+-- the refusals of a call: the seat has seen more records than there are, its process is not live and attached, it waits
+-- in a call, or the run is full
+abbrev pub start_refusals : BookState → SeatState → Call → List (Bool × Refusal)
+start_refusals b s call =
+    (nat_lt (length b.history) s.seen, Foreign s.seen (length b.history))
+    ∷ (not (is_here (slot (world_now b).processes s.pid)), NotHere)
+    ∷ (is_parked (slot (world_now b).processes s.pid), Waiting)
+    ∷ (is_too_full b s.pid (act.Call call), RunFull)
+    ∷ []
+
+-- the first refusal of a call
+abbrev pub start_refusal : BookState → SeatState → Call → Option Refusal
+start_refusal b s call = first_refusal (start_refusals b s call)
+
+-- the one refusal of a join: the run is full
+abbrev pub join_refusal : BookState → Option Refusal
+join_refusal b = first_refusal ((is_too_full b (length (world_now b).processes) act.Join, RunFull) ∷ [])
+
+-- a refusal is the first that is due; where none is, only memory can be wanting
+abbrev pub IsDue : Option Refusal → Refusal → Type 0
+IsDue (Some due) refusal = refusal ≡ due
+IsDue None refusal = refusal ≡ NoMemory

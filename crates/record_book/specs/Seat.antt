@@ -1,0 +1,14 @@
+-- What contracts see of receipts and seats.
+use Rattle.std.specs.Prelude.{ℕ, List}
+use Rattle.call_types.specs.declared.act.Record.{Record}
+
+-- a record and its place
+pub record Receipted : Type 0 where
+  pub place : ℕ
+  pub record_is : Record
+
+-- a process, how many records it has seen, and the receipts of its own
+pub record SeatState : Type 0 where
+  pub pid : ℕ
+  pub seen : ℕ
+  pub receipts : List Receipted

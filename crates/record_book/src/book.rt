@@ -1,0 +1,73 @@
+ghost use Rattle.std.specs.Prelude.{◌≡◌, ◌≤◌, ◌+◌, ◌<◌, [], length, IfOk};
+ghost use Rattle.plain_world.specs.Places.{live};
+ghost use Rattle.plain_world.specs.History.{legal, bytes_in, bytes_out};
+ghost use Rattle.record_book.specs.Book.{BookState, world_now, exits_left};
+
+use call_types::act::Record;
+use call_types::limits::Limits;
+use machine_state::machine::Machine;
+use std::alloc::{AllocError, Global};
+use std::marker::Model;
+use std::sync::Arc;
+
+/// The record of a run: its limits, and all that was recorded, in order. Contracts see these two; the world is the one
+/// that the model gives after the records.
+#[derive(Drop)]
+pub struct Book {
+    pub(crate) machine: Machine,
+    pub(crate) history: Vec<Arc<Record>>,
+    pub(crate) limits: Limits,
+    pub(crate) bytes_in: u64,
+    pub(crate) bytes_out: u64,
+}
+
+impl Model for Book {
+    ghost use Rattle.record_book.specs.Book.{BookState};
+
+    ghost Value = { BookState };
+
+    ghost use Rattle.record_book.specs.Kept.{state_of, IsBook};
+
+    ghost view = { state_of };
+
+    ghost invariant = { IsBook };
+}
+
+/// How much a book holds: records, and the bytes that processes gave and got.
+#[derive(Clone, Copy, Debug, PartialEq, Eq)]
+pub struct Counts {
+    pub records: u64,
+    pub bytes_in: u64,
+    pub bytes_out: u64,
+}
+
+impl Book {
+    /// A book without records, with room for all of them.
+    pub fn new(alloc: Global, limits: Limits) -> Result<Self, AllocError>
+        ensures { IfOk result (λ book. book ≡ record { limits = limits; history = [] }) }
+    {
+        let records = limits.records();
+        Ok(Book {
+            machine: Machine::new(alloc),
+            history: Vec::with_capacity(alloc, records as usize)?,
+            limits,
+            bytes_in: 0,
+            bytes_out: 0,
+        })
+    }
+
+    /// How much the book holds. What it holds is a run of the model.
+    pub fn counts(&self) -> Counts
+        ensures records { result.records ≡ length self.now.history }
+        ensures bytes_in { result.bytes_in ≡ bytes_in self.now.history }
+        ensures bytes_out { result.bytes_out ≡ bytes_out self.now.history }
+        ensures is_legal { legal self.now.limits.lim self.now.history }
+        ensures kept { length self.now.history + exits_left (world_now self.now) ≤ self.now.limits.records }
+    {
+        Counts {
+            records: self.history.len() as u64,
+            bytes_in: self.bytes_in,
+            bytes_out: self.bytes_out,
+        }
+    }
+}

@@ -1,0 +1,123 @@
+ghost use Rattle.std.specs.Prelude.{◌≡◌, ◌≤◌, None, [], List, Option, length, vec_len, vec_capacity, slice_get, IfOk, IfErr, OnOk, OnErr};
+ghost use Rattle.record_book.specs.Seat.{SeatState};
+ghost use Rattle.record_book.specs.Book.{BookState, Appends, Receives};
+ghost use Rattle.record_book.specs.Refusals.{start_refusal, IsDue};
+
+use crate::book::Book;
+use crate::join::Opened;
+use crate::seat::{Receipt, Seat};
+use call_types::act::{Act, ScriptAct};
+use call_types::call::Call;
+use call_types::refusal::Refusal;
+use std::alloc::{AllocError, Global};
+
+/// What is told of one act of a script: its receipt, or why nothing was recorded, with the process whose act it was or
+/// would have been.
+#[derive(Drop)]
+pub enum Told {
+    Recorded(Receipt),
+    Refused { actor: u32, refusal: Refusal },
+}
+
+impl Book {
+    /// The same as `start`, of a call that stays where it is: its copy is made once nothing but memory can refuse it.
+    fn start_copy(
+        &mut self,
+        alloc: Global,
+        seat: &mut Seat,
+        call: &Call,
+    ) -> Result<Receipt, Refusal>
+        ensures recorded { IfOk result (λ receipt. Appends self.old self.new seat.old.pid (Act.Call call.now) receipt × Receives seat.old seat.new receipt) }
+        ensures not_refused { OnOk result (start_refusal self.old seat.old call.now ≡ None) }
+        ensures refused { IfErr result (λ refusal. IsDue (start_refusal self.old seat.old call.now) refusal) }
+        ensures unchanged { OnErr result ((self.new ≡ self.old) × (seat.new ≡ seat.old)) }
+    {
+        if let Some(refusal) = self.start_refusal(seat, call) {
+            return Err(refusal);
+        }
+        let call = call.clone()?;
+        self.start(alloc, seat, call)
+    }
+
+    ghost use Rattle.record_book.specs.Runs.{TellsJoin, TellsCall, Tells, RunTells, seat_place};
+
+    /// Runs a join of a script; where it makes a process, its seat goes behind the others.
+    fn run_join(&mut self, alloc: Global, seats: &mut Vec<Seat>) -> Told
+        ensures { TellsJoin self.old self.new seats.old.items seats.new.items result }
+    {
+        let actor = self.next_pid();
+        if self.join_overfills() {
+            return Told::Refused {
+                actor,
+                refusal: Refusal::RunFull,
+            };
+        }
+        if seats.reserve(1).is_err() {
+            return Told::Refused {
+                actor,
+                refusal: Refusal::NoMemory,
+            };
+        }
+        match self.join_told(alloc) {
+            Ok((opened, receipt)) => {
+                if let Opened::Seated(seat) = opened {
+                    seats.push_reserved(seat);
+                }
+                Told::Recorded(receipt)
+            }
+            Err(refusal) => Told::Refused { actor, refusal },
+        }
+    }
+
+    /// Where the seat of a process is among those that the script opened.
+    fn place_of(seats: &[Seat], process: u32) -> Option<usize>
+        ensures { result ≡ seat_place process seats.now }
+    {
+        seats.iter().position(|seat| seat.pid() == process)
+    }
+
+    /// Runs a call of a script.
+    fn run_call(&mut self, alloc: Global, seats: &mut Vec<Seat>, process: u32, call: &Call) -> Told
+        ensures { TellsCall self.old self.new seats.old.items seats.new.items process call.now result (seat_place process seats.old.items) }
+    {
+        let Some(place) = Self::place_of(seats.as_slice(), process) else {
+            return Told::Refused {
+                actor: process,
+                refusal: Refusal::NotHere,
+            };
+        };
+        let seat = &mut seats[place];
+        match self.start_copy(alloc, seat, call) {
+            Ok(receipt) => Told::Recorded(receipt),
+            Err(refusal) => Told::Refused {
+                actor: process,
+                refusal,
+            },
+        }
+    }
+
+    /// Runs one act of a script.
+    fn run_act(&mut self, alloc: Global, seats: &mut Vec<Seat>, act: &ScriptAct) -> Told
+        ensures { Tells self.old self.new seats.old.items seats.new.items act.now result }
+    {
+        match act {
+            ScriptAct::Join => self.run_join(alloc, seats),
+            ScriptAct::Call { process, call } => self.run_call(alloc, seats, *process, call),
+        }
+    }
+
+    /// Runs the acts of a script in their order, and tells of each. Only the room for what is told can be wanting as a
+    /// whole, and then nothing was run.
+    pub fn run_acts(&mut self, alloc: Global, acts: &[ScriptAct]) -> Result<Vec<Told>, AllocError>
+        ensures told { IfOk result (λ told. (seats : List SeatState) × RunTells self.old self.new [] seats acts.now told.items) }
+        ensures each { IfOk result (λ told. vec_len told ≡ length acts.now) }
+        ensures err { OnErr result (self.new ≡ self.old) }
+    {
+        let mut told = Vec::with_capacity(alloc, acts.len())?;
+        let mut seats = Vec::new(alloc);
+        for act in acts {
+            told.push_reserved(self.run_act(alloc, &mut seats, act));
+        }
+        Ok(told)
+    }
+}

@@ -1,0 +1,12 @@
+pub mod Cuts
+pub mod Names
+pub mod Scripts
+pub mod Fronts
+pub mod Numerals
+pub mod WordLaws
+pub mod NameLaws
+pub mod DataLaws
+pub mod FlagLaws
+pub mod CallLaws
+pub mod RoundTrip
+pub mod ScriptLaws

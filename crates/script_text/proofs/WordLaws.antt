@@ -1,0 +1,155 @@
+-- Words that are numbers are read from their one spelling alone; a word ends at the first space.
+use Rattle.std.proofs.Common.{◌≡◌, ℕ, zero, suc, ◌^◌, ◌<◌, ◌≤◌, Bool, true, false, cond, eqb, leb, List, [], ◌∷◌, ◌++◌, length, Option, Some, None, Result, Ok, Err, refl, sym, ap, subst, ◌∙◌, arith, inl, inr, ℤ, pos, FitsSigned, w32}
+use Rattle.std.specs.Prelude.{negsuc}
+use Rattle.std.proofs.lemmas.Bool.{eqb-true, ne_eqb, and_parts, leb-true, cond-false}
+use Rattle.std.proofs.lemmas.Int.{ints}
+use Rattle.std.specs.Char.{is_ascii_digit}
+use Rattle.std.specs.Str.{all_ascii_digits}
+use Rattle.std.specs.Fmt.{decimal, signed_decimal}
+use Rattle.std.proofs.lemmas.Fmt.{digits_decimal, decimal_nonempty}
+use Rattle.script_text.specs.Reading.{◌>>=◌, Left, cut, onto, kept, field, ended}
+use Rattle.script_text.specs.ReadingNumbers.{number_of, process_of, descriptor_of, negative, not_negative}
+use Rattle.script_text.specs.Lines.{process_word}
+use Rattle.script_text.proofs.Numerals.{own, number_takes, number_again, chosen}
+
+-- no space stands in a word
+abbrev pub Unbroken : List ℕ → Type 0
+Unbroken [] = Unit {0}
+Unbroken (c ∷ cs) = (c ≡ 32 → ⊥) × Unbroken cs
+
+pub unbroken_both : (a b : List ℕ) → Unbroken a → Unbroken b → Unbroken (a ++ b)
+unbroken_both [] b h k = k
+unbroken_both (c ∷ cs) b h k = (h.0, unbroken_both cs b h.1 k)
+
+digits_unbroken : (ds : List ℕ) → all_ascii_digits ds ≡ true → Unbroken ds
+digits_unbroken [] h = tt
+digits_unbroken (c ∷ cs) h =
+    let parts = and_parts (is_ascii_digit c) (all_ascii_digits cs) h in
+    let low = and_parts (leb 48 c) (leb c 57) parts.0 in
+    (λ e. omega (arith, leb-true 48 c low.0), digits_unbroken cs parts.1)
+
+pub decimal_unbroken : (n : ℕ) → n < 2 ^ 64 → Unbroken (decimal n)
+decimal_unbroken n h = digits_unbroken (decimal n) (digits_decimal own n h)
+
+-- what is left, with the space before it
+abbrev pub tail : Left → List ℕ
+tail None = []
+tail (Some bytes) = 32 ∷ bytes
+
+cut_parts : (b : Bool) (c : ℕ) (cs : List ℕ) → eqb c 32 ≡ b → cs ≡ (cut 32 cs).0 ++ tail (cut 32 cs).1
+    → (c ∷ cs) ≡ (let parts : List ℕ × Left = cond b ([], Some cs) (onto c (cut 32 cs)) in parts.0 ++ tail parts.1)
+cut_parts true c cs e h = ap (λ (d : ℕ). d ∷ cs) (eqb-true c 32 e)
+cut_parts false c cs e h = ap (λ (ds : List ℕ). c ∷ ds) h
+
+-- the parts, with the space between them, are the whole
+pub cut_joined : (bytes : List ℕ) → bytes ≡ (cut 32 bytes).0 ++ tail (cut 32 bytes).1
+cut_joined [] = refl
+cut_joined (c ∷ cs) = cut_parts (eqb c 32) c cs refl (cut_joined cs)
+
+-- a word without a space is cut off
+pub cut_again : (word : List ℕ) (after : Left) → Unbroken word → cut 32 (word ++ tail after) ≡ (word, after)
+cut_again [] None h = refl
+cut_again [] (Some bytes) h = refl
+cut_again (c ∷ cs) after h = rw (ne_eqb c 32 h.0) (ap (onto c) (cut_again cs after h.1))
+
+-- a word that has a value, and what is left behind it
+pub record Field {A : Type 0} (value : List ℕ → Option A) (left : Left) (a : A) (after : Left) : Type 0 where
+  pub word : List ℕ
+  pub is : left ≡ Some (word ++ tail after)
+  pub has : value word ≡ Some a
+
+pub kept_parts : {A : Type 0} (o : Option A) (place : ℕ) (after rest : Left) (a : A) → kept o place after ≡ Ok (a, rest) → (o ≡ Some a) × (after ≡ rest)
+kept_parts None place after rest a e = absurd cc
+kept_parts {A} (Some b) place after rest a e =
+    let both : (b, after) ≡ (a, rest) = cc in
+    (ap (λ (p : A × Left). Some p.0) both, ap (λ (p : A × Left). p.1) both)
+
+pub field_takes : {A : Type 0} (value : List ℕ → Option A) (left : Left) (a : A) (after : Left) → field value left ≡ Ok (a, after) → Field value left a after
+field_takes value None a after e = absurd cc
+field_takes value (Some bytes) a after e =
+    let parts = kept_parts (value (cut 32 bytes).0) (length bytes) (cut 32 bytes).1 after a e in
+    record { word = (cut 32 bytes).0; is = ap (λ (b : List ℕ). Some b) (cut_joined bytes ∙ ap (λ (l : Left). (cut 32 bytes).0 ++ tail l) parts.1); has = parts.0 }
+
+pub field_again : {A : Type 0} (value : List ℕ → Option A) (word : List ℕ) (a : A) (after : Left) → Unbroken word → value word ≡ Some a → field value (Some (word ++ tail after)) ≡ Ok (a, after)
+field_again value word a after h e =
+    rw (cut_again word after h, e) refl
+
+-- the value of a step that did not fail
+pub bind_ok : {A B : Type 0} (r : Result A ℕ) (f : A → Result B ℕ) (y : B) → (r >>= f) ≡ Ok y → (x : A) × (r ≡ Ok x) × (f x ≡ Ok y)
+bind_ok (Ok x) f y e = (x, refl, e)
+bind_ok (Err d) f y e = absurd cc
+
+pub ended_takes : (left : Left) (u : Unit {0}) → ended left ≡ Ok u → left ≡ None
+ended_takes None u e = refl
+ended_takes (Some bytes) u e = absurd cc
+
+-- ---- processes and descriptors
+
+pub process_takes : (word : List ℕ) (p : ℕ) → process_of word ≡ Some p → (word ≡ process_word p) × (p < 2 ^ 32)
+process_takes [] p e = absurd cc
+process_takes (c ∷ cs) p e =
+    elim (chosen (eqb c 112) (number_of 4294967295 cs) None (Some p) e) [
+      | inl is ↦
+          let n = number_takes 4294967295 p cs (omega arith) is.1 in
+          (ap (λ (d : ℕ). d ∷ cs) (eqb-true c 112 is.0) ∙ ap (λ (ds : List ℕ). 112 ∷ ds) n.0, omega (arith, n.1))
+      | inr other ↦ absurd (let f = other.1 in cc)
+    ]
+
+pub process_again : (p : ℕ) → p < 2 ^ 32 → process_of (process_word p) ≡ Some p
+process_again p h = number_again 4294967295 p (omega arith) (omega arith)
+
+pub process_unbroken : (p : ℕ) → p < 2 ^ 32 → Unbroken (process_word p)
+process_unbroken p h = (λ e. omega arith, decimal_unbroken p (omega arith))
+
+negative_takes : (o : Option ℕ) (fd : ℤ) → negative o ≡ Some fd → (n : ℕ) × (o ≡ Some (suc n)) × (fd ≡ negsuc n)
+negative_takes None fd e = absurd cc
+negative_takes (Some zero) fd e = absurd cc
+negative_takes (Some (suc n)) fd e = (n, refl, cc)
+
+not_negative_takes : (o : Option ℕ) (fd : ℤ) → not_negative o ≡ Some fd → (n : ℕ) × (o ≡ Some n) × (fd ≡ pos n)
+not_negative_takes None fd e = absurd cc
+not_negative_takes (Some n) fd e = (n, refl, cc)
+
+small_negative : (n : ℕ) → suc n ≤ 2147483648 → FitsSigned w32 (negsuc n)
+small_negative n h = omega (arith, ints)
+
+small_number : (n : ℕ) → n ≤ 2147483647 → FitsSigned w32 (pos n)
+small_number n h = omega (arith, ints)
+
+pub descriptor_takes : (word : List ℕ) (fd : ℤ) → descriptor_of word ≡ Some fd → (word ≡ signed_decimal fd) × FitsSigned w32 fd
+descriptor_takes [] fd e = absurd cc
+descriptor_takes (c ∷ cs) fd e =
+    elim (chosen (eqb c 45) (negative (number_of 2147483648 cs)) (not_negative (number_of 2147483647 (c ∷ cs))) (Some fd) e) [
+      | inl is ↦
+          let v = negative_takes (number_of 2147483648 cs) fd is.1 in
+          let n = number_takes 2147483648 (suc v.0) cs (omega arith) v.1 in
+          rw v.2 (ap (λ (d : ℕ). d ∷ cs) (eqb-true c 45 is.0) ∙ ap (λ (ds : List ℕ). 45 ∷ ds) n.0, small_negative v.0 n.1)
+      | inr other ↦
+          let v = not_negative_takes (number_of 2147483647 (c ∷ cs)) fd other.1 in
+          let n = number_takes 2147483647 v.0 (c ∷ cs) (omega arith) v.1 in
+          rw v.2 (n.0, small_number v.0 n.1)
+    ]
+
+number_size : (n : ℕ) → FitsSigned w32 (pos n) → n ≤ 2147483647
+number_size n h = omega (arith, ints)
+
+negative_size : (n : ℕ) → FitsSigned w32 (negsuc n) → suc n ≤ 2147483648
+negative_size n h = omega (arith, ints)
+
+not_minus : (word : List ℕ) (n : ℕ) → word ≡ decimal n → n ≤ 2147483647 → descriptor_of word ≡ Some (pos n)
+not_minus [] n e h = absurd (omega (arith, decimal_nonempty n (omega arith), ap length e))
+not_minus (c ∷ cs) n e h =
+    let digits : all_ascii_digits (c ∷ cs) ≡ true = subst (λ (ds : List ℕ). all_ascii_digits ds ≡ true) (sym e) (digits_decimal own n (omega arith)) in
+    let parts = and_parts (is_ascii_digit c) (all_ascii_digits cs) digits in
+    let low = and_parts (leb 48 c) (leb c 57) parts.0 in
+    let first : 48 ≤ c = leb-true 48 c low.0 in
+    let read : number_of 2147483647 (c ∷ cs) ≡ Some n = ap (number_of 2147483647) e ∙ number_again 2147483647 n (omega arith) h in
+    cond-false (eqb c 45) (negative (number_of 2147483648 cs)) (not_negative (number_of 2147483647 (c ∷ cs))) (ne_eqb c 45 (λ m. omega arith)) ∙ ap not_negative read
+
+pub descriptor_again : (fd : ℤ) → FitsSigned w32 fd → descriptor_of (signed_decimal fd) ≡ Some fd
+descriptor_again (pos n) h = not_minus (decimal n) n refl (number_size n h)
+descriptor_again (negsuc n) h = ap negative (number_again 2147483648 (suc n) (omega arith) (negative_size n h))
+
+pub descriptor_unbroken : (fd : ℤ) → FitsSigned w32 fd → Unbroken (signed_decimal fd)
+descriptor_unbroken (pos n) h = decimal_unbroken n (omega (arith, number_size n h))
+descriptor_unbroken (negsuc n) h = (λ e. omega arith, decimal_unbroken (suc n) (omega (arith, negative_size n h)))

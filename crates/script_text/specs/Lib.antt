@@ -1,0 +1,11 @@
+pub mod Reading
+pub mod ReadingNumbers
+pub mod ReadingNames
+pub mod ReadingData
+pub mod ReadingFlags
+pub mod ReadingCalls
+pub mod ReadingResults
+pub mod ReadingScripts
+pub mod Writing
+pub mod Lines
+pub mod Spellings

@@ -1,0 +1,155 @@
+-- The lines of a run, as they are written.
+use Rattle.std.specs.Prelude.{ℕ, ◌+◌, ◌/◌, ◌%◌, ◌==◌, nat_lt, ◌&&◌, List, [], ◌∷◌, ◌++◌, length, codes, decimal, bit_and, Option, Some, None, if◌then◌else◌}
+use Rattle.std.specs.Fmt.{signed_decimal}
+use Rattle.std.specs.List.{flat_map, list_all}
+use Rattle.call_types.specs.declared.call.Call.{Call}
+use Rattle.call_types.specs.declared.call.Call.TheVariants as calls
+use Rattle.call_types.specs.declared.act.ScriptAct.{ScriptAct}
+use Rattle.call_types.specs.declared.act.ScriptAct.TheVariants as scripts
+use Rattle.call_types.specs.declared.act.Act.{Act}
+use Rattle.call_types.specs.declared.act.Act.TheVariants as acts
+use Rattle.call_types.specs.declared.act.Record.{Record}
+use Rattle.call_types.specs.declared.outcome.Outcome.{Outcome}
+use Rattle.call_types.specs.declared.outcome.Outcome.TheVariants as outcomes
+use Rattle.call_types.specs.declared.outcome.Reply.{Reply}
+use Rattle.call_types.specs.declared.outcome.Reply.TheVariants as replies
+use Rattle.call_types.specs.declared.outcome.Kind.{Kind}
+use Rattle.call_types.specs.declared.outcome.Kind.TheVariants as kinds
+use Rattle.call_types.specs.declared.outcome.Stat.{Stat}
+use Rattle.call_types.specs.declared.errno.Errno.{Errno}
+use Rattle.call_types.specs.declared.errno.Errno.TheVariants as errors
+use Rattle.call_types.specs.declared.refusal.Refusal.{Refusal}
+use Rattle.call_types.specs.declared.refusal.Refusal.TheVariants as refusals
+use Rattle.script_text.specs.ReadingNames.{plain}
+
+-- a process: a p, and its number
+abbrev pub process_word : ℕ → List ℕ
+process_word process = codes "p" ++ decimal process
+
+-- a lower case hexadecimal digit
+abbrev pub hex_glyph : ℕ → ℕ
+hex_glyph digit = if nat_lt digit 10 then 48 + digit else 87 + digit
+
+-- the two digits of a byte
+abbrev pub hex_pair : ℕ → List ℕ
+hex_pair byte = hex_glyph (byte / 16) ∷ hex_glyph (byte % 16) ∷ []
+
+-- a byte of a name: itself, or a % and its digits
+abbrev pub name_byte : ℕ → List ℕ
+name_byte byte = if plain byte then byte ∷ [] else 37 ∷ hex_pair byte
+
+-- a name: % alone is the empty one
+abbrev pub name_word : List ℕ → List ℕ
+name_word [] = codes "%"
+name_word (byte ∷ bytes) = flat_map name_byte (byte ∷ bytes)
+
+-- the byte of which data has more than 16 and no other, where there is one
+abbrev pub one_byte : List ℕ → Option ℕ
+one_byte [] = None
+one_byte (byte ∷ bytes) = if nat_lt 16 (length (byte ∷ bytes)) && list_all (λ b. b == byte) (byte ∷ bytes) then Some byte else None
+
+-- data by its digits, or by its one byte, a * and how many bytes there are
+abbrev pub data_text : Option ℕ → List ℕ → List ℕ
+data_text None bytes = codes "x" ++ flat_map hex_pair bytes
+data_text (Some byte) bytes = hex_pair byte ++ codes "*" ++ decimal (length bytes)
+
+-- data, which is written by its one byte exactly where it has one
+abbrev pub data_word : List ℕ → List ℕ
+data_word bytes = data_text (one_byte bytes) bytes
+
+-- the mode, by its two bits
+abbrev pub mode_word : ℕ → List ℕ
+mode_word bits = if bit_and bits 1 == 1 then if bit_and bits 2 == 2 then codes "rw" else codes "r" else if bit_and bits 2 == 2 then codes "w" else codes "-"
+
+-- a suffix, where its bit is set
+abbrev pub suffix : ℕ → ℕ → List ℕ → List ℕ
+suffix bits bit text = if bit_and bits bit == bit then text else []
+
+-- flags: the mode, and then the suffixes
+abbrev pub flags_word : ℕ → List ℕ
+flags_word bits = mode_word bits ++ suffix bits 4 (codes ",creat") ++ suffix bits 8 (codes ",excl") ++ suffix bits 16 (codes ",trunc") ++ suffix bits 32 (codes ",append") ++ suffix bits 64 (codes ",nonblock")
+
+-- a call, behind its process
+abbrev pub call_text : Call → List ℕ
+call_text (calls.Open name flags) = codes "open " ++ name_word name ++ codes " " ++ flags_word flags.0
+call_text (calls.Close fd) = codes "close " ++ signed_decimal fd
+call_text (calls.Read fd count) = codes "read " ++ signed_decimal fd ++ codes " " ++ decimal count
+call_text (calls.Write fd bytes) = codes "write " ++ signed_decimal fd ++ codes " " ++ data_word bytes
+
+-- an act, behind the actor
+abbrev pub act_text : Act → List ℕ
+act_text acts.Join = codes "join"
+act_text acts.Attach = codes "attach"
+act_text (acts.Call call) = call_text call
+act_text acts.Resume = codes "resume"
+act_text acts.Exit = codes "exit"
+act_text acts.CloseRun = codes "close-run"
+
+-- the actor: only the closing has the house
+abbrev pub actor_word : ℕ → Act → List ℕ
+actor_word actor acts.CloseRun = codes "house"
+actor_word actor other = process_word actor
+
+abbrev pub kind_word : Kind → List ℕ
+kind_word kinds.Regular = codes "regular"
+kind_word kinds.Fifo = codes "fifo"
+kind_word kinds.Pipe = codes "pipe"
+
+abbrev pub error_word : Errno → List ℕ
+error_word errors.EBADF = codes "EBADF"
+error_word errors.EINVAL = codes "EINVAL"
+error_word errors.ESPIPE = codes "ESPIPE"
+error_word errors.EFBIG = codes "EFBIG"
+error_word errors.EOVERFLOW = codes "EOVERFLOW"
+error_word errors.ENOENT = codes "ENOENT"
+error_word errors.EEXIST = codes "EEXIST"
+error_word errors.EMLINK = codes "EMLINK"
+error_word errors.ENAMETOOLONG = codes "ENAMETOOLONG"
+error_word errors.EMFILE = codes "EMFILE"
+error_word errors.ENFILE = codes "ENFILE"
+error_word errors.ENOSPC = codes "ENOSPC"
+error_word errors.EAGAIN = codes "EAGAIN"
+error_word errors.EPIPE = codes "EPIPE"
+error_word errors.ENXIO = codes "ENXIO"
+error_word errors.ESRCH = codes "ESRCH"
+
+-- what fstat tells
+abbrev pub stat_text : Stat → List ℕ
+stat_text stat = kind_word stat.kind ++ codes " " ++ decimal stat.size ++ codes " " ++ decimal stat.links
+
+abbrev pub reply_text : Reply → List ℕ
+reply_text replies.Done = codes "ok"
+reply_text (replies.Number n) = decimal n
+reply_text (replies.Data bytes) = data_word bytes
+reply_text (replies.Pair first second) = decimal first ++ codes " " ++ decimal second
+reply_text (replies.Stat stat) = stat_text stat
+reply_text (replies.Error errno) = codes "error " ++ error_word errno
+
+abbrev pub outcome_text : Outcome → List ℕ
+outcome_text (outcomes.Reply reply) = reply_text reply
+outcome_text (outcomes.Parked moved) = codes "parked " ++ decimal moved
+outcome_text (outcomes.Part moved) = codes "part " ++ decimal moved
+
+-- a record's line: the place, the actor, the act, = and the outcome
+abbrev pub record_line : ℕ → Record → List ℕ
+record_line place r = decimal place ++ codes " " ++ actor_word r.actor r.act ++ codes " " ++ act_text r.act ++ codes " = " ++ outcome_text r.outcome ++ codes "\n"
+
+-- an act of a script, behind the actor
+abbrev pub script_act_text : ScriptAct → List ℕ
+script_act_text scripts.Join = codes "join"
+script_act_text (scripts.Call process call) = call_text call
+
+abbrev pub refusal_word : Refusal → List ℕ
+refusal_word refusals.NoMemory = codes "NoMemory"
+refusal_word refusals.RunFull = codes "RunFull"
+refusal_word refusals.Waiting = codes "Waiting"
+refusal_word refusals.NotHere = codes "NotHere"
+refusal_word (refusals.Foreign seen len) = codes "Foreign"
+
+-- the line of an act that isn't recorded: - in place of the place
+abbrev pub refused_line : ℕ → ScriptAct → Refusal → List ℕ
+refused_line actor act refusal = codes "- " ++ process_word actor ++ codes " " ++ script_act_text act ++ codes " = refused " ++ refusal_word refusal ++ codes "\n"
+
+-- the last line: the records, and the bytes in and out
+abbrev pub totals_line : ℕ → ℕ → ℕ → List ℕ
+totals_line records bytes_in bytes_out = codes "records " ++ decimal records ++ codes " in " ++ decimal bytes_in ++ codes " out " ++ decimal bytes_out ++ codes "\n"

@@ -1,0 +1,38 @@
+-- Words of a script line that are data.
+use Rattle.std.specs.Prelude.{ℕ, ◌==◌, nat_le, List, [], ◌∷◌, length, replicate, Option, Some, None, if◌then◌else◌}
+use Rattle.script_text.specs.ReadingNumbers.{hex_byte, number_of}
+use Rattle.script_text.specs.ReadingNames.{before, with_rest}
+
+-- the byte of the first pair of digits, and what is left behind it
+abbrev pub first_paired : List ℕ → Option (ℕ × List ℕ)
+first_paired [] = None
+first_paired (c ∷ []) = None
+first_paired (c ∷ d ∷ cs) = with_rest (hex_byte c d) cs
+
+-- the bytes that pairs of digits stand for
+abbrev pub hex_bytes : List ℕ → Option (List ℕ)
+hex_bytes [] = Some []
+hex_bytes (c ∷ []) = None
+hex_bytes (c ∷ d ∷ cs) = before (hex_byte c d) (hex_bytes cs)
+
+-- pairs of digits for at most 65,700 bytes
+abbrev pub hex_data : List ℕ → Option (List ℕ)
+hex_data cs = if nat_le (length cs) 131400 then hex_bytes cs else None
+
+-- a byte so many times, where there are both
+abbrev pub times : Option ℕ → Option ℕ → Option (List ℕ)
+times None count = None
+times (Some byte) None = None
+times (Some byte) (Some count) = Some (replicate count byte)
+
+-- two digits, a * and a count of at most 65,700
+abbrev pub repeated_data : List ℕ → Option (List ℕ)
+repeated_data [] = None
+repeated_data (c ∷ []) = None
+repeated_data (c ∷ d ∷ []) = None
+repeated_data (c ∷ d ∷ e ∷ cs) = if e == 42 then times (hex_byte c d) (number_of 65700 cs) else None
+
+-- data: an x and pairs of digits, or two digits, a * and a count
+abbrev pub data_of : List ℕ → Option (List ℕ)
+data_of [] = None
+data_of (c ∷ cs) = if c == 120 then hex_data cs else repeated_data (c ∷ cs)

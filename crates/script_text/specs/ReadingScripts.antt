@@ -1,0 +1,33 @@
+-- Reading a whole script, line by line.
+use Rattle.std.specs.Prelude.{ℕ, ◌+◌, ◌==◌, nat_lt, List, [], ◌∷◌, ◌++◌, length, Result, Ok, Err, if◌then◌else◌}
+use Rattle.std.specs.List.{slice_split}
+use Rattle.call_types.specs.declared.act.ScriptAct.{ScriptAct}
+use Rattle.script_text.specs.declared.fault.ScriptFault.{ScriptFault}
+use Rattle.script_text.specs.declared.fault.ScriptFault.TheVariants as faults
+use Rattle.script_text.specs.Reading.{◌>>=◌}
+use Rattle.script_text.specs.ReadingCalls.{reading}
+
+-- a line's act, or the fault with the line's number
+abbrev pub numbered : ℕ → Result ScriptAct ℕ → Result (List ScriptAct) ScriptFault
+numbered n (Ok act) = Ok (act ∷ [])
+numbered n (Err column) = Err (faults.BadLine n column)
+
+-- the acts of line n: an empty line has none
+abbrev pub line_acts : ℕ → List ℕ → Result (List ScriptAct) ScriptFault
+line_acts n [] = Ok []
+line_acts n (c ∷ cs) = numbered n (reading (c ∷ cs))
+
+-- acts before those that follow, where they are read
+abbrev pub followed : List ScriptAct → Result (List ScriptAct) ScriptFault → Result (List ScriptAct) ScriptFault
+followed acts (Ok others) = Ok (acts ++ others)
+followed acts (Err fault) = Err fault
+
+-- the acts of lines that begin with line n, or the first fault
+abbrev pub lines_acts : ℕ → List (List ℕ) → Result (List ScriptAct) ScriptFault
+lines_acts n [] = Ok []
+lines_acts n (line ∷ lines) = line_acts n line >>= λ acts. followed acts (lines_acts (n + 1) lines)
+
+-- The acts of a script, whose lines end with an LF (the last may lack it) and are counted from 1, or its
+-- first fault. More than 16,777,216 bytes are too long, whatever the lines are.
+abbrev pub script : List ℕ → Result (List ScriptAct) ScriptFault
+script text = if nat_lt 16777216 (length text) then Err faults.TooLong else lines_acts 1 (slice_split (λ c. c == 10) text)

@@ -1,0 +1,58 @@
+ghost use Rattle.std.specs.Prelude.{◌≡◌};
+ghost use Rattle.std.specs.Option.{option_copied};
+ghost use Rattle.script_text.specs.Reading.{Gives, field};
+ghost use Rattle.script_text.specs.ReadingNumbers.{number_of, descriptor_of};
+ghost use Rattle.script_text.specs.ReadingNames.{name_of};
+ghost use Rattle.script_text.specs.ReadingData.{data_of};
+ghost use Rattle.script_text.specs.ReadingFlags.{flags_of};
+
+use crate::cutting::Left;
+use crate::fault::WordFault;
+use crate::flags::flags_value;
+use crate::name::name_value;
+use crate::number::{descriptor_value, number_value};
+use crate::payload::data_value;
+use crate::words::{next_word, valued};
+use call_types::bounded::{Name, Payload};
+use call_types::flags::OpenFlags;
+use std::alloc::Global;
+
+/// The next word as a descriptor.
+pub(crate) fn descriptor(left: Left<'_>) -> Result<(i32, Left<'_>), WordFault>
+    ensures { Gives (λ x. (x.0, option_copied x.1)) result (field descriptor_of (option_copied left.entry)) }
+{
+    let word = next_word(left)?;
+    valued(descriptor_value(word.text), word.place, word.after)
+}
+
+/// The next word as a count of bytes.
+pub(crate) fn count(left: Left<'_>) -> Result<(u32, Left<'_>), WordFault>
+    ensures { Gives (λ x. (x.0, option_copied x.1)) result (field (number_of 4294967295) (option_copied left.entry)) }
+{
+    let word = next_word(left)?;
+    valued(number_value(u32::MAX, word.text), word.place, word.after)
+}
+
+/// The next word as flags.
+pub(crate) fn flags(left: Left<'_>) -> Result<(OpenFlags, Left<'_>), WordFault>
+    ensures { Gives (λ x. (x.0.0, option_copied x.1)) result (field flags_of (option_copied left.entry)) }
+{
+    let word = next_word(left)?;
+    valued(flags_value(word.text), word.place, word.after)
+}
+
+/// The next word as a name.
+pub(crate) fn name(alloc: Global, left: Left<'_>) -> Result<(Name, Left<'_>), WordFault>
+    ensures { Gives (λ x. (x.0, option_copied x.1)) result (field name_of (option_copied left.entry)) }
+{
+    let word = next_word(left)?;
+    valued(name_value(alloc, word.text)?, word.place, word.after)
+}
+
+/// The next word as data.
+pub(crate) fn payload(alloc: Global, left: Left<'_>) -> Result<(Payload, Left<'_>), WordFault>
+    ensures { Gives (λ x. (x.0, option_copied x.1)) result (field data_of (option_copied left.entry)) }
+{
+    let word = next_word(left)?;
+    valued(data_value(alloc, word.text)?, word.place, word.after)
+}

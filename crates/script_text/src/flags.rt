@@ -1,0 +1,53 @@
+ghost use Rattle.std.specs.Prelude.{◌≡◌, bit_or};
+ghost use Rattle.std.specs.Option.{option_map};
+ghost use Rattle.script_text.specs.ReadingFlags.{flags_of, behind_mode, taken, Suffix};
+
+use bitflags::Flags;
+use call_types::flags::OpenFlags;
+
+/// The flags with a further one.
+fn with_flag(mut flags: OpenFlags, flag: OpenFlags) -> OpenFlags
+    ensures { result.0 ≡ bit_or flags.0 flag.0 }
+{
+    flags.insert(flag);
+    flags
+}
+
+/// The flags and what is left of their word, behind a suffix that may stand there.
+fn with_suffix<'a>(
+    flags: OpenFlags,
+    rest: &'a [u8],
+    text: &[u8],
+    flag: OpenFlags,
+) -> (OpenFlags, &'a [u8])
+    ensures { (result.0.0, result.1.now) ≡ taken (flags.0, rest.entry.now) (record { text = text.now; bit = flag.0 }) }
+{
+    match rest.strip_prefix(text) {
+        Some(after) => (with_flag(flags, flag), after),
+        None => (flags, rest),
+    }
+}
+
+/// The flags of a mode and of the suffixes that follow it.
+fn mode_and_suffixes(mode: OpenFlags, rest: &[u8]) -> Option<OpenFlags>
+    ensures { option_map (λ flags. flags.0) result ≡ behind_mode mode.0 rest.now }
+{
+    let (flags, rest) = with_suffix(mode, rest, b",creat", OpenFlags::CREAT);
+    rest.is_empty().then_some(flags)
+}
+
+/// The flags that a word spells.
+pub(crate) fn flags_value(word: &[u8]) -> Option<OpenFlags>
+    ensures { option_map (λ flags. flags.0) result ≡ flags_of word.now }
+{
+    match word {
+        [b'r', b'w', rest @ ..] => mode_and_suffixes(
+            with_flag(OpenFlags::READ, OpenFlags::WRITE),
+            rest,
+        ),
+        [b'r', rest @ ..] => mode_and_suffixes(OpenFlags::READ, rest),
+        [b'w', rest @ ..] => mode_and_suffixes(OpenFlags::WRITE, rest),
+        [b'-', rest @ ..] => mode_and_suffixes(OpenFlags::empty(), rest),
+        _ => None,
+    }
+}
