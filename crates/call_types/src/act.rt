@@ -24,14 +24,19 @@ pub enum Act {
 /// One entry of a run: who did what, and what came of it. Its place is its position, from 0.
 #[derive(Clone, Debug, Drop)]
 pub struct Record {
+    /// The number of the process, or `HOUSE`.
     pub actor: u32,
+    /// What the actor did.
     pub act: Act,
+    /// What came of it.
     pub outcome: Outcome,
 }
 
 /// An act as a script gives it; a join has no actor yet.
 #[derive(Clone, Debug, Drop)]
 pub enum ScriptAct {
+    /// A new process.
     Join,
+    /// The call of a process, by its number.
     Call { process: u32, call: Call },
 }

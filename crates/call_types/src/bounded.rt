@@ -27,6 +27,7 @@ pub type Payload = Bounded<65700>;
 pub type Content = Bounded<65536>;
 
 impl<const MOST: usize> Bounded<MOST> {
+    /// The bytes of a vector, which holds at most `MOST`.
     pub fn new(items: Vec<u8>) -> Self
         requires { length items.items ≤ MOST }
         ensures { result ≡ items.items }
@@ -34,6 +35,7 @@ impl<const MOST: usize> Bounded<MOST> {
         Bounded { items }
     }
 
+    /// A copy of the bytes; an error says that memory ran out.
     pub fn copied(alloc: Global, bytes: &[u8]) -> Result<Self, AllocError>
         requires { length bytes.now ≤ MOST }
         ensures { IfOk result (λ copy. copy ≡ bytes.now) }
@@ -43,6 +45,7 @@ impl<const MOST: usize> Bounded<MOST> {
         })
     }
 
+    /// How many bytes there are, at most `MOST`.
     pub fn len(&self) -> usize
         ensures exact { result ≡ length self.now }
         ensures within { result ≤ MOST }
@@ -50,12 +53,14 @@ impl<const MOST: usize> Bounded<MOST> {
         self.items.len()
     }
 
+    /// Whether there is no byte.
     pub fn is_empty(&self) -> bool
         ensures { result ≡ (length self.now == 0) }
     {
         self.items.is_empty()
     }
 
+    /// The bytes, in their order.
     pub fn as_slice(&self) -> &[u8]
         ensures value { result.now ≡ self.now }
         ensures within { length self.now ≤ MOST }

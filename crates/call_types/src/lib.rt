@@ -9,3 +9,5 @@ pub mod flags;
 pub mod limits;
 pub mod outcome;
 pub mod refusal;
+#[cfg(test)]
+mod tests;

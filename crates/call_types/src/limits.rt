@@ -53,7 +53,8 @@ impl Model for Bounds {
 impl Bounds {
     /// The limits of this profile.
     pub fn standard() -> Self
-        ensures { result ≡ record { file_size = FILE_SIZE_MAX; pipe_capacity = PIPE_CAPACITY } }
+        ensures exact { result ≡ record { file_size = FILE_SIZE_MAX; pipe_capacity = PIPE_CAPACITY } }
+        ensures plain { result ≡ record { file_size = 1048576; pipe_capacity = 1024 } }
     {
         Bounds {
             file_size: FILE_SIZE_MAX,
@@ -102,6 +103,7 @@ impl Limits {
     /// The limits of a run of so many records.
     pub fn new(records: u64) -> Result<Self, LimitFault>
         ensures accepted { IsOk result ↔ (1 ≤ records × records ≤ RECORDS_MAX) }
+        ensures plain { IsOk result ↔ (1 ≤ records × records ≤ 1000000) }
         ensures value { IfOk result (λ limits. (limits.records ≡ records) × (limits.lim ≡ record { file_size = FILE_SIZE_MAX; pipe_capacity = PIPE_CAPACITY })) }
     {
         if records == 0 || records > RECORDS_MAX {

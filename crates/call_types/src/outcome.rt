@@ -4,16 +4,22 @@ use crate::errno::Errno;
 /// What a file is, as fstat tells it.
 #[derive(Clone, Copy, Debug, PartialEq, Eq)]
 pub enum Kind {
+    /// A regular file.
     Regular,
+    /// A pipe with a name.
     Fifo,
+    /// A pipe without a name.
     Pipe,
 }
 
 /// What fstat tells: the kind, the size in bytes and the number of names.
 #[derive(Clone, Copy, Debug, PartialEq, Eq)]
 pub struct Stat {
+    /// What the file is.
     pub kind: Kind,
+    /// The size in bytes, at most 1,048,576.
     pub size: u64,
+    /// How many names the file has.
     pub links: u32,
 }
 

@@ -214,3 +214,6 @@ pub fn replay<R: Read + Drop, W: Write>(
         Err(ended) => ended,
     }
 }
+
+#[cfg(test)]
+mod tests;

@@ -11,3 +11,5 @@ pub mod held;
 pub mod machine;
 pub mod moves;
 pub mod places;
+#[cfg(test)]
+mod tests;

@@ -25,10 +25,10 @@ fn given_by(act: &Act) -> &[u8]
 }
 
 /// The bytes that a record took from its process.
-fn took(record: &Record) -> u64
-    ensures { result ≡ took record.now }
+fn took(item: &Record) -> u64
+    ensures { result ≡ took item.now }
 {
-    match (&record.act, &record.outcome) {
+    match (&item.act, &item.outcome) {
         (Act::Call(Call::Write { .. }), Outcome::Reply(Reply::Number(count))) => *count,
         (Act::Call(Call::Write { .. }), Outcome::Parked { moved }) => u64::from(*moved),
         _ => 0,
@@ -36,11 +36,11 @@ fn took(record: &Record) -> u64
 }
 
 /// The bytes that a record gave to its process.
-fn gave(record: &Record) -> u64
-    ensures bytes { result ≡ gave record.now }
+fn gave(item: &Record) -> u64
+    ensures bytes { result ≡ gave item.now }
     ensures few { result ≤ 65536 }
 {
-    match &record.outcome {
+    match &item.outcome {
         Outcome::Reply(Reply::Data(content)) => content.len() as u64,
         _ => 0,
     }

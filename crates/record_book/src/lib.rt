@@ -7,3 +7,5 @@ pub mod join;
 pub mod run;
 pub mod seat;
 pub mod start;
+#[cfg(test)]
+mod tests;
