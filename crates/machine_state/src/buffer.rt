@@ -19,7 +19,7 @@ impl Model for Buffer {
 
 impl Buffer {
     /// The bytes of a new file.
-    pub fn new(alloc: Global) -> Self
+    pub(crate) fn new(alloc: Global) -> Self
         ensures { result.0 ≡ [] }
     {
         Buffer {
@@ -28,14 +28,14 @@ impl Buffer {
     }
 
     /// All the bytes.
-    pub fn bytes(&self) -> &[u8]
+    pub(crate) fn bytes(&self) -> &[u8]
         ensures { result.now ≡ self.now.0 }
     {
         self.bytes.as_slice()
     }
 
     /// Makes room for so many bytes in all.
-    pub fn reserve(&mut self, len: usize) -> Result<(), AllocError>
+    pub(crate) fn reserve(&mut self, len: usize) -> Result<(), AllocError>
         ensures bytes { self.new.0 ≡ self.old.0 }
         ensures room { OnOk result (len ≤ self.new.1) }
     {
@@ -46,7 +46,7 @@ impl Buffer {
     }
 
     /// Writes `new` from `start` on; a gap before it is filled with zeros.
-    pub fn write(&mut self, start: usize, new: &[u8])
+    pub(crate) fn write(&mut self, start: usize, new: &[u8])
         requires { start + length new.now ≤ self.old.1 }
         ensures { self.new.0 ≡ splice self.old.0 start new.now }
     {
@@ -55,7 +55,7 @@ impl Buffer {
     }
 
     /// Drops all bytes.
-    pub fn clear(&mut self)
+    pub(crate) fn clear(&mut self)
         ensures { self.new.0 ≡ [] }
     {
         self.bytes.clear();

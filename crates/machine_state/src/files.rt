@@ -12,7 +12,7 @@ use std::alloc::{AllocError, Global};
 #[tactic(auto, using(crate::proofs::FileLemmas::files))]
 impl Places<Buffer> {
     /// The bytes of a file; none where it is gone.
-    pub fn bytes_of(&self, number: usize) -> &[u8]
+    pub(crate) fn bytes_of(&self, number: usize) -> &[u8]
         ensures { result.now ≡ file_bytes (slot (file_places self.now.0) number) }
     {
         match self.get(number) {
@@ -22,14 +22,14 @@ impl Places<Buffer> {
     }
 
     /// Whether a file is there.
-    pub fn has(&self, number: usize) -> bool
+    pub(crate) fn has(&self, number: usize) -> bool
         ensures { result ≡ is_some (slot (file_places self.now.0) number) }
     {
         self.get(number).is_some()
     }
 
     /// One more file, without bytes.
-    pub fn add_file(&mut self, alloc: Global)
+    pub(crate) fn add_file(&mut self, alloc: Global)
         requires { length self.old.0 < self.old.1 }
         ensures { file_places self.new.0 ≡ file_places self.old.0 ++ Some (Regular []) ∷ [] }
     {
@@ -37,14 +37,14 @@ impl Places<Buffer> {
     }
 
     /// Takes a file away.
-    pub fn clear_file(&mut self, number: usize)
+    pub(crate) fn clear_file(&mut self, number: usize)
         ensures { file_places self.new.0 ≡ slice_set (file_places self.old.0) number None }
     {
         self.clear(number);
     }
 
     /// Makes room for so many bytes in all in a file.
-    pub fn reserve_bytes(
+    pub(crate) fn reserve_bytes(
         &mut self,
         alloc: Global,
         number: usize,
@@ -62,7 +62,7 @@ impl Places<Buffer> {
     }
 
     /// Writes bytes from `start` on in a file.
-    pub fn write_bytes(&mut self, alloc: Global, number: usize, start: usize, new: &[u8])
+    pub(crate) fn write_bytes(&mut self, alloc: Global, number: usize, start: usize, new: &[u8])
         requires there { is_some (slot self.old.0 number) ≡ true }
         requires room { start + length new.now ≤ slice_index (room_places self.old.0) number }
         ensures { file_places self.new.0 ≡ slice_set (file_places self.old.0) number (Some (Regular (splice (file_bytes (slot (file_places self.old.0) number)) start new.now))) }
@@ -73,7 +73,7 @@ impl Places<Buffer> {
     }
 
     /// Drops the bytes of a file.
-    pub fn clear_bytes(&mut self, alloc: Global, number: usize)
+    pub(crate) fn clear_bytes(&mut self, alloc: Global, number: usize)
         requires { is_some (slot self.old.0 number) ≡ true }
         ensures { file_places self.new.0 ≡ slice_set (file_places self.old.0) number (Some (Regular [])) }
     {

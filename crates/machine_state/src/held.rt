@@ -9,7 +9,7 @@ use call_types::bounded::Name;
 use plain_world::world::{Description, Process, Target};
 
 /// The file that a target holds, if it holds one.
-pub fn file_of_target(target: Target) -> Option<usize>
+pub(crate) fn file_of_target(target: Target) -> Option<usize>
     ensures { result ≡ file_of_target target }
 {
     match target {
@@ -72,7 +72,7 @@ fn is_anywhere(processes: &[Option<Process>], number: usize) -> bool
 }
 
 /// Whether any descriptor refers to this description.
-pub fn is_referred(processes: &[Option<Process>], number: usize) -> bool
+pub(crate) fn is_referred(processes: &[Option<Process>], number: usize) -> bool
     ensures { result ≡ is_referred processes.now number }
 {
     is_anywhere(processes, number)
@@ -93,7 +93,7 @@ fn has_holder(descriptions: &[Option<Description>], file: usize) -> bool
 }
 
 /// Whether a file has a name or a live description.
-pub fn is_wanted(names: &[(Name, usize)], descriptions: &[Option<Description>], file: usize) -> bool
+pub(crate) fn is_wanted(names: &[(Name, usize)], descriptions: &[Option<Description>], file: usize) -> bool
     ensures { result ≡ is_wanted names.now descriptions.now file }
 {
     has_name(names, file) || has_holder(descriptions, file)

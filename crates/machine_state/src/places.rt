@@ -25,7 +25,7 @@ impl<T> Model for Places<T> {
 
 impl<T> Places<T> {
     /// No place at all.
-    pub fn new(alloc: Global) -> Self
+    pub(crate) fn new(alloc: Global) -> Self
         ensures { result.0 ≡ [] }
     {
         Places {
@@ -35,28 +35,28 @@ impl<T> Places<T> {
     }
 
     /// How many places there are, full or not: the number of the next one.
-    pub fn len(&self) -> usize
+    pub(crate) fn len(&self) -> usize
         ensures { result ≡ length self.now.0 }
     {
         self.items.len()
     }
 
     /// How many places are full.
-    pub fn live(&self) -> usize
+    pub(crate) fn live(&self) -> usize
         ensures { result ≡ live self.now.0 }
     {
         self.full
     }
 
     /// The places, in the order of their numbers.
-    pub fn items(&self) -> &[Option<T>]
+    pub(crate) fn items(&self) -> &[Option<T>]
         ensures { result.now ≡ self.now.0 }
     {
         self.items.as_slice()
     }
 
     /// What stands at a number.
-    pub fn get(&self, number: usize) -> Option<&T>
+    pub(crate) fn get(&self, number: usize) -> Option<&T>
         ensures { option_copied result ≡ slot self.now.0 number }
     {
         match self.items.get(number) {
@@ -66,7 +66,7 @@ impl<T> Places<T> {
     }
 
     /// Makes room for one more place.
-    pub fn reserve(&mut self) -> Result<(), AllocError>
+    pub(crate) fn reserve(&mut self) -> Result<(), AllocError>
         ensures items { self.new.0 ≡ self.old.0 }
         ensures room { OnOk result (length self.new.0 < self.new.1) }
     {
@@ -76,7 +76,7 @@ impl<T> Places<T> {
 
 impl<T: Drop> Places<T> {
     /// One more place at the end, for which there is room.
-    pub fn push(&mut self, value: T)
+    pub(crate) fn push(&mut self, value: T)
         requires { length self.old.0 < self.old.1 }
         ensures { self.new.0 ≡ self.old.0 ++ Some value ∷ [] }
     {
@@ -85,7 +85,7 @@ impl<T: Drop> Places<T> {
     }
 
     /// Puts a value over another.
-    pub fn set(&mut self, number: usize, value: T)
+    pub(crate) fn set(&mut self, number: usize, value: T)
         requires { is_some (slot self.old.0 number) ≡ true }
         ensures items { self.new.0 ≡ slice_set self.old.0 number (Some value) }
         ensures room { self.new.1 ≡ self.old.1 }
@@ -94,7 +94,7 @@ impl<T: Drop> Places<T> {
     }
 
     /// Puts a value over another, and gives that one back.
-    pub fn replace(&mut self, number: usize, value: T) -> T
+    pub(crate) fn replace(&mut self, number: usize, value: T) -> T
         requires { is_some (slot self.old.0 number) ≡ true }
         ensures items { self.new.0 ≡ slice_set self.old.0 number (Some value) }
         ensures room { self.new.1 ≡ self.old.1 }
@@ -107,7 +107,7 @@ impl<T: Drop> Places<T> {
     }
 
     /// Empties a place, if it is full.
-    pub fn clear(&mut self, number: usize)
+    pub(crate) fn clear(&mut self, number: usize)
         ensures items { self.new.0 ≡ slice_set self.old.0 number None }
     {
         if number < self.items.len() && self.items[number].is_some() {

@@ -276,7 +276,7 @@ fn what_is_held(rt: HostRuntime) -> Result<(), Fail> {
     assert!(rt; is_wanted(names.as_slice(), &[], 4));
     assert!(rt; !is_wanted(names.as_slice(), &[], 5));
     let mut process = new_process(alloc)?;
-    process.table.put(31, Some(6));
+    process.table.set(31, Some(6));
     let processes = vec![in alloc; None, Some(process)]?;
     assert!(rt; is_referred(processes.as_slice(), 6));
     assert!(rt; !is_referred(processes.as_slice(), 31));

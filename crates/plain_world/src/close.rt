@@ -9,7 +9,7 @@ use call_types::errno::Errno;
 use call_types::outcome::{Outcome, Reply};
 
 /// close(fd): the descriptor is free, or EBADF where it is not open.
-pub fn close(world: &mut World, process: usize, fd: i32) -> Outcome
+pub(crate) fn close(world: &mut World, process: usize, fd: i32) -> Outcome
     ensures { close world.old process fd ≡ record { world = world.new; outcome = result } }
 {
     match opened(world, process, fd) {

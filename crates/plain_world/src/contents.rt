@@ -54,7 +54,7 @@ impl Model for Contents {
 
 impl Contents {
     /// The contents of a new file.
-    pub fn new(alloc: Global) -> Self
+    pub(crate) fn new(alloc: Global) -> Self
         ensures { result ≡ [] }
     {
         Contents {
@@ -63,21 +63,21 @@ impl Contents {
     }
 
     /// The length of the file, in bytes.
-    pub fn len(&self) -> usize
+    pub(crate) fn len(&self) -> usize
         ensures { result ≡ length self.now }
     {
         self.bytes.len()
     }
 
     /// The bytes of the file.
-    pub fn as_slice(&self) -> &[u8]
+    pub(crate) fn as_slice(&self) -> &[u8]
         ensures { result.now ≡ self.now }
     {
         self.bytes.as_slice()
     }
 
     /// A copy of at most `count` bytes from `start` on; none at the end or behind it.
-    pub fn read_at(&self, alloc: Global, start: usize, count: usize) -> Result<Content, AllocError>
+    pub(crate) fn read_at(&self, alloc: Global, start: usize, count: usize) -> Result<Content, AllocError>
         requires { count ≤ TRANSFER_MAX }
         ensures { IfOk result (λ content. content ≡ bytes_at self.now start count) }
     {
@@ -85,7 +85,7 @@ impl Contents {
     }
 
     /// Writes `new` from `start` on; a gap before it is filled with zeros.
-    pub fn write_at(&mut self, start: usize, new: &[u8]) -> Result<(), AllocError>
+    pub(crate) fn write_at(&mut self, start: usize, new: &[u8]) -> Result<(), AllocError>
         requires { start + length new.now < 2 ^ 63 }
         ensures ok { OnOk result (self.new ≡ splice self.old start new.now) }
         ensures err { OnErr result (self.new ≡ self.old) }

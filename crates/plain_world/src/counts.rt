@@ -7,7 +7,7 @@ use crate::slots::Slots;
 use crate::world::{Description, Mode, Process, Target};
 
 /// Whether a descriptor refers to the description of a number.
-pub fn refers(number: usize, entry: Option<usize>) -> bool
+pub(crate) fn refers(number: usize, entry: Option<usize>) -> bool
     ensures { result ≡ refers number entry }
 {
     match entry {
@@ -17,14 +17,14 @@ pub fn refers(number: usize, entry: Option<usize>) -> bool
 }
 
 /// Whether a descriptor of a table refers to the description of a number.
-pub fn table_refers(number: usize, table: &Slots<usize>) -> bool
+pub(crate) fn table_refers(number: usize, table: &Slots<usize>) -> bool
     ensures { result ≡ list_any (refers number) table.now }
 {
     table.places().iter().any(|entry| refers(number, *entry))
 }
 
 /// Whether a descriptor of a process refers to the description of a number.
-pub fn process_refers(number: usize, process: &Option<Process>) -> bool
+pub(crate) fn process_refers(number: usize, process: &Option<Process>) -> bool
     ensures { result ≡ nat_lt 0 (refs_of number process.now) }
 {
     match process {
@@ -34,7 +34,7 @@ pub fn process_refers(number: usize, process: &Option<Process>) -> bool
 }
 
 /// Whether a descriptor of any process refers to the description of a number.
-pub fn any_refers(number: usize, processes: &Slots<Process>) -> bool
+pub(crate) fn any_refers(number: usize, processes: &Slots<Process>) -> bool
     ensures { result ≡ list_any (λ process. nat_lt 0 (refs_of number process)) processes.now }
 {
     processes
@@ -44,7 +44,7 @@ pub fn any_refers(number: usize, processes: &Slots<Process>) -> bool
 }
 
 /// Whether a file is open for reading.
-pub fn can_read(mode: Mode) -> bool
+pub(crate) fn can_read(mode: Mode) -> bool
     ensures { result ≡ can_read mode }
 {
     match mode {
@@ -54,7 +54,7 @@ pub fn can_read(mode: Mode) -> bool
 }
 
 /// Whether a file is open for writing.
-pub fn can_write(mode: Mode) -> bool
+pub(crate) fn can_write(mode: Mode) -> bool
     ensures { result ≡ can_write mode }
 {
     match mode {
@@ -64,7 +64,7 @@ pub fn can_write(mode: Mode) -> bool
 }
 
 /// Whether a target is the file of a number.
-pub fn is_file(number: usize, target: Target) -> bool
+pub(crate) fn is_file(number: usize, target: Target) -> bool
     ensures { result ≡ is_file number target }
 {
     match target {
@@ -74,7 +74,7 @@ pub fn is_file(number: usize, target: Target) -> bool
 }
 
 /// Whether a target is an end of the pipe of a number.
-pub fn is_pipe(number: usize, target: Target) -> bool
+pub(crate) fn is_pipe(number: usize, target: Target) -> bool
     ensures { result ≡ is_pipe number target }
 {
     match target {
@@ -84,7 +84,7 @@ pub fn is_pipe(number: usize, target: Target) -> bool
 }
 
 /// Whether a place has a description that holds the file of a number.
-pub fn holds(number: usize, place: Option<Description>) -> bool
+pub(crate) fn holds(number: usize, place: Option<Description>) -> bool
     ensures { result ≡ holds number place }
 {
     match place {
@@ -94,7 +94,7 @@ pub fn holds(number: usize, place: Option<Description>) -> bool
 }
 
 /// Whether a place has a reading end of the pipe of a number.
-pub fn reads(number: usize, place: Option<Description>) -> bool
+pub(crate) fn reads(number: usize, place: Option<Description>) -> bool
     ensures { result ≡ reads number place }
 {
     match place {
@@ -104,7 +104,7 @@ pub fn reads(number: usize, place: Option<Description>) -> bool
 }
 
 /// Whether a place has a writing end of the pipe of a number.
-pub fn writes(number: usize, place: Option<Description>) -> bool
+pub(crate) fn writes(number: usize, place: Option<Description>) -> bool
     ensures { result ≡ writes number place }
 {
     match place {
@@ -114,7 +114,7 @@ pub fn writes(number: usize, place: Option<Description>) -> bool
 }
 
 /// Whether a pipe has a reading end.
-pub fn has_reader(descriptions: &Slots<Description>, pipe: usize) -> bool
+pub(crate) fn has_reader(descriptions: &Slots<Description>, pipe: usize) -> bool
     ensures { result ≡ list_any (reads pipe) descriptions.now }
 {
     descriptions
@@ -124,7 +124,7 @@ pub fn has_reader(descriptions: &Slots<Description>, pipe: usize) -> bool
 }
 
 /// Whether a pipe has a writing end.
-pub fn has_writer(descriptions: &Slots<Description>, pipe: usize) -> bool
+pub(crate) fn has_writer(descriptions: &Slots<Description>, pipe: usize) -> bool
     ensures { result ≡ list_any (writes pipe) descriptions.now }
 {
     descriptions
@@ -134,7 +134,7 @@ pub fn has_writer(descriptions: &Slots<Description>, pipe: usize) -> bool
 }
 
 /// Whether a description holds a file.
-pub fn has_holder(descriptions: &Slots<Description>, file: usize) -> bool
+pub(crate) fn has_holder(descriptions: &Slots<Description>, file: usize) -> bool
     ensures { result ≡ list_any (holds file) descriptions.now }
 {
     descriptions
@@ -144,7 +144,7 @@ pub fn has_holder(descriptions: &Slots<Description>, file: usize) -> bool
 }
 
 /// Whether a file has a name.
-pub fn has_name(names: &Names, file: usize) -> bool
+pub(crate) fn has_name(names: &Names, file: usize) -> bool
     ensures { result ≡ list_any (λ entry. entry.1 == file) names.now }
 {
     names.entries().iter().any(|entry| entry.1 == file)

@@ -8,7 +8,7 @@ use crate::slots::Slots;
 use crate::world::{Description, File, Process, World};
 
 /// The number of the description that a descriptor of a process refers to, if it is open.
-pub fn entry_of(processes: &Slots<Process>, process: usize, fd: usize) -> Option<usize>
+pub(crate) fn entry_of(processes: &Slots<Process>, process: usize, fd: usize) -> Option<usize>
     ensures { result ≡ slot (table_of (slot processes.now process)) fd }
 {
     match processes.get(process) {
@@ -18,7 +18,7 @@ pub fn entry_of(processes: &Slots<Process>, process: usize, fd: usize) -> Option
 }
 
 /// The lowest free descriptor of a process (XSH 2.14, File Descriptor Allocation).
-pub fn lowest_descriptor(processes: &Slots<Process>, process: usize) -> Option<usize>
+pub(crate) fn lowest_descriptor(processes: &Slots<Process>, process: usize) -> Option<usize>
     ensures { result ≡ lowest (table_of (slot processes.now process)) }
 {
     match processes.get(process) {
@@ -28,7 +28,7 @@ pub fn lowest_descriptor(processes: &Slots<Process>, process: usize) -> Option<u
 }
 
 /// What a descriptor refers to, by the number of its description.
-pub fn opened_number(world: &World, fd: usize, number: Option<usize>) -> Option<Opened>
+pub(crate) fn opened_number(world: &World, fd: usize, number: Option<usize>) -> Option<Opened>
     ensures { result ≡ opened_number world.now fd number }
 {
     let number = number?;
@@ -41,7 +41,7 @@ pub fn opened_number(world: &World, fd: usize, number: Option<usize>) -> Option<
 }
 
 /// The descriptor of a process and what it refers to, if it is open; a negative one never is.
-pub fn opened(world: &World, process: usize, fd: i32) -> Option<Opened>
+pub(crate) fn opened(world: &World, process: usize, fd: i32) -> Option<Opened>
     ensures { result ≡ opened world.now process fd }
 {
     if fd < 0 {
@@ -53,7 +53,7 @@ pub fn opened(world: &World, process: usize, fd: i32) -> Option<Opened>
 
 #[tactic(auto, using(crate::proofs::SlotLemmas::set_twice))]
 /// Lets a descriptor of a process refer to a description, or frees it.
-pub fn set_descriptor(
+pub(crate) fn set_descriptor(
     processes: &mut Slots<Process>,
     process: usize,
     fd: usize,
@@ -68,7 +68,7 @@ pub fn set_descriptor(
 }
 
 /// Moves the offset of the description behind a descriptor.
-pub fn set_offset(world: &mut World, opened: Opened, offset: u64)
+pub(crate) fn set_offset(world: &mut World, opened: Opened, offset: u64)
     ensures { world.new ≡ with_offset world.old opened offset }
 {
     world.descriptions.put(
@@ -81,7 +81,7 @@ pub fn set_offset(world: &mut World, opened: Opened, offset: u64)
 }
 
 /// The bytes of the regular file of a number; none where there is no such file.
-pub fn bytes_of(world: &World, number: usize) -> &[u8]
+pub(crate) fn bytes_of(world: &World, number: usize) -> &[u8]
     ensures { result.now ≡ bytes_of world.now number }
 {
     match world.files.get(number) {

@@ -4,7 +4,7 @@ use call_types::errno::Errno;
 use call_types::outcome::{Outcome, Reply};
 
 /// What is recorded of a refused call, which changes nothing.
-pub fn refused(error: Errno) -> Outcome
+pub(crate) fn refused(error: Errno) -> Outcome
     ensures { result ≡ Outcome.Reply (Reply.Error error) }
 {
     Outcome::Reply(Reply::Error(error))

@@ -22,14 +22,14 @@ pub fn new_process(alloc: Global) -> Result<Process, AllocError>
 }
 
 /// Whether there may be no further process.
-pub fn is_full(world: &World) -> bool
+pub(crate) fn is_full(world: &World) -> bool
     ensures { result ≡ is_full world.now }
 {
     world.closed || world.processes.live() >= PROCESSES_MAX
 }
 
 /// Lets a process join under the next number.
-pub fn joined(alloc: Global, world: &mut World) -> Result<Outcome, AllocError>
+pub(crate) fn joined(alloc: Global, world: &mut World) -> Result<Outcome, AllocError>
     ensures ok { IfOk result (λ outcome. joined world.old ≡ record { world = world.new; outcome = outcome }) }
     ensures err { OnErr result (world.new ≡ world.old) }
 {
@@ -39,7 +39,7 @@ pub fn joined(alloc: Global, world: &mut World) -> Result<Outcome, AllocError>
 }
 
 /// A join: EAGAIN where there may be no further process, else a new one.
-pub fn join(alloc: Global, world: &mut World) -> Result<Outcome, AllocError>
+pub(crate) fn join(alloc: Global, world: &mut World) -> Result<Outcome, AllocError>
     ensures ok { IfOk result (λ outcome. join world.old ≡ record { world = world.new; outcome = outcome }) }
     ensures err { OnErr result (world.new ≡ world.old) }
 {

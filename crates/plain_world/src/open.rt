@@ -19,21 +19,21 @@ use call_types::outcome::{Outcome, Reply};
 use std::alloc::{AllocError, Global};
 
 /// Whether a byte may stand in a name (XBD 3, Portable Filename Character Set).
-pub fn is_name_byte(byte: u8) -> bool
+pub(crate) fn is_name_byte(byte: u8) -> bool
     ensures { result ≡ is_name_byte byte }
 {
     byte.is_ascii_alphanumeric() || byte == b'.' || byte == b'_' || byte == b'-'
 }
 
 /// Whether a name is one of . and .., which are directories.
-pub fn is_dots(name: &[u8]) -> bool
+pub(crate) fn is_dots(name: &[u8]) -> bool
     ensures { result ≡ is_dots name.now }
 {
     name.len() <= 2 && name.iter().all(|byte| *byte == b'.')
 }
 
 /// Whether each byte may stand in a name.
-pub fn is_portable(name: &[u8]) -> bool
+pub(crate) fn is_portable(name: &[u8]) -> bool
     ensures { result ≡ list_all is_name_byte name.now }
 {
     name.iter().all(|byte| is_name_byte(*byte))
@@ -72,7 +72,7 @@ pub fn flag_fault(flags: OpenFlags) -> Option<Errno>
 }
 
 /// Whether a name leads to a FIFO.
-pub fn leads_to_fifo(world: &World, found: Option<usize>) -> bool
+pub(crate) fn leads_to_fifo(world: &World, found: Option<usize>) -> bool
     ensures { result ≡ leads_to_fifo world.now found }
 {
     match found {
@@ -82,7 +82,7 @@ pub fn leads_to_fifo(world: &World, found: Option<usize>) -> bool
 }
 
 /// The first refusal of what the name leads to.
-pub fn found_fault(world: &World, flags: OpenFlags, found: Option<usize>) -> Option<Errno>
+pub(crate) fn found_fault(world: &World, flags: OpenFlags, found: Option<usize>) -> Option<Errno>
     ensures { result ≡ first_fault (found_faults world.now flags found) }
 {
     if found.is_none() && !flags.has(OpenFlags::CREAT) {
@@ -98,7 +98,7 @@ pub fn found_fault(world: &World, flags: OpenFlags, found: Option<usize>) -> Opt
 }
 
 /// The first refusal for want of room.
-pub fn room_fault(world: &World, process: usize, found: Option<usize>) -> Option<Errno>
+pub(crate) fn room_fault(world: &World, process: usize, found: Option<usize>) -> Option<Errno>
     ensures { result ≡ first_fault (room_faults world.now process found) }
 {
     if lowest_descriptor(&world.processes, process).is_none() {
@@ -114,7 +114,7 @@ pub fn room_fault(world: &World, process: usize, found: Option<usize>) -> Option
 }
 
 /// The first refusal of an open: of its flags, its name, what that leads to, and for want of room.
-pub fn open_fault(world: &World, process: usize, name: &[u8], flags: OpenFlags) -> Option<Errno>
+pub(crate) fn open_fault(world: &World, process: usize, name: &[u8], flags: OpenFlags) -> Option<Errno>
     ensures { result ≡ first_fault (open_faults world.now process name.now flags) }
 {
     let found = world.names.file_of(name);
@@ -123,7 +123,7 @@ pub fn open_fault(world: &World, process: usize, name: &[u8], flags: OpenFlags) 
 }
 
 /// For what a file is opened.
-pub fn mode_of(flags: OpenFlags) -> Mode
+pub(crate) fn mode_of(flags: OpenFlags) -> Mode
     ensures { result ≡ mode_of flags }
 {
     if !flags.has(OpenFlags::READ) {
@@ -150,7 +150,7 @@ pub fn new_description(file: usize, flags: OpenFlags) -> Description
 }
 
 /// The lowest free descriptor of a process refers to a description. Where none is free, 0 is taken for it.
-pub fn take_descriptor(world: &mut World, process: usize, number: usize) -> Outcome
+pub(crate) fn take_descriptor(world: &mut World, process: usize, number: usize) -> Outcome
     ensures world { world.new ≡ with_descriptor world.old process (free_descriptor world.old process) (Some number) }
     ensures outcome { result ≡ Outcome.Reply (Reply.Number (free_descriptor world.old process)) }
 {
@@ -161,7 +161,7 @@ pub fn take_descriptor(world: &mut World, process: usize, number: usize) -> Outc
 
 #[tactic(auto, using(crate::proofs::SlotLemmas::take_pushed))]
 /// An empty regular file with a new name.
-pub fn create(alloc: Global, world: &mut World, name: &Name) -> Result<(), AllocError>
+pub(crate) fn create(alloc: Global, world: &mut World, name: &Name) -> Result<(), AllocError>
     requires { file_of name.now world.old.names ≡ None }
     ensures ok { OnOk result (world.new ≡ created world.old name.now) }
     ensures err { OnErr result (world.new ≡ world.old) }
@@ -178,7 +178,7 @@ pub fn create(alloc: Global, world: &mut World, name: &Name) -> Result<(), Alloc
 
 #[tactic(auto, using(crate::proofs::SlotLemmas::set_twice, crate::proofs::SlotLemmas::put_same))]
 /// A regular file loses its bytes.
-pub fn empty(alloc: Global, files: &mut Slots<File>, number: usize)
+pub(crate) fn empty(alloc: Global, files: &mut Slots<File>, number: usize)
     ensures { files.new ≡ slice_set files.old number (emptied (slot files.old number)) }
 {
     if let Some(File::Regular(_)) = files.get(number) {
@@ -187,7 +187,7 @@ pub fn empty(alloc: Global, files: &mut Slots<File>, number: usize)
 }
 
 /// Opens a file that is there.
-pub fn open_there(
+pub(crate) fn open_there(
     alloc: Global,
     world: &mut World,
     process: usize,
@@ -207,7 +207,7 @@ pub fn open_there(
 
 #[tactic(auto, using(crate::proofs::SlotLemmas::take_pushed))]
 /// Opens a new file.
-pub fn open_new(
+pub(crate) fn open_new(
     alloc: Global,
     world: &mut World,
     process: usize,
@@ -230,7 +230,7 @@ pub fn open_new(
 }
 
 /// open(name, flags): the lowest free descriptor, or a refusal.
-pub fn open_file(
+pub(crate) fn open_file(
     alloc: Global,
     world: &mut World,
     process: usize,

@@ -28,7 +28,7 @@ pub fn read_fault(descriptor: Opened, count: usize) -> Option<Errno>
 }
 
 /// Reads a regular file from the offset on, which goes behind what is read.
-pub fn read_file(
+pub(crate) fn read_file(
     alloc: Global,
     world: &mut World,
     descriptor: Opened,
@@ -51,7 +51,7 @@ pub fn read_file(
 }
 
 /// Reads by what the descriptor refers to.
-pub fn read_target(
+pub(crate) fn read_target(
     alloc: Global,
     world: &mut World,
     descriptor: Opened,
@@ -68,7 +68,7 @@ pub fn read_target(
 }
 
 /// read(fd, count): at most `count` bytes, none at the end of the file, or a refusal.
-pub fn read(
+pub(crate) fn read(
     alloc: Global,
     world: &mut World,
     process: usize,

@@ -40,7 +40,7 @@ impl From<AllocError> for StepFault {
 }
 
 /// Whether a process may make a call.
-pub fn can_call(processes: &Slots<Process>, process: usize) -> bool
+pub(crate) fn can_call(processes: &Slots<Process>, process: usize) -> bool
     ensures { result ≡ can_call (slot processes.now process) }
 {
     match processes.get(process) {
@@ -50,7 +50,7 @@ pub fn can_call(processes: &Slots<Process>, process: usize) -> bool
 }
 
 /// What a call does, before the sweep. The world stays where memory runs out.
-pub fn call_effect(
+pub(crate) fn call_effect(
     alloc: Global,
     bounds: Bounds,
     world: &mut World,
@@ -69,7 +69,7 @@ pub fn call_effect(
 }
 
 /// What an act does, before the sweep.
-pub fn effect(
+pub(crate) fn effect(
     alloc: Global,
     bounds: Bounds,
     world: &mut World,
@@ -107,7 +107,7 @@ pub fn step_in_place(
 }
 
 /// Whether the rules record such an act here at all.
-pub fn is_step(world: &World, actor: usize, act: &Act) -> bool
+pub(crate) fn is_step(world: &World, actor: usize, act: &Act) -> bool
     ensures { (lim : Lim) → result ≡ is_some (step lim world.now actor act.now) }
 {
     match act {
@@ -118,7 +118,7 @@ pub fn is_step(world: &World, actor: usize, act: &Act) -> bool
 }
 
 /// A copy of a world.
-pub fn copy_of(world: &World) -> Result<World, AllocError>
+pub(crate) fn copy_of(world: &World) -> Result<World, AllocError>
     ensures { IfOk result (λ copy. copy ≡ world.now) }
 {
     world.clone()

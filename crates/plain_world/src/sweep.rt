@@ -9,28 +9,28 @@ use crate::slots::Slots;
 use crate::world::{Description, Fifo, File, Process, World};
 
 /// Whether an open file description stays: while a descriptor refers to it.
-pub fn is_referred(processes: &Slots<Process>, number: usize) -> bool
+pub(crate) fn is_referred(processes: &Slots<Process>, number: usize) -> bool
     ensures { result ≡ is_referred processes.now number }
 {
     any_refers(number, processes)
 }
 
 /// Whether an end of a pipe is open.
-pub fn is_open(descriptions: &Slots<Description>, pipe: usize) -> bool
+pub(crate) fn is_open(descriptions: &Slots<Description>, pipe: usize) -> bool
     ensures { result ≡ is_open descriptions.now pipe }
 {
     has_reader(descriptions, pipe) || has_writer(descriptions, pipe)
 }
 
 /// Whether a file has a name or is held by a description.
-pub fn is_wanted(names: &Names, descriptions: &Slots<Description>, file: usize) -> bool
+pub(crate) fn is_wanted(names: &Names, descriptions: &Slots<Description>, file: usize) -> bool
     ensures { result ≡ is_wanted names.now descriptions.now file }
 {
     has_name(names, file) || has_holder(descriptions, file)
 }
 
 /// The pipe of a FIFO, if an end of it is open.
-pub fn open_pipe(descriptions: &Slots<Description>, pipe: Option<usize>) -> Option<usize>
+pub(crate) fn open_pipe(descriptions: &Slots<Description>, pipe: Option<usize>) -> Option<usize>
     ensures { result ≡ open_pipe descriptions.now pipe }
 {
     let pipe = pipe?;
@@ -43,7 +43,7 @@ pub fn open_pipe(descriptions: &Slots<Description>, pipe: Option<usize>) -> Opti
 
 #[tactic(auto, using(crate::proofs::SlotLemmas::put_same))]
 /// Lets a FIFO forget a pipe that is gone.
-pub fn forget_gone_pipe(descriptions: &Slots<Description>, files: &mut Slots<File>, file: usize)
+pub(crate) fn forget_gone_pipe(descriptions: &Slots<Description>, files: &mut Slots<File>, file: usize)
     ensures { files.new ≡ slice_set files.old file (without_gone_pipe descriptions.now (slot files.old file)) }
 {
     if let Some(File::Fifo(fifo)) = files.get(file) {
@@ -55,7 +55,7 @@ pub fn forget_gone_pipe(descriptions: &Slots<Description>, files: &mut Slots<Fil
 
 #[tactic(auto, using(crate::proofs::SweepLemmas::kept_more, crate::proofs::SweepLemmas::kept_all))]
 /// The descriptions without a descriptor go.
-pub fn sweep_descriptions(processes: &Slots<Process>, descriptions: &mut Slots<Description>)
+pub(crate) fn sweep_descriptions(processes: &Slots<Process>, descriptions: &mut Slots<Description>)
     ensures { descriptions.new ≡ kept (is_referred processes.now) descriptions.old }
 {
     for number in 0..descriptions.len() {
@@ -65,7 +65,7 @@ pub fn sweep_descriptions(processes: &Slots<Process>, descriptions: &mut Slots<D
 
 #[tactic(auto, using(crate::proofs::SweepLemmas::kept_more, crate::proofs::SweepLemmas::kept_all))]
 /// The pipes without an open end go.
-pub fn sweep_pipes(descriptions: &Slots<Description>, pipes: &mut Slots<Contents>)
+pub(crate) fn sweep_pipes(descriptions: &Slots<Description>, pipes: &mut Slots<Contents>)
     ensures { pipes.new ≡ kept (is_open descriptions.now) pipes.old }
 {
     for number in 0..pipes.len() {
@@ -74,7 +74,7 @@ pub fn sweep_pipes(descriptions: &Slots<Description>, pipes: &mut Slots<Contents
 }
 
 /// The FIFOs forget the pipes that are gone.
-pub fn forget_gone_pipes(descriptions: &Slots<Description>, files: &mut Slots<File>)
+pub(crate) fn forget_gone_pipes(descriptions: &Slots<Description>, files: &mut Slots<File>)
     ensures { files.new ≡ map (without_gone_pipe descriptions.now) files.old }
 {
     for number in 0..files.len() {
@@ -84,7 +84,7 @@ pub fn forget_gone_pipes(descriptions: &Slots<Description>, files: &mut Slots<Fi
 
 #[tactic(auto, using(crate::proofs::SweepLemmas::kept_more, crate::proofs::SweepLemmas::kept_all))]
 /// The files without a name and a holder go.
-pub fn sweep_files(names: &Names, descriptions: &Slots<Description>, files: &mut Slots<File>)
+pub(crate) fn sweep_files(names: &Names, descriptions: &Slots<Description>, files: &mut Slots<File>)
     ensures { files.new ≡ kept (is_wanted names.now descriptions.now) files.old }
 {
     for number in 0..files.len() {
@@ -93,7 +93,7 @@ pub fn sweep_files(names: &Names, descriptions: &Slots<Description>, files: &mut
 }
 
 /// What nothing refers to any more goes (page of close).
-pub fn sweep(world: &mut World)
+pub(crate) fn sweep(world: &mut World)
     ensures { world.new ≡ sweep world.old }
 {
     sweep_descriptions(&world.processes, &mut world.descriptions);

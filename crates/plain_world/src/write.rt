@@ -52,7 +52,7 @@ pub fn fitting(bounds: Bounds, start: usize, bytes: &[u8]) -> usize
 
 #[tactic(auto, using(crate::proofs::SlotLemmas::set_twice, crate::proofs::SlotLemmas::put_back))]
 /// Writes bytes into the regular file of a number.
-pub fn write_bytes(
+pub(crate) fn write_bytes(
     alloc: Global,
     files: &mut Slots<File>,
     number: usize,
@@ -82,7 +82,7 @@ pub fn write_bytes(
 }
 
 /// Writes what fits, and moves the offset behind it.
-pub fn written(
+pub(crate) fn written(
     alloc: Global,
     bounds: Bounds,
     world: &mut World,
@@ -102,7 +102,7 @@ pub fn written(
 }
 
 /// Writes from a position on; EFBIG at the size limit or past it.
-pub fn write_from(
+pub(crate) fn write_from(
     alloc: Global,
     bounds: Bounds,
     world: &mut World,
@@ -121,7 +121,7 @@ pub fn write_from(
 }
 
 /// Writes to a regular file; nothing happens where there are no bytes.
-pub fn write_file(
+pub(crate) fn write_file(
     alloc: Global,
     bounds: Bounds,
     world: &mut World,
@@ -140,7 +140,7 @@ pub fn write_file(
 }
 
 /// Writes by what the descriptor refers to.
-pub fn write_target(
+pub(crate) fn write_target(
     alloc: Global,
     bounds: Bounds,
     world: &mut World,
@@ -157,7 +157,7 @@ pub fn write_target(
 }
 
 /// write(fd, bytes): how many bytes were taken, or a refusal.
-pub fn write(
+pub(crate) fn write(
     alloc: Global,
     bounds: Bounds,
     world: &mut World,
