@@ -1,15 +1,54 @@
 use crate::bounded::{Name, Payload};
 use crate::flags::OpenFlags;
+use crate::whence::Whence;
 
 /// One file call, as a process gives it. Descriptors are any `i32`; which are open is for the call to say.
 #[derive(Clone, Debug, Drop)]
 pub enum Call {
     /// Opens a name (page of open).
-    Open { name: Name, flags: OpenFlags },
+    Open {
+        name: Name,
+        flags: OpenFlags,
+    },
     /// Frees a descriptor (page of close).
-    Close { fd: i32 },
+    Close {
+        fd: i32,
+    },
     /// Reads at most `count` bytes (page of read).
-    Read { fd: i32, count: u32 },
+    Read {
+        fd: i32,
+        count: u32,
+    },
     /// Writes the bytes (page of write).
-    Write { fd: i32, bytes: Payload },
+    Write {
+        fd: i32,
+        bytes: Payload,
+    },
+    /// Reads at most `count` bytes from a position on, in bytes (page of read, pread).
+    Pread {
+        fd: i32,
+        start: i64,
+        count: u32,
+    },
+    /// Writes the bytes from a position on, in bytes (page of write, pwrite).
+    Pwrite {
+        fd: i32,
+        start: i64,
+        bytes: Payload,
+    },
+    /// Moves the offset to so many bytes behind a base (page of lseek).
+    Lseek {
+        fd: i32,
+        offset: i64,
+        whence: Whence,
+    },
+    /// Sets the length of a file, in bytes (page of ftruncate).
+    Ftruncate {
+        fd: i32,
+        len: i64,
+    },
+    /// Tells kind, size and links of a file (page of fstat).
+    Fstat {
+        fd: i32,
+    },
 }

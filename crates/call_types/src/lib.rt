@@ -11,3 +11,4 @@ pub mod outcome;
 pub mod refusal;
 #[cfg(test)]
 mod tests;
+pub mod whence;

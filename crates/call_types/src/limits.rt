@@ -21,6 +21,9 @@ pub const PROCESSES_MAX: usize = 64;
 /// Bytes asked or given in one call; more is EINVAL.
 pub const TRANSFER_MAX: usize = 65_536;
 
+/// The greatest offset of a description, in bytes; an lseek past it is EOVERFLOW (page of lseek).
+pub const OFFSET_MAX: u64 = 9_223_372_036_854_775_807;
+
 /// Bytes of a regular file; a write at this offset or past it is EFBIG.
 pub const FILE_SIZE_MAX: u64 = 1_048_576;
 

@@ -8,7 +8,7 @@ use Rattle.plain_world.specs.declared.world.World.{World}
 use Rattle.plain_world.specs.declared.opened.Opened.{Opened}
 use Rattle.machine_state.specs.Referred.{IsReferred}
 use Rattle.machine_state.specs.Targets.{file_of_target}
-use Rattle.machine_state.specs.Change.{IsTaken}
+use Rattle.machine_state.specs.Moves.{IsTaken}
 use Rattle.machine_state.proofs.SweepLemmas.{HasNoPipes, sweep_same}
 use Rattle.machine_state.proofs.ReferredLemmas.{referred-closed}
 use Rattle.machine_state.proofs.DropLemmas.{IsLast, without_description, without_file, sweep-description, sweep-file, referred-description_dropped, referred-file_dropped}

@@ -8,4 +8,3 @@ pub mod ViewLemmas
 pub mod AnyLemmas
 pub mod CloseLemmas
 pub mod OpenLemmas
-pub mod PlanLemmas

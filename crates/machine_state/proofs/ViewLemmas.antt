@@ -8,7 +8,7 @@ use Rattle.plain_world.specs.Open.{emptied, is_fifo, leads_to_fifo}
 use Rattle.plain_world.specs.declared.world.File.TheVariants.{Regular}
 use Rattle.plain_world.specs.declared.world.World.{World}
 use Rattle.machine_state.specs.Targets.{file_of_target}
-use Rattle.machine_state.specs.Change.{CanOpen}
+use Rattle.machine_state.specs.Moves.{CanOpen}
 use Rattle.machine_state.specs.Referred.{IsReferred}
 use Rattle.machine_state.proofs.ReferredLemmas.{referred-opened}
 use Rattle.plain_world.specs.Descriptors.{with_descriptor}

@@ -2,4 +2,5 @@ pub mod Referred
 pub mod Targets
 pub mod Held
 pub mod View
-pub mod Change
+pub mod Moves
+pub mod Need

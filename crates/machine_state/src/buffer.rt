@@ -1,5 +1,5 @@
 ghost use Rattle.std.specs.Prelude.{◌≡◌, ◌+◌, ◌≤◌, [], List, ℕ, length, vec_capacity, OnOk};
-ghost use Rattle.plain_world.specs.Bytes.{splice};
+ghost use Rattle.plain_world.specs.Bytes.{splice, resized};
 
 use plain_world::contents::{overwrite, pad};
 use std::alloc::{AllocError, Global};
@@ -52,6 +52,15 @@ impl Buffer {
     {
         pad(&mut self.bytes, start);
         overwrite(&mut self.bytes, start, new);
+    }
+
+    /// Sets the length to `len` bytes: what is behind goes, and zeros come where there were fewer.
+    pub(crate) fn set_len(&mut self, len: usize)
+        requires { len ≤ self.old.1 }
+        ensures { self.new.0 ≡ resized self.old.0 len }
+    {
+        self.bytes.truncate(len);
+        pad(&mut self.bytes, len);
     }
 
     /// Drops all bytes.

@@ -10,7 +10,13 @@ use std::alloc::Global;
 
 impl Places<Process> {
     /// Lets a descriptor of a process refer to a description, or frees it.
-    pub(crate) fn set_entry(&mut self, alloc: Global, process: usize, fd: usize, entry: Option<usize>)
+    pub(crate) fn set_entry(
+        &mut self,
+        alloc: Global,
+        process: usize,
+        fd: usize,
+        entry: Option<usize>,
+    )
         requires { fd < length (table_of (slot self.old.0 process)) }
         ensures { self.new.0 ≡ slice_set self.old.0 process (option_map (with_entry fd entry) (slot self.old.0 process)) }
     {

@@ -1,6 +1,6 @@
 ghost use Rattle.std.specs.Prelude.{◌≡◌, ◌+◌, ◌<◌, ◌≤◌, ◌∷◌, [], ◌++◌, Some, None, true, length, is_some, slice_set, slice_index, OnOk};
 ghost use Rattle.plain_world.specs.Places.{slot};
-ghost use Rattle.plain_world.specs.Bytes.{splice};
+ghost use Rattle.plain_world.specs.Bytes.{splice, resized};
 ghost use Rattle.plain_world.specs.Descriptors.{file_bytes};
 ghost use Rattle.plain_world.specs.declared.world.File.TheVariants.{Regular};
 ghost use Rattle.machine_state.specs.Held.{file_places, room_places};
@@ -69,6 +69,17 @@ impl Places<Buffer> {
     {
         let mut buffer = self.replace(number, Buffer::new(alloc));
         buffer.write(start, new);
+        self.set(number, buffer);
+    }
+
+    /// Gives a file its length: its first bytes, and zeros behind them.
+    pub(crate) fn set_len(&mut self, alloc: Global, number: usize, len: usize)
+        requires there { is_some (slot self.old.0 number) ≡ true }
+        requires room { len ≤ slice_index (room_places self.old.0) number }
+        ensures { file_places self.new.0 ≡ slice_set (file_places self.old.0) number (Some (Regular (resized (file_bytes (slot (file_places self.old.0) number)) len))) }
+    {
+        let mut buffer = self.replace(number, Buffer::new(alloc));
+        buffer.set_len(len);
         self.set(number, buffer);
     }
 

@@ -1,5 +1,5 @@
 ghost use Rattle.std.specs.Prelude.{◌≡◌, ◌==◌};
-ghost use Rattle.plain_world.specs.Counts.{refers, holds, is_file};
+ghost use Rattle.plain_world.specs.Counts.{links, refers, holds, is_file};
 ghost use Rattle.std.specs.List.{list_any};
 ghost use Rattle.plain_world.specs.Descriptors.{table_of};
 ghost use Rattle.plain_world.specs.Sweep.{is_referred, is_wanted};
@@ -78,6 +78,13 @@ pub(crate) fn is_referred(processes: &[Option<Process>], number: usize) -> bool
     is_anywhere(processes, number)
 }
 
+/// How many names a file has.
+pub(crate) fn links(names: &[(Name, usize)], file: usize) -> usize
+    ensures { result ≡ links names.now file }
+{
+    names.iter().filter(|entry| entry.1 == file).count()
+}
+
 /// Whether a file has a name.
 fn has_name(names: &[(Name, usize)], file: usize) -> bool
     ensures { result ≡ list_any (λ entry. entry.1 == file) names.now }
@@ -93,7 +100,11 @@ fn has_holder(descriptions: &[Option<Description>], file: usize) -> bool
 }
 
 /// Whether a file has a name or a live description.
-pub(crate) fn is_wanted(names: &[(Name, usize)], descriptions: &[Option<Description>], file: usize) -> bool
+pub(crate) fn is_wanted(
+    names: &[(Name, usize)],
+    descriptions: &[Option<Description>],
+    file: usize,
+) -> bool
     ensures { result ≡ is_wanted names.now descriptions.now file }
 {
     has_name(names, file) || has_holder(descriptions, file)

@@ -1,15 +1,14 @@
 //! The machine: the state of all files and processes in a form that is changed in place, seen as a world of the model.
 #![tactic(auto)]
 
-pub mod apply;
 pub mod buffer;
-pub mod change;
-pub mod decide;
 pub mod entries;
 pub mod files;
 pub mod held;
 pub mod machine;
 pub mod moves;
 pub mod places;
+pub mod plan;
+pub mod reserve;
 #[cfg(test)]
 mod tests;

@@ -2,11 +2,13 @@ ghost use Rattle.std.specs.Prelude.{◌≡◌, ℤ, Option, None, Some, length, 
 ghost use Rattle.plain_world.specs.Places.{slot, lowest, live};
 ghost use Rattle.plain_world.specs.Names.{file_of};
 ghost use Rattle.plain_world.specs.Descriptors.{opened, table_of, bytes_of};
+ghost use Rattle.plain_world.specs.Fstat.{links_told, held_in};
 ghost use Rattle.plain_world.specs.History.{empty_world};
 ghost use Rattle.plain_world.specs.Join.{is_full};
 ghost use Rattle.plain_world.specs.Step.{is_here, is_parked};
 
 use crate::buffer::Buffer;
+use crate::held::links;
 use crate::places::Places;
 use call_types::bounded::Name;
 use call_types::limits::PROCESSES_MAX;
@@ -157,5 +159,21 @@ impl Machine {
         ensures { result.now ≡ bytes_of self.now.world file }
     {
         self.files.bytes_of(file)
+    }
+
+    /// How many names a file has, in 32 bits.
+    pub fn links_told(&self, file: usize) -> u32
+        ensures { result ≡ links_told self.now.world file }
+    {
+        links(self.names.as_slice(), file).min(u32::MAX as usize) as u32
+    }
+
+    /// How many bytes a pipe holds now; no machine has a pipe yet.
+    pub fn held_in(&self, pipe: usize) -> usize
+        ensures { result ≡ held_in self.now.world pipe }
+    {
+        let _files = &self.files;
+        let _pipe = pipe;
+        0
     }
 }

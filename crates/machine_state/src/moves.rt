@@ -4,11 +4,11 @@ ghost use Rattle.plain_world.specs.Sweep.{sweep};
 ghost use Rattle.plain_world.specs.Join.{new_process};
 ghost use Rattle.plain_world.specs.Open.{created, leads_to_fifo};
 ghost use Rattle.plain_world.specs.Write.{with_bytes};
-ghost use Rattle.plain_world.specs.Bytes.{splice};
+ghost use Rattle.plain_world.specs.Bytes.{splice, resized};
 ghost use Rattle.plain_world.specs.Names.{file_of, with_name};
 ghost use Rattle.plain_world.specs.Descriptors.{with_descriptor, with_offset, bytes_of};
 ghost use Rattle.plain_world.specs.declared.world.Target.TheVariants as target;
-ghost use Rattle.machine_state.specs.Change.{with_description, with_emptied, IsFree, IsTaken, CanOpen, CanWriteTo};
+ghost use Rattle.machine_state.specs.Moves.{with_process, with_description, with_emptied, IsFree, IsTaken, CanOpen, CanWriteTo};
 
 use crate::held::{file_of_target, is_referred, is_wanted};
 use crate::machine::Machine;
@@ -20,16 +20,16 @@ use std::alloc::Global;
 
 impl Machine {
     /// One more process.
-    pub(crate) fn add_process(&mut self, process: Process)
+    pub fn add_process(&mut self, process: Process)
         requires new { process ≡ new_process }
         requires room { length self.old.world.processes < self.old.room.processes }
-        ensures { self.new.world ≡ record self.old.world { processes = self.old.world.processes ++ Some process ∷ [] } }
+        ensures { self.new.world ≡ with_process self.old.world process }
     {
         self.processes.push(process);
     }
 
     /// A description gets another offset.
-    pub(crate) fn set_offset(&mut self, opened: Opened, offset: u64)
+    pub fn set_offset(&mut self, opened: Opened, offset: u64)
         requires { slot self.old.world.descriptions opened.number ≡ Some opened.description }
         ensures { self.new.world ≡ with_offset self.old.world opened offset }
     {
@@ -41,7 +41,7 @@ impl Machine {
     }
 
     /// Bytes stand in a file from a position on.
-    pub(crate) fn write_bytes(&mut self, alloc: Global, file: usize, start: usize, bytes: &[u8])
+    pub fn write_bytes(&mut self, alloc: Global, file: usize, start: usize, bytes: &[u8])
         requires there { is_some (slot self.old.world.files file) ≡ true }
         requires room { start + length bytes.now ≤ slice_index self.old.room.bytes file }
         ensures { self.new.world ≡ with_bytes self.old.world file (splice (bytes_of self.old.world file) start bytes.now) }
@@ -49,9 +49,18 @@ impl Machine {
         self.files.write_bytes(alloc, file, start, bytes);
     }
 
+    /// A file gets its length: its first bytes, and zeros behind them.
+    pub fn set_len(&mut self, alloc: Global, file: usize, len: usize)
+        requires there { is_some (slot self.old.world.files file) ≡ true }
+        requires room { len ≤ slice_index self.old.room.bytes file }
+        ensures { self.new.world ≡ with_bytes self.old.world file (resized (bytes_of self.old.world file) len) }
+    {
+        self.files.set_len(alloc, file, len);
+    }
+
     /// A file loses its bytes.
     #[tactic(auto, using(crate::proofs::ViewLemmas::emptied_place))]
-    pub(crate) fn clear_bytes(&mut self, alloc: Global, file: usize)
+    pub fn clear_bytes(&mut self, alloc: Global, file: usize)
         requires { is_some (slot self.old.world.files file) ≡ true }
         ensures world { self.new.world ≡ with_emptied self.old.world file }
         ensures room { self.new.room.descriptions ≡ self.old.room.descriptions }
@@ -60,7 +69,7 @@ impl Machine {
     }
 
     /// An empty file gets a new name.
-    pub(crate) fn create(&mut self, alloc: Global, name: Name)
+    pub fn create(&mut self, alloc: Global, name: Name)
         requires new { file_of name self.old.world.names ≡ None }
         requires file_room { length self.old.world.files < self.old.room.files }
         requires name_room { length self.old.world.names < self.old.room.names }
@@ -73,13 +82,7 @@ impl Machine {
     }
 
     /// A free descriptor refers to a new description of a file that is there.
-    pub(crate) fn open(
-        &mut self,
-        alloc: Global,
-        process: usize,
-        fd: usize,
-        description: Description,
-    )
+    pub fn open(&mut self, alloc: Global, process: usize, fd: usize, description: Description)
         requires fits { (file : ℕ) × CanOpen self.old.world process fd description file }
         requires room { length self.old.world.descriptions < self.old.room.descriptions }
         ensures { self.new.world ≡ with_description self.old.world process fd description }
@@ -90,7 +93,7 @@ impl Machine {
     }
 
     /// A descriptor is free, and what it alone kept is gone: its description, and then the file behind it.
-    pub(crate) fn close(&mut self, alloc: Global, process: usize, opened: Opened)
+    pub fn close(&mut self, alloc: Global, process: usize, opened: Opened)
         requires { IsTaken self.old.world process opened }
         ensures { self.new.world ≡ sweep (with_descriptor self.old.world process opened.fd None) }
     {
@@ -110,7 +113,7 @@ impl Machine {
     }
 
     /// Whether a name leads to a FIFO; no file of a machine is one yet.
-    pub(crate) fn leads_to_fifo(&self, found: Option<usize>) -> bool
+    pub fn leads_to_fifo(&self, found: Option<usize>) -> bool
         ensures { result ≡ leads_to_fifo self.now.world found }
     {
         let _files = &self.files;
@@ -119,7 +122,7 @@ impl Machine {
     }
 
     /// The file that a name leads to is there.
-    pub(crate) fn has_named(&self, name: &[u8], file: usize)
+    pub fn has_named(&self, name: &[u8], file: usize)
         requires { file_of name.now self.now.world.names ≡ Some file }
         ensures { is_some (slot self.now.world.files file) ≡ true }
     {
@@ -127,7 +130,7 @@ impl Machine {
     }
 
     /// The file that a live description holds is there.
-    pub(crate) fn has_held(&self, opened: Opened, file: usize)
+    pub fn has_held(&self, opened: Opened, file: usize)
         requires is { slot self.now.world.descriptions opened.number ≡ Some opened.description }
         requires target_is { opened.description.target ≡ Target.Regular file }
         ensures { CanWriteTo self.now.world opened file }

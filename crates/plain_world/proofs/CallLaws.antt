@@ -1,5 +1,5 @@
 -- What holds of the effect of every call, by cases.
-use Rattle.std.proofs.Common.{◌≡◌, ℕ, zero, suc, ◌+◌, ◌∙◌, true, false, cond, List, [], ◌∷◌, ◌++◌, Option, None, Some, length, set, refl, ap, length-append, length-set, leb, eqb}
+use Rattle.std.proofs.Common.{◌≡◌, ℕ, zero, suc, ◌+◌, ℤ, nat_abs, ◌∙◌, Bool, true, false, cond, List, [], ◌∷◌, ◌++◌, Option, None, Some, length, set, refl, ap, length-append, length-set, leb, eqb}
 use Rattle.std.specs.Option.{option_map, is_some}
 use Rattle.std.proofs.lemmas.List.Sums.{sum_by-cons, sum_by_push}
 use Rattle.call_types.specs.Lim.{Lim}
@@ -8,16 +8,24 @@ use Rattle.call_types.specs.declared.call.Call.TheVariants as call
 use Rattle.call_types.specs.declared.errno.Errno.{Errno}
 use Rattle.call_types.specs.declared.errno.Errno.TheVariants.{EFBIG}
 use Rattle.call_types.specs.declared.flags.OpenFlags.{OpenFlags}
+use Rattle.call_types.specs.declared.outcome.Outcome.{Outcome}
 use Rattle.call_types.specs.declared.outcome.Outcome.TheVariants.{Reply as Replied}
 use Rattle.call_types.specs.declared.outcome.Reply.TheVariants.{Error, Number}
+use Rattle.call_types.specs.declared.whence.Whence.{Whence}
 use Rattle.plain_world.specs.Places.{slot, live}
 use Rattle.plain_world.specs.Descriptors.{opened, with_entry, bytes_of}
 use Rattle.plain_world.specs.Faults.{Stepped, first_fault, refused, unless}
 use Rattle.plain_world.specs.Open.{has, open_found, open_faults, with_open, created, emptied, truncated, new_description}
 use Rattle.plain_world.specs.Names.{file_of}
 use Rattle.plain_world.specs.Close.{close_opened}
-use Rattle.plain_world.specs.Read.{read_opened, read_target, read_faults}
+use Rattle.plain_world.specs.Read.{read_opened, read_target, read_file, read_faults}
 use Rattle.plain_world.specs.Write.{write_opened, write_target, write_file, write_from, written, write_faults, write_start}
+use Rattle.plain_world.specs.Positions.{bytes_before}
+use Rattle.plain_world.specs.Pread.{pread_opened, pread_target, pread_file, pread_faults}
+use Rattle.plain_world.specs.Pwrite.{pwrite_opened, pwrite_target, pwrite_from, pwritten, pwrite_faults}
+use Rattle.plain_world.specs.Lseek.{lseek_opened, lseek_to, moved_to, sought, lseek_faults}
+use Rattle.plain_world.specs.Ftruncate.{ftruncate_opened, ftruncate_target, ftruncate_file, ftruncate_faults}
+use Rattle.plain_world.specs.Fstat.{fstat_opened}
 use Rattle.plain_world.specs.Join.{joined}
 use Rattle.plain_world.specs.Step.{call_effect}
 use Rattle.plain_world.specs.Laws.{SameProcesses, CallKeepsProcesses, SweptCallKeepsProcesses, RefusalKeepsWorld, Joins, JoinAdds, FullJoinRefused, Opens, OpenDescribes}
@@ -36,27 +44,68 @@ live_edited f (place ∷ places) (suc n) =
     rw (sum_by-cons (λ p. cond (is_some p) 1 0) place (set places n (option_map f (slot places n))), sum_by-cons (λ p. cond (is_some p) 1 0) place places)
     (ap (λ k. cond (is_some place) 1 0 + k) (live_edited f places n))
 
--- a call that keeps its processes, and that changes nothing where it is refused
-record Keeps (w : World) (s : Stepped) : Type 0 where
-  processes : SameProcesses w s.world
-  refusal : (error : Errno) → s.outcome ≡ Replied (Error error) → s.world ≡ w
+-- whether an outcome is an error
+abbrev is_error : Outcome → Bool
+is_error (Replied (Error error)) = true
+is_error _ = false
+
+-- a call that neither makes nor ends a process nor closes the run, and that changes nothing where it is refused
+pub record Keeps (w : World) (s : Stepped) : Type 0 where
+  pub processes : SameProcesses w s.world
+  pub refusal : (error : Errno) → s.outcome ≡ Replied (Error error) → s.world ≡ w
+  pub closed : s.world.closed ≡ w.closed
 
 keeps_refused : (w : World) (error : Errno) → Keeps w (refused w error)
-keeps_refused w error = record { processes = record { all = refl; living = refl }; refusal = λ _ _. refl }
+keeps_refused w error = record { processes = record { all = refl; living = refl }; refusal = λ _ _. refl; closed = refl }
+
+-- a call that leaves the processes and the run as they are, and is not refused
+keeps_reply : (w : World) (s : Stepped) → s.world.processes ≡ w.processes → s.world.closed ≡ w.closed → is_error s.outcome ≡ false → Keeps w s
+keeps_reply w s processes closed replied = record {
+  processes = record { all = ap length processes; living = ap live processes };
+  refusal = λ error h. let e : is_error s.outcome ≡ true = ap is_error h in cc;
+  closed = closed;
+}
 
 keeps_unless : (fault : Option Errno) (w : World) (s : Stepped) → Keeps w s → Keeps w (unless fault w s)
 keeps_unless None w s k = k
 keeps_unless (Some error) w s k = keeps_refused w error
+
+keeps_if : (b : Bool) (w : World) (s t : Stepped) → Keeps w s → Keeps w t → Keeps w (cond b s t)
+keeps_if true w s t k m = k
+keeps_if false w s t k m = m
+
+keeps_with_open : (w v : World) (process : ℕ) (d : Description) → v.processes ≡ w.processes → v.closed ≡ w.closed → Keeps w (with_open v process d)
+keeps_with_open w v process d e c = record {
+  processes = record {
+    all = length-set v.processes process _ ∙ ap length e;
+    living = live_edited _ v.processes process ∙ ap live e;
+  };
+  refusal = λ _ h. cc;
+  closed = c;
+}
+
+truncated_processes : (w : World) (n : ℕ) (flags : OpenFlags) → (truncated w n flags).processes ≡ w.processes
+truncated_processes w n flags =
+    elim (has flags 16) as (λ b. (cond b (record w { files = set w.files n (emptied (slot w.files n)) }) w).processes ≡ w.processes) [ true ↦ refl | false ↦ refl ]
+
+truncated_closed : (w : World) (n : ℕ) (flags : OpenFlags) → (truncated w n flags).closed ≡ w.closed
+truncated_closed w n flags =
+    elim (has flags 16) as (λ b. (cond b (record w { files = set w.files n (emptied (slot w.files n)) }) w).closed ≡ w.closed) [ true ↦ refl | false ↦ refl ]
+
+keeps_open_found : (w : World) (process : ℕ) (name : List ℕ) (flags : OpenFlags) (found : Option ℕ) → Keeps w (open_found w process name flags found)
+keeps_open_found w process name flags None = keeps_with_open w (created w name) process (new_description (length w.files) flags) refl refl
+keeps_open_found w process name flags (Some n) = keeps_with_open w (truncated w n flags) process (new_description n flags) (truncated_processes w n flags) (truncated_closed w n flags)
 
 keeps_close : (w : World) (process : ℕ) (o : Option Opened) → Keeps w (close_opened w process o)
 keeps_close w process None = keeps_refused w _
 keeps_close w process (Some o) = record {
   processes = record { all = length-set w.processes process (option_map (with_entry o.fd None) (slot w.processes process)); living = live_edited (with_entry o.fd None) w.processes process };
   refusal = λ _ h. cc;
+  closed = refl;
 }
 
 keeps_read_target : (w : World) (o : Opened) (count : ℕ) (t : Target) → Keeps w (read_target w o count t)
-keeps_read_target w o count (target.Regular file) = record { processes = record { all = refl; living = refl }; refusal = λ _ h. cc }
+keeps_read_target w o count (target.Regular file) = keeps_reply w (read_file w o file count) refl refl refl
 keeps_read_target w o count (target.Pipe pipe) = keeps_refused w _
 keeps_read_target w o count (target.Fifo file pipe) = keeps_refused w _
 
@@ -64,19 +113,20 @@ keeps_read : (w : World) (count : ℕ) (o : Option Opened) → Keeps w (read_ope
 keeps_read w count None = keeps_refused w _
 keeps_read w count (Some o) = keeps_unless (first_fault (read_faults o count)) w (read_target w o count o.description.target) (keeps_read_target w o count o.description.target)
 
+abbrev nothing_written : World → Stepped
+nothing_written w = record { world = w; outcome = Replied (Number 0) }
+
+keeps_nothing : (w : World) → Keeps w (nothing_written w)
+keeps_nothing w = keeps_reply w (nothing_written w) refl refl refl
+
 keeps_write_from : (lim : Lim) (w : World) (o : Opened) (n : ℕ) (bytes : List ℕ) (start : ℕ) → Keeps w (write_from lim w o n bytes start)
 keeps_write_from lim w o n bytes start =
-    elim (leb lim.file_size start) as (λ b. Keeps w (cond b (refused w EFBIG) (written lim w o n bytes start))) [
-      | true ↦ keeps_refused w EFBIG
-      | false ↦ record { processes = record { all = refl; living = refl }; refusal = λ _ h. cc }
-    ]
+    keeps_if (leb lim.file_size start) w (refused w EFBIG) (written lim w o n bytes start) (keeps_refused w EFBIG) (keeps_reply w (written lim w o n bytes start) refl refl refl)
 
 keeps_write_file : (lim : Lim) (w : World) (o : Opened) (n : ℕ) (bytes : List ℕ) → Keeps w (write_file lim w o n bytes)
 keeps_write_file lim w o n bytes =
-    elim (eqb (length bytes) 0) as (λ b. Keeps w (cond b (record { world = w; outcome = Replied (Number 0) }) (write_from lim w o n bytes (write_start o.description (bytes_of w n))))) [
-      | true ↦ record { processes = record { all = refl; living = refl }; refusal = λ _ h. refl }
-      | false ↦ keeps_write_from lim w o n bytes (write_start o.description (bytes_of w n))
-    ]
+    let start = write_start o.description (bytes_of w n) in
+    keeps_if (eqb (length bytes) 0) w (nothing_written w) (write_from lim w o n bytes start) (keeps_nothing w) (keeps_write_from lim w o n bytes start)
 
 keeps_write_target : (lim : Lim) (w : World) (o : Opened) (bytes : List ℕ) (t : Target) → Keeps w (write_target lim w o bytes t)
 keeps_write_target lim w o bytes (target.Regular file) = keeps_write_file lim w o file bytes
@@ -87,29 +137,64 @@ keeps_write : (lim : Lim) (w : World) (bytes : List ℕ) (o : Option Opened) →
 keeps_write lim w bytes None = keeps_refused w _
 keeps_write lim w bytes (Some o) = keeps_unless (first_fault (write_faults o bytes)) w (write_target lim w o bytes o.description.target) (keeps_write_target lim w o bytes o.description.target)
 
-keeps_with_open : (w v : World) (process : ℕ) (d : Description) → v.processes ≡ w.processes → Keeps w (with_open v process d)
-keeps_with_open w v process d e = record {
-  processes = record {
-    all = length-set v.processes process _ ∙ ap length e;
-    living = live_edited _ v.processes process ∙ ap live e;
-  };
-  refusal = λ _ h. cc;
-}
+keeps_pread_target : (w : World) (start count : ℕ) (t : Target) → Keeps w (pread_target w start count t)
+keeps_pread_target w start count (target.Regular file) = keeps_reply w (pread_file w file start count) refl refl refl
+keeps_pread_target w start count (target.Pipe pipe) = keeps_refused w _
+keeps_pread_target w start count (target.Fifo file pipe) = keeps_refused w _
 
-truncated_processes : (w : World) (n : ℕ) (flags : OpenFlags) → (truncated w n flags).processes ≡ w.processes
-truncated_processes w n flags =
-    elim (has flags 16) as (λ b. (cond b (record w { files = set w.files n (emptied (slot w.files n)) }) w).processes ≡ w.processes) [ true ↦ refl | false ↦ refl ]
+keeps_pread : (w : World) (start : ℤ) (count : ℕ) (o : Option Opened) → Keeps w (pread_opened w start count o)
+keeps_pread w start count None = keeps_refused w _
+keeps_pread w start count (Some o) =
+    keeps_unless (first_fault (pread_faults o start count)) w (pread_target w (bytes_before start) count o.description.target) (keeps_pread_target w (bytes_before start) count o.description.target)
 
-keeps_open_found : (w : World) (process : ℕ) (name : List ℕ) (flags : OpenFlags) (found : Option ℕ) → Keeps w (open_found w process name flags found)
-keeps_open_found w process name flags None = keeps_with_open w (created w name) process (new_description (length w.files) flags) refl
-keeps_open_found w process name flags (Some n) = keeps_with_open w (truncated w n flags) process (new_description n flags) (truncated_processes w n flags)
+keeps_pwrite_from : (lim : Lim) (w : World) (n : ℕ) (bytes : List ℕ) (start : ℕ) → Keeps w (pwrite_from lim w n bytes start)
+keeps_pwrite_from lim w n bytes start =
+    keeps_if (leb lim.file_size start) w (refused w EFBIG) (pwritten lim w n bytes start) (keeps_refused w EFBIG) (keeps_reply w (pwritten lim w n bytes start) refl refl refl)
 
-keeps_call : (lim : Lim) (w : World) (process : ℕ) (c : Call) → Keeps w (call_effect lim w process c)
+keeps_pwrite_target : (lim : Lim) (w : World) (bytes : List ℕ) (start : ℕ) (t : Target) → Keeps w (pwrite_target lim w bytes start t)
+keeps_pwrite_target lim w bytes start (target.Regular file) =
+    keeps_if (eqb (length bytes) 0) w (nothing_written w) (pwrite_from lim w file bytes start) (keeps_nothing w) (keeps_pwrite_from lim w file bytes start)
+keeps_pwrite_target lim w bytes start (target.Pipe pipe) = keeps_refused w _
+keeps_pwrite_target lim w bytes start (target.Fifo file pipe) = keeps_refused w _
+
+keeps_pwrite : (lim : Lim) (w : World) (start : ℤ) (bytes : List ℕ) (o : Option Opened) → Keeps w (pwrite_opened lim w start bytes o)
+keeps_pwrite lim w start bytes None = keeps_refused w _
+keeps_pwrite lim w start bytes (Some o) =
+    keeps_unless (first_fault (pwrite_faults o start bytes)) w (pwrite_target lim w bytes (bytes_before start) o.description.target) (keeps_pwrite_target lim w bytes (bytes_before start) o.description.target)
+
+keeps_lseek_to : (w : World) (o : Opened) (to : ℤ) → Keeps w (lseek_to w o to)
+keeps_lseek_to w o to = keeps_unless (first_fault (lseek_faults o to)) w (moved_to w o (nat_abs to)) (keeps_reply w (moved_to w o (nat_abs to)) refl refl refl)
+
+keeps_lseek : (w : World) (offset : ℤ) (from : Whence) (o : Option Opened) → Keeps w (lseek_opened w offset from o)
+keeps_lseek w offset from None = keeps_refused w _
+keeps_lseek w offset from (Some o) = keeps_lseek_to w o (sought w o offset from)
+
+keeps_ftruncate_target : (w : World) (len : ℕ) (t : Target) → Keeps w (ftruncate_target w len t)
+keeps_ftruncate_target w len (target.Regular file) = keeps_reply w (ftruncate_file w file len) refl refl refl
+keeps_ftruncate_target w len (target.Pipe pipe) = keeps_refused w _
+keeps_ftruncate_target w len (target.Fifo file pipe) = keeps_refused w _
+
+keeps_ftruncate : (lim : Lim) (w : World) (len : ℤ) (o : Option Opened) → Keeps w (ftruncate_opened lim w len o)
+keeps_ftruncate lim w len None = keeps_refused w _
+keeps_ftruncate lim w len (Some o) =
+    keeps_unless (first_fault (ftruncate_faults lim o len)) w (ftruncate_target w (bytes_before len) o.description.target) (keeps_ftruncate_target w (bytes_before len) o.description.target)
+
+keeps_fstat : (w : World) (o : Option Opened) → Keeps w (fstat_opened w o)
+keeps_fstat w None = keeps_refused w _
+keeps_fstat w (Some o) = keeps_reply w (fstat_opened w (Some o)) refl refl refl
+
+-- one case for each call; what holds of all calls follows from it
+pub keeps_call : (lim : Lim) (w : World) (process : ℕ) (c : Call) → Keeps w (call_effect lim w process c)
 keeps_call lim w process (call.Open name flags) =
     keeps_unless (first_fault (open_faults w process name flags)) w (open_found w process name flags (file_of name w.names)) (keeps_open_found w process name flags (file_of name w.names))
 keeps_call lim w process (call.Close fd) = keeps_close w process (opened w process fd)
 keeps_call lim w process (call.Read fd count) = keeps_read w count (opened w process fd)
 keeps_call lim w process (call.Write fd bytes) = keeps_write lim w bytes (opened w process fd)
+keeps_call lim w process (call.Pread fd start count) = keeps_pread w start count (opened w process fd)
+keeps_call lim w process (call.Pwrite fd start bytes) = keeps_pwrite lim w start bytes (opened w process fd)
+keeps_call lim w process (call.Lseek fd offset from) = keeps_lseek w offset from (opened w process fd)
+keeps_call lim w process (call.Ftruncate fd len) = keeps_ftruncate lim w len (opened w process fd)
+keeps_call lim w process (call.Fstat fd) = keeps_fstat w (opened w process fd)
 
 pub call_keeps_processes : CallKeepsProcesses
 call_keeps_processes lim w process c = (keeps_call lim w process c).processes

@@ -7,3 +7,4 @@ pub mod SpliceLaws
 pub mod SweepLaws
 pub mod SweepLemmas
 pub mod RunLaws
+pub mod FileLaws

@@ -50,6 +50,7 @@ took r = took_by r.act r.outcome
   where
     took_by : Act → Outcome → ℕ
     took_by (act.Call (call.Write fd bytes)) o = moved_in o
+    took_by (act.Call (call.Pwrite fd start bytes)) o = moved_in o
     took_by _ o = 0
 
 -- the bytes that a record gave to a process

@@ -10,7 +10,14 @@ pub mod Open
 pub mod Close
 pub mod Read
 pub mod Write
+pub mod Positions
+pub mod Pread
+pub mod Pwrite
+pub mod Lseek
+pub mod Ftruncate
+pub mod Fstat
 pub mod Step
 pub mod History
 pub mod Laws
 pub mod RunLaws
+pub mod FileLaws

@@ -14,6 +14,11 @@ use Rattle.plain_world.specs.Open.{open_file}
 use Rattle.plain_world.specs.Close.{close}
 use Rattle.plain_world.specs.Read.{read}
 use Rattle.plain_world.specs.Write.{write}
+use Rattle.plain_world.specs.Pread.{pread}
+use Rattle.plain_world.specs.Pwrite.{pwrite}
+use Rattle.plain_world.specs.Lseek.{lseek}
+use Rattle.plain_world.specs.Ftruncate.{ftruncate}
+use Rattle.plain_world.specs.Fstat.{fstat}
 use Rattle.plain_world.specs.declared.world.World.{World}
 use Rattle.plain_world.specs.declared.world.Process.{Process}
 
@@ -37,6 +42,11 @@ call_effect lim w process (call.Open name flags) = open_file w process name flag
 call_effect lim w process (call.Close fd) = close w process fd
 call_effect lim w process (call.Read fd count) = read w process fd count
 call_effect lim w process (call.Write fd bytes) = write lim w process fd bytes
+call_effect lim w process (call.Pread fd start count) = pread w process fd start count
+call_effect lim w process (call.Pwrite fd start bytes) = pwrite lim w process fd start bytes
+call_effect lim w process (call.Lseek fd offset from) = lseek w process fd offset from
+call_effect lim w process (call.Ftruncate fd len) = ftruncate lim w process fd len
+call_effect lim w process (call.Fstat fd) = fstat w process fd
 
 -- what an act does, before the sweep, or nothing where the rules record none: a join under another number than the
 -- next, a call of a process that is not live and attached or that is parked, and the acts that are not in this profile yet

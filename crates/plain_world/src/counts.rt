@@ -1,6 +1,6 @@
 ghost use Rattle.std.specs.Prelude.{◌≡◌, ◌==◌, nat_lt};
 ghost use Rattle.std.specs.List.{list_any};
-ghost use Rattle.plain_world.specs.Counts.{refers, refs_of, is_file, is_pipe, can_read, can_write, holds, reads, writes};
+ghost use Rattle.plain_world.specs.Counts.{links, refers, refs_of, is_file, is_pipe, can_read, can_write, holds, reads, writes};
 
 use crate::names::Names;
 use crate::slots::Slots;
@@ -141,6 +141,17 @@ pub(crate) fn has_holder(descriptions: &Slots<Description>, file: usize) -> bool
         .places()
         .iter()
         .any(|place| holds(file, *place))
+}
+
+/// How many names a file has (XBD 3, Link Count).
+pub(crate) fn links(names: &Names, file: usize) -> usize
+    ensures { result ≡ links names.now file }
+{
+    names
+        .entries()
+        .iter()
+        .filter(|entry| entry.1 == file)
+        .count()
 }
 
 /// Whether a file has a name.

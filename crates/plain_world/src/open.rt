@@ -114,7 +114,12 @@ pub(crate) fn room_fault(world: &World, process: usize, found: Option<usize>) ->
 }
 
 /// The first refusal of an open: of its flags, its name, what that leads to, and for want of room.
-pub(crate) fn open_fault(world: &World, process: usize, name: &[u8], flags: OpenFlags) -> Option<Errno>
+pub(crate) fn open_fault(
+    world: &World,
+    process: usize,
+    name: &[u8],
+    flags: OpenFlags,
+) -> Option<Errno>
     ensures { result ≡ first_fault (open_faults world.now process name.now flags) }
 {
     let found = world.names.file_of(name);

@@ -5,8 +5,13 @@ ghost use Rattle.plain_world.specs.Places.{slot};
 ghost use Rattle.plain_world.specs.Step.{can_call, call_effect, effect, step};
 
 use crate::close::close;
+use crate::fstat::fstat;
+use crate::ftruncate::ftruncate;
 use crate::join::join;
+use crate::lseek::lseek;
 use crate::open::open_file;
+use crate::pread::pread;
+use crate::pwrite::pwrite;
 use crate::read::read;
 use crate::slots::Slots;
 use crate::sweep::sweep;
@@ -65,6 +70,15 @@ pub(crate) fn call_effect(
         Call::Close { fd } => Ok(close(world, process, *fd)),
         Call::Read { fd, count } => read(alloc, world, process, *fd, *count as usize),
         Call::Write { fd, bytes } => write(alloc, bounds, world, process, *fd, bytes.as_slice()),
+        Call::Pread { fd, start, count } => {
+            pread(alloc, world, process, *fd, *start, *count as usize)
+        }
+        Call::Pwrite { fd, start, bytes } => {
+            pwrite(alloc, bounds, world, process, *fd, *start, bytes.as_slice())
+        }
+        Call::Lseek { fd, offset, whence } => Ok(lseek(world, process, *fd, *offset, *whence)),
+        Call::Ftruncate { fd, len } => ftruncate(alloc, bounds, world, process, *fd, *len),
+        Call::Fstat { fd } => Ok(fstat(world, process, *fd)),
     }
 }
 

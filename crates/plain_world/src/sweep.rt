@@ -43,7 +43,11 @@ pub(crate) fn open_pipe(descriptions: &Slots<Description>, pipe: Option<usize>) 
 
 #[tactic(auto, using(crate::proofs::SlotLemmas::put_same))]
 /// Lets a FIFO forget a pipe that is gone.
-pub(crate) fn forget_gone_pipe(descriptions: &Slots<Description>, files: &mut Slots<File>, file: usize)
+pub(crate) fn forget_gone_pipe(
+    descriptions: &Slots<Description>,
+    files: &mut Slots<File>,
+    file: usize,
+)
     ensures { files.new ≡ slice_set files.old file (without_gone_pipe descriptions.now (slot files.old file)) }
 {
     if let Some(File::Fifo(fifo)) = files.get(file) {

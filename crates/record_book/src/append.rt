@@ -4,12 +4,12 @@ ghost use Rattle.record_book.specs.Book.{BookState, Appends, Receives};
 ghost use Rattle.record_book.specs.Planned.{IsPlanned, given_by};
 
 use crate::book::Book;
+use crate::change::{Decided, apply};
 use crate::seat::{Receipt, Seat};
 use call_types::act::{Act, Record};
 use call_types::call::Call;
 use call_types::outcome::{Outcome, Reply};
-use machine_state::apply::given;
-use machine_state::change::Plan;
+use file_calls::calls::given;
 use std::alloc::{AllocError, Global};
 use std::sync::Arc;
 
@@ -31,6 +31,8 @@ fn took(item: &Record) -> u64
     match (&item.act, &item.outcome) {
         (Act::Call(Call::Write { .. }), Outcome::Reply(Reply::Number(count))) => *count,
         (Act::Call(Call::Write { .. }), Outcome::Parked { moved }) => u64::from(*moved),
+        (Act::Call(Call::Pwrite { .. }), Outcome::Reply(Reply::Number(count))) => *count,
+        (Act::Call(Call::Pwrite { .. }), Outcome::Parked { moved }) => u64::from(*moved),
         _ => 0,
     }
 }
@@ -54,26 +56,26 @@ impl Book {
         alloc: Global,
         seat: &mut Seat,
         act: Act,
-        plan: Plan,
+        decided: Decided,
     ) -> Result<Receipt, AllocError>
-        requires { IsPlanned self.old seat.old.pid act plan }
+        requires { IsPlanned self.old seat.old.pid act decided }
         ensures ok { IfOk result (λ receipt. Appends self.old self.new seat.old.pid act receipt × Receives seat.old seat.new receipt) }
         ensures err { OnErr result ((self.new ≡ self.old) × (seat.new ≡ seat.old)) }
     {
-        let Plan { outcome, change } = plan;
+        let Decided { plan, change } = decided;
         let place = self.history.len() as u64;
-        self.machine.reserve_for(alloc, given_by(&act), &change)?;
+        self.machine.reserve_for(alloc, &plan)?;
         let item = Arc::new(
             alloc,
             Record {
                 actor: seat.pid(),
                 act,
-                outcome,
+                outcome: plan.outcome,
             },
         )?;
         let receipt = Receipt::new(place, item.clone()?);
         seat.receive(receipt.share()?)?;
-        self.machine.apply(alloc, given_by(&item.act), change);
+        apply(&mut self.machine, alloc, given_by(&item.act), change);
         self.bytes_in += took(&item);
         self.bytes_out += gave(&item);
         self.history.push_reserved(item);

@@ -1,15 +1,15 @@
 ghost use Rattle.std.specs.Prelude.{◌≡◌, None, [], length, IfOk, IfErr, OnOk, OnErr};
-ghost use Rattle.machine_state.specs.Change.{Plans};
 ghost use Rattle.plain_world.specs.Join.{join};
 ghost use Rattle.record_book.specs.Book.{BookState, world_now};
 ghost use Rattle.record_book.specs.Refusals.{join_refusal, is_too_full, IsDue};
+ghost use Rattle.record_book.specs.Change.{Decides};
 ghost use Rattle.record_book.specs.Planned.{IsPlanned};
 
 use crate::book::Book;
+use crate::change::{Decided, decide_join};
 use crate::seat::{Receipt, Seat, SpentSeat};
 use call_types::act::Act;
 use call_types::refusal::Refusal;
-use machine_state::change::Plan;
 use std::alloc::Global;
 
 /// What a join gives.
@@ -45,13 +45,13 @@ impl Book {
         self.overfills(live)
     }
 
-    /// The plan of a join that is not refused is one that the book can record.
-    fn is_join_planned(&self, plan: &Plan)
+    /// What a join that is not refused comes to, the book can record.
+    fn is_join_planned(&self, decided: &Decided)
         requires free { join_refusal self.now ≡ None }
-        requires plans { Plans (world_now self.now) [] plan.now (join (world_now self.now)) }
-        ensures { IsPlanned self.now (next_pid self.now) Act.Join plan.now }
+        requires decides { Decides (world_now self.now) [] decided.now (join (world_now self.now)) }
+        ensures { IsPlanned self.now (next_pid self.now) Act.Join decided.now }
     {
-        let _plan = plan;
+        let _decided = decided;
     }
 
     /// Records a join, and gives its receipt once more beside the seat.
@@ -66,9 +66,9 @@ impl Book {
         }
         let full = self.machine.is_full();
         let mut seat = Seat::new(alloc, self.next_pid());
-        let plan = self.machine.decide_join(alloc)?;
-        self.is_join_planned(&plan);
-        let receipt = self.append(alloc, &mut seat, Act::Join, plan)?;
+        let decided = decide_join(&self.machine, alloc)?;
+        self.is_join_planned(&decided);
+        let receipt = self.append(alloc, &mut seat, Act::Join, decided)?;
         if full {
             return Ok((Opened::Refused(SpentSeat::new(seat)), receipt));
         }

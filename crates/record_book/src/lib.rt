@@ -3,6 +3,7 @@
 
 pub mod append;
 pub mod book;
+mod change;
 pub mod join;
 pub mod run;
 pub mod seat;

@@ -1,19 +1,21 @@
 ghost use Rattle.std.specs.Prelude.{◌≡◌, ◌≤◌, ◌+◌, None, not, nat_le, length, if◌then◌else◌, IfOk, IfErr, OnOk, OnErr};
 ghost use Rattle.plain_world.specs.Places.{live as live_in};
-ghost use Rattle.machine_state.specs.Change.{Plans, given};
+ghost use Rattle.file_calls.specs.Change.{given, Decides as FileDecides};
 ghost use Rattle.plain_world.specs.Step.{call_effect};
 ghost use Rattle.record_book.specs.Book.{BookState, world_now, Appends, Receives};
 ghost use Rattle.record_book.specs.Refusals.{start_refusal, is_too_full, IsDue};
 ghost use Rattle.record_book.specs.Planned.{IsPlanned};
 
 use crate::book::Book;
+use crate::change::{Change, Decided};
 use crate::seat::{Receipt, Seat};
 use call_types::act::Act;
 use call_types::call::Call;
 use call_types::refusal::Refusal;
-use machine_state::change::Plan;
+use file_calls::calls::decide;
+use file_calls::change::Decided as FileDecided;
 use plain_world::laws::call_keeps_processes;
-use plain_world::run_laws::{call_keeps_closed, write_takes_few};
+use plain_world::run_laws::{call_keeps_closed, pwrite_takes_few, write_takes_few};
 use std::alloc::Global;
 
 impl Book {
@@ -64,17 +66,21 @@ impl Book {
         None
     }
 
-    /// The plan of a call that is not refused is one that the book can record.
-    fn is_planned(&self, seat: &Seat, call: &Call, plan: &Plan)
+    /// What a call that is not refused comes to, the book can record.
+    fn planned(&self, seat: &Seat, call: &Call, decided: FileDecided) -> Decided
         requires free { start_refusal self.now seat.now call.now ≡ None }
-        requires plans { Plans (world_now self.now) (given call.now) plan.now (call_effect self.now.limits.lim (world_now self.now) seat.now.pid call.now) }
-        ensures { IsPlanned self.now seat.now.pid (Act.Call call.now) plan.now }
+        requires decides { FileDecides (world_now self.now) (given call.now) decided (call_effect self.now.limits.lim (world_now self.now) seat.now.pid call.now) }
+        ensures { IsPlanned self.now seat.now.pid (Act.Call call.now) result }
     {
         let _seat = seat;
         let _call = call;
-        let _plan = plan;
         call_keeps_processes();
         write_takes_few();
+        pwrite_takes_few();
+        Decided {
+            plan: decided.plan,
+            change: Change::File(decided.change),
+        }
     }
 
     /// Records a call of the seat's process, or its refusal by the rules; the seat gets the receipt too. A `Refusal`
@@ -89,10 +95,8 @@ impl Book {
             return Err(refusal);
         }
         let process = seat.pid() as usize;
-        let plan = self
-            .machine
-            .decide(alloc, self.limits.bounds(), process, &call)?;
-        self.is_planned(seat, &call, &plan);
-        Ok(self.append(alloc, seat, Act::Call(call), plan)?)
+        let decided = decide(&self.machine, alloc, self.limits.bounds(), process, &call)?;
+        let decided = self.planned(seat, &call, decided);
+        Ok(self.append(alloc, seat, Act::Call(call), decided)?)
     }
 }

@@ -1,101 +1,114 @@
 -- An act is read from its spellings alone.
-use Rattle.std.proofs.Common.{◌≡◌, ℕ, ◌^◌, ◌<◌, true, cond, List, ◌∷◌, ◌++◌, length, Option, Some, None, Result, Ok, Err, sym, ap, subst, ◌∙◌, arith, inl, inr, ℤ, FitsSigned, w32}
+use Rattle.std.proofs.Common.{◌≡◌, ℕ, ◌^◌, ◌<◌, true, cond, List, [], ◌∷◌, ◌++◌, length, Option, Some, None, Result, Ok, Err, refl, sym, ap, subst, ◌∙◌, inl, inr}
 use Rattle.std.specs.Prelude.{codes, IfOk}
 use Rattle.std.specs.Str.{bytes_eq}
+use Rattle.std.specs.List.{AllByRecursion}
 use Rattle.std.specs.Fmt.{decimal, signed_decimal}
-use Rattle.std.proofs.lemmas.List.{append-nil}
 use Rattle.std.proofs.lemmas.Slice.Eq.{bytes_eq-Decides}
 use Rattle.call_types.specs.declared.call.Call.{Call}
 use Rattle.call_types.specs.declared.call.Call.TheVariants as calls
 use Rattle.call_types.specs.declared.act.ScriptAct.{ScriptAct}
 use Rattle.call_types.specs.declared.act.ScriptAct.TheVariants as acts
-use Rattle.call_types.specs.declared.flags.OpenFlags.{OpenFlags}
-use Rattle.script_text.specs.Reading.{◌>>=◌, Left, Word, cut, kept, word_at, field, ended}
-use Rattle.script_text.specs.ReadingNumbers.{number_of, process_of, descriptor_of}
-use Rattle.script_text.specs.ReadingNames.{name_of}
-use Rattle.script_text.specs.ReadingData.{data_of}
-use Rattle.script_text.specs.ReadingFlags.{flags_of}
-use Rattle.script_text.specs.ReadingCalls.{open_call, close_call, read_call, write_call, named_call, process_act, join_act, act_at, with_column, reading}
+use Rattle.script_text.specs.Reading.{◌>>=◌, Left, Word, Named, one_of, cut, kept, word_at, ended}
+use Rattle.script_text.specs.ReadingNumbers.{process_of}
+use Rattle.script_text.specs.ReadingPositions.{pread_call, pwrite_call, lseek_call, ftruncate_call}
+use Rattle.script_text.specs.ReadingCalls.{open_call, close_call, read_call, write_call, fstat_call, script_calls, named_call, process_act, join_act, act_at, with_column, reading}
 use Rattle.script_text.specs.declared.fault.ReadFault.{ReadFault}
 use Rattle.script_text.specs.ReadingResults.{LineGives}
-use Rattle.script_text.specs.Lines.{flags_word, process_word}
-use Rattle.script_text.specs.Spellings.{SpellsName, SpellsData, SpellsCall, SpellsAct}
-use Rattle.script_text.proofs.Numerals.{chosen, number_takes, number_again}
-use Rattle.script_text.proofs.WordLaws.{Unbroken, tail, cut_joined, cut_again, kept_parts, field_takes, field_again, bind_ok, ended_takes, decimal_unbroken, process_takes, process_again, process_unbroken, descriptor_takes, descriptor_again, descriptor_unbroken}
-use Rattle.script_text.proofs.NameLaws.{name_takes, name_again, name_unbroken}
-use Rattle.script_text.proofs.DataLaws.{data_takes, data_again, data_unbroken}
-use Rattle.script_text.proofs.FlagLaws.{flags_takes, flags_again, flags_unbroken}
-
-abbrev done : {A : Type 0} → A → Result A ℕ
-done x = Ok x
-
-ok_is : {A : Type 0} (x y : A) → done x ≡ done y → x ≡ y
-ok_is x y e = cc
-
--- the last field of a line
-last_takes : {A B : Type 0} (value : List ℕ → Option A) (left : Left) (a : A) (after : Left) (b c : B) → field value left ≡ Ok (a, after) → (ended after >>= λ end. Ok b) ≡ Ok c → (word : List ℕ) × (left ≡ Some word) × (value word ≡ Some a) × (b ≡ c)
-last_takes value left a after b c e h =
-    let f = field_takes value left a after e in
-    let last = bind_ok (ended after) (λ end. Ok b) c h in
-    let no = ended_takes after last.0 last.1 in
-    (f.word, f.is ∙ ap (λ (l : Left). Some (f.word ++ tail l)) no ∙ ap (λ (w : List ℕ). Some w) (append-nil f.word), f.has, ok_is b c last.2)
-
-last_again : {A : Type 0} (value : List ℕ → Option A) (word : List ℕ) (a : A) → Unbroken word → value word ≡ Some a → field value (Some word) ≡ Ok (a, None)
-last_again value word a h e = ap (λ (w : List ℕ). field value (Some w)) (sym (append-nil word)) ∙ field_again value word a None h e
+use Rattle.script_text.specs.Lines.{whence_word, flags_word, process_word}
+use Rattle.script_text.specs.Spellings.{SpellsCall, SpellsAct}
+use Rattle.script_text.proofs.Numerals.{chosen}
+use Rattle.script_text.proofs.WordLaws.{tail, cut_joined, cut_again, kept_parts, bind_ok, ended_takes, process_takes, process_again, process_unbroken}
+use Rattle.script_text.proofs.FieldLaws.{ok_is, one_takes, one_again, two_takes, two_again, three_takes, three_again}
+use Rattle.script_text.proofs.FieldKinds.{descriptor, position, count, name, payload, flags, whence}
 
 -- what a call's reader reads behind the first word
 abbrev Read : List ℕ → Left → Call → Type 0
-Read first left call = (text : List ℕ) × (left ≡ Some text) × SpellsCall call (first ++ text)
+Read first left call = (text : List ℕ) × (left ≡ Some text) × SpellsCall call (first ++ (32 ∷ text))
 
-open_takes : (left : Left) (call : Call) → open_call left ≡ Ok call → Read (codes "open ") left call
+-- one fact for each call: what is read is spelled so
+abbrev Takes : Named Call → Type 0
+Takes n = (left : Left) (call : Call) → n.reads left ≡ Ok call → Read n.first left call
+
+open_takes : Takes (record { first = codes "open"; reads = open_call })
 open_takes left call e =
-    let n = bind_ok (field name_of left) (λ name. field flags_of name.1 >>= λ flags. ended flags.1 >>= λ end. Ok (calls.Open name.0 (record { 0 = flags.0 }))) call e in
-    let f = bind_ok (field flags_of n.0.1) (λ flags. ended flags.1 >>= λ end. Ok (calls.Open n.0.0 (record { 0 = flags.0 }))) call n.2 in
-    let name = field_takes name_of left n.0.0 n.0.1 n.1 in
-    let flags = last_takes flags_of n.0.1 f.0.0 f.0.1 (calls.Open n.0.0 (record { 0 = f.0.0 })) call f.1 f.2 in
-    let spelled = flags_takes flags.0 f.0.0 flags.2 in
-    let is : left ≡ Some (name.word ++ (32 ∷ flags.0)) = name.is ∙ ap (λ (l : Left). Some (name.word ++ tail l)) flags.1 in (
-      name.word ++ (32 ∷ flags.0),
-      is,
-      subst (λ (c : Call). SpellsCall c (codes "open " ++ (name.word ++ (32 ∷ flags.0)))) flags.3
-          (name.word, name_takes name.word n.0.0 name.has, spelled.1, ap (λ (w : List ℕ). codes "open " ++ (name.word ++ (32 ∷ w))) spelled.0),
+    let f = two_takes name flags (λ name bits. calls.Open name (record { 0 = bits })) left call e in (
+      f.first ++ (32 ∷ f.second),
+      f.is,
+      subst (λ (c : Call). SpellsCall c (codes "open " ++ (f.first ++ (32 ∷ f.second)))) f.made
+          (f.first, f.spelled_a, f.spelled_b.1, ap (λ (w : List ℕ). codes "open " ++ (f.first ++ (32 ∷ w))) f.spelled_b.0),
     )
 
-close_takes : (left : Left) (call : Call) → close_call left ≡ Ok call → Read (codes "close ") left call
+close_takes : Takes (record { first = codes "close"; reads = close_call })
 close_takes left call e =
-    let d = bind_ok (field descriptor_of left) (λ fd. ended fd.1 >>= λ end. Ok (calls.Close fd.0)) call e in
-    let fd = last_takes descriptor_of left d.0.0 d.0.1 (calls.Close d.0.0) call d.1 d.2 in
-    let spelled = descriptor_takes fd.0 d.0.0 fd.2 in
-    (fd.0, fd.1, subst (λ (c : Call). SpellsCall c (codes "close " ++ fd.0)) fd.3 (spelled.1, ap (λ (w : List ℕ). codes "close " ++ w) spelled.0))
+    let f = one_takes descriptor calls.Close left call e in
+    (f.word, f.is, subst (λ (c : Call). SpellsCall c (codes "close " ++ f.word)) f.made (f.spelled.1, ap (λ (w : List ℕ). codes "close " ++ w) f.spelled.0))
 
-read_takes : (left : Left) (call : Call) → read_call left ≡ Ok call → Read (codes "read ") left call
+read_takes : Takes (record { first = codes "read"; reads = read_call })
 read_takes left call e =
-    let d = bind_ok (field descriptor_of left) (λ fd. field (number_of 4294967295) fd.1 >>= λ count. ended count.1 >>= λ end. Ok (calls.Read fd.0 count.0)) call e in
-    let n = bind_ok (field (number_of 4294967295) d.0.1) (λ count. ended count.1 >>= λ end. Ok (calls.Read d.0.0 count.0)) call d.2 in
-    let fd = field_takes descriptor_of left d.0.0 d.0.1 d.1 in
-    let count = last_takes (number_of 4294967295) d.0.1 n.0.0 n.0.1 (calls.Read d.0.0 n.0.0) call n.1 n.2 in
-    let first = descriptor_takes fd.word d.0.0 fd.has in
-    let second = number_takes 4294967295 n.0.0 count.0 (omega arith) count.2 in
-    let is : left ≡ Some (fd.word ++ (32 ∷ count.0)) = fd.is ∙ ap (λ (l : Left). Some (fd.word ++ tail l)) count.1 in (
-      fd.word ++ (32 ∷ count.0),
-      is,
-      subst (λ (c : Call). SpellsCall c (codes "read " ++ (fd.word ++ (32 ∷ count.0)))) count.3
-          (first.1, omega (arith, second.1), ap (λ (w : List ℕ). codes "read " ++ (w ++ (32 ∷ count.0))) first.0 ∙ ap (λ (w : List ℕ). codes "read " ++ (signed_decimal d.0.0 ++ (32 ∷ w))) second.0),
+    let f = two_takes descriptor count calls.Read left call e in (
+      f.first ++ (32 ∷ f.second),
+      f.is,
+      subst (λ (c : Call). SpellsCall c (codes "read " ++ (f.first ++ (32 ∷ f.second)))) f.made
+          (f.spelled_a.1, f.spelled_b.1, rw (f.spelled_a.0, f.spelled_b.0) refl),
     )
 
-write_takes : (left : Left) (call : Call) → write_call left ≡ Ok call → Read (codes "write ") left call
+write_takes : Takes (record { first = codes "write"; reads = write_call })
 write_takes left call e =
-    let d = bind_ok (field descriptor_of left) (λ fd. field data_of fd.1 >>= λ bytes. ended bytes.1 >>= λ end. Ok (calls.Write fd.0 bytes.0)) call e in
-    let b = bind_ok (field data_of d.0.1) (λ bytes. ended bytes.1 >>= λ end. Ok (calls.Write d.0.0 bytes.0)) call d.2 in
-    let fd = field_takes descriptor_of left d.0.0 d.0.1 d.1 in
-    let bytes = last_takes data_of d.0.1 b.0.0 b.0.1 (calls.Write d.0.0 b.0.0) call b.1 b.2 in
-    let first = descriptor_takes fd.word d.0.0 fd.has in
-    let is : left ≡ Some (fd.word ++ (32 ∷ bytes.0)) = fd.is ∙ ap (λ (l : Left). Some (fd.word ++ tail l)) bytes.1 in (
-      fd.word ++ (32 ∷ bytes.0),
-      is,
-      subst (λ (c : Call). SpellsCall c (codes "write " ++ (fd.word ++ (32 ∷ bytes.0)))) bytes.3
-          (bytes.0, first.1, data_takes bytes.0 b.0.0 bytes.2, ap (λ (w : List ℕ). codes "write " ++ (w ++ (32 ∷ bytes.0))) first.0),
+    let f = two_takes descriptor payload calls.Write left call e in (
+      f.first ++ (32 ∷ f.second),
+      f.is,
+      subst (λ (c : Call). SpellsCall c (codes "write " ++ (f.first ++ (32 ∷ f.second)))) f.made
+          (f.second, f.spelled_a.1, f.spelled_b, ap (λ (w : List ℕ). codes "write " ++ (w ++ (32 ∷ f.second))) f.spelled_a.0),
     )
+
+fstat_takes : Takes (record { first = codes "fstat"; reads = fstat_call })
+fstat_takes left call e =
+    let f = one_takes descriptor calls.Fstat left call e in
+    (f.word, f.is, subst (λ (c : Call). SpellsCall c (codes "fstat " ++ f.word)) f.made (f.spelled.1, ap (λ (w : List ℕ). codes "fstat " ++ w) f.spelled.0))
+
+pread_takes : Takes (record { first = codes "pread"; reads = pread_call })
+pread_takes left call e =
+    let f = three_takes descriptor position count calls.Pread left call e in
+    let text : List ℕ = f.first ++ (32 ∷ (f.second ++ (32 ∷ f.third))) in (
+      text,
+      f.is,
+      subst (λ (c : Call). SpellsCall c (codes "pread " ++ text)) f.made
+          (f.spelled_a.1, f.spelled_b.1, f.spelled_c.1, rw (f.spelled_a.0, f.spelled_b.0, f.spelled_c.0) refl),
+    )
+
+pwrite_takes : Takes (record { first = codes "pwrite"; reads = pwrite_call })
+pwrite_takes left call e =
+    let f = three_takes descriptor position payload calls.Pwrite left call e in
+    let text : List ℕ = f.first ++ (32 ∷ (f.second ++ (32 ∷ f.third))) in (
+      text,
+      f.is,
+      subst (λ (c : Call). SpellsCall c (codes "pwrite " ++ text)) f.made
+          (f.third, f.spelled_a.1, f.spelled_b.1, f.spelled_c, rw (f.spelled_a.0, f.spelled_b.0) refl),
+    )
+
+lseek_takes : Takes (record { first = codes "lseek"; reads = lseek_call })
+lseek_takes left call e =
+    let f = three_takes descriptor position whence calls.Lseek left call e in
+    let text : List ℕ = f.first ++ (32 ∷ (f.second ++ (32 ∷ f.third))) in (
+      text,
+      f.is,
+      subst (λ (c : Call). SpellsCall c (codes "lseek " ++ text)) f.made
+          (f.spelled_a.1, f.spelled_b.1, rw (f.spelled_a.0, f.spelled_b.0, f.spelled_c) refl),
+    )
+
+ftruncate_takes : Takes (record { first = codes "ftruncate"; reads = ftruncate_call })
+ftruncate_takes left call e =
+    let f = two_takes descriptor position calls.Ftruncate left call e in (
+      f.first ++ (32 ∷ f.second),
+      f.is,
+      subst (λ (c : Call). SpellsCall c (codes "ftruncate " ++ (f.first ++ (32 ∷ f.second)))) f.made
+          (f.spelled_a.1, f.spelled_b.1, rw (f.spelled_a.0, f.spelled_b.0) refl),
+    )
+
+-- the facts of all calls, in the order of the table
+all_take : AllByRecursion Takes script_calls
+all_take = (open_takes, (close_takes, (read_takes, (write_takes, (fstat_takes, (pread_takes, (pwrite_takes, (lseek_takes, (ftruncate_takes, tt)))))))))
 
 -- a first word that is a call's name, and what follows it
 behind : (first : List ℕ) (w : Word) (text : List ℕ) → bytes_eq w.text first ≡ true → w.after ≡ Some text → w.text ++ tail w.after ≡ first ++ (32 ∷ text)
@@ -105,28 +118,16 @@ behind first w text e h = ap (λ (t : List ℕ). t ++ tail w.after) ((bytes_eq-D
 abbrev Spelled : Word → Call → Type 0
 Spelled w call = SpellsCall call (w.text ++ tail w.after)
 
-named_takes : (w : Word) (call : Call) → named_call w ≡ Ok call → Spelled w call
-named_takes w call e =
-    let rest4 : Result Call ℕ = Err w.place in
-    let rest3 : Result Call ℕ = cond (bytes_eq w.text (codes "write")) (write_call w.after) rest4 in
-    let rest2 : Result Call ℕ = cond (bytes_eq w.text (codes "read")) (read_call w.after) rest3 in
-    let rest1 : Result Call ℕ = cond (bytes_eq w.text (codes "close")) (close_call w.after) rest2 in
-    elim (chosen (bytes_eq w.text (codes "open")) (open_call w.after) rest1 (Ok call) e) [
-      | inl o ↦ let r = open_takes w.after call o.1 in subst (SpellsCall call) (sym (behind (codes "open") w r.0 o.0 r.1)) r.2
-      | inr other1 ↦
-          elim (chosen (bytes_eq w.text (codes "close")) (close_call w.after) rest2 (Ok call) other1.1) [
-            | inl o ↦ let r = close_takes w.after call o.1 in subst (SpellsCall call) (sym (behind (codes "close") w r.0 o.0 r.1)) r.2
-            | inr other2 ↦
-                elim (chosen (bytes_eq w.text (codes "read")) (read_call w.after) rest3 (Ok call) other2.1) [
-                  | inl o ↦ let r = read_takes w.after call o.1 in subst (SpellsCall call) (sym (behind (codes "read") w r.0 o.0 r.1)) r.2
-                  | inr other3 ↦
-                      elim (chosen (bytes_eq w.text (codes "write")) (write_call w.after) rest4 (Ok call) other3.1) [
-                        | inl o ↦ let r = write_takes w.after call o.1 in subst (SpellsCall call) (sym (behind (codes "write") w r.0 o.0 r.1)) r.2
-                        | inr none ↦ absurd (let f = none.1 in cc)
-                      ]
-                ]
-          ]
+one_of_takes : (ns : List (Named Call)) (w : Word) (call : Call) → AllByRecursion Takes ns → one_of ns w ≡ Ok call → Spelled w call
+one_of_takes [] w call h e = absurd cc
+one_of_takes (n ∷ ns) w call h e =
+    elim (chosen (bytes_eq w.text n.first) (n.reads w.after) (one_of ns w) (Ok call) e) [
+      | inl is ↦ let r = h.0 w.after call is.1 in subst (SpellsCall call) (sym (behind n.first w r.0 is.0 r.1)) r.2
+      | inr other ↦ one_of_takes ns w call h.1 other.1
     ]
+
+named_takes : (w : Word) (call : Call) → named_call w ≡ Ok call → Spelled w call
+named_takes w call e = one_of_takes script_calls w call all_take e
 
 word_takes : (left : Left) (w : Word) → word_at left ≡ Ok w → left ≡ Some (w.text ++ tail w.after)
 word_takes None w e = absurd cc
@@ -173,40 +174,19 @@ reading_takes line act e = act_takes line act (column_takes (length line) (act_a
 
 -- ---- and what is spelled so is read
 
-open_again : (name : List ℕ) (flags : OpenFlags) (word : List ℕ) → SpellsName name word → flags.0 < 8 → open_call (Some (word ++ (32 ∷ flags_word flags.0))) ≡ Ok (calls.Open name flags)
-open_again name flags word s h =
-    ap (λ (r : Result (List ℕ × Left) ℕ). r >>= λ name. field flags_of name.1 >>= λ flags. ended flags.1 >>= λ end. Ok (calls.Open name.0 (record { 0 = flags.0 })))
-    (field_again name_of word name (Some (flags_word flags.0)) (name_unbroken name word s) (name_again name word s))
-    ∙ ap (λ (r : Result (ℕ × Left) ℕ). r >>= λ flags. ended flags.1 >>= λ end. Ok (calls.Open name (record { 0 = flags.0 })))
-    (last_again flags_of (flags_word flags.0) flags.0 (flags_unbroken flags.0 h) (flags_again flags.0 h))
-
-close_again : (fd : ℤ) → FitsSigned w32 fd → close_call (Some (signed_decimal fd)) ≡ Ok (calls.Close fd)
-close_again fd h =
-    ap (λ (r : Result (ℤ × Left) ℕ). r >>= λ fd. ended fd.1 >>= λ end. Ok (calls.Close fd.0))
-    (last_again descriptor_of (signed_decimal fd) fd (descriptor_unbroken fd h) (descriptor_again fd h))
-
-read_again : (fd : ℤ) (count : ℕ) → FitsSigned w32 fd → count < 2 ^ 32 → read_call (Some (signed_decimal fd ++ (32 ∷ decimal count))) ≡ Ok (calls.Read fd count)
-read_again fd count h k =
-    ap (λ (r : Result (ℤ × Left) ℕ). r >>= λ fd. field (number_of 4294967295) fd.1 >>= λ count. ended count.1 >>= λ end. Ok (calls.Read fd.0 count.0))
-    (field_again descriptor_of (signed_decimal fd) fd (Some (decimal count)) (descriptor_unbroken fd h) (descriptor_again fd h))
-    ∙ ap (λ (r : Result (ℕ × Left) ℕ). r >>= λ count. ended count.1 >>= λ end. Ok (calls.Read fd count.0))
-    (last_again (number_of 4294967295) (decimal count) count (decimal_unbroken count (omega arith)) (number_again 4294967295 count (omega arith) (omega arith)))
-
-write_again : (fd : ℤ) (bytes word : List ℕ) → FitsSigned w32 fd → SpellsData bytes word → write_call (Some (signed_decimal fd ++ (32 ∷ word))) ≡ Ok (calls.Write fd bytes)
-write_again fd bytes word h s =
-    ap (λ (r : Result (ℤ × Left) ℕ). r >>= λ fd. field data_of fd.1 >>= λ bytes. ended bytes.1 >>= λ end. Ok (calls.Write fd.0 bytes.0))
-    (field_again descriptor_of (signed_decimal fd) fd (Some word) (descriptor_unbroken fd h) (descriptor_again fd h))
-    ∙ ap (λ (r : Result (List ℕ × Left) ℕ). r >>= λ bytes. ended bytes.1 >>= λ end. Ok (calls.Write fd bytes.0))
-    (last_again data_of word bytes (data_unbroken bytes word s) (data_again bytes word s))
-
 abbrev call_from : List ℕ → Result Call ℕ
 call_from text = word_at (Some text) >>= λ w. named_call w
 
 call_again : (call : Call) (text : List ℕ) → SpellsCall call text → call_from text ≡ Ok call
-call_again (calls.Open name flags) text p = ap call_from p.3 ∙ open_again name flags p.0 p.1 p.2
-call_again (calls.Close fd) text p = ap call_from p.1 ∙ close_again fd p.0
-call_again (calls.Read fd count) text p = ap call_from p.2 ∙ read_again fd count p.0 p.1
-call_again (calls.Write fd bytes) text p = ap call_from p.3 ∙ write_again fd bytes p.0 p.1 p.2
+call_again (calls.Open bytes bits) text p = ap call_from p.3 ∙ two_again name flags (λ name bits. calls.Open name (record { 0 = bits })) p.0 (flags_word bits.0) bytes bits.0 p.1 (refl, p.2)
+call_again (calls.Close fd) text p = ap call_from p.1 ∙ one_again descriptor calls.Close (signed_decimal fd) fd (refl, p.0)
+call_again (calls.Read fd n) text p = ap call_from p.2 ∙ two_again descriptor count calls.Read (signed_decimal fd) (decimal n) fd n (refl, p.0) (refl, p.1)
+call_again (calls.Write fd bytes) text p = ap call_from p.3 ∙ two_again descriptor payload calls.Write (signed_decimal fd) p.0 fd bytes (refl, p.1) p.2
+call_again (calls.Pread fd start n) text p = ap call_from p.3 ∙ three_again descriptor position count calls.Pread (signed_decimal fd) (signed_decimal start) (decimal n) fd start n (refl, p.0) (refl, p.1) (refl, p.2)
+call_again (calls.Pwrite fd start bytes) text p = ap call_from p.4 ∙ three_again descriptor position payload calls.Pwrite (signed_decimal fd) (signed_decimal start) p.0 fd start bytes (refl, p.1) (refl, p.2) p.3
+call_again (calls.Lseek fd offset w) text p = ap call_from p.2 ∙ three_again descriptor position whence calls.Lseek (signed_decimal fd) (signed_decimal offset) (whence_word w) fd offset w (refl, p.0) (refl, p.1) refl
+call_again (calls.Ftruncate fd len) text p = ap call_from p.2 ∙ two_again descriptor position calls.Ftruncate (signed_decimal fd) (signed_decimal len) fd len (refl, p.0) (refl, p.1)
+call_again (calls.Fstat fd) text p = ap call_from p.1 ∙ one_again descriptor calls.Fstat (signed_decimal fd) fd (refl, p.0)
 
 -- what is made of the first word and what is left
 abbrev act_from : ℕ → List ℕ × Left → Result ScriptAct ℕ

@@ -7,6 +7,8 @@ pub mod WordLaws
 pub mod NameLaws
 pub mod DataLaws
 pub mod FlagLaws
+pub mod FieldLaws
+pub mod FieldKinds
 pub mod CallLaws
 pub mod RoundTrip
 pub mod ScriptLaws

@@ -55,6 +55,11 @@ call_written (calls.Close fd) h = (h, refl)
 call_written (calls.Read fd count) h = (h.0, h.1, ap (λ (w : List ℕ). codes "read " ++ w) (append_assoc (signed_decimal fd) (codes " ") (decimal count)))
 call_written (calls.Write fd bytes) h =
     (data_word bytes, h.0, data_written bytes h.1 h.2, ap (λ (w : List ℕ). codes "write " ++ w) (append_assoc (signed_decimal fd) (codes " ") (data_word bytes)))
+call_written (calls.Pread fd start count) h = (h.0, h.1, h.2, simp append_assoc)
+call_written (calls.Pwrite fd start bytes) h = (data_word bytes, h.0, h.1, data_written bytes h.2 h.3, simp append_assoc)
+call_written (calls.Lseek fd offset whence) h = (h.0, h.1, simp append_assoc)
+call_written (calls.Ftruncate fd len) h = (h.0, h.1, ap (λ (w : List ℕ). codes "ftruncate " ++ w) (append_assoc (signed_decimal fd) (codes " ") (signed_decimal len)))
+call_written (calls.Fstat fd) h = (h, refl)
 
 -- a call that is written behind its process is read again
 pub read_back : (process : ℕ) (call : Call) → process < 2 ^ 32 → IsScriptCall call → reading (process_word process ++ codes " " ++ call_text call) ≡ Ok (acts.Call process call)

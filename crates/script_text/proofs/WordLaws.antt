@@ -1,14 +1,15 @@
 -- Words that are numbers are read from their one spelling alone; a word ends at the first space.
-use Rattle.std.proofs.Common.{◌≡◌, ℕ, zero, suc, ◌^◌, ◌<◌, ◌≤◌, Bool, true, false, cond, eqb, leb, List, [], ◌∷◌, ◌++◌, length, Option, Some, None, Result, Ok, Err, refl, sym, ap, subst, ◌∙◌, arith, inl, inr, ℤ, pos, FitsSigned, w32}
-use Rattle.std.specs.Prelude.{negsuc}
-use Rattle.std.proofs.lemmas.Bool.{eqb-true, ne_eqb, and_parts, leb-true, cond-false}
+use Rattle.std.proofs.Common.{◌≡◌, ℕ, zero, suc, ◌+◌, ◌^◌, ◌<◌, ◌≤◌, Bool, true, false, cond, eqb, leb, List, [], ◌∷◌, ◌++◌, length, Option, Some, None, Result, Ok, Err, refl, sym, ap, subst, ◌∙◌, arith, inl, inr, ℤ, pos, FitsSigned, w32, w64}
+use Rattle.std.specs.Prelude.{negsuc, not}
+use Rattle.std.specs.List.{list_all}
+use Rattle.std.proofs.lemmas.Bool.{eqb-true, eq-eqb, ne_eqb, and_parts, leb-true, cond-false, not-true}
 use Rattle.std.proofs.lemmas.Int.{ints}
 use Rattle.std.specs.Char.{is_ascii_digit}
 use Rattle.std.specs.Str.{all_ascii_digits}
 use Rattle.std.specs.Fmt.{decimal, signed_decimal}
 use Rattle.std.proofs.lemmas.Fmt.{digits_decimal, decimal_nonempty}
 use Rattle.script_text.specs.Reading.{◌>>=◌, Left, cut, onto, kept, field, ended}
-use Rattle.script_text.specs.ReadingNumbers.{number_of, process_of, descriptor_of, negative, not_negative}
+use Rattle.script_text.specs.ReadingNumbers.{number_of, process_of, signed_of, descriptor_of, position_of, negative, not_negative}
 use Rattle.script_text.specs.Lines.{process_word}
 use Rattle.script_text.proofs.Numerals.{own, number_takes, number_again, chosen}
 
@@ -20,6 +21,16 @@ Unbroken (c ∷ cs) = (c ≡ 32 → ⊥) × Unbroken cs
 pub unbroken_both : (a b : List ℕ) → Unbroken a → Unbroken b → Unbroken (a ++ b)
 unbroken_both [] b h k = k
 unbroken_both (c ∷ cs) b h k = (h.0, unbroken_both cs b h.1 k)
+
+no_space : (c : ℕ) (b : Bool) → eqb c 32 ≡ b → b ≡ false → c ≡ 32 → ⊥
+no_space c b e f h = absurd (let t = sym (eq-eqb c 32 h) ∙ e ∙ f in cc)
+
+-- the same as a test
+pub unbroken : (word : List ℕ) → list_all (λ c. not (eqb c 32)) word ≡ true → Unbroken word
+unbroken [] h = tt
+unbroken (c ∷ cs) h =
+    let parts = and_parts (not (eqb c 32)) (list_all (λ c. not (eqb c 32)) cs) h in
+    (no_space c (eqb c 32) refl (not-true (eqb c 32) parts.0), unbroken cs parts.1)
 
 digits_unbroken : (ds : List ℕ) → all_ascii_digits ds ≡ true → Unbroken ds
 digits_unbroken [] h = tt
@@ -83,7 +94,7 @@ pub ended_takes : (left : Left) (u : Unit {0}) → ended left ≡ Ok u → left 
 ended_takes None u e = refl
 ended_takes (Some bytes) u e = absurd cc
 
--- ---- processes and descriptors
+-- ---- processes, descriptors and positions
 
 pub process_takes : (word : List ℕ) (p : ℕ) → process_of word ≡ Some p → (word ≡ process_word p) × (p < 2 ^ 32)
 process_takes [] p e = absurd cc
@@ -110,46 +121,77 @@ not_negative_takes : (o : Option ℕ) (fd : ℤ) → not_negative o ≡ Some fd 
 not_negative_takes None fd e = absurd cc
 not_negative_takes (Some n) fd e = (n, refl, cc)
 
-small_negative : (n : ℕ) → suc n ≤ 2147483648 → FitsSigned w32 (negsuc n)
-small_negative n h = omega (arith, ints)
+-- a number from -(most + 1) to most
+abbrev pub Within : ℕ → ℤ → Type 0
+Within most (pos n) = n ≤ most
+Within most (negsuc n) = n ≤ most
 
-small_number : (n : ℕ) → n ≤ 2147483647 → FitsSigned w32 (pos n)
-small_number n h = omega (arith, ints)
-
-pub descriptor_takes : (word : List ℕ) (fd : ℤ) → descriptor_of word ≡ Some fd → (word ≡ signed_decimal fd) × FitsSigned w32 fd
-descriptor_takes [] fd e = absurd cc
-descriptor_takes (c ∷ cs) fd e =
-    elim (chosen (eqb c 45) (negative (number_of 2147483648 cs)) (not_negative (number_of 2147483647 (c ∷ cs))) (Some fd) e) [
+signed_takes : (most : ℕ) (word : List ℕ) (z : ℤ) → most + 1 < 2 ^ 64 → signed_of most word ≡ Some z → (word ≡ signed_decimal z) × Within most z
+signed_takes most [] z fits e = absurd cc
+signed_takes most (c ∷ cs) z fits e =
+    elim (chosen (eqb c 45) (negative (number_of (most + 1) cs)) (not_negative (number_of most (c ∷ cs))) (Some z) e) [
       | inl is ↦
-          let v = negative_takes (number_of 2147483648 cs) fd is.1 in
-          let n = number_takes 2147483648 (suc v.0) cs (omega arith) v.1 in
-          rw v.2 (ap (λ (d : ℕ). d ∷ cs) (eqb-true c 45 is.0) ∙ ap (λ (ds : List ℕ). 45 ∷ ds) n.0, small_negative v.0 n.1)
+          let v = negative_takes (number_of (most + 1) cs) z is.1 in
+          let n = number_takes (most + 1) (suc v.0) cs fits v.1 in
+          rw v.2 (ap (λ (d : ℕ). d ∷ cs) (eqb-true c 45 is.0) ∙ ap (λ (ds : List ℕ). 45 ∷ ds) n.0, omega (arith, n.1))
       | inr other ↦
-          let v = not_negative_takes (number_of 2147483647 (c ∷ cs)) fd other.1 in
-          let n = number_takes 2147483647 v.0 (c ∷ cs) (omega arith) v.1 in
-          rw v.2 (n.0, small_number v.0 n.1)
+          let v = not_negative_takes (number_of most (c ∷ cs)) z other.1 in
+          let n = number_takes most v.0 (c ∷ cs) (omega arith) v.1 in
+          rw v.2 (n.0, n.1)
     ]
 
-number_size : (n : ℕ) → FitsSigned w32 (pos n) → n ≤ 2147483647
-number_size n h = omega (arith, ints)
-
-negative_size : (n : ℕ) → FitsSigned w32 (negsuc n) → suc n ≤ 2147483648
-negative_size n h = omega (arith, ints)
-
-not_minus : (word : List ℕ) (n : ℕ) → word ≡ decimal n → n ≤ 2147483647 → descriptor_of word ≡ Some (pos n)
-not_minus [] n e h = absurd (omega (arith, decimal_nonempty n (omega arith), ap length e))
-not_minus (c ∷ cs) n e h =
+not_minus : (most : ℕ) (word : List ℕ) (n : ℕ) → most + 1 < 2 ^ 64 → word ≡ decimal n → n ≤ most → signed_of most word ≡ Some (pos n)
+not_minus most [] n fits e h = absurd (omega (arith, decimal_nonempty n (omega arith), ap length e))
+not_minus most (c ∷ cs) n fits e h =
     let digits : all_ascii_digits (c ∷ cs) ≡ true = subst (λ (ds : List ℕ). all_ascii_digits ds ≡ true) (sym e) (digits_decimal own n (omega arith)) in
     let parts = and_parts (is_ascii_digit c) (all_ascii_digits cs) digits in
     let low = and_parts (leb 48 c) (leb c 57) parts.0 in
     let first : 48 ≤ c = leb-true 48 c low.0 in
-    let read : number_of 2147483647 (c ∷ cs) ≡ Some n = ap (number_of 2147483647) e ∙ number_again 2147483647 n (omega arith) h in
-    cond-false (eqb c 45) (negative (number_of 2147483648 cs)) (not_negative (number_of 2147483647 (c ∷ cs))) (ne_eqb c 45 (λ m. omega arith)) ∙ ap not_negative read
+    let read : number_of most (c ∷ cs) ≡ Some n = ap (number_of most) e ∙ number_again most n (omega arith) h in
+    cond-false (eqb c 45) (negative (number_of (most + 1) cs)) (not_negative (number_of most (c ∷ cs))) (ne_eqb c 45 (λ m. omega arith)) ∙ ap not_negative read
+
+signed_again : (most : ℕ) (z : ℤ) → most + 1 < 2 ^ 64 → Within most z → signed_of most (signed_decimal z) ≡ Some z
+signed_again most (pos n) fits h = not_minus most (decimal n) n fits refl h
+signed_again most (negsuc n) fits h = ap negative (number_again (most + 1) (suc n) fits (omega arith))
+
+signed_unbroken : (most : ℕ) (z : ℤ) → most + 1 < 2 ^ 64 → Within most z → Unbroken (signed_decimal z)
+signed_unbroken most (pos n) fits h = decimal_unbroken n (omega arith)
+signed_unbroken most (negsuc n) fits h = (λ e. omega arith, decimal_unbroken (suc n) (omega arith))
+
+fits_32 : (z : ℤ) → Within 2147483647 z → FitsSigned w32 z
+fits_32 (pos n) h = omega (arith, ints)
+fits_32 (negsuc n) h = omega (arith, ints)
+
+within_32 : (z : ℤ) → FitsSigned w32 z → Within 2147483647 z
+within_32 (pos n) h = omega (arith, ints)
+within_32 (negsuc n) h = omega (arith, ints)
+
+fits_64 : (z : ℤ) → Within 9223372036854775807 z → FitsSigned w64 z
+fits_64 (pos n) h = omega (arith, ints)
+fits_64 (negsuc n) h = omega (arith, ints)
+
+within_64 : (z : ℤ) → FitsSigned w64 z → Within 9223372036854775807 z
+within_64 (pos n) h = omega (arith, ints)
+within_64 (negsuc n) h = omega (arith, ints)
+
+pub descriptor_takes : (word : List ℕ) (fd : ℤ) → descriptor_of word ≡ Some fd → (word ≡ signed_decimal fd) × FitsSigned w32 fd
+descriptor_takes word fd e =
+    let s = signed_takes 2147483647 word fd (omega arith) e in
+    (s.0, fits_32 fd s.1)
 
 pub descriptor_again : (fd : ℤ) → FitsSigned w32 fd → descriptor_of (signed_decimal fd) ≡ Some fd
-descriptor_again (pos n) h = not_minus (decimal n) n refl (number_size n h)
-descriptor_again (negsuc n) h = ap negative (number_again 2147483648 (suc n) (omega arith) (negative_size n h))
+descriptor_again fd h = signed_again 2147483647 fd (omega arith) (within_32 fd h)
 
 pub descriptor_unbroken : (fd : ℤ) → FitsSigned w32 fd → Unbroken (signed_decimal fd)
-descriptor_unbroken (pos n) h = decimal_unbroken n (omega (arith, number_size n h))
-descriptor_unbroken (negsuc n) h = (λ e. omega arith, decimal_unbroken (suc n) (omega (arith, negative_size n h)))
+descriptor_unbroken fd h = signed_unbroken 2147483647 fd (omega arith) (within_32 fd h)
+
+pub position_takes : (word : List ℕ) (start : ℤ) → position_of word ≡ Some start → (word ≡ signed_decimal start) × FitsSigned w64 start
+position_takes word start e =
+    let s = signed_takes 9223372036854775807 word start (omega arith) e in
+    (s.0, fits_64 start s.1)
+
+pub position_again : (start : ℤ) → FitsSigned w64 start → position_of (signed_decimal start) ≡ Some start
+position_again start h = signed_again 9223372036854775807 start (omega arith) (within_64 start h)
+
+pub position_unbroken : (start : ℤ) → FitsSigned w64 start → Unbroken (signed_decimal start)
+position_unbroken start h = signed_unbroken 9223372036854775807 start (omega arith) (within_64 start h)

@@ -3,6 +3,7 @@ pub mod ReadingNumbers
 pub mod ReadingNames
 pub mod ReadingData
 pub mod ReadingFlags
+pub mod ReadingPositions
 pub mod ReadingCalls
 pub mod ReadingResults
 pub mod ReadingScripts

@@ -4,6 +4,8 @@ use Rattle.std.specs.Fmt.{signed_decimal}
 use Rattle.std.specs.List.{flat_map, list_all}
 use Rattle.call_types.specs.declared.call.Call.{Call}
 use Rattle.call_types.specs.declared.call.Call.TheVariants as calls
+use Rattle.call_types.specs.declared.whence.Whence.{Whence}
+use Rattle.call_types.specs.declared.whence.Whence.TheVariants as whences
 use Rattle.call_types.specs.declared.act.ScriptAct.{ScriptAct}
 use Rattle.call_types.specs.declared.act.ScriptAct.TheVariants as scripts
 use Rattle.call_types.specs.declared.act.Act.{Act}
@@ -69,12 +71,23 @@ suffix bits bit text = if bit_and bits bit == bit then text else []
 abbrev pub flags_word : ℕ → List ℕ
 flags_word bits = mode_word bits ++ suffix bits 4 (codes ",creat") ++ suffix bits 8 (codes ",excl") ++ suffix bits 16 (codes ",trunc") ++ suffix bits 32 (codes ",append") ++ suffix bits 64 (codes ",nonblock")
 
+-- from where an lseek counts
+abbrev pub whence_word : Whence → List ℕ
+whence_word whences.Set = codes "set"
+whence_word whences.Cur = codes "cur"
+whence_word whences.End = codes "end"
+
 -- a call, behind its process
 abbrev pub call_text : Call → List ℕ
 call_text (calls.Open name flags) = codes "open " ++ name_word name ++ codes " " ++ flags_word flags.0
 call_text (calls.Close fd) = codes "close " ++ signed_decimal fd
 call_text (calls.Read fd count) = codes "read " ++ signed_decimal fd ++ codes " " ++ decimal count
 call_text (calls.Write fd bytes) = codes "write " ++ signed_decimal fd ++ codes " " ++ data_word bytes
+call_text (calls.Pread fd start count) = codes "pread " ++ signed_decimal fd ++ codes " " ++ signed_decimal start ++ codes " " ++ decimal count
+call_text (calls.Pwrite fd start bytes) = codes "pwrite " ++ signed_decimal fd ++ codes " " ++ signed_decimal start ++ codes " " ++ data_word bytes
+call_text (calls.Lseek fd offset whence) = codes "lseek " ++ signed_decimal fd ++ codes " " ++ signed_decimal offset ++ codes " " ++ whence_word whence
+call_text (calls.Ftruncate fd len) = codes "ftruncate " ++ signed_decimal fd ++ codes " " ++ signed_decimal len
+call_text (calls.Fstat fd) = codes "fstat " ++ signed_decimal fd
 
 -- an act, behind the actor
 abbrev pub act_text : Act → List ℕ

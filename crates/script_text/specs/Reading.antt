@@ -1,5 +1,6 @@
 -- Reading a line from left to right, with the first fault that is met: how many bytes of the line are left there.
 use Rattle.std.specs.Prelude.{◌≡◌, ℕ, ◌==◌, List, [], ◌∷◌, length, Option, Some, None, Result, Ok, Err, if◌then◌else◌}
+use Rattle.std.specs.Str.{bytes_eq}
 use Rattle.script_text.specs.declared.fault.WordFault.{WordFault}
 use Rattle.script_text.specs.declared.fault.WordFault.TheVariants as faults
 
@@ -54,3 +55,13 @@ ended (Some bytes) = Err (length bytes)
 abbrev pub field : {A : Type 0} → (List ℕ → Option A) → Left → Result (A × Left) ℕ
 field value None = Err 0
 field value (Some bytes) = kept (value (cut 32 bytes).0) (length bytes) (cut 32 bytes).1
+
+-- a first word, and what reads the words behind it
+pub record Named (A : Type 0) : Type 0 where
+  pub first : List ℕ
+  pub reads : Left → Result A ℕ
+
+-- what the first of them reads that a word names; a word that names none isn't allowed
+abbrev pub one_of : {A : Type 0} → List (Named A) → Word → Result A ℕ
+one_of [] w = Err w.place
+one_of (n ∷ ns) w = if bytes_eq w.text n.first then n.reads w.after else one_of ns w

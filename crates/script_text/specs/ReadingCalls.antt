@@ -1,15 +1,16 @@
 -- Reading the calls and acts of a script, word by word.
-use Rattle.std.specs.Prelude.{ℕ, ◌+◌, ◌-◌, List, length, codes, Some, Result, Ok, Err, if◌then◌else◌}
+use Rattle.std.specs.Prelude.{ℕ, ◌+◌, ◌-◌, List, ◌∷◌, length, codes, Some, Result, Ok, Err, if◌then◌else◌}
 use Rattle.std.specs.Str.{bytes_eq}
 use Rattle.call_types.specs.declared.call.Call.{Call}
 use Rattle.call_types.specs.declared.call.Call.TheVariants as calls
 use Rattle.call_types.specs.declared.act.ScriptAct.{ScriptAct}
 use Rattle.call_types.specs.declared.act.ScriptAct.TheVariants as acts
-use Rattle.script_text.specs.Reading.{◌>>=◌, Left, Word, word_at, kept, field, ended}
+use Rattle.script_text.specs.Reading.{◌>>=◌, Left, Word, Named, one_of, word_at, kept, field, ended}
 use Rattle.script_text.specs.ReadingNumbers.{number_of, process_of, descriptor_of}
 use Rattle.script_text.specs.ReadingNames.{name_of}
 use Rattle.script_text.specs.ReadingData.{data_of}
 use Rattle.script_text.specs.ReadingFlags.{flags_of}
+use Rattle.script_text.specs.ReadingPositions.{position_calls}
 
 -- open NAME FLAGS, behind its first word
 abbrev pub open_call : Left → Result Call ℕ
@@ -42,14 +43,26 @@ write_call left = do
   end ← ended bytes.1
   Ok (calls.Write fd.0 bytes.0)
 
+-- fstat FD
+abbrev pub fstat_call : Left → Result Call ℕ
+fstat_call left = do
+  fd ← field descriptor_of left
+  end ← ended fd.1
+  Ok (calls.Fstat fd.0)
+
+-- the calls that a script may have
+abbrev pub script_calls : List (Named Call)
+script_calls =
+    record { first = codes "open"; reads = open_call }
+    ∷ record { first = codes "close"; reads = close_call }
+    ∷ record { first = codes "read"; reads = read_call }
+    ∷ record { first = codes "write"; reads = write_call }
+    ∷ record { first = codes "fstat"; reads = fstat_call }
+    ∷ position_calls
+
 -- a call, by its first word
 abbrev pub named_call : Word → Result Call ℕ
-named_call w =
-    if bytes_eq w.text (codes "open") then open_call w.after
-    else if bytes_eq w.text (codes "close") then close_call w.after
-    else if bytes_eq w.text (codes "read") then read_call w.after
-    else if bytes_eq w.text (codes "write") then write_call w.after
-    else Err w.place
+named_call w = one_of script_calls w
 
 -- the call of a process, whose word is the first
 abbrev pub process_act : Word → Result ScriptAct ℕ

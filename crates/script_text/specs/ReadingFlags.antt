@@ -9,7 +9,12 @@ pub record Suffix : Type 0 where
 
 -- the flags that may follow the mode, each at most once, in this order
 abbrev pub suffixes : List Suffix
-suffixes = record { text = codes ",creat"; bit = 4 } ∷ []
+suffixes =
+    record { text = codes ",creat"; bit = 4 }
+    ∷ record { text = codes ",excl"; bit = 8 }
+    ∷ record { text = codes ",trunc"; bit = 16 }
+    ∷ record { text = codes ",append"; bit = 32 }
+    ∷ []
 
 -- the bits so far, and what is left of the word, behind one suffix
 abbrev pub taken : ℕ × List ℕ → Suffix → ℕ × List ℕ

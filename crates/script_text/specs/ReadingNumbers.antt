@@ -47,7 +47,15 @@ abbrev pub not_negative : Option ℕ → Option ℤ
 not_negative None = None
 not_negative (Some n) = Some (pos n)
 
--- a descriptor: a number, or a - and a number that is not 0
+-- a number of at most most, or a - and a number from 1 to most + 1
+abbrev pub signed_of : ℕ → List ℕ → Option ℤ
+signed_of most [] = None
+signed_of most (c ∷ cs) = if c == 45 then negative (number_of (most + 1) cs) else not_negative (number_of most (c ∷ cs))
+
+-- a descriptor: 32 bits with a sign
 abbrev pub descriptor_of : List ℕ → Option ℤ
-descriptor_of [] = None
-descriptor_of (c ∷ cs) = if c == 45 then negative (number_of 2147483648 cs) else not_negative (number_of 2147483647 (c ∷ cs))
+descriptor_of word = signed_of 2147483647 word
+
+-- a position, an offset or a length: 64 bits with a sign
+abbrev pub position_of : List ℕ → Option ℤ
+position_of word = signed_of 9223372036854775807 word

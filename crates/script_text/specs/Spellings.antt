@@ -1,7 +1,7 @@
 -- Which lines spell an act, stated apart from how they are read. A number, a flag set or a first word has one
 -- spelling; a name and data may have several.
 use Rattle.std.specs.Prelude.{◌≡◌, ◌==◌, ◌≤◌, ◌<◌, ◌^◌, ◌⊎◌, ℕ, List, [], ◌∷◌, ◌++◌, length, replicate, codes, decimal, IsTrue, FitsSigned}
-use Rattle.std.specs.Int.{w32}
+use Rattle.std.specs.Int.{w32, w64}
 use Rattle.std.specs.Fmt.{signed_decimal}
 use Rattle.std.specs.List.{AllByRecursion, slice_split}
 use Rattle.call_types.specs.declared.call.Call.{Call}
@@ -9,7 +9,7 @@ use Rattle.call_types.specs.declared.call.Call.TheVariants as calls
 use Rattle.call_types.specs.declared.act.ScriptAct.{ScriptAct}
 use Rattle.call_types.specs.declared.act.ScriptAct.TheVariants as acts
 use Rattle.script_text.specs.ReadingNames.{plain}
-use Rattle.script_text.specs.Lines.{hex_pair, flags_word, process_word}
+use Rattle.script_text.specs.Lines.{hex_pair, flags_word, whence_word, process_word}
 
 -- each byte by itself, if it is plain, or by a % and its two digits
 abbrev pub SpellsBytes : List ℕ → List ℕ → Type 0
@@ -40,12 +40,17 @@ SpellsRepeated bytes text = (byte : ℕ) × (count : ℕ) × (byte < 256) × (co
 abbrev pub SpellsData : List ℕ → List ℕ → Type 0
 SpellsData bytes text = SpellsDigits bytes text ⊎ SpellsRepeated bytes text
 
--- a call, behind its process; the flags that a script may have are the two of the mode, and creat
+-- a call, behind its process; a script may have every flag but nonblock
 abbrev pub SpellsCall : Call → List ℕ → Type 0
-SpellsCall (calls.Open name flags) text = (word : List ℕ) × SpellsName name word × (flags.0 < 8) × (text ≡ codes "open " ++ (word ++ (32 ∷ flags_word flags.0)))
+SpellsCall (calls.Open name flags) text = (word : List ℕ) × SpellsName name word × (flags.0 < 64) × (text ≡ codes "open " ++ (word ++ (32 ∷ flags_word flags.0)))
 SpellsCall (calls.Close fd) text = FitsSigned w32 fd × (text ≡ codes "close " ++ signed_decimal fd)
 SpellsCall (calls.Read fd count) text = FitsSigned w32 fd × (count < 2 ^ 32) × (text ≡ codes "read " ++ (signed_decimal fd ++ (32 ∷ decimal count)))
 SpellsCall (calls.Write fd bytes) text = (word : List ℕ) × FitsSigned w32 fd × SpellsData bytes word × (text ≡ codes "write " ++ (signed_decimal fd ++ (32 ∷ word)))
+SpellsCall (calls.Pread fd start count) text = FitsSigned w32 fd × FitsSigned w64 start × (count < 2 ^ 32) × (text ≡ codes "pread " ++ (signed_decimal fd ++ (32 ∷ (signed_decimal start ++ (32 ∷ decimal count)))))
+SpellsCall (calls.Pwrite fd start bytes) text = (word : List ℕ) × FitsSigned w32 fd × FitsSigned w64 start × SpellsData bytes word × (text ≡ codes "pwrite " ++ (signed_decimal fd ++ (32 ∷ (signed_decimal start ++ (32 ∷ word)))))
+SpellsCall (calls.Lseek fd offset whence) text = FitsSigned w32 fd × FitsSigned w64 offset × (text ≡ codes "lseek " ++ (signed_decimal fd ++ (32 ∷ (signed_decimal offset ++ (32 ∷ whence_word whence)))))
+SpellsCall (calls.Ftruncate fd len) text = FitsSigned w32 fd × FitsSigned w64 len × (text ≡ codes "ftruncate " ++ (signed_decimal fd ++ (32 ∷ signed_decimal len)))
+SpellsCall (calls.Fstat fd) text = FitsSigned w32 fd × (text ≡ codes "fstat " ++ signed_decimal fd)
 
 -- an act
 abbrev pub SpellsAct : ScriptAct → List ℕ → Type 0
@@ -58,10 +63,15 @@ AreBytes bytes = AllByRecursion (λ byte. byte < 256) bytes
 
 -- a call that a script may have, with its fields in range
 abbrev pub IsScriptCall : Call → Type 0
-IsScriptCall (calls.Open name flags) = AreBytes name × (length name ≤ 255) × (flags.0 < 8)
+IsScriptCall (calls.Open name flags) = AreBytes name × (length name ≤ 255) × (flags.0 < 64)
 IsScriptCall (calls.Close fd) = FitsSigned w32 fd
 IsScriptCall (calls.Read fd count) = FitsSigned w32 fd × (count < 2 ^ 32)
 IsScriptCall (calls.Write fd bytes) = FitsSigned w32 fd × AreBytes bytes × (length bytes ≤ 65700)
+IsScriptCall (calls.Pread fd start count) = FitsSigned w32 fd × FitsSigned w64 start × (count < 2 ^ 32)
+IsScriptCall (calls.Pwrite fd start bytes) = FitsSigned w32 fd × FitsSigned w64 start × AreBytes bytes × (length bytes ≤ 65700)
+IsScriptCall (calls.Lseek fd offset whence) = FitsSigned w32 fd × FitsSigned w64 offset
+IsScriptCall (calls.Ftruncate fd len) = FitsSigned w32 fd × FitsSigned w64 len
+IsScriptCall (calls.Fstat fd) = FitsSigned w32 fd
 
 -- a line of a script: it has no act, where it is empty, or the next one
 abbrev pub SpellsLine : List ScriptAct → List ScriptAct → List ℕ → Type 0

@@ -1,11 +1,12 @@
 ghost use Rattle.std.specs.Prelude.{◌≡◌};
 ghost use Rattle.std.specs.Option.{option_copied};
 ghost use Rattle.script_text.specs.Reading.{Gives, Word};
-ghost use Rattle.script_text.specs.ReadingCalls.{open_call, close_call, read_call, write_call, named_call};
+ghost use Rattle.script_text.specs.ReadingCalls.{open_call, close_call, read_call, write_call, fstat_call, named_call};
 
 use crate::cutting::Left;
 use crate::fault::WordFault;
 use crate::fields;
+use crate::positions::position_call;
 use crate::words::{Next, line_end};
 use call_types::call::Call;
 use std::alloc::Global;
@@ -49,15 +50,30 @@ fn write(alloc: Global, left: Left<'_>) -> Result<Call, WordFault>
     Ok(Call::Write { fd, bytes })
 }
 
+/// `fstat FD`
+fn fstat(left: Left<'_>) -> Result<Call, WordFault>
+    ensures { Gives (λ x. x) result (fstat_call (option_copied left.entry)) }
+{
+    let (fd, left) = fields::descriptor(left)?;
+    line_end(left)?;
+    Ok(Call::Fstat { fd })
+}
+
 /// The call that a first word names.
 pub(crate) fn call(alloc: Global, word: Next<'_>) -> Result<Call, WordFault>
     ensures { Gives (λ x. x) result (named_call (record { text = word.entry.text.now; place = word.entry.place; after = option_copied word.entry.after })) }
 {
-    match word.text {
-        b"open" => open(alloc, word.after),
-        b"close" => close(word.after),
-        b"read" => read(word.after),
-        b"write" => write(alloc, word.after),
-        _ => Err(WordFault::At { left: word.place }),
+    if word.is(b"open") {
+        open(alloc, word.after)
+    } else if word.is(b"close") {
+        close(word.after)
+    } else if word.is(b"read") {
+        read(word.after)
+    } else if word.is(b"write") {
+        write(alloc, word.after)
+    } else if word.is(b"fstat") {
+        fstat(word.after)
+    } else {
+        position_call(alloc, word)
     }
 }

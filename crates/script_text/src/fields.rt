@@ -1,20 +1,22 @@
 ghost use Rattle.std.specs.Prelude.{◌≡◌};
 ghost use Rattle.std.specs.Option.{option_copied};
 ghost use Rattle.script_text.specs.Reading.{Gives, field};
-ghost use Rattle.script_text.specs.ReadingNumbers.{number_of, descriptor_of};
+ghost use Rattle.script_text.specs.ReadingNumbers.{number_of, descriptor_of, position_of};
 ghost use Rattle.script_text.specs.ReadingNames.{name_of};
 ghost use Rattle.script_text.specs.ReadingData.{data_of};
 ghost use Rattle.script_text.specs.ReadingFlags.{flags_of};
+ghost use Rattle.script_text.specs.ReadingPositions.{whence_of};
 
 use crate::cutting::Left;
 use crate::fault::WordFault;
 use crate::flags::flags_value;
 use crate::name::name_value;
-use crate::number::{descriptor_value, number_value};
+use crate::number::{descriptor_value, number_value, position_value};
 use crate::payload::data_value;
 use crate::words::{next_word, valued};
 use call_types::bounded::{Name, Payload};
 use call_types::flags::OpenFlags;
+use call_types::whence::Whence;
 use std::alloc::Global;
 
 /// The next word as a descriptor.
@@ -23,6 +25,34 @@ pub(crate) fn descriptor(left: Left<'_>) -> Result<(i32, Left<'_>), WordFault>
 {
     let word = next_word(left)?;
     valued(descriptor_value(word.text), word.place, word.after)
+}
+
+/// The next word as a position, an offset or a length, in bytes.
+pub(crate) fn position(left: Left<'_>) -> Result<(i64, Left<'_>), WordFault>
+    ensures { Gives (λ x. (x.0, option_copied x.1)) result (field position_of (option_copied left.entry)) }
+{
+    let word = next_word(left)?;
+    valued(position_value(word.text), word.place, word.after)
+}
+
+/// From where a word of lseek counts.
+fn whence_value(word: &[u8]) -> Option<Whence>
+    ensures { result ≡ whence_of word.now }
+{
+    match word {
+        b"set" => Some(Whence::Set),
+        b"cur" => Some(Whence::Cur),
+        b"end" => Some(Whence::End),
+        _ => None,
+    }
+}
+
+/// The next word as what lseek counts from.
+pub(crate) fn whence(left: Left<'_>) -> Result<(Whence, Left<'_>), WordFault>
+    ensures { Gives (λ x. (x.0, option_copied x.1)) result (field whence_of (option_copied left.entry)) }
+{
+    let word = next_word(left)?;
+    valued(whence_value(word.text), word.place, word.after)
 }
 
 /// The next word as a count of bytes.

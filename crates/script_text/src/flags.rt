@@ -33,6 +33,9 @@ fn mode_and_suffixes(mode: OpenFlags, rest: &[u8]) -> Option<OpenFlags>
     ensures { option_map (λ flags. flags.0) result ≡ behind_mode mode.0 rest.now }
 {
     let (flags, rest) = with_suffix(mode, rest, b",creat", OpenFlags::CREAT);
+    let (flags, rest) = with_suffix(flags, rest, b",excl", OpenFlags::EXCL);
+    let (flags, rest) = with_suffix(flags, rest, b",trunc", OpenFlags::TRUNC);
+    let (flags, rest) = with_suffix(flags, rest, b",append", OpenFlags::APPEND);
     rest.is_empty().then_some(flags)
 }
 

@@ -1,8 +1,16 @@
-ghost use Rattle.std.specs.Prelude.{◌≡◌, ◌≤◌, ◌<◌, ◌^◌, Some, IfSome};
-ghost use Rattle.script_text.specs.ReadingNumbers.{digits_on, number_of, process_of, descriptor_of, negative, not_negative};
+ghost use Rattle.std.specs.Prelude.{◌≡◌, ◌≤◌, ◌<◌, ◌+◌, ◌^◌, Some, IfSome, pos, negsuc, ◌≤ℤ◌};
+ghost use Rattle.script_text.specs.ReadingNumbers.{digits_on, number_of, process_of, signed_of, descriptor_of, position_of, negative, not_negative};
 
 /// The number at most `most` that a word is in decimal, without leading zeros.
 pub(crate) fn number_value(most: u32, word: &[u8]) -> Option<u32>
+    ensures value { result ≡ number_of most word.now }
+    ensures small { IfSome result (λ n. n ≤ most) }
+{
+    Some(wide_number_value(most as u64, word)? as u32)
+}
+
+/// The same of a number that may have 64 bits.
+fn wide_number_value(most: u64, word: &[u8]) -> Option<u64>
     ensures value { result ≡ number_of most word.now }
     ensures small { IfSome result (λ n. n ≤ most) }
 {
@@ -15,7 +23,7 @@ pub(crate) fn number_value(most: u32, word: &[u8]) -> Option<u32>
 }
 
 /// The number at most `most` that the digits stand for.
-fn digits_number(most: u32, digits: &[u8]) -> Option<u32>
+fn digits_number(most: u64, digits: &[u8]) -> Option<u64>
     ensures value { result ≡ digits_on most 0 digits.now }
     ensures small { IfSome result (λ n. n ≤ most) }
 {
@@ -24,12 +32,12 @@ fn digits_number(most: u32, digits: &[u8]) -> Option<u32>
         if !digit.is_ascii_digit() {
             return None;
         }
-        number = number * 10 + (*digit - b'0') as u64;
-        if number > most as u64 {
+        number = number.checked_mul(10)?.checked_add((*digit - b'0') as u64)?;
+        if number > most {
             return None;
         }
     }
-    Some(number as u32)
+    Some(number)
 }
 
 /// The process that a word names: `p` and its number.
@@ -46,28 +54,44 @@ pub(crate) fn process_value(word: &[u8]) -> Option<u32>
 pub(crate) fn descriptor_value(word: &[u8]) -> Option<i32>
     ensures { result ≡ descriptor_of word.now }
 {
+    Some(signed_value((1 << 31) - 1, word)? as i32)
+}
+
+/// The position, offset or length that a word is, in bytes: a number that may be negative.
+pub(crate) fn position_value(word: &[u8]) -> Option<i64>
+    ensures { result ≡ position_of word.now }
+{
+    signed_value((1 << 63) - 1, word)
+}
+
+/// The number that a word is, from -(`most` + 1) to `most`.
+fn signed_value(most: u64, word: &[u8]) -> Option<i64>
+    requires { most < 2 ^ 63 }
+    ensures value { result ≡ signed_of most word.now }
+    ensures within { IfSome result (λ n. negsuc most ≤ℤ n × n ≤ℤ pos most) }
+{
     match word {
         [] => None,
-        [b'-', digits @ ..] => negative_value(number_value(1 << 31, digits)?),
-        digits => plain_value(number_value((1 << 31) - 1, digits)?),
+        [b'-', digits @ ..] => negative_value(wide_number_value(most + 1, digits)?),
+        digits => plain_value(wide_number_value(most, digits)?),
     }
 }
 
 /// The negative of a size, of which 0 has none.
-fn negative_value(size: u32) -> Option<i32>
-    requires { size ≤ 2 ^ 31 }
+fn negative_value(size: u64) -> Option<i64>
+    requires { size ≤ 2 ^ 63 }
     ensures { result ≡ negative (Some size) }
 {
     if size == 0 {
         return None;
     }
-    Some(-((size - 1) as i32) - 1)
+    Some(-((size - 1) as i64) - 1)
 }
 
 /// The size itself.
-fn plain_value(size: u32) -> Option<i32>
-    requires { size < 2 ^ 31 }
+fn plain_value(size: u64) -> Option<i64>
+    requires { size < 2 ^ 63 }
     ensures { result ≡ not_negative (Some size) }
 {
-    Some(size as i32)
+    Some(size as i64)
 }

@@ -27,12 +27,19 @@ pub(crate) fn put_number(out: &mut Vec<u8>, number: u64) -> Result<(), AllocErro
 
 /// Appends a number that may be negative.
 #[tactic(auto, using(crate::proofs::Fronts::keeps))]
-pub(crate) fn put_signed(out: &mut Vec<u8>, number: i32) -> Result<(), AllocError>
+pub(crate) fn put_signed(out: &mut Vec<u8>, number: i64) -> Result<(), AllocError>
     ensures { Appends result out.old.items out.new.items (signed_decimal number) }
 {
     let mut buffer = Buffer::new();
     put(out, buffer.format(number).as_bytes())?;
     Ok(())
+}
+
+/// Appends a descriptor.
+pub(crate) fn put_descriptor(out: &mut Vec<u8>, fd: i32) -> Result<(), AllocError>
+    ensures { Appends result out.old.items out.new.items (signed_decimal fd) }
+{
+    put_signed(out, fd as i64)
 }
 
 /// A lower case hexadecimal digit.

@@ -36,7 +36,7 @@ fn act(alloc: Global, line: &[u8]) -> Result<ScriptAct, WordFault>
     ensures { Gives (λ x. x) result (act_at (Some line.now)) }
 {
     let word = next_word(Some(line))?;
-    if word.text == b"join".as_slice() {
+    if word.is(b"join") {
         return join(word.after);
     }
     process_call(alloc, word)

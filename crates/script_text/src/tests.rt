@@ -10,6 +10,7 @@ use call_types::errno::Errno;
 use call_types::flags::OpenFlags;
 use call_types::outcome::{Kind, Outcome, Reply, Stat};
 use call_types::refusal::Refusal;
+use call_types::whence::Whence;
 use std::alloc::Global;
 use std::process::Abort;
 use std::test::Fail;
@@ -74,6 +75,185 @@ fn acts_are_read(rt: HostRuntime) -> Result<(), Fail> {
         b"p0 write 1 x6162",
         b"- p0 write 1 x6162 = refused RunFull\n",
     )
+}
+
+/// A line of which the act is written as it is read.
+fn is_kept(rt: &impl Abort, alloc: Global, line: &[u8]) -> Result<(), Fail> {
+    let mut text = Vec::from_slice(alloc, b"- ")?;
+    text.extend_from_slice(line)?;
+    text.extend_from_slice(b" = refused RunFull\n")?;
+    reads_as(rt, alloc, line, text.as_slice())
+}
+
+#[test]
+fn calls_on_positions_are_read(rt: HostRuntime) -> Result<(), Fail> {
+    let alloc = rt.alloc();
+    is_kept(&rt, alloc, b"p0 pread 3 10 5")?;
+    is_kept(&rt, alloc, b"p0 pread -1 -7 0")?;
+    is_kept(&rt, alloc, b"p0 pwrite 0 1048575 x6869")?;
+    is_kept(&rt, alloc, b"p0 pwrite 31 0 x")?;
+    is_kept(&rt, alloc, b"p0 lseek 2 0 set")?;
+    is_kept(&rt, alloc, b"p0 lseek 2 -10 cur")?;
+    is_kept(&rt, alloc, b"p0 lseek 2 7 end")?;
+    is_kept(&rt, alloc, b"p0 ftruncate 4 512")?;
+    is_kept(&rt, alloc, b"p0 ftruncate 4 -1")?;
+    is_kept(&rt, alloc, b"p0 fstat 0")?;
+    is_kept(&rt, alloc, b"p0 fstat -2147483648")
+}
+
+#[test]
+fn least_and_greatest_positions_are_read(rt: HostRuntime) -> Result<(), Fail> {
+    let alloc = rt.alloc();
+    is_kept(&rt, alloc, b"p0 pread 0 9223372036854775807 4294967295")?;
+    is_kept(&rt, alloc, b"p0 pread 0 -9223372036854775808 4294967295")?;
+    is_kept(&rt, alloc, b"p0 pwrite 0 9223372036854775807 x61")?;
+    is_kept(&rt, alloc, b"p0 pwrite 0 -9223372036854775808 x61")?;
+    is_kept(&rt, alloc, b"p0 lseek 0 9223372036854775807 set")?;
+    is_kept(&rt, alloc, b"p0 lseek 0 -9223372036854775808 end")?;
+    is_kept(&rt, alloc, b"p0 ftruncate 0 9223372036854775807")?;
+    is_kept(&rt, alloc, b"p0 ftruncate 0 -9223372036854775808")
+}
+
+#[test]
+fn positions_out_of_range_are_refused(rt: HostRuntime) -> Result<(), Fail> {
+    let alloc = rt.alloc();
+    assert_eq!(rt;
+        column(alloc, b"p0 pread 0 9223372036854775808 1"),
+        Some(12)
+    );
+    assert_eq!(rt;
+        column(alloc, b"p0 pread 0 -9223372036854775809 1"),
+        Some(12)
+    );
+    assert_eq!(rt;
+        column(alloc, b"p0 pwrite 0 9223372036854775808 x"),
+        Some(13)
+    );
+    assert_eq!(rt;
+        column(alloc, b"p0 pwrite 0 -9223372036854775809 x"),
+        Some(13)
+    );
+    assert_eq!(rt;
+        column(alloc, b"p0 lseek 0 9223372036854775808 set"),
+        Some(12)
+    );
+    assert_eq!(rt;
+        column(alloc, b"p0 lseek 0 -9223372036854775809 set"),
+        Some(12)
+    );
+    assert_eq!(rt;
+        column(alloc, b"p0 ftruncate 0 9223372036854775808"),
+        Some(16)
+    );
+    assert_eq!(rt;
+        column(alloc, b"p0 ftruncate 0 -9223372036854775809"),
+        Some(16)
+    );
+    assert_eq!(rt;
+        column(alloc, b"p0 ftruncate 0 18446744073709551615"),
+        Some(16)
+    );
+    assert_eq!(rt;
+        column(alloc, b"p0 ftruncate 0 18446744073709551616"),
+        Some(16)
+    );
+    assert_eq!(rt;
+        column(alloc, b"p0 ftruncate 0 18446744073709551617"),
+        Some(16)
+    );
+    assert_eq!(rt;
+        column(alloc, b"p0 ftruncate 0 99999999999999999999999999"),
+        Some(16)
+    );
+    assert_eq!(rt;
+        column(alloc, b"p0 lseek 0 -18446744073709551617 set"),
+        Some(12)
+    );
+    Ok(())
+}
+
+#[test]
+fn bad_words_of_positions_are_refused(rt: HostRuntime) -> Result<(), Fail> {
+    let alloc = rt.alloc();
+    assert_eq!(rt; column(alloc, b"p0 pread 0 -0 1"), Some(12));
+    assert_eq!(rt; column(alloc, b"p0 pread 0 00 1"), Some(12));
+    assert_eq!(rt; column(alloc, b"p0 pread 0 1 4294967296"), Some(14));
+    assert_eq!(rt; column(alloc, b"p0 pread 0 1 -1"), Some(14));
+    assert_eq!(rt; column(alloc, b"p0 pread 2147483648 1 1"), Some(10));
+    assert_eq!(rt; column(alloc, b"p0 pread 0 1"), Some(13));
+    assert_eq!(rt; column(alloc, b"p0 pread 0"), Some(11));
+    assert_eq!(rt; column(alloc, b"p0 pread"), Some(9));
+    assert_eq!(rt; column(alloc, b"p0 pread 0 1 1 1"), Some(16));
+    assert_eq!(rt; column(alloc, b"p0 pwrite 0 x61 1"), Some(13));
+    assert_eq!(rt; column(alloc, b"p0 pwrite 0 1 1"), Some(15));
+    assert_eq!(rt; column(alloc, b"p0 pwrite 0 -01 x61"), Some(13));
+    assert_eq!(rt; column(alloc, b"p0 pwrite 0 1"), Some(14));
+    assert_eq!(rt; column(alloc, b"p0 lseek 0 -0 set"), Some(12));
+    assert_eq!(rt; column(alloc, b"p0 lseek 0 +1 set"), Some(12));
+    assert_eq!(rt; column(alloc, b"p0 lseek 0 1"), Some(13));
+    assert_eq!(rt; column(alloc, b"p0 lseek 0 1 "), Some(14));
+    assert_eq!(rt; column(alloc, b"p0 lseek 0 1 sets"), Some(14));
+    assert_eq!(rt; column(alloc, b"p0 lseek 0 1 CUR"), Some(14));
+    assert_eq!(rt; column(alloc, b"p0 lseek 0 1 cur 2"), Some(18));
+    assert_eq!(rt; column(alloc, b"p0 lseek 0 set 1"), Some(12));
+    assert_eq!(rt; column(alloc, b"p0 ftruncate 0 01"), Some(16));
+    assert_eq!(rt; column(alloc, b"p0 ftruncate 0 -0"), Some(16));
+    assert_eq!(rt; column(alloc, b"p0 ftruncate 0 -"), Some(16));
+    assert_eq!(rt; column(alloc, b"p0 ftruncate 0"), Some(15));
+    assert_eq!(rt; column(alloc, b"p0 fstat"), Some(9));
+    assert_eq!(rt; column(alloc, b"p0 fstat -0"), Some(10));
+    assert_eq!(rt; column(alloc, b"p0 fstat 0 0"), Some(12));
+    Ok(())
+}
+
+#[test]
+fn flags_are_read(rt: HostRuntime) -> Result<(), Fail> {
+    let alloc = rt.alloc();
+    is_kept(&rt, alloc, b"p0 open a r,excl")?;
+    is_kept(&rt, alloc, b"p0 open a w,trunc")?;
+    is_kept(&rt, alloc, b"p0 open a rw,append")?;
+    is_kept(&rt, alloc, b"p0 open a -,creat,excl")?;
+    is_kept(&rt, alloc, b"p0 open a w,creat,trunc")?;
+    is_kept(&rt, alloc, b"p0 open a w,excl,append")?;
+    is_kept(&rt, alloc, b"p0 open a rw,creat,excl,trunc,append")
+}
+
+#[test]
+fn bad_flags_are_refused(rt: HostRuntime) -> Result<(), Fail> {
+    let alloc = rt.alloc();
+    assert_eq!(rt; column(alloc, b"p0 open a w,excl,creat"), Some(11));
+    assert_eq!(rt; column(alloc, b"p0 open a w,trunc,excl"), Some(11));
+    assert_eq!(rt; column(alloc, b"p0 open a w,append,trunc"), Some(11));
+    assert_eq!(rt; column(alloc, b"p0 open a w,append,creat"), Some(11));
+    assert_eq!(rt; column(alloc, b"p0 open a w,creat,creat"), Some(11));
+    assert_eq!(rt; column(alloc, b"p0 open a w,excl,excl"), Some(11));
+    assert_eq!(rt; column(alloc, b"p0 open a w,trunc,trunc"), Some(11));
+    assert_eq!(rt; column(alloc, b"p0 open a w,append,append"), Some(11));
+    assert_eq!(rt; column(alloc, b"p0 open a w,appen"), Some(11));
+    assert_eq!(rt; column(alloc, b"p0 open a w,"), Some(11));
+    assert_eq!(rt; column(alloc, b"p0 open a w,append,"), Some(11));
+    assert_eq!(rt; column(alloc, b"p0 open a ,excl"), Some(11));
+    assert_eq!(rt; column(alloc, b"p0 open a wexcl"), Some(11));
+    assert_eq!(rt; column(alloc, b"p0 open a r,nonblock"), Some(11));
+    assert_eq!(rt; column(alloc, b"p0 open a rw,append,nonblock"), Some(11));
+    Ok(())
+}
+
+#[test]
+fn words_to_come_are_refused(rt: HostRuntime) -> Result<(), Fail> {
+    let alloc = rt.alloc();
+    assert_eq!(rt; column(alloc, b"p0 dup 0"), Some(4));
+    assert_eq!(rt; column(alloc, b"p0 dup2 0 1"), Some(4));
+    assert_eq!(rt; column(alloc, b"p0 pipe"), Some(4));
+    assert_eq!(rt; column(alloc, b"p0 mkfifo a"), Some(4));
+    assert_eq!(rt; column(alloc, b"p0 link a b"), Some(4));
+    assert_eq!(rt; column(alloc, b"p0 unlink a"), Some(4));
+    assert_eq!(rt; column(alloc, b"p0 fork"), Some(4));
+    assert_eq!(rt; column(alloc, b"p0 attach"), Some(4));
+    assert_eq!(rt; column(alloc, b"p0 resume"), Some(4));
+    assert_eq!(rt; column(alloc, b"p0 exit"), Some(4));
+    assert_eq!(rt; column(alloc, b"close-run"), Some(1));
+    Ok(())
 }
 
 #[test]
@@ -141,7 +321,7 @@ fn the_first_bad_word_is_told(rt: HostRuntime) -> Result<(), Fail> {
     assert_eq!(rt; column(alloc, b"p0  close 1"), Some(4));
     assert_eq!(rt; column(alloc, b" join"), Some(1));
     assert_eq!(rt; column(alloc, b"p0 close 1 2"), Some(12));
-    assert_eq!(rt; column(alloc, b"p0 open a r,excl"), Some(11));
+    assert_eq!(rt; column(alloc, b"p0 open a r,nonblock"), Some(11));
     assert_eq!(rt; column(alloc, b"p0 open a rr"), Some(11));
     assert_eq!(rt; column(alloc, b"p0 attach"), Some(4));
     assert_eq!(rt; column(alloc, b"close-run"), Some(1));
@@ -309,6 +489,117 @@ fn records_are_written(rt: HostRuntime) -> Result<(), Fail> {
         },
         b"5 p1 exit = regular 0 7\n",
     )
+}
+
+/// The record of a call that a process made, with no value.
+fn done(call: Call) -> Record {
+    Record {
+        actor: 0,
+        act: Act::Call(call),
+        outcome: Outcome::Reply(Reply::Done),
+    }
+}
+
+#[test]
+fn records_of_positions_are_written(rt: HostRuntime) -> Result<(), Fail> {
+    let alloc = rt.alloc();
+    let pread = Call::Pread {
+        fd: 7,
+        start: -1,
+        count: 9,
+    };
+    line_is(&rt, alloc, 0, done(pread), b"0 p0 pread 7 -1 9 = ok\n")?;
+    let pwrite = Call::Pwrite {
+        fd: -2,
+        start: i64::MAX,
+        bytes: Payload::copied(alloc, &[0; 17])?,
+    };
+    line_is(
+        &rt,
+        alloc,
+        1,
+        done(pwrite),
+        b"1 p0 pwrite -2 9223372036854775807 00*17 = ok\n",
+    )?;
+    let whences = [
+        (Whence::Set, b"2 p0 lseek 1 -9223372036854775808 set = ok\n"),
+        (Whence::Cur, b"2 p0 lseek 1 -9223372036854775808 cur = ok\n"),
+        (Whence::End, b"2 p0 lseek 1 -9223372036854775808 end = ok\n"),
+    ];
+    for (whence, text) in whences {
+        let lseek = Call::Lseek {
+            fd: 1,
+            offset: i64::MIN,
+            whence,
+        };
+        line_is(&rt, alloc, 2, done(lseek), text)?;
+    }
+    let ftruncate = Call::Ftruncate { fd: 0, len: 0 };
+    line_is(&rt, alloc, 3, done(ftruncate), b"3 p0 ftruncate 0 0 = ok\n")?;
+    line_is(
+        &rt,
+        alloc,
+        4,
+        done(Call::Fstat { fd: 5 }),
+        b"4 p0 fstat 5 = ok\n",
+    )
+}
+
+/// What a line reads as.
+fn call_of(alloc: Global, line: &[u8]) -> Option<Call> {
+    match read_act(alloc, line) {
+        Ok(ScriptAct::Call { call, .. }) => Some(call),
+        _ => None,
+    }
+}
+
+/// The descriptor of a line's call, and its position, offset or length.
+fn numbers(alloc: Global, line: &[u8]) -> Option<(i32, i64)> {
+    let call = call_of(alloc, line)?;
+    match &call {
+        Call::Pread { fd, start, .. } => Some((*fd, *start)),
+        Call::Pwrite { fd, start, .. } => Some((*fd, *start)),
+        Call::Lseek { fd, offset, .. } => Some((*fd, *offset)),
+        Call::Ftruncate { fd, len } => Some((*fd, *len)),
+        _ => None,
+    }
+}
+
+/// From where a line's lseek counts.
+fn whence(alloc: Global, line: &[u8]) -> Option<Whence> {
+    let call = call_of(alloc, line)?;
+    match &call {
+        Call::Lseek { whence, .. } => Some(*whence),
+        _ => None,
+    }
+}
+
+/// The bits of the flags of a line's open.
+fn flag_bits(alloc: Global, line: &[u8]) -> Option<u8> {
+    let call = call_of(alloc, line)?;
+    match &call {
+        Call::Open { flags, .. } => Some(flags.bits()),
+        _ => None,
+    }
+}
+
+#[test]
+fn fields_are_those_of_the_line(rt: HostRuntime) {
+    let alloc = rt.alloc();
+    assert_eq!(rt; numbers(alloc, b"p0 pread 1 -2 3"), Some((1, -2)));
+    assert_eq!(rt; numbers(alloc, b"p0 pwrite 9 10 x0b"), Some((9, 10)));
+    assert_eq!(rt; numbers(alloc, b"p0 lseek 4 -5 end"), Some((4, -5)));
+    assert_eq!(rt; numbers(alloc, b"p0 ftruncate 6 7"), Some((6, 7)));
+    assert_eq!(rt; whence(alloc, b"p0 lseek 4 -5 set"), Some(Whence::Set));
+    assert_eq!(rt; whence(alloc, b"p0 lseek 4 -5 cur"), Some(Whence::Cur));
+    assert_eq!(rt; whence(alloc, b"p0 lseek 4 -5 end"), Some(Whence::End));
+    assert_eq!(rt; flag_bits(alloc, b"p0 open a r,excl"), Some(9));
+    assert_eq!(rt; flag_bits(alloc, b"p0 open a w,trunc"), Some(18));
+    assert_eq!(rt; flag_bits(alloc, b"p0 open a rw,append"), Some(35));
+    assert_eq!(rt;
+        flag_bits(alloc, b"p0 open a rw,creat,excl,trunc,append"),
+        Some(63)
+    );
 }
 
 #[test]

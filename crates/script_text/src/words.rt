@@ -1,5 +1,6 @@
 ghost use Rattle.std.specs.Prelude.{◌≡◌};
 ghost use Rattle.std.specs.Option.{option_copied};
+ghost use Rattle.std.specs.Str.{bytes_eq};
 ghost use Rattle.script_text.specs.Reading.{Gives, Word, word_at, kept, ended};
 ghost use Rattle.script_text.specs.declared.words.Next.{Next};
 
@@ -12,6 +13,15 @@ pub(crate) struct Next<'a> {
     pub(crate) text: &'a [u8],
     pub(crate) place: usize,
     pub(crate) after: Left<'a>,
+}
+
+impl Next<'_> {
+    /// Whether the word is a text.
+    pub(crate) fn is(self, text: &[u8]) -> bool
+        ensures { result ≡ bytes_eq self.entry.text.now text.now }
+    {
+        self.text == text
+    }
 }
 
 /// The next word of a line.

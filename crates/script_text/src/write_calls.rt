@@ -1,7 +1,8 @@
 ghost use Rattle.script_text.specs.Writing.{Appends};
 ghost use Rattle.script_text.specs.Lines.{call_text};
 
-use crate::put::{put, put_number, put_signed};
+use crate::put::{put, put_descriptor, put_number};
+use crate::write_positions::{put_ftruncate, put_lseek, put_pread, put_pwrite};
 use crate::write_words::{put_data, put_flags, put_name};
 use call_types::bounded::{Name, Payload};
 use call_types::call::Call;
@@ -26,7 +27,7 @@ fn put_close(out: &mut Vec<u8>, fd: i32) -> Result<(), AllocError>
     ensures { Appends result out.old.items out.new.items (call_text (Call.Close fd)) }
 {
     put(out, b"close ")?;
-    put_signed(out, fd)?;
+    put_descriptor(out, fd)?;
     Ok(())
 }
 
@@ -36,7 +37,7 @@ fn put_read(out: &mut Vec<u8>, fd: i32, count: u32) -> Result<(), AllocError>
     ensures { Appends result out.old.items out.new.items (call_text (Call.Read fd count)) }
 {
     put(out, b"read ")?;
-    put_signed(out, fd)?;
+    put_descriptor(out, fd)?;
     put(out, b" ")?;
     put_number(out, count as u64)?;
     Ok(())
@@ -48,9 +49,19 @@ fn put_write(out: &mut Vec<u8>, fd: i32, bytes: &Payload) -> Result<(), AllocErr
     ensures { Appends result out.old.items out.new.items (call_text (Call.Write fd bytes.now)) }
 {
     put(out, b"write ")?;
-    put_signed(out, fd)?;
+    put_descriptor(out, fd)?;
     put(out, b" ")?;
     put_data(out, bytes.as_slice())?;
+    Ok(())
+}
+
+/// `fstat FD`
+#[tactic(auto, using(crate::proofs::Fronts::keeps_behind))]
+fn put_fstat(out: &mut Vec<u8>, fd: i32) -> Result<(), AllocError>
+    ensures { Appends result out.old.items out.new.items (call_text (Call.Fstat fd)) }
+{
+    put(out, b"fstat ")?;
+    put_descriptor(out, fd)?;
     Ok(())
 }
 
@@ -63,5 +74,10 @@ pub(crate) fn put_call(out: &mut Vec<u8>, call: &Call) -> Result<(), AllocError>
         Call::Close { fd } => put_close(out, *fd),
         Call::Read { fd, count } => put_read(out, *fd, *count),
         Call::Write { fd, bytes } => put_write(out, *fd, bytes),
+        Call::Pread { fd, start, count } => put_pread(out, *fd, *start, *count),
+        Call::Pwrite { fd, start, bytes } => put_pwrite(out, *fd, *start, bytes),
+        Call::Lseek { fd, offset, whence } => put_lseek(out, *fd, *offset, *whence),
+        Call::Ftruncate { fd, len } => put_ftruncate(out, *fd, *len),
+        Call::Fstat { fd } => put_fstat(out, *fd),
     }
 }

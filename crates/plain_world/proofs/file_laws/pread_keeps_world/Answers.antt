@@ -1,0 +1,5 @@
+use Rattle.plain_world.proofs.FileLaws.{pread_keeps_world}
+use Rattle.plain_world.proofs.file_laws.pread_keeps_world.Goals as goal
+
+pub returns : goal.returns
+returns c = pread_keeps_world

@@ -1,0 +1,5 @@
+use Rattle.plain_world.proofs.FileLaws.{pwrite_ignores_append}
+use Rattle.plain_world.proofs.file_laws.pwrite_ignores_append.Goals as goal
+
+pub returns : goal.returns
+returns c = pwrite_ignores_append

@@ -1,0 +1,5 @@
+use Rattle.plain_world.proofs.FileLaws.{pwrite_keeps_offsets}
+use Rattle.plain_world.proofs.file_laws.pwrite_keeps_offsets.Goals as goal
+
+pub returns : goal.returns
+returns c = pwrite_keeps_offsets
