@@ -16,6 +16,11 @@ the output going to a file. The growth is the cost of an act over its cost in th
 takes 131,085 bytes of a script that holds 16,777,216 at most, so there are 127 of them; their bytes
 differ, since that is what such a spelling is for. The peak is what the system tells of the child,
 which cannot be less than what this script itself holds when it starts the child.
+
+`8 bytes at positions` has preads and pwrites of 8 bytes, half of each, at positions spread over a file of 1 KiB
+and over one of 1 MiB: an act that costs more in the longer file would cost by what it does not touch.
+`64 KiB` of preads and pwrites moves whole transfers at positions. The last line sets the cost of one
+such pread beside two copies of its bytes, as this script's own interpreter makes them.
 """
 
 import argparse
@@ -57,6 +62,14 @@ class Script:
 
     def read(self, fd, size):
         self.act(f"p0 read {fd} {size}")
+        self.bytes_out += size
+
+    def pwrite(self, fd, start, spelling, size):
+        self.act(f"p0 pwrite {fd} {start} {spelling}")
+        self.bytes_in += size
+
+    def pread(self, fd, start, size):
+        self.act(f"p0 pread {fd} {start} {size}")
         self.bytes_out += size
 
     def done(self):
@@ -107,6 +120,61 @@ def big(path, name, count, spell):
         if at % each == each - 1 or at == count - 1:
             script.act("p0 close 0")
     return script.done()
+
+
+def opened(script, size):
+    """A file of so many bytes, open for both at descriptor 0, and a join before it."""
+    script.act("join")
+    script.act("p0 open f rw,creat")
+    while size > 0:
+        script.write(0, f"61*{min(size, BIG)}", min(size, BIG))
+        size -= min(size, BIG)
+
+
+def scattered(path, acts, size):
+    """Reads and writes of 8 bytes at positions spread over a file."""
+    script = Script(f"8 bytes in {size >> 10:,} KiB", path)
+    opened(script, size)
+    at = 0
+    while script.acts < acts:
+        # a step that is prime to the number of places visits each of them
+        at = (at + 7919) % (size // 8)
+        if script.acts % 2 == 0:
+            script.pwrite(0, 8 * at, "61*8", 8)
+        else:
+            script.pread(0, 8 * at, 8)
+    return script.done()
+
+
+def whole(path, acts, size, name):
+    """Reads of so many bytes at positions of a file of 1 MiB."""
+    script = Script(name, path)
+    opened(script, FILE_MOST)
+    for at in range(acts):
+        script.pread(0, 4096 * at % (FILE_MOST - BIG), size)
+    return script.done()
+
+
+def rewritten(path, acts):
+    """Writes of 64 KiB at positions of a file of 1 MiB."""
+    script = Script("64 KiB pwrites", path)
+    opened(script, FILE_MOST)
+    for at in range(acts):
+        script.pwrite(0, 4096 * at % (FILE_MOST - BIG), f"61*{BIG}", BIG)
+    return script.done()
+
+
+def copy_cost():
+    """The microseconds of one copy of 65,536 bytes into memory of its own, the best of some."""
+    source = bytes(range(256)) * (BIG // 256)
+    best = float("inf")
+    for _ in range(5):
+        kept = []
+        start = time.perf_counter()
+        for _ in range(1_000):
+            kept.append(bytearray(source))
+        best = min(best, (time.perf_counter() - start) * 1e3)
+    return best
 
 
 def counted(at):
@@ -180,6 +248,14 @@ def table(program, runs, folder):
     print(f"growth of the cost of an act from 10,000 to 999,000 acts: {costs[-1] / costs[0]:.2f}")
     line(big(path, "64 KiB, 61*65536", 1_000, counted))
     line(big(path, "64 KiB, x6162..", 127, spelled))
+    short = line(scattered(path, 200_000, 1024))
+    line(scattered(path, 200_000, FILE_MOST), short)
+    line(rewritten(path, 1_000))
+    none = measure(program, whole(path, 2_000, 0, "preads of nothing"), target, runs).seconds
+    all_of_it = whole(path, 2_000, BIG, "64 KiB preads")
+    line(all_of_it)
+    each = (measure(program, all_of_it, target, runs).seconds - none) / 2_000 * 1e6
+    print(f"a pread of 64 KiB costs {each:.1f} us more than one of nothing, its line included; two copies of its bytes here: {2 * copy_cost():.1f} us")
 
 
 def main():
