@@ -1,1 +1,2 @@
 pub mod Lim
+pub mod Errors

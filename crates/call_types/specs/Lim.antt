@@ -1,4 +1,4 @@
--- The limits that the definitions take as an argument.
+-- The limits that the definitions take as an argument (own).
 use Rattle.std.specs.Prelude.{ℕ}
 
 -- the greatest size of a regular file and the capacity of a pipe, in bytes (own)

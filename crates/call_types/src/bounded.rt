@@ -26,7 +26,23 @@ pub type Payload = Bounded<65700>;
 /// What a call answers with, at most 65,536 bytes.
 pub type Content = Bounded<65536>;
 
+/// The greatest lengths of a name, of what a call gives to write and of what it answers with, in bytes.
+pub fn greatest_lengths() -> (usize, usize, usize)
+    ensures name { result.0 ≡ 255 }
+    ensures payload { result.1 ≡ 65700 }
+    ensures content { result.2 ≡ 65536 }
+{
+    (Name::most(), Payload::most(), Content::most())
+}
+
 impl<const MOST: usize> Bounded<MOST> {
+    /// How many bytes there may be.
+    pub fn most() -> usize
+        ensures { result ≡ MOST }
+    {
+        MOST
+    }
+
     /// The bytes of a vector, which holds at most `MOST`.
     pub fn new(items: Vec<u8>) -> Self
         requires { length items.items ≤ MOST }

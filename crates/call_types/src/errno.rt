@@ -1,3 +1,6 @@
+ghost use Rattle.std.specs.Prelude.{◌≡◌};
+ghost use Rattle.call_types.specs.Errors.{error_number};
+
 /// The recorded refusals, with the error numbers of records and answers (XSH 2.3, Error Numbers, and the pages of the calls).
 #[derive(Clone, Copy, Debug, PartialEq, Eq)]
 pub enum Errno {
@@ -33,4 +36,13 @@ pub enum Errno {
     ENXIO = 15,
     /// No such process.
     ESRCH = 16,
+}
+
+impl Errno {
+    /// The number of the error in records and answers, 1 to 16.
+    pub fn number(self) -> u8
+        ensures { result ≡ error_number self }
+    {
+        self as u8
+    }
 }

@@ -1,6 +1,7 @@
-ghost use Rattle.std.specs.Prelude.{◌≡◌, ◌≤◌, ◌<◌, ◌↔◌, ◌^◌, IsOk, IfOk};
+ghost use Rattle.std.specs.Prelude.{◌≡◌, ◌≤◌, ◌<◌, ◌↔◌, ◌-◌, ◌^◌, IsOk, IfOk};
 ghost use Rattle.call_types.specs.Lim.{Lim, RunLimits};
 
+use crate::act::HOUSE;
 use std::marker::Model;
 
 /// Descriptors of one process: the numbers 0 to 31 (XSH 2.14, OPEN_MAX).
@@ -32,6 +33,22 @@ pub const PIPE_CAPACITY: u64 = 1024;
 
 /// Records of one run, at most.
 pub const RECORDS_MAX: u64 = 1_000_000;
+
+/// What the limits of this profile are. The definitions and the code name each limit by its constant, so this is where its
+/// number stands once more, and a wrong one is seen. It does nothing.
+pub fn numbers_of_the_profile()
+    ensures open_max { OPEN_MAX ≡ 32 }
+    ensures name_max { NAME_MAX ≡ 64 }
+    ensures names_max { NAMES_MAX ≡ 1024 }
+    ensures descriptions_max { DESCRIPTIONS_MAX ≡ 1024 }
+    ensures processes_max { PROCESSES_MAX ≡ 64 }
+    ensures transfer_max { TRANSFER_MAX ≡ 65536 }
+    ensures offset_max { OFFSET_MAX ≡ 2 ^ 63 - 1 }
+    ensures file_size_max { FILE_SIZE_MAX ≡ 1048576 }
+    ensures pipe_capacity { PIPE_CAPACITY ≡ 1024 }
+    ensures records_max { RECORDS_MAX ≡ 1000000 }
+    ensures house { HOUSE ≡ 4294967295 }
+{}
 
 /// The limits that the model itself depends on, both in bytes: the size of a regular file, and what a pipe holds.
 #[derive(Clone, Copy, Debug)]

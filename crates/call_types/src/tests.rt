@@ -1,11 +1,11 @@
 ghost use Rattle.std.specs.Prelude.{◌≤◌};
 
 use crate::act::HOUSE;
-use crate::bounded::{Content, Name, Payload};
+use crate::bounded::{Content, Name, Payload, greatest_lengths};
 use crate::errno::Errno;
 use crate::flags::OpenFlags;
 use crate::limits::{
-    DESCRIPTIONS_MAX, FILE_SIZE_MAX, LimitFault, Limits, NAME_MAX, NAMES_MAX, OPEN_MAX,
+    DESCRIPTIONS_MAX, FILE_SIZE_MAX, LimitFault, Limits, NAME_MAX, NAMES_MAX, OFFSET_MAX, OPEN_MAX,
     PIPE_CAPACITY, PROCESSES_MAX, RECORDS_MAX, TRANSFER_MAX,
 };
 use bitflags::Flags;
@@ -22,7 +22,16 @@ fn limits_of_the_profile(rt: HostRuntime) {
     assert_eq!(rt; FILE_SIZE_MAX, 1_048_576);
     assert_eq!(rt; PIPE_CAPACITY, 1_024);
     assert_eq!(rt; RECORDS_MAX, 1_000_000);
+    assert_eq!(rt; OFFSET_MAX, 9_223_372_036_854_775_807);
     assert_eq!(rt; HOUSE, 4_294_967_295);
+    assert_eq!(rt; greatest_lengths(), (255, 65_700, 65_536));
+}
+
+#[test]
+fn numbers_of_errors(rt: HostRuntime) {
+    assert_eq!(rt; Errno::EBADF.number(), 1);
+    assert_eq!(rt; Errno::EMLINK.number(), 8);
+    assert_eq!(rt; Errno::ESRCH.number(), 16);
 }
 
 #[test]
