@@ -6,12 +6,12 @@ use Rattle.call_types.specs.declared.errno.Errno.{Errno}
 use Rattle.call_types.specs.declared.outcome.Outcome.TheVariants.{Reply as Replied}
 use Rattle.call_types.specs.declared.outcome.Reply.TheVariants.{Error}
 use Rattle.plain_world.specs.Places.{slot}
-use Rattle.plain_world.specs.Bytes.{splice, resized}
+use Rattle.plain_world.specs.Bytes.{resized}
 use Rattle.plain_world.specs.Names.{file_of}
 use Rattle.plain_world.specs.Faults.{Stepped}
 use Rattle.plain_world.specs.Descriptors.{with_descriptor, with_offset, bytes_of}
 use Rattle.plain_world.specs.Open.{created}
-use Rattle.plain_world.specs.Write.{with_bytes}
+use Rattle.plain_world.specs.Write.{with_bytes, with_data}
 use Rattle.plain_world.specs.declared.world.World.{World}
 use Rattle.plain_world.specs.declared.world.Description.{Description}
 use Rattle.plain_world.specs.declared.world.Target.TheVariants as target
@@ -24,17 +24,11 @@ use Rattle.file_calls.specs.declared.change.Change.{Change}
 use Rattle.file_calls.specs.declared.change.Change.TheVariants as change
 use Rattle.file_calls.specs.declared.change.Decided.{Decided}
 
--- the bytes that a call gives
+-- the bytes that a call gives: those of a write or a pwrite
 abbrev pub given : Call → List ℕ
 given (call.Write fd bytes) = bytes
-given (call.Open name flags) = []
-given (call.Close fd) = []
-given (call.Read fd count) = []
-given (call.Pread fd start count) = []
 given (call.Pwrite fd start bytes) = bytes
-given (call.Lseek fd offset from) = []
-given (call.Ftruncate fd len) = []
-given (call.Fstat fd) = []
+given other = []
 
 -- the world after a change, before the sweep
 abbrev pub changed : World → List ℕ → Change → World
@@ -44,9 +38,8 @@ changed w bytes (change.Open process fd description) = with_description w proces
 changed w bytes (change.OpenEmptied process fd file description) = with_description (with_emptied w file) process fd description
 changed w bytes (change.Close process opened) = with_descriptor w process opened.fd None
 changed w bytes (change.Offset opened offset) = with_offset w opened offset
-changed w bytes (change.Write opened file start count) =
-    with_offset (with_bytes w file (splice (bytes_of w file) start (take count bytes))) opened (start + count)
-changed w bytes (change.WriteAt file start count) = with_bytes w file (splice (bytes_of w file) start (take count bytes))
+changed w bytes (change.Write opened file start count) = with_offset (with_data w file start (take count bytes)) opened (start + count)
+changed w bytes (change.WriteAt file start count) = with_data w file start (take count bytes)
 changed w bytes (change.Resize file len) = with_bytes w file (resized (bytes_of w file) len)
 
 -- a file that is not there is made
@@ -64,9 +57,7 @@ pub record CanWriteAt (w : World) (bytes : List ℕ) (file start count : ℕ) : 
 -- and by a description that is there
 pub record CanWrite (w : World) (bytes : List ℕ) (o : Opened) (file start count : ℕ) : Type 0 where
   pub description_is : slot w.descriptions o.number ≡ Some o.description
-  pub there : is_some (slot w.files file) ≡ true
-  pub within : count ≤ length bytes
-  pub small : start + count < 2 ^ 63
+  pub bytes_fit : CanWriteAt w bytes file start count
 
 -- what a change asks of the world
 abbrev pub Fits : World → List ℕ → Change → Type 0

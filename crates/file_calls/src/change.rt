@@ -1,4 +1,4 @@
-ghost use Rattle.std.specs.Prelude.{◌≡◌};
+ghost use Rattle.std.specs.Prelude.{◌≡◌, ◌+◌, ◌<◌, ◌^◌};
 
 use call_types::bounded::Name;
 use call_types::errno::Errno;
@@ -86,5 +86,22 @@ pub(crate) fn unchanged(reply: Reply) -> Decided
             room: Need::Nothing,
         },
         change: Change::Nothing,
+    }
+}
+
+/// Bytes that are taken: the reply says how many, the room is that of the file up to their end, and the change goes with it.
+pub(crate) fn taken(file: usize, start: usize, count: usize, change: Change) -> Decided
+    requires { start + count < 2 ^ 64 }
+    ensures { result ≡ record { plan = record { outcome = Outcome.Reply (Reply.Number count); room = Need.Bytes file (start + count) }; change = change } }
+{
+    Decided {
+        plan: Plan {
+            outcome: Outcome::Reply(Reply::Number(count as u64)),
+            room: Need::Bytes {
+                file,
+                len: start + count,
+            },
+        },
+        change,
     }
 }

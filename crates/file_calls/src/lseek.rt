@@ -1,4 +1,4 @@
-ghost use Rattle.std.specs.Prelude.{◌≡◌, ℤ, Some, []};
+ghost use Rattle.std.specs.Prelude.{◌≡◌, Some, []};
 ghost use Rattle.plain_world.specs.Places.{slot};
 ghost use Rattle.plain_world.specs.Sweep.{sweep};
 ghost use Rattle.plain_world.specs.Descriptors.{with_offset};

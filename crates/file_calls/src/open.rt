@@ -4,7 +4,7 @@ ghost use Rattle.plain_world.specs.Places.{slot, lowest};
 ghost use Rattle.plain_world.specs.Sweep.{sweep};
 ghost use Rattle.plain_world.specs.Faults.{first_fault};
 ghost use Rattle.plain_world.specs.Descriptors.{table_of};
-ghost use Rattle.plain_world.specs.Open.{found_faults, room_faults, open_faults, new_description, created, truncated, with_open, open_found, open_file};
+ghost use Rattle.plain_world.specs.Open.{found_faults, room_faults, open_faults, new_description, created, truncated, with_open, open_file};
 ghost use Rattle.machine_state.specs.Moves.{with_description, with_emptied, CanOpen};
 ghost use Rattle.machine_state.specs.Need.{HasRoom};
 ghost use Rattle.file_calls.specs.Change.{Decides, CanCreate};

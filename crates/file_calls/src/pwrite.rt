@@ -1,25 +1,22 @@
 ghost use Rattle.std.specs.Prelude.{◌≡◌, ◌+◌, ◌≤◌, Some, true, take, is_some, slice_index};
-ghost use Rattle.plain_world.specs.Bytes.{splice};
 ghost use Rattle.plain_world.specs.Places.{slot};
 ghost use Rattle.plain_world.specs.Sweep.{sweep};
-ghost use Rattle.plain_world.specs.Descriptors.{bytes_of};
-ghost use Rattle.plain_world.specs.Write.{with_bytes};
-ghost use Rattle.plain_world.specs.Pwrite.{pwrite_from, pwrite_target, pwrite};
+ghost use Rattle.plain_world.specs.Write.{with_data};
+ghost use Rattle.plain_world.specs.Pwrite.{pwrite_file, pwrite_target, pwrite};
 ghost use Rattle.file_calls.specs.Change.{Decides, CanWriteAt};
 
-use crate::change::{Change, Decided, refused, unchanged};
+use crate::change::{Change, Decided, refused, taken, unchanged};
 use call_types::errno::Errno;
 use call_types::limits::Bounds;
-use call_types::outcome::{Outcome, Reply};
+use call_types::outcome::Reply;
 use machine_state::machine::Machine;
-use machine_state::plan::{Need, Plan};
 use plain_world::opened::Opened;
 use plain_world::pwrite::pwrite_fault;
 use plain_world::world::Target;
 use plain_world::write::fitting;
 use std::alloc::Global;
 
-/// A pwrite of some bytes that is not refused, to a regular file.
+/// A pwrite to a regular file.
 fn decide_pwrite_file(
     machine: &Machine,
     bounds: Bounds,
@@ -28,23 +25,17 @@ fn decide_pwrite_file(
     bytes: &[u8],
 ) -> Decided
     requires { is_some (slot machine.now.world.files file) ≡ true }
-    ensures { Decides machine.now.world bytes.now result (pwrite_from bounds machine.now.world file bytes.now start) }
+    ensures { Decides machine.now.world bytes.now result (pwrite_file bounds machine.now.world file bytes.now start) }
 {
     let _machine = machine;
+    if bytes.is_empty() {
+        return unchanged(Reply::Number(0));
+    }
     if start as u64 >= bounds.file_size() {
         return refused(Errno::EFBIG);
     }
     let count = fitting(bounds, start, bytes);
-    Decided {
-        plan: Plan {
-            outcome: Outcome::Reply(Reply::Number(count as u64)),
-            room: Need::Bytes {
-                file,
-                len: start + count,
-            },
-        },
-        change: Change::WriteAt { file, start, count },
-    }
+    taken(file, start, count, Change::WriteAt { file, start, count })
 }
 
 /// A pwrite of an open descriptor, where it is not refused.
@@ -62,9 +53,6 @@ fn decide_pwrite_target(
         Target::Regular { file } => file,
         Target::Pipe { .. } | Target::Fifo { .. } => return refused(Errno::ESPIPE),
     };
-    if bytes.is_empty() {
-        return unchanged(Reply::Number(0));
-    }
     machine.has_held(opened, file);
     decide_pwrite_file(machine, bounds, file, start, bytes)
 }
@@ -108,7 +96,7 @@ pub fn apply_pwrite(
 )
     requires fits { CanWriteAt machine.old.world bytes.now file start count }
     requires room { start + count ≤ slice_index machine.old.room.bytes file }
-    ensures { machine.new.world ≡ sweep (with_bytes machine.old.world file (splice (bytes_of machine.old.world file) start (take count bytes.now))) }
+    ensures { machine.new.world ≡ sweep (with_data machine.old.world file start (take count bytes.now)) }
 {
     machine.write_bytes(alloc, file, start, &bytes[..count]);
     machine.is_swept();

@@ -1,24 +1,22 @@
 ghost use Rattle.std.specs.Prelude.{◌≡◌, ◌+◌, ◌≤◌, Some, take, slice_index};
-ghost use Rattle.plain_world.specs.Bytes.{splice};
 ghost use Rattle.plain_world.specs.Places.{slot};
 ghost use Rattle.plain_world.specs.Sweep.{sweep};
-ghost use Rattle.plain_world.specs.Descriptors.{with_offset, bytes_of};
-ghost use Rattle.plain_world.specs.Write.{write_start, write_from, write_target, write, with_bytes};
+ghost use Rattle.plain_world.specs.Descriptors.{with_offset};
+ghost use Rattle.plain_world.specs.Write.{write_file, write_target, write, with_data};
 ghost use Rattle.machine_state.specs.Moves.{CanWriteTo};
 ghost use Rattle.file_calls.specs.Change.{Decides, CanWrite};
 
-use crate::change::{Change, Decided, refused, unchanged};
+use crate::change::{Change, Decided, refused, taken, unchanged};
 use call_types::errno::Errno;
 use call_types::limits::Bounds;
-use call_types::outcome::{Outcome, Reply};
+use call_types::outcome::Reply;
 use machine_state::machine::Machine;
-use machine_state::plan::{Need, Plan};
 use plain_world::opened::Opened;
 use plain_world::world::Target;
 use plain_world::write::{fitting, write_fault, write_start};
 use std::alloc::Global;
 
-/// A write of some bytes that is not refused, to a regular file.
+/// A write to a regular file.
 fn decide_write_file(
     machine: &Machine,
     bounds: Bounds,
@@ -27,28 +25,23 @@ fn decide_write_file(
     bytes: &[u8],
 ) -> Decided
     requires { CanWriteTo machine.now.world opened file }
-    ensures { Decides machine.now.world bytes.now result (write_from bounds machine.now.world opened file bytes.now (write_start opened.description (bytes_of machine.now.world file))) }
+    ensures { Decides machine.now.world bytes.now result (write_file bounds machine.now.world opened file bytes.now) }
 {
+    if bytes.is_empty() {
+        return unchanged(Reply::Number(0));
+    }
     let start = write_start(opened.description, machine.bytes_of(file));
     if start as u64 >= bounds.file_size() {
         return refused(Errno::EFBIG);
     }
     let count = fitting(bounds, start, bytes);
-    Decided {
-        plan: Plan {
-            outcome: Outcome::Reply(Reply::Number(count as u64)),
-            room: Need::Bytes {
-                file,
-                len: start + count,
-            },
-        },
-        change: Change::Write {
-            opened,
-            file,
-            start,
-            count,
-        },
-    }
+    let change = Change::Write {
+        opened,
+        file,
+        start,
+        count,
+    };
+    taken(file, start, count, change)
 }
 
 /// A write of an open descriptor, where it is not refused.
@@ -60,9 +53,6 @@ fn decide_write_target(machine: &Machine, bounds: Bounds, opened: Opened, bytes:
         Target::Regular { file } => file,
         Target::Pipe { .. } | Target::Fifo { .. } => return refused(Errno::EINVAL),
     };
-    if bytes.is_empty() {
-        return unchanged(Reply::Number(0));
-    }
     machine.has_held(opened, file);
     decide_write_file(machine, bounds, opened, file, bytes)
 }
@@ -100,7 +90,7 @@ pub fn apply_write(
 )
     requires fits { CanWrite machine.old.world bytes.now opened file start count }
     requires room { start + count ≤ slice_index machine.old.room.bytes file }
-    ensures { machine.new.world ≡ sweep (with_offset (with_bytes machine.old.world file (splice (bytes_of machine.old.world file) start (take count bytes.now))) opened (start + count)) }
+    ensures { machine.new.world ≡ sweep (with_offset (with_data machine.old.world file start (take count bytes.now)) opened (start + count)) }
 {
     machine.write_bytes(alloc, file, start, &bytes[..count]);
     machine.set_offset(opened, (start + count) as u64);

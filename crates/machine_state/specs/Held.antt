@@ -12,7 +12,7 @@ pub record Room : Type 0 where
   pub names : ℕ
   pub bytes : List ℕ
 
--- a machine
+-- a machine, as contracts see it
 pub record Held : Type 0 where
   pub world : World
   pub room : Room

@@ -1,4 +1,4 @@
-ghost use Rattle.std.specs.Prelude.{◌≡◌, ℤ, Option, None, Some, length, option_copied};
+ghost use Rattle.std.specs.Prelude.{◌≡◌, Option, None, Some, length};
 ghost use Rattle.plain_world.specs.Places.{slot, lowest, live};
 ghost use Rattle.plain_world.specs.Names.{file_of};
 ghost use Rattle.plain_world.specs.Descriptors.{opened, table_of, bytes_of};

@@ -1,14 +1,14 @@
-ghost use Rattle.std.specs.Prelude.{ℕ, ◌≡◌, ◌+◌, ◌<◌, ◌≤◌, ◌∷◌, [], ◌++◌, Some, None, true, length, is_some, slice_index, slice_set, OnOk};
+ghost use Rattle.std.specs.Prelude.{ℕ, ◌≡◌, ◌+◌, ◌<◌, ◌≤◌, Some, None, true, length, is_some, slice_index};
 ghost use Rattle.plain_world.specs.Places.{slot};
 ghost use Rattle.plain_world.specs.Sweep.{sweep};
 ghost use Rattle.plain_world.specs.Join.{new_process};
 ghost use Rattle.plain_world.specs.Open.{created, leads_to_fifo};
-ghost use Rattle.plain_world.specs.Write.{with_bytes};
-ghost use Rattle.plain_world.specs.Bytes.{splice, resized};
-ghost use Rattle.plain_world.specs.Names.{file_of, with_name};
+ghost use Rattle.plain_world.specs.Write.{with_bytes, with_data};
+ghost use Rattle.plain_world.specs.Bytes.{resized};
+ghost use Rattle.plain_world.specs.Names.{file_of};
 ghost use Rattle.plain_world.specs.Descriptors.{with_descriptor, with_offset, bytes_of};
 ghost use Rattle.plain_world.specs.declared.world.Target.TheVariants as target;
-ghost use Rattle.machine_state.specs.Moves.{with_process, with_description, with_emptied, IsFree, IsTaken, CanOpen, CanWriteTo};
+ghost use Rattle.machine_state.specs.Moves.{with_process, with_description, with_emptied, IsTaken, CanOpen, CanWriteTo};
 
 use crate::held::{file_of_target, is_referred, is_wanted};
 use crate::machine::Machine;
@@ -44,7 +44,7 @@ impl Machine {
     pub fn write_bytes(&mut self, alloc: Global, file: usize, start: usize, bytes: &[u8])
         requires there { is_some (slot self.old.world.files file) ≡ true }
         requires room { start + length bytes.now ≤ slice_index self.old.room.bytes file }
-        ensures { self.new.world ≡ with_bytes self.old.world file (splice (bytes_of self.old.world file) start bytes.now) }
+        ensures { self.new.world ≡ with_data self.old.world file start bytes.now }
     {
         self.files.write_bytes(alloc, file, start, bytes);
     }

@@ -1,4 +1,4 @@
-ghost use Rattle.std.specs.Prelude.{◌≡◌, ◌+◌, ◌<◌, ◌≤◌, ◌∷◌, [], ◌++◌, List, Option, ℕ, None, Some, true, length, vec_capacity, is_some, slice_set, option_copied, OnOk};
+ghost use Rattle.std.specs.Prelude.{◌≡◌, ◌+◌, ◌<◌, ◌∷◌, [], ◌++◌, List, Option, ℕ, None, Some, true, length, vec_capacity, is_some, slice_set, option_copied, OnOk};
 ghost use Rattle.plain_world.specs.Places.{slot, live};
 
 use std::alloc::{AllocError, Global};

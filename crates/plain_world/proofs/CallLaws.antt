@@ -1,42 +1,49 @@
 -- What holds of the effect of every call, by cases.
-use Rattle.std.proofs.Common.{◌≡◌, ℕ, zero, suc, ◌+◌, ℤ, nat_abs, ◌∙◌, Bool, true, false, cond, List, [], ◌∷◌, ◌++◌, Option, None, Some, length, set, refl, ap, length-append, length-set, leb, eqb}
-use Rattle.std.specs.Option.{option_map, is_some}
+use Rattle.std.proofs.Common.{◌≡◌, ℕ, zero, suc, ◌+◌, ℤ, pos, nat_abs, ◌∙◌, Bool, true, false, cond, List, [], ◌∷◌, ◌++◌, Option, None, Some, length, set, refl, ap, sym, subst, length-append, length-set, leb, eqb}
+use Rattle.std.specs.Option.{option_map, is_some, unwrap_or}
+use Rattle.std.proofs.lemmas.List.{get_or-set_same}
 use Rattle.std.proofs.lemmas.List.Sums.{sum_by-cons, sum_by_push}
 use Rattle.call_types.specs.Lim.{Lim}
 use Rattle.call_types.specs.declared.call.Call.{Call}
 use Rattle.call_types.specs.declared.call.Call.TheVariants as call
 use Rattle.call_types.specs.declared.errno.Errno.{Errno}
-use Rattle.call_types.specs.declared.errno.Errno.TheVariants.{EFBIG}
+use Rattle.call_types.specs.declared.errno.Errno.TheVariants.{EAGAIN, EFBIG}
 use Rattle.call_types.specs.declared.flags.OpenFlags.{OpenFlags}
 use Rattle.call_types.specs.declared.outcome.Outcome.{Outcome}
 use Rattle.call_types.specs.declared.outcome.Outcome.TheVariants.{Reply as Replied}
 use Rattle.call_types.specs.declared.outcome.Reply.TheVariants.{Error, Number}
 use Rattle.call_types.specs.declared.whence.Whence.{Whence}
-use Rattle.plain_world.specs.Places.{slot, live}
-use Rattle.plain_world.specs.Descriptors.{opened, with_entry, bytes_of}
+use Rattle.plain_world.specs.Places.{slot, lowest, live}
+use Rattle.plain_world.specs.Descriptors.{opened, opened_number, opened_description, table_of, with_entry, bytes_of}
 use Rattle.plain_world.specs.Faults.{Stepped, first_fault, refused, unless}
-use Rattle.plain_world.specs.Open.{has, open_found, open_faults, with_open, created, emptied, truncated, new_description}
+use Rattle.plain_world.specs.Open.{has, open_found, open_faults, with_open, created, emptied, truncated, new_description, free_descriptor}
 use Rattle.plain_world.specs.Names.{file_of}
+use Rattle.plain_world.proofs.NameLemmas.{named_file}
 use Rattle.plain_world.specs.Close.{close_opened}
 use Rattle.plain_world.specs.Read.{read_opened, read_target, read_file, read_faults}
-use Rattle.plain_world.specs.Write.{write_opened, write_target, write_file, write_from, written, write_faults, write_start}
+use Rattle.plain_world.specs.Write.{write_opened, write_target, write_at, written, pwritten, nothing_written, write_faults, write_start}
 use Rattle.plain_world.specs.Positions.{bytes_before}
 use Rattle.plain_world.specs.Pread.{pread_opened, pread_target, pread_file, pread_faults}
-use Rattle.plain_world.specs.Pwrite.{pwrite_opened, pwrite_target, pwrite_from, pwritten, pwrite_faults}
+use Rattle.plain_world.specs.Pwrite.{pwrite_opened, pwrite_target, pwrite_faults}
 use Rattle.plain_world.specs.Lseek.{lseek_opened, lseek_to, moved_to, sought, lseek_faults}
 use Rattle.plain_world.specs.Ftruncate.{ftruncate_opened, ftruncate_target, ftruncate_file, ftruncate_faults}
 use Rattle.plain_world.specs.Fstat.{fstat_opened}
-use Rattle.plain_world.specs.Join.{joined}
+use Rattle.plain_world.specs.Join.{is_full, joined}
 use Rattle.plain_world.specs.Step.{call_effect}
-use Rattle.plain_world.specs.Laws.{SameProcesses, CallKeepsProcesses, SweptCallKeepsProcesses, RefusalKeepsWorld, Joins, JoinAdds, FullJoinRefused, Opens, OpenDescribes}
+use Rattle.plain_world.specs.Sweep.{sweep}
+use Rattle.plain_world.specs.Laws.{SameProcesses, CallKeepsProcesses, SweptCallKeepsProcesses, RefusalKeepsWorld, RefusedStepOnlySweeps, RefusedStepKeepsWorld, Joins, JoinAdds, FullJoinRefused, Opens, OpenDescribes}
 use Rattle.plain_world.specs.declared.world.World.{World}
 use Rattle.plain_world.specs.declared.world.Description.{Description}
 use Rattle.plain_world.specs.declared.world.Target.{Target}
 use Rattle.plain_world.specs.declared.world.Target.TheVariants as target
 use Rattle.plain_world.specs.declared.opened.Opened.{Opened}
+use Rattle.plain_world.specs.declared.world.Process.{Process}
+use Rattle.plain_world.proofs.OpenLemmas.{open_has_free}
+use Rattle.plain_world.proofs.PlaceLemmas.{lowest_is_least, slot_set_there, slot_at_end}
+use Rattle.plain_world.proofs.StepLemmas.{step_case}
 
 -- a process that is edited in its place is there as before
-live_edited : {T : Type 0} (f : T → T) (places : List (Option T)) (n : ℕ) → live (set places n (option_map f (slot places n))) ≡ live places
+pub live_edited : {T : Type 0} (f : T → T) (places : List (Option T)) (n : ℕ) → live (set places n (option_map f (slot places n))) ≡ live places
 live_edited f [] n = refl
 live_edited f (None ∷ places) zero = refl
 live_edited f (Some x ∷ places) zero = refl
@@ -45,7 +52,7 @@ live_edited f (place ∷ places) (suc n) =
     (ap (λ k. cond (is_some place) 1 0 + k) (live_edited f places n))
 
 -- whether an outcome is an error
-abbrev is_error : Outcome → Bool
+abbrev pub is_error : Outcome → Bool
 is_error (Replied (Error error)) = true
 is_error _ = false
 
@@ -113,23 +120,18 @@ keeps_read : (w : World) (count : ℕ) (o : Option Opened) → Keeps w (read_ope
 keeps_read w count None = keeps_refused w _
 keeps_read w count (Some o) = keeps_unless (first_fault (read_faults o count)) w (read_target w o count o.description.target) (keeps_read_target w o count o.description.target)
 
-abbrev nothing_written : World → Stepped
-nothing_written w = record { world = w; outcome = Replied (Number 0) }
-
 keeps_nothing : (w : World) → Keeps w (nothing_written w)
 keeps_nothing w = keeps_reply w (nothing_written w) refl refl refl
 
-keeps_write_from : (lim : Lim) (w : World) (o : Opened) (n : ℕ) (bytes : List ℕ) (start : ℕ) → Keeps w (write_from lim w o n bytes start)
-keeps_write_from lim w o n bytes start =
-    keeps_if (leb lim.file_size start) w (refused w EFBIG) (written lim w o n bytes start) (keeps_refused w EFBIG) (keeps_reply w (written lim w o n bytes start) refl refl refl)
-
-keeps_write_file : (lim : Lim) (w : World) (o : Opened) (n : ℕ) (bytes : List ℕ) → Keeps w (write_file lim w o n bytes)
-keeps_write_file lim w o n bytes =
-    let start = write_start o.description (bytes_of w n) in
-    keeps_if (eqb (length bytes) 0) w (nothing_written w) (write_from lim w o n bytes start) (keeps_nothing w) (keeps_write_from lim w o n bytes start)
+keeps_write_at : (lim : Lim) (w : World) (bytes : List ℕ) (start : ℕ) (effect : Stepped) → Keeps w effect → Keeps w (write_at lim w bytes start effect)
+keeps_write_at lim w bytes start effect k =
+    keeps_if (eqb (length bytes) 0) w (nothing_written w) (cond (leb lim.file_size start) (refused w EFBIG) effect) (keeps_nothing w)
+    (keeps_if (leb lim.file_size start) w (refused w EFBIG) effect (keeps_refused w EFBIG) k)
 
 keeps_write_target : (lim : Lim) (w : World) (o : Opened) (bytes : List ℕ) (t : Target) → Keeps w (write_target lim w o bytes t)
-keeps_write_target lim w o bytes (target.Regular file) = keeps_write_file lim w o file bytes
+keeps_write_target lim w o bytes (target.Regular file) =
+    let start = write_start o.description (bytes_of w file) in
+    keeps_write_at lim w bytes start (written lim w o file bytes start) (keeps_reply w (written lim w o file bytes start) refl refl refl)
 keeps_write_target lim w o bytes (target.Pipe pipe) = keeps_refused w _
 keeps_write_target lim w o bytes (target.Fifo file pipe) = keeps_refused w _
 
@@ -147,13 +149,9 @@ keeps_pread w start count None = keeps_refused w _
 keeps_pread w start count (Some o) =
     keeps_unless (first_fault (pread_faults o start count)) w (pread_target w (bytes_before start) count o.description.target) (keeps_pread_target w (bytes_before start) count o.description.target)
 
-keeps_pwrite_from : (lim : Lim) (w : World) (n : ℕ) (bytes : List ℕ) (start : ℕ) → Keeps w (pwrite_from lim w n bytes start)
-keeps_pwrite_from lim w n bytes start =
-    keeps_if (leb lim.file_size start) w (refused w EFBIG) (pwritten lim w n bytes start) (keeps_refused w EFBIG) (keeps_reply w (pwritten lim w n bytes start) refl refl refl)
-
 keeps_pwrite_target : (lim : Lim) (w : World) (bytes : List ℕ) (start : ℕ) (t : Target) → Keeps w (pwrite_target lim w bytes start t)
 keeps_pwrite_target lim w bytes start (target.Regular file) =
-    keeps_if (eqb (length bytes) 0) w (nothing_written w) (pwrite_from lim w file bytes start) (keeps_nothing w) (keeps_pwrite_from lim w file bytes start)
+    keeps_write_at lim w bytes start (pwritten lim w file bytes start) (keeps_reply w (pwritten lim w file bytes start) refl refl refl)
 keeps_pwrite_target lim w bytes start (target.Pipe pipe) = keeps_refused w _
 keeps_pwrite_target lim w bytes start (target.Fifo file pipe) = keeps_refused w _
 
@@ -205,6 +203,19 @@ swept_call_keeps_processes lim w process c = let same = call_keeps_processes lim
 pub refusal_keeps_world : RefusalKeepsWorld
 refusal_keeps_world lim w process c = (keeps_call lim w process c).refusal
 
+full_join_keeps : (full : Bool) (w : World) (error : Errno) → (cond full (refused w EAGAIN) (joined w)).outcome ≡ Replied (Error error) →
+    (cond full (refused w EAGAIN) (joined w)).world ≡ w
+full_join_keeps true w error h = refl
+full_join_keeps false w error h = cc
+
+pub refused_step_only_sweeps : RefusedStepOnlySweeps
+refused_step_only_sweeps lim w actor act s error h k =
+    step_case (λ t. t.outcome ≡ Replied (Error error) → t.world ≡ sweep w) lim w actor act s
+    (λ refused. ap sweep (full_join_keeps (is_full w) w error refused)) (λ c refused. ap sweep (refusal_keeps_world lim w actor c error refused)) h k
+
+pub refused_step_keeps_world : RefusedStepKeepsWorld
+refused_step_keeps_world lim w actor act s error settled h k = refused_step_only_sweeps lim w actor act s error h k ∙ settled
+
 -- a join, where there is room
 pub joins : (w : World) → Joins w (joined w)
 joins w = record {
@@ -219,22 +230,79 @@ join_adds w room = rw room (let j = joins w in (j, record { number = j.number; a
 pub full_join_refused : FullJoinRefused
 full_join_refused w full = rw full refl
 
-opens_with : (w v : World) (process : ℕ) (d : Description) → v.descriptions ≡ w.descriptions → d.offset ≡ 0 → Opens w (with_open v process d)
-opens_with w v process d e z = record { description = d; at_start = z; appended = ap (λ ds. ds ++ Some d ∷ []) e }
-
-truncated_descriptions : (w : World) (n : ℕ) (flags : OpenFlags) → (truncated w n flags).descriptions ≡ w.descriptions
+pub truncated_descriptions : (w : World) (n : ℕ) (flags : OpenFlags) → (truncated w n flags).descriptions ≡ w.descriptions
 truncated_descriptions w n flags =
     elim (has flags 16) as (λ b. (cond b (record w { files = set w.files n (emptied (slot w.files n)) }) w).descriptions ≡ w.descriptions) [ true ↦ refl | false ↦ refl ]
 
-opens_found : (w : World) (process : ℕ) (name : List ℕ) (flags : OpenFlags) (found : Option ℕ) → Opens w (open_found w process name flags found)
-opens_found w process name flags None = opens_with w (created w name) process (new_description (length w.files) flags) refl refl
-opens_found w process name flags (Some n) = opens_with w (truncated w n flags) process (new_description n flags) (truncated_descriptions w n flags) refl
+-- the table of a process with one more entry has it
+entry_stands : (ps : List (Option Process)) (p k n : ℕ) (old : Option Process) → slot ps p ≡ old → lowest (table_of old) ≡ Some k →
+    slot (table_of (slot (set ps p (option_map (with_entry k (Some n)) old)) p)) k ≡ Some n
+entry_stands ps p k n None stands h = cc
+entry_stands ps p k n (Some process) stands h =
+    let here : slot (set ps p (Some (with_entry k (Some n) process))) p ≡ Some (with_entry k (Some n) process) = slot_set_there ps p process (Some (with_entry k (Some n) process)) stands in
+    ap (λ x. slot (table_of x) k) here ∙ get_or-set_same process.table k (Some n) None (lowest_is_least process.table k h).within
 
-opens_unless : (fault : Option Errno) (w : World) (s : Stepped) (fd : ℕ) → Opens w s → (unless fault w s).outcome ≡ Replied (Number fd) → Opens w (unless fault w s)
-opens_unless None w s fd o h = o
-opens_unless (Some error) w s fd o h = cc
+-- the lowest free descriptor leads to the description that is opened
+opened_leads : (v : World) (process : ℕ) (d : Description) (k : ℕ) → lowest (table_of (slot v.processes process)) ≡ Some k →
+    opened (with_open v process d).world process (pos k) ≡ Some (record { fd = k; number = length v.descriptions; description = d })
+opened_leads v process d k h =
+    let n = length v.descriptions in
+    let x = (with_open v process d).world in
+    let free : free_descriptor v process ≡ k = ap (λ low. unwrap_or low 0) h in
+    let entry : slot (table_of (slot x.processes process)) k ≡ Some n =
+    subst (λ (fd : ℕ). slot (table_of (slot (set v.processes process (option_map (with_entry fd (Some n)) (slot v.processes process))) process)) k ≡ Some n) (sym free)
+    (entry_stands v.processes process k n (slot v.processes process) refl h) in
+    ap (opened_number x k) entry ∙ ap (opened_description k n) (slot_at_end v.descriptions (Some d))
+
+opens_with : (w v : World) (process : ℕ) (name : List ℕ) (flags : OpenFlags) (file k : ℕ) → v.descriptions ≡ w.descriptions → v.processes ≡ w.processes →
+    file_of name v.names ≡ Some file → lowest (table_of (slot w.processes process)) ≡ Some k → Opens w process name flags k (with_open v process (new_description file flags))
+opens_with w v process name flags file k e f named low =
+    let d = new_description file flags in
+    record {
+      description = d;
+      file = file;
+      named = named;
+      target_is = refl;
+      at_start = refl;
+      mode_is = refl;
+      append_is = refl;
+      nonblock_is = refl;
+      appended = ap (λ ds. ds ++ Some d ∷ []) e;
+      leads =
+          opened_leads v process d k (ap (λ ps. lowest (table_of (slot ps process))) f ∙ low) ∙
+          ap (λ ds. Some (record { fd = k; number = length ds; description = d })) e;
+    }
+
+truncated_names : (w : World) (n : ℕ) (flags : OpenFlags) → (truncated w n flags).names ≡ w.names
+truncated_names w n flags =
+    elim (has flags 16) as (λ b. (cond b (record w { files = set w.files n (emptied (slot w.files n)) }) w).names ≡ w.names) [ true ↦ refl | false ↦ refl ]
+
+opens_found : (w : World) (process : ℕ) (name : List ℕ) (flags : OpenFlags) (found : Option ℕ) (k : ℕ) → file_of name w.names ≡ found → lowest (table_of (slot w.processes process)) ≡ Some k →
+    Opens w process name flags k (open_found w process name flags found)
+opens_found w process name flags None k is low = opens_with w (created w name) process name flags (length w.files) k refl refl (named_file name (length w.files) w.names) low
+opens_found w process name flags (Some n) k is low =
+    opens_with w (truncated w n flags) process name flags n k (truncated_descriptions w n flags) (truncated_processes w n flags) (ap (file_of name) (truncated_names w n flags) ∙ is) low
+
+-- the number that an open tells
+told_found : (w : World) (process : ℕ) (name : List ℕ) (flags : OpenFlags) (found : Option ℕ) (k : ℕ) → lowest (table_of (slot w.processes process)) ≡ Some k →
+    (open_found w process name flags found).outcome ≡ Replied (Number k)
+told_found w process name flags None k low = ap (λ l. Replied (Number (unwrap_or l 0))) low
+told_found w process name flags (Some n) k low = ap (λ ps. Replied (Number (unwrap_or (lowest (table_of (slot ps process))) 0))) (truncated_processes w n flags) ∙ ap (λ l. Replied (Number (unwrap_or l 0))) low
+
+opens_unless : (fault : Option Errno) (w : World) (process : ℕ) (name : List ℕ) (flags : OpenFlags) (s : Stepped) (fd : ℕ) →
+    (fault ≡ None → (k : ℕ) × (s.outcome ≡ Replied (Number k)) × Opens w process name flags k s) → (unless fault w s).outcome ≡ Replied (Number fd) →
+    Opens w process name flags fd (unless fault w s)
+opens_unless None w process name flags s fd all h =
+    let found = all refl in
+    let told : s.outcome ≡ Replied (Number found.0) = found.1 in
+    let same : found.0 ≡ fd = cc in
+    subst (λ (k : ℕ). Opens w process name flags k s) same found.2
+opens_unless (Some error) w process name flags s fd all h = cc
 
 pub open_describes : OpenDescribes
 open_describes w process name flags fd h =
-    opens_unless (first_fault (open_faults w process name flags)) w (open_found w process name flags (file_of name w.names)) fd
-    (opens_found w process name flags (file_of name w.names)) h
+    let found = file_of name w.names in
+    let faults = open_faults w process name flags in
+    opens_unless (first_fault faults) w process name flags (open_found w process name flags found) fd
+    (λ free. let low = open_has_free w process name flags free in
+    (low.0, told_found w process name flags found low.0 low.1, opens_found w process name flags found low.0 refl low.1)) h

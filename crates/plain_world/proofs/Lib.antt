@@ -8,3 +8,12 @@ pub mod SweepLaws
 pub mod SweepLemmas
 pub mod RunLaws
 pub mod FileLaws
+pub mod PlaceLemmas
+pub mod ChangeLemmas
+pub mod StepLemmas
+pub mod CallNumbers
+pub mod SweepWhole
+pub mod NumberLaws
+pub mod HistoryLaws
+pub mod LimitLaws
+pub mod LegalLaws

@@ -2,13 +2,11 @@ use Rattle.std.proofs.Common.{ℕ, ℤ, ◌≤◌, Bool, true, false, cond, List
 use Rattle.call_types.specs.Lim.{Lim}
 use Rattle.call_types.specs.declared.errno.Errno.{Errno}
 use Rattle.call_types.specs.declared.errno.Errno.TheVariants.{EFBIG}
-use Rattle.call_types.specs.declared.outcome.Outcome.TheVariants.{Reply as Replied}
-use Rattle.call_types.specs.declared.outcome.Reply.TheVariants.{Number}
 use Rattle.plain_world.specs.Faults.{Stepped, first_fault, refused, unless}
 use Rattle.plain_world.specs.Descriptors.{opened, bytes_of}
 use Rattle.plain_world.specs.Positions.{bytes_before}
-use Rattle.plain_world.specs.Write.{write_opened, write_target, write_from, written, write_faults, write_start}
-use Rattle.plain_world.specs.Pwrite.{pwrite_opened, pwrite_target, pwrite_from, pwritten, pwrite_faults}
+use Rattle.plain_world.specs.Write.{write_opened, write_target, write_at, written, pwritten, nothing_written, write_faults, write_start}
+use Rattle.plain_world.specs.Pwrite.{pwrite_opened, pwrite_target, pwrite_faults}
 use Rattle.plain_world.specs.History.{moved_in}
 use Rattle.plain_world.specs.RunLaws.{CallKeepsClosed, WriteTakesFew, PwriteTakesFew}
 use Rattle.plain_world.specs.declared.world.World.{World}
@@ -35,23 +33,21 @@ few_if : (b : Bool) (bytes : List ℕ) (s t : Stepped) → TakesFew bytes s → 
 few_if true bytes s t h k = h
 few_if false bytes s t h k = k
 
-abbrev nothing_written : World → Stepped
-nothing_written w = record { world = w; outcome = Replied (Number 0) }
-
 few_nothing : (w : World) (bytes : List ℕ) → TakesFew bytes (nothing_written w)
 few_nothing w bytes = record { few = omega arith }
 
 few_written : (lim : Lim) (w : World) (o : Opened) (n : ℕ) (bytes : List ℕ) (start : ℕ) → TakesFew bytes (written lim w o n bytes start)
 few_written lim w o n bytes start = record { few = omega arith }
 
-few_from : (lim : Lim) (w : World) (o : Opened) (n : ℕ) (bytes : List ℕ) (start : ℕ) → TakesFew bytes (write_from lim w o n bytes start)
-few_from lim w o n bytes start =
-    few_if (leb lim.file_size start) bytes (refused w EFBIG) (written lim w o n bytes start) (few_refused w bytes EFBIG) (few_written lim w o n bytes start)
+few_at : (lim : Lim) (w : World) (bytes : List ℕ) (start : ℕ) (effect : Stepped) → TakesFew bytes effect → TakesFew bytes (write_at lim w bytes start effect)
+few_at lim w bytes start effect h =
+    few_if (eqb (length bytes) 0) bytes (nothing_written w) (cond (leb lim.file_size start) (refused w EFBIG) effect) (few_nothing w bytes)
+    (few_if (leb lim.file_size start) bytes (refused w EFBIG) effect (few_refused w bytes EFBIG) h)
 
 few_target : (lim : Lim) (w : World) (o : Opened) (bytes : List ℕ) (t : Target) → TakesFew bytes (write_target lim w o bytes t)
 few_target lim w o bytes (target.Regular n) =
     let start = write_start o.description (bytes_of w n) in
-    few_if (eqb (length bytes) 0) bytes (nothing_written w) (write_from lim w o n bytes start) (few_nothing w bytes) (few_from lim w o n bytes start)
+    few_at lim w bytes start (written lim w o n bytes start) (few_written lim w o n bytes start)
 few_target lim w o bytes (target.Pipe pipe) = few_refused w bytes _
 few_target lim w o bytes (target.Fifo file pipe) = few_refused w bytes _
 
@@ -65,13 +61,8 @@ write_takes_few lim w process fd bytes = (few_opened lim w bytes (opened w proce
 few_pwritten : (lim : Lim) (w : World) (n : ℕ) (bytes : List ℕ) (start : ℕ) → TakesFew bytes (pwritten lim w n bytes start)
 few_pwritten lim w n bytes start = record { few = omega arith }
 
-few_pwrite_from : (lim : Lim) (w : World) (n : ℕ) (bytes : List ℕ) (start : ℕ) → TakesFew bytes (pwrite_from lim w n bytes start)
-few_pwrite_from lim w n bytes start =
-    few_if (leb lim.file_size start) bytes (refused w EFBIG) (pwritten lim w n bytes start) (few_refused w bytes EFBIG) (few_pwritten lim w n bytes start)
-
 few_pwrite_target : (lim : Lim) (w : World) (bytes : List ℕ) (start : ℕ) (t : Target) → TakesFew bytes (pwrite_target lim w bytes start t)
-few_pwrite_target lim w bytes start (target.Regular n) =
-    few_if (eqb (length bytes) 0) bytes (nothing_written w) (pwrite_from lim w n bytes start) (few_nothing w bytes) (few_pwrite_from lim w n bytes start)
+few_pwrite_target lim w bytes start (target.Regular n) = few_at lim w bytes start (pwritten lim w n bytes start) (few_pwritten lim w n bytes start)
 few_pwrite_target lim w bytes start (target.Pipe pipe) = few_refused w bytes _
 few_pwrite_target lim w bytes start (target.Fifo file pipe) = few_refused w bytes _
 

@@ -1,14 +1,16 @@
 -- What a sweep leaves, and that it leaves nothing for the next one.
-use Rattle.std.proofs.Common.{◌≡◌, ℕ, zero, suc, ◌+◌, ◌∙◌, Bool, true, false, ◌&&◌, cond, List, [], ◌∷◌, Option, None, Some, map, refl, ap, arith}
+use Rattle.std.proofs.Common.{◌≡◌, ℕ, zero, suc, ◌+◌, ◌∙◌, Bool, true, false, ◌&&◌, cond, List, [], ◌∷◌, Option, None, Some, length, map, refl, ap, sym, arith}
 use Rattle.std.specs.Option.{is_some, option_map}
 use Rattle.plain_world.specs.Places.{slot, kept, kept_from}
 use Rattle.plain_world.specs.Laws.{SweepSettles, StepSettles, SweepLeaves}
 use Rattle.plain_world.specs.Faults.{Stepped}
 use Rattle.plain_world.specs.Step.{swept, effect}
 use Rattle.plain_world.specs.Sweep.{is_referred, is_open, is_wanted, open_pipe, without_gone_pipe, sweep}
+use Rattle.plain_world.specs.declared.world.World.{World}
 use Rattle.plain_world.specs.declared.world.Description.{Description}
 use Rattle.plain_world.specs.declared.world.File.{File}
 use Rattle.plain_world.specs.declared.world.File.TheVariants as file
+use Rattle.plain_world.proofs.PlaceLemmas.{length_kept}
 
 kept_from_again : {T : Type 0} (keeps : ℕ → Bool) (m : ℕ) (xs : List (Option T)) → kept_from keeps m (kept_from keeps m xs) ≡ kept_from keeps m xs
 kept_from_again keeps m [] = refl
@@ -58,31 +60,30 @@ swept_settles (Some e) s h =
 pub step_settles : StepSettles
 step_settles lim w actor act s h = swept_settles (effect lim w actor act) s h
 
-slot_kept_from : {T : Type 0} (keeps : ℕ → Bool) (m : ℕ) (xs : List (Option T)) (n : ℕ) →
-    is_some (slot (kept_from keeps m xs) n) ≡ (is_some (slot xs n) && keeps (m + n))
-slot_kept_from keeps m [] n = refl
-slot_kept_from keeps m (x ∷ xs) zero =
-    let e : m + 0 ≡ m = omega arith in
-    rw e (at x (keeps m))
-  where
-    at : {T : Type 0} (x : Option T) (b : Bool) → is_some (cond b x None) ≡ (is_some x && b)
-    at None true = refl
-    at None false = refl
-    at (Some x) true = refl
-    at (Some x) false = refl
+either_way : {X : Type 0} (b : Bool) (x : X) → x ≡ cond b x x
+either_way true x = refl
+either_way false x = refl
+
+-- what stands at a number of the places that are kept
+slot_kept_from : {T : Type 0} (keeps : ℕ → Bool) (m : ℕ) (xs : List (Option T)) (n : ℕ) → slot (kept_from keeps m xs) n ≡ cond (keeps (m + n)) (slot xs n) None
+slot_kept_from keeps m [] n = either_way (keeps (m + n)) None
+slot_kept_from keeps m (x ∷ xs) zero = let e : m + 0 ≡ m = omega arith in rw e refl
 slot_kept_from keeps m (x ∷ xs) (suc n) =
     let e : m + suc n ≡ suc m + n = omega arith in
     rw e (slot_kept_from keeps (suc m) xs n)
 
-slot_kept : {T : Type 0} (keeps : ℕ → Bool) (xs : List (Option T)) (n : ℕ) → is_some (slot (kept keeps xs) n) ≡ (is_some (slot xs n) && keeps n)
+slot_kept : {T : Type 0} (keeps : ℕ → Bool) (xs : List (Option T)) (n : ℕ) → slot (kept keeps xs) n ≡ cond (keeps n) (slot xs n) None
 slot_kept keeps xs n = let e : 0 + n ≡ n = omega arith in rw e at (slot_kept_from keeps 0 xs n)
 
-still_there : (ds : List (Option Description)) (files : List (Option File)) (n : ℕ) → is_some (slot (map (without_gone_pipe ds) files) n) ≡ is_some (slot files n)
-still_there ds [] n = refl
-still_there ds (None ∷ files) zero = refl
-still_there ds (Some (file.Regular bytes) ∷ files) zero = refl
-still_there ds (Some (file.Fifo fifo) ∷ files) zero = refl
-still_there ds (f ∷ files) (suc n) = still_there ds files n
+pub length_mapped : {X Y : Type 0} (f : X → Y) (xs : List X) → length (map f xs) ≡ length xs
+length_mapped f [] = refl
+length_mapped f (x ∷ xs) = ap suc (length_mapped f xs)
+
+-- what stands at a number of mapped places
+pub slot_mapped : {X : Type 0} (f : Option X → Option X) → f None ≡ None → (xs : List (Option X)) (n : ℕ) → slot (map f xs) n ≡ f (slot xs n)
+slot_mapped f none [] n = sym none
+slot_mapped f none (x ∷ xs) zero = refl
+slot_mapped f none (x ∷ xs) (suc n) = slot_mapped f none xs n
 
 pub sweep_leaves : SweepLeaves
 sweep_leaves w =
@@ -90,5 +91,44 @@ sweep_leaves w =
     record {
       descriptions = λ n. slot_kept (is_referred w.processes) w.descriptions n;
       pipes = λ n. slot_kept (is_open ds) w.pipes n;
-      files = λ n. slot_kept (is_wanted w.names ds) (map (without_gone_pipe ds) w.files) n ∙ ap (λ b. b && is_wanted w.names ds n) (still_there ds w.files n);
+      files = λ n.
+          slot_kept (is_wanted w.names ds) (map (without_gone_pipe ds) w.files) n ∙
+          ap (λ x. cond (is_wanted w.names ds n) x None) (slot_mapped (without_gone_pipe ds) refl w.files n);
+      numbers = (
+        length_kept (is_referred w.processes) 0 w.descriptions,
+        length_kept (is_open ds) 0 w.pipes,
+        length_kept (is_wanted w.names ds) 0 (map (without_gone_pipe ds) w.files) ∙ length_mapped (without_gone_pipe ds) w.files,
+      );
+      processes = refl;
+      names = refl;
+      closed = refl;
+    }
+
+kept_there : {T : Type 0} (x : Option T) (b : Bool) → is_some (cond b x None) ≡ (is_some x && b)
+kept_there None true = refl
+kept_there None false = refl
+kept_there (Some x) true = refl
+kept_there (Some x) false = refl
+
+still_there : (ds : List (Option Description)) (x : Option File) → is_some (without_gone_pipe ds x) ≡ is_some x
+still_there ds None = refl
+still_there ds (Some (file.Regular bytes)) = refl
+still_there ds (Some (file.Fifo fifo)) = refl
+
+-- what is there behind a sweep
+pub record LeavesThere (w v : World) : Type 0 where
+  pub descriptions : (n : ℕ) → is_some (slot v.descriptions n) ≡ (is_some (slot w.descriptions n) && is_referred v.processes n)
+  pub pipes : (n : ℕ) → is_some (slot v.pipes n) ≡ (is_some (slot w.pipes n) && is_open v.descriptions n)
+  pub files : (n : ℕ) → is_some (slot v.files n) ≡ (is_some (slot w.files n) && is_wanted v.names v.descriptions n)
+
+pub sweep_leaves_there : (w : World) → LeavesThere w (sweep w)
+sweep_leaves_there w =
+    let left = sweep_leaves w in
+    let ds = (sweep w).descriptions in
+    record {
+      descriptions = λ n. ap is_some (left.descriptions n) ∙ kept_there (slot w.descriptions n) (is_referred w.processes n);
+      pipes = λ n. ap is_some (left.pipes n) ∙ kept_there (slot w.pipes n) (is_open ds n);
+      files = λ n.
+          ap is_some (left.files n) ∙
+          (kept_there (without_gone_pipe ds (slot w.files n)) (is_wanted w.names ds n) ∙ ap (λ b. b && is_wanted w.names ds n) (still_there ds (slot w.files n)));
     }

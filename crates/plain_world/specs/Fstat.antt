@@ -23,7 +23,7 @@ pipe_bytes (Some bytes) = bytes
 abbrev pub held_in : World → ℕ → ℕ
 held_in w pipe = length (pipe_bytes (slot w.pipes pipe))
 
--- the links of a file as a reply tells them: in 32 bits, whose greatest number no run reaches
+-- the links of a file as a reply tells them, in 32 bits (own: a greater number, which no run reaches, is told as the greatest)
 abbrev pub links_told : World → ℕ → ℕ
 links_told w file = min (links w.names file) 4294967295
 

@@ -16,9 +16,13 @@ use Rattle.plain_world.specs.declared.world.World.{World}
 abbrev pub empty_world : World
 empty_world = record { files = []; pipes = []; descriptions = []; processes = []; names = []; closed = false }
 
--- the world after one more record; a record that is no step leaves it
+-- the world after an act; an act that is no step leaves it
+abbrev pub after_act : Lim → World → ℕ → Act → World
+after_act lim w actor act = option_map_or (λ s. s.world) (step lim w actor act) w
+
+-- the world after one more record
 abbrev pub after : Lim → World → Record → World
-after lim w r = option_map_or (λ s. s.world) (step lim w r.actor r.act) w
+after lim w r = after_act lim w r.actor r.act
 
 -- the world after the records, from this one on
 abbrev pub world_from : Lim → World → List Record → World
@@ -44,7 +48,7 @@ moved_in (outcome.Reply (reply.Number n)) = n
 moved_in (outcome.Parked moved) = moved
 moved_in _ = 0
 
--- the bytes that a record took from a process
+-- the bytes that a record took from a process; the resume of a write is to come, and takes 0 until then
 abbrev pub took : Record → ℕ
 took r = took_by r.act r.outcome
   where

@@ -21,3 +21,5 @@ pub mod History
 pub mod Laws
 pub mod RunLaws
 pub mod FileLaws
+pub mod NumberLaws
+pub mod LimitLaws

@@ -1,6 +1,8 @@
 -- The page of open.
-use Rattle.std.specs.Prelude.{ℕ, Bool, true, false, not, ◌&&◌, ◌||◌, ◌==◌, nat_lt, nat_le, List, [], ◌∷◌, ◌++◌, Option, None, Some, length, slice_set, is_none, is_some, unwrap_or, if◌then◌else◌, bit_and}
+use Rattle.std.specs.Prelude.{ℕ, Bool, true, false, not, ◌&&◌, ◌||◌, ◌==◌, nat_lt, nat_le, List, [], ◌∷◌, ◌++◌, Option, None, Some, length, slice_set, is_none, is_some, unwrap_or, if◌then◌else◌, bit_and, codes}
+use Rattle.std.specs.Char.{is_ascii_alphanumeric}
 use Rattle.std.specs.List.{list_all}
+use Rattle.std.specs.Str.{bytes_eq}
 use Rattle.call_types.specs.declared.errno.Errno.{Errno}
 use Rattle.call_types.specs.declared.errno.Errno.TheVariants.{EINVAL, ENOENT, EEXIST, EMFILE, ENFILE, ENOSPC, ENAMETOOLONG}
 use Rattle.call_types.specs.declared.flags.OpenFlags.{OpenFlags}
@@ -25,15 +27,13 @@ has flags flag = bit_and flags.0 flag == flag
 
 -- whether a byte may stand in a name: a letter, a digit, or one of . _ - (XBD 3, Portable Filename Character Set)
 abbrev pub is_name_byte : ℕ → Bool
-is_name_byte b =
-    (nat_le 97 b && nat_le b 122) || (nat_le 65 b && nat_le b 90) || (nat_le 48 b && nat_le b 57)
-    || b == 46 || b == 95 || b == 45
+is_name_byte b = is_ascii_alphanumeric b || b == 46 || b == 95 || b == 45
 
 -- the names . and .. are directories, which there are none of
 abbrev pub is_dots : List ℕ → Bool
-is_dots name = nat_le (length name) 2 && list_all (λ b. b == 46) name
+is_dots name = bytes_eq name (codes ".") || bytes_eq name (codes "..")
 
--- the refusals of a name, in their order
+-- the refusals of a name, in their order (own: EINVAL of . and .., and of a byte that is not portable)
 abbrev pub name_faults : List ℕ → List (Bool × Errno)
 name_faults name =
     (length name == 0, ENOENT)
@@ -68,7 +68,7 @@ found_faults w flags found =
     ∷ (leads_to_fifo w found, EINVAL)
     ∷ []
 
--- the refusals for want of room
+-- the refusals for want of room (own: 1,024 live descriptions and 1,024 names are the most)
 abbrev pub room_faults : World → ℕ → Option ℕ → List (Bool × Errno)
 room_faults w process found =
     (is_none (lowest (table_of (slot w.processes process))), EMFILE)
@@ -117,7 +117,7 @@ emptied (Some (file.Fifo fifo)) = Some (file.Fifo fifo)
 abbrev pub truncated : World → ℕ → OpenFlags → World
 truncated w number flags = if has flags 16 then record w { files = slice_set w.files number (emptied (slot w.files number)) } else w
 
--- the file that was there is opened, or a new one
+-- the file that was there is opened, or a new one (a FIFO is refused already)
 abbrev pub open_found : World → ℕ → List ℕ → OpenFlags → Option ℕ → Stepped
 open_found w process name flags (Some number) = with_open (truncated w number flags) process (new_description number flags)
 open_found w process name flags None = with_open (created w name) process (new_description (length w.files) flags)

@@ -15,7 +15,7 @@ use Rattle.plain_world.specs.declared.world.Target.{Target}
 use Rattle.plain_world.specs.declared.world.Target.TheVariants as target
 use Rattle.plain_world.specs.declared.opened.Opened.{Opened}
 
--- the refusals of an open descriptor, in their order
+-- the refusals of an open descriptor, in their order (own: EINVAL of more than 65,536 bytes)
 abbrev pub pread_faults : Opened → ℤ → ℕ → List (Bool × Errno)
 pread_faults o start count =
     (not (can_read o.description.mode), EBADF)

@@ -14,7 +14,7 @@ use Rattle.plain_world.specs.declared.world.Target.{Target}
 use Rattle.plain_world.specs.declared.world.Target.TheVariants as target
 use Rattle.plain_world.specs.declared.opened.Opened.{Opened}
 
--- the refusals of an open descriptor, in their order
+-- the refusals of an open descriptor, in their order (own: EINVAL of more than 65,536 bytes)
 abbrev pub read_faults : Opened → ℕ → List (Bool × Errno)
 read_faults o count =
     (not (can_read o.description.mode), EBADF)

@@ -17,7 +17,7 @@ use Rattle.plain_world.specs.declared.world.Target.TheVariants as target
 use Rattle.plain_world.specs.declared.world.Description.{Description}
 use Rattle.plain_world.specs.declared.opened.Opened.{Opened}
 
--- the refusals of an open descriptor, in their order
+-- the refusals of an open descriptor, in their order (own: EINVAL of more than 65,536 bytes)
 abbrev pub write_faults : Opened → List ℕ → List (Bool × Errno)
 write_faults o bytes =
     (not (can_write o.description.mode), EBADF)
@@ -36,24 +36,38 @@ fitting lim start bytes = min (length bytes) (lim.file_size - start)
 abbrev pub with_bytes : World → ℕ → List ℕ → World
 with_bytes w number bytes = record w { files = slice_set w.files number (Some (file.Regular bytes)) }
 
--- what fits is written, and the offset goes behind it
+-- the world in which these bytes stand in a regular file from a position on
+abbrev pub with_data : World → ℕ → ℕ → List ℕ → World
+with_data w number start new = with_bytes w number (splice (bytes_of w number) start new)
+
+-- what fits is written at the position; no offset moves
+abbrev pub pwritten : Lim → World → ℕ → List ℕ → ℕ → Stepped
+pwritten lim w number bytes start =
+    let n = fitting lim start bytes in
+    record { world = with_data w number start (take n bytes); outcome = Replied (Number n) }
+
+-- and the offset goes behind it
 abbrev pub written : Lim → World → Opened → ℕ → List ℕ → ℕ → Stepped
 written lim w o number bytes start =
-    let n = fitting lim start bytes in
-    record {
-      world = with_offset (with_bytes w number (splice (bytes_of w number) start (take n bytes))) o (start + n);
-      outcome = Replied (Number n);
-    }
+    let s = pwritten lim w number bytes start in
+    record s { world = with_offset s.world o (start + fitting lim start bytes) }
 
--- EFBIG at the size limit or past it
-abbrev pub write_from : Lim → World → Opened → ℕ → List ℕ → ℕ → Stepped
-write_from lim w o number bytes start = if nat_le lim.file_size start then refused w EFBIG else written lim w o number bytes start
+-- no bytes are written: 0 is told, and nothing happens (page of write)
+abbrev pub nothing_written : World → Stepped
+nothing_written w = record { world = w; outcome = Replied (Number 0) }
 
--- no bytes: nothing happens
+-- nothing for no bytes, EFBIG at the size limit or past it, else the effect (page of write)
+abbrev pub write_at : Lim → World → List ℕ → ℕ → Stepped → Stepped
+write_at lim w bytes start effect =
+    if length bytes == 0 then nothing_written w
+    else if nat_le lim.file_size start then refused w EFBIG
+    else effect
+
+-- a write to a regular file
 abbrev pub write_file : Lim → World → Opened → ℕ → List ℕ → Stepped
 write_file lim w o number bytes =
-    if length bytes == 0 then record { world = w; outcome = Replied (Number 0) }
-    else write_from lim w o number bytes (write_start o.description (bytes_of w number))
+    let start = write_start o.description (bytes_of w number) in
+    write_at lim w bytes start (written lim w o number bytes start)
 
 -- by what the descriptor refers to; no act so far opens a pipe or FIFO (own: EINVAL)
 abbrev pub write_target : Lim → World → Opened → List ℕ → Target → Stepped

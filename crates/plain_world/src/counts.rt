@@ -43,7 +43,7 @@ pub(crate) fn any_refers(number: usize, processes: &Slots<Process>) -> bool
         .any(|process| process_refers(number, process))
 }
 
-/// Whether a file is open for reading.
+/// Whether a mode has reading.
 pub(crate) fn can_read(mode: Mode) -> bool
     ensures { result ≡ can_read mode }
 {
@@ -53,7 +53,7 @@ pub(crate) fn can_read(mode: Mode) -> bool
     }
 }
 
-/// Whether a file is open for writing.
+/// Whether a mode has writing.
 pub(crate) fn can_write(mode: Mode) -> bool
     ensures { result ≡ can_write mode }
 {

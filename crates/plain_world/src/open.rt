@@ -4,7 +4,7 @@ ghost use Rattle.plain_world.specs.Places.{slot};
 ghost use Rattle.plain_world.specs.Names.{file_of};
 ghost use Rattle.plain_world.specs.Descriptors.{with_descriptor};
 ghost use Rattle.plain_world.specs.Faults.{Stepped, first_fault};
-ghost use Rattle.plain_world.specs.Open.{has, is_name_byte, is_dots, name_faults, flag_faults, leads_to_fifo, found_faults, room_faults, open_faults, mode_of, new_description, free_descriptor, with_open, created, emptied, truncated, open_found, open_file};
+ghost use Rattle.plain_world.specs.Open.{has, is_name_byte, is_dots, name_faults, flag_faults, leads_to_fifo, found_faults, room_faults, open_faults, mode_of, new_description, free_descriptor, with_open, created, emptied, truncated, open_file};
 
 use crate::contents::Contents;
 use crate::descriptors::{lowest_descriptor, set_descriptor};
@@ -29,7 +29,7 @@ pub(crate) fn is_name_byte(byte: u8) -> bool
 pub(crate) fn is_dots(name: &[u8]) -> bool
     ensures { result ≡ is_dots name.now }
 {
-    name.len() <= 2 && name.iter().all(|byte| *byte == b'.')
+    name == b".".as_slice() || name == b"..".as_slice()
 }
 
 /// Whether each byte may stand in a name.

@@ -1,6 +1,6 @@
-ghost use Rattle.std.specs.Prelude.{◌≡◌, ◌<◌, IfOk, OnErr};
+ghost use Rattle.std.specs.Prelude.{◌≡◌, IfOk, OnErr};
 ghost use Rattle.plain_world.specs.Faults.{Stepped, first_fault};
-ghost use Rattle.plain_world.specs.Pwrite.{pwrite_faults, pwritten, pwrite_from, pwrite_file, pwrite_target, pwrite};
+ghost use Rattle.plain_world.specs.Pwrite.{pwrite_faults, pwrite_file, pwrite_target, pwrite};
 
 use crate::counts::can_write;
 use crate::descriptors::opened;
@@ -8,7 +8,7 @@ use crate::faults::refused;
 use crate::opened::Opened;
 use crate::positions::{bytes_before, is_before, is_regular};
 use crate::world::{Target, World};
-use crate::write::{fitting, write_bytes};
+use crate::write::pwritten;
 use call_types::errno::Errno;
 use call_types::limits::{Bounds, TRANSFER_MAX};
 use call_types::outcome::{Outcome, Reply};
@@ -34,43 +34,7 @@ pub fn pwrite_fault(descriptor: Opened, start: i64, bytes: &[u8]) -> Option<Errn
     None
 }
 
-/// Writes what fits; the offset stays.
-pub(crate) fn pwritten(
-    alloc: Global,
-    bounds: Bounds,
-    world: &mut World,
-    number: usize,
-    bytes: &[u8],
-    start: usize,
-) -> Result<Outcome, AllocError>
-    requires { start < bounds.file_size }
-    ensures ok { IfOk result (λ outcome. pwritten bounds world.old number bytes.now start ≡ record { world = world.new; outcome = outcome }) }
-    ensures err { OnErr result (world.new ≡ world.old) }
-{
-    let moved = fitting(bounds, start, bytes);
-    write_bytes(alloc, &mut world.files, number, start, &bytes[..moved])?;
-    Ok(Outcome::Reply(Reply::Number(moved as u64)))
-}
-
-/// Writes from a position on; EFBIG at the size limit or past it.
-pub(crate) fn pwrite_from(
-    alloc: Global,
-    bounds: Bounds,
-    world: &mut World,
-    number: usize,
-    bytes: &[u8],
-    start: usize,
-) -> Result<Outcome, AllocError>
-    ensures ok { IfOk result (λ outcome. pwrite_from bounds world.old number bytes.now start ≡ record { world = world.new; outcome = outcome }) }
-    ensures err { OnErr result (world.new ≡ world.old) }
-{
-    if start as u64 >= bounds.file_size() {
-        return Ok(refused(Errno::EFBIG));
-    }
-    pwritten(alloc, bounds, world, number, bytes, start)
-}
-
-/// Writes to a regular file; nothing happens where there are no bytes.
+/// Writes to a regular file.
 pub(crate) fn pwrite_file(
     alloc: Global,
     bounds: Bounds,
@@ -85,7 +49,10 @@ pub(crate) fn pwrite_file(
     if bytes.is_empty() {
         return Ok(Outcome::Reply(Reply::Number(0)));
     }
-    pwrite_from(alloc, bounds, world, number, bytes, start)
+    if start as u64 >= bounds.file_size() {
+        return Ok(refused(Errno::EFBIG));
+    }
+    pwritten(alloc, bounds, world, number, bytes, start)
 }
 
 /// Writes by what the descriptor refers to.

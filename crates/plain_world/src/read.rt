@@ -1,6 +1,6 @@
 ghost use Rattle.std.specs.Prelude.{◌≡◌, ◌≤◌, IfOk, OnErr};
 ghost use Rattle.plain_world.specs.Faults.{Stepped, first_fault};
-ghost use Rattle.plain_world.specs.Read.{read_faults, read_file, read_target, read_opened, read};
+ghost use Rattle.plain_world.specs.Read.{read_faults, read_file, read_target, read};
 
 use crate::contents::bytes_at;
 use crate::counts::can_read;

@@ -1,9 +1,9 @@
-ghost use Rattle.std.specs.Prelude.{◌≡◌, ◌≤◌, ◌<◌, ◌+◌, ◌^◌, Some, length, slice_set, IfOk, OnOk, OnErr};
+ghost use Rattle.std.specs.Prelude.{◌≡◌, ◌<◌, ◌+◌, ◌^◌, Some, length, slice_set, IfOk, OnOk, OnErr};
 ghost use Rattle.plain_world.specs.Bytes.{splice};
 ghost use Rattle.plain_world.specs.Places.{slot};
 ghost use Rattle.plain_world.specs.Descriptors.{file_bytes};
 ghost use Rattle.plain_world.specs.Faults.{Stepped, first_fault};
-ghost use Rattle.plain_world.specs.Write.{write_faults, write_start, fitting, written, write_from, write_file, write_target, write};
+ghost use Rattle.plain_world.specs.Write.{write_faults, write_start, fitting, pwritten, written, write_file, write_target, write};
 
 use crate::contents::Contents;
 use crate::counts::can_write;
@@ -81,6 +81,24 @@ pub(crate) fn write_bytes(
     }
 }
 
+/// Writes what fits; no offset moves.
+pub(crate) fn pwritten(
+    alloc: Global,
+    bounds: Bounds,
+    world: &mut World,
+    number: usize,
+    bytes: &[u8],
+    start: usize,
+) -> Result<Outcome, AllocError>
+    requires { start < bounds.file_size }
+    ensures ok { IfOk result (λ outcome. pwritten bounds world.old number bytes.now start ≡ record { world = world.new; outcome = outcome }) }
+    ensures err { OnErr result (world.new ≡ world.old) }
+{
+    let moved = fitting(bounds, start, bytes);
+    write_bytes(alloc, &mut world.files, number, start, &bytes[..moved])?;
+    Ok(Outcome::Reply(Reply::Number(moved as u64)))
+}
+
 /// Writes what fits, and moves the offset behind it.
 pub(crate) fn written(
     alloc: Global,
@@ -95,32 +113,13 @@ pub(crate) fn written(
     ensures ok { IfOk result (λ outcome. written bounds world.old descriptor number bytes.now start ≡ record { world = world.new; outcome = outcome }) }
     ensures err { OnErr result (world.new ≡ world.old) }
 {
-    let moved = fitting(bounds, start, bytes);
-    write_bytes(alloc, &mut world.files, number, start, &bytes[..moved])?;
-    set_offset(world, descriptor, (start + moved) as u64);
-    Ok(Outcome::Reply(Reply::Number(moved as u64)))
+    let outcome = pwritten(alloc, bounds, world, number, bytes, start)?;
+    let behind = start + fitting(bounds, start, bytes);
+    set_offset(world, descriptor, behind as u64);
+    Ok(outcome)
 }
 
-/// Writes from a position on; EFBIG at the size limit or past it.
-pub(crate) fn write_from(
-    alloc: Global,
-    bounds: Bounds,
-    world: &mut World,
-    descriptor: Opened,
-    number: usize,
-    bytes: &[u8],
-    start: usize,
-) -> Result<Outcome, AllocError>
-    ensures ok { IfOk result (λ outcome. write_from bounds world.old descriptor number bytes.now start ≡ record { world = world.new; outcome = outcome }) }
-    ensures err { OnErr result (world.new ≡ world.old) }
-{
-    if start as u64 >= bounds.file_size() {
-        return Ok(refused(Errno::EFBIG));
-    }
-    written(alloc, bounds, world, descriptor, number, bytes, start)
-}
-
-/// Writes to a regular file; nothing happens where there are no bytes.
+/// Writes to a regular file.
 pub(crate) fn write_file(
     alloc: Global,
     bounds: Bounds,
@@ -136,7 +135,10 @@ pub(crate) fn write_file(
         return Ok(Outcome::Reply(Reply::Number(0)));
     }
     let start = write_start(descriptor.description, bytes_of(world, number));
-    write_from(alloc, bounds, world, descriptor, number, bytes, start)
+    if start as u64 >= bounds.file_size() {
+        return Ok(refused(Errno::EFBIG));
+    }
+    written(alloc, bounds, world, descriptor, number, bytes, start)
 }
 
 /// Writes by what the descriptor refers to.
