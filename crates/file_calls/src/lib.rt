@@ -1,7 +1,7 @@
 //! The calls on files: what each comes to is decided first, with nothing changed, and then made, with no memory taken.
 #![tactic(auto)]
 
-pub mod calls;
+pub mod apply;
 pub mod change;
 pub mod close;
 pub mod fstat;

@@ -1,12 +1,12 @@
 -- What contracts see of a book, and what holds of each.
 use Rattle.std.specs.Prelude.{◌≡◌, ℕ, ◌+◌, Bool, nat_le, List, ◌∷◌, [], ◌++◌, Some, length, if◌then◌else◌}
-use Rattle.std.specs.Option.{option_map, option_map_or}
+use Rattle.std.specs.Option.{option_map}
 use Rattle.call_types.specs.Lim.{RunLimits}
 use Rattle.call_types.specs.declared.act.Act.{Act}
 use Rattle.call_types.specs.declared.act.Record.{Record}
 use Rattle.plain_world.specs.Places.{live}
 use Rattle.plain_world.specs.Step.{step}
-use Rattle.plain_world.specs.History.{world_of}
+use Rattle.plain_world.specs.History.{after_act, world_of}
 use Rattle.plain_world.specs.declared.world.World.{World}
 use Rattle.record_book.specs.Seat.{Receipted, SeatState}
 
@@ -27,9 +27,9 @@ exits_left w = if w.closed then live w.processes else live w.processes + 1
 abbrev pub is_kept : ℕ → World → ℕ → Bool
 is_kept records w len = nat_le (len + exits_left w) records
 
--- the world after an act; an act that is no step leaves it
+-- the world after one more act
 abbrev pub world_after : BookState → ℕ → Act → World
-world_after b actor act = option_map_or (λ s. s.world) (step b.limits.lim (world_now b) actor act) (world_now b)
+world_after b actor act = after_act b.limits.lim (world_now b) actor act
 
 -- one record of this act is appended, with the model's outcome, and its receipt tells its place
 pub record Appends (old new : BookState) (actor : ℕ) (act : Act) (receipt : Receipted) : Type 0 where

@@ -1,5 +1,8 @@
 -- What acts change in a machine, and what that asks.
 use Rattle.std.specs.Prelude.{◌≡◌, ℕ, List}
+use Rattle.call_types.specs.declared.errno.Errno.{Errno}
+use Rattle.call_types.specs.declared.outcome.Outcome.TheVariants.{Reply as Replied}
+use Rattle.call_types.specs.declared.outcome.Reply.TheVariants.{Error}
 use Rattle.plain_world.specs.Faults.{Stepped}
 use Rattle.plain_world.specs.Join.{new_process}
 use Rattle.plain_world.specs.declared.world.World.{World}
@@ -31,10 +34,11 @@ need_of (change.Join process) = need.Process
 need_of (change.File c) = file_need_of c
 
 -- what an act comes to: the outcome of the step, and a change that gives the world of the step before the sweep, whose
--- room is asked for, and which can be made
+-- room is asked for, and which can be made; a refusal asks for no room
 pub record Decides (w : World) (bytes : List ℕ) (d : Decided) (s : Stepped) : Type 0 where
   pub outcome : d.plan.outcome ≡ s.outcome
   pub world : changed w bytes d.change ≡ s.world
   pub fits : Fits w bytes d.change
   pub room : d.plan.room ≡ need_of d.change
   pub can : CanNeed w d.plan.room
+  pub idle : (error : Errno) → d.plan.outcome ≡ Replied (Error error) → d.plan.room ≡ need.Nothing

@@ -1,4 +1,4 @@
--- What a join gives.
+-- What a join gives (own).
 use Rattle.std.specs.Prelude.{◌≡◌, ℕ, ◌+◌, true, false, [], ◌∷◌, length}
 use Rattle.call_types.specs.declared.act.Act.TheVariants as act
 use Rattle.plain_world.specs.Join.{is_full}

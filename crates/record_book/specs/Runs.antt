@@ -1,4 +1,4 @@
--- What is told of the acts of a script, one after another.
+-- What is told of the acts of a script, one after another (own).
 use Rattle.std.specs.Prelude.{◌≡◌, ℕ, ◌==◌, Bool, true, false, List, [], ◌∷◌, ◌++◌, Option, None, Some, slice_set, slice_get, position}
 use Rattle.call_types.specs.declared.act.Act.TheVariants as act
 use Rattle.call_types.specs.declared.act.ScriptAct.{ScriptAct}

@@ -1,4 +1,4 @@
--- What contracts see of receipts and seats.
+-- What contracts see of receipts and seats (own).
 use Rattle.std.specs.Prelude.{ℕ, List}
 use Rattle.call_types.specs.declared.act.Record.{Record}
 

@@ -9,7 +9,7 @@ use crate::seat::{Receipt, Seat};
 use call_types::act::{Act, Record};
 use call_types::call::Call;
 use call_types::outcome::{Outcome, Reply};
-use file_calls::calls::given;
+use file_calls::apply::given;
 use std::alloc::{AllocError, Global};
 use std::sync::Arc;
 

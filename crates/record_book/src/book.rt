@@ -1,5 +1,4 @@
 ghost use Rattle.std.specs.Prelude.{◌≡◌, ◌≤◌, ◌+◌, ◌<◌, [], length, IfOk};
-ghost use Rattle.plain_world.specs.Places.{live};
 ghost use Rattle.plain_world.specs.History.{legal, bytes_in, bytes_out};
 ghost use Rattle.record_book.specs.Book.{BookState, world_now, exits_left};
 

@@ -6,7 +6,7 @@ ghost use Rattle.record_book.specs.Change.{changed, Fits, need_of, Decides};
 
 use call_types::errno::Errno;
 use call_types::outcome::{Outcome, Reply};
-use file_calls::calls;
+use file_calls::apply::apply as apply_to_files;
 use file_calls::change::Change as FileChange;
 use machine_state::machine::Machine;
 use machine_state::plan::{Need, Plan};
@@ -66,6 +66,6 @@ pub(crate) fn apply(machine: &mut Machine, alloc: Global, bytes: &[u8], change: 
             machine.add_process(process);
             machine.is_swept();
         }
-        Change::File(change) => calls::apply(machine, alloc, bytes, change),
+        Change::File(change) => apply_to_files(machine, alloc, bytes, change),
     }
 }

@@ -1,4 +1,4 @@
-ghost use Rattle.std.specs.Prelude.{◌≡◌, None, [], length, IfOk, IfErr, OnOk, OnErr};
+ghost use Rattle.std.specs.Prelude.{◌≡◌, None, [], IfOk, IfErr, OnOk, OnErr};
 ghost use Rattle.plain_world.specs.Join.{join};
 ghost use Rattle.record_book.specs.Book.{BookState, world_now};
 ghost use Rattle.record_book.specs.Refusals.{join_refusal, is_too_full, IsDue};

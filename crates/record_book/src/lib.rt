@@ -3,6 +3,7 @@
 
 pub mod append;
 pub mod book;
+mod calls;
 mod change;
 pub mod join;
 pub mod run;

@@ -1,4 +1,4 @@
-ghost use Rattle.std.specs.Prelude.{◌≡◌, ◌≤◌, None, [], List, Option, length, vec_len, vec_capacity, slice_get, IfOk, IfErr, OnOk, OnErr};
+ghost use Rattle.std.specs.Prelude.{◌≡◌, None, [], List, Option, length, vec_len, IfOk, IfErr, OnOk, OnErr};
 ghost use Rattle.record_book.specs.Seat.{SeatState};
 ghost use Rattle.record_book.specs.Book.{BookState, Appends, Receives};
 ghost use Rattle.record_book.specs.Refusals.{start_refusal, IsDue};
@@ -36,7 +36,7 @@ impl Book {
             return Err(refusal);
         }
         let call = call.clone()?;
-        self.start(alloc, seat, call)
+        Ok(self.record_call(alloc, seat, call)?)
     }
 
     ghost use Rattle.record_book.specs.Runs.{TellsJoin, TellsCall, Tells, RunTells, seat_place};

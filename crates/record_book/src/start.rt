@@ -1,22 +1,22 @@
 ghost use Rattle.std.specs.Prelude.{◌≡◌, ◌≤◌, ◌+◌, None, not, nat_le, length, if◌then◌else◌, IfOk, IfErr, OnOk, OnErr};
 ghost use Rattle.plain_world.specs.Places.{live as live_in};
-ghost use Rattle.file_calls.specs.Change.{given, Decides as FileDecides};
+ghost use Rattle.file_calls.specs.Change.{given};
 ghost use Rattle.plain_world.specs.Step.{call_effect};
 ghost use Rattle.record_book.specs.Book.{BookState, world_now, Appends, Receives};
 ghost use Rattle.record_book.specs.Refusals.{start_refusal, is_too_full, IsDue};
+ghost use Rattle.record_book.specs.Change.{Decides};
 ghost use Rattle.record_book.specs.Planned.{IsPlanned};
 
 use crate::book::Book;
-use crate::change::{Change, Decided};
+use crate::calls::decide;
+use crate::change::Decided;
 use crate::seat::{Receipt, Seat};
 use call_types::act::Act;
 use call_types::call::Call;
 use call_types::refusal::Refusal;
-use file_calls::calls::decide;
-use file_calls::change::Decided as FileDecided;
 use plain_world::laws::call_keeps_processes;
 use plain_world::run_laws::{call_keeps_closed, pwrite_takes_few, write_takes_few};
-use std::alloc::Global;
+use std::alloc::{AllocError, Global};
 
 impl Book {
     /// Whether too few records would be left behind one more, with so many live processes.
@@ -66,21 +66,35 @@ impl Book {
         None
     }
 
-    /// What a call that is not refused comes to, the book can record.
-    fn planned(&self, seat: &Seat, call: &Call, decided: FileDecided) -> Decided
+    /// What was decided of a call that is not refused, the book can record. It does nothing.
+    fn is_planned(&self, seat: &Seat, call: &Call, decided: &Decided)
         requires free { start_refusal self.now seat.now call.now ≡ None }
-        requires decides { FileDecides (world_now self.now) (given call.now) decided (call_effect self.now.limits.lim (world_now self.now) seat.now.pid call.now) }
-        ensures { IsPlanned self.now seat.now.pid (Act.Call call.now) result }
+        requires decides { Decides (world_now self.now) (given call.now) decided.now (call_effect self.now.limits.lim (world_now self.now) seat.now.pid call.now) }
+        ensures { IsPlanned self.now seat.now.pid (Act.Call call.now) decided.now }
     {
         let _seat = seat;
         let _call = call;
+        let _decided = decided;
         call_keeps_processes();
         write_takes_few();
         pwrite_takes_few();
-        Decided {
-            plan: decided.plan,
-            change: Change::File(decided.change),
-        }
+    }
+
+    /// Records a call that is not refused. On an error all is as it was.
+    pub(crate) fn record_call(
+        &mut self,
+        alloc: Global,
+        seat: &mut Seat,
+        call: Call,
+    ) -> Result<Receipt, AllocError>
+        requires free { start_refusal self.old seat.old call ≡ None }
+        ensures recorded { IfOk result (λ receipt. Appends self.old self.new seat.old.pid (Act.Call call) receipt × Receives seat.old seat.new receipt) }
+        ensures unchanged { OnErr result ((self.new ≡ self.old) × (seat.new ≡ seat.old)) }
+    {
+        let process = seat.pid() as usize;
+        let decided = decide(&self.machine, alloc, self.limits.bounds(), process, &call)?;
+        self.is_planned(seat, &call, &decided);
+        self.append(alloc, seat, Act::Call(call), decided)
     }
 
     /// Records a call of the seat's process, or its refusal by the rules; the seat gets the receipt too. A `Refusal`
@@ -94,9 +108,6 @@ impl Book {
         if let Some(refusal) = self.start_refusal(seat, &call) {
             return Err(refusal);
         }
-        let process = seat.pid() as usize;
-        let decided = decide(&self.machine, alloc, self.limits.bounds(), process, &call)?;
-        let decided = self.planned(seat, &call, decided);
-        Ok(self.append(alloc, seat, Act::Call(call), decided)?)
+        Ok(self.record_call(alloc, seat, call)?)
     }
 }
