@@ -2,6 +2,7 @@ pub mod Cuts
 pub mod Names
 pub mod Scripts
 pub mod Fronts
+pub mod Hex
 pub mod Numerals
 pub mod WordLaws
 pub mod NameLaws

@@ -62,7 +62,7 @@ script_takes text acts e =
       | inr short ↦ (ltb-false _ _ short.0, lines_takes 1 (slice_split (λ c. eqb c 10) text) acts short.1)
     ]
 
-script_again : (text : List ℕ) (acts : List ScriptAct) → SpellsScript acts text → script text ≡ Ok acts
+pub script_again : (text : List ℕ) (acts : List ScriptAct) → SpellsScript acts text → script text ≡ Ok acts
 script_again text acts s =
     cond-false (ltb 16777216 (length text)) (Err faults.TooLong) (lines_acts 1 (slice_split (λ c. eqb c 10) text)) (le-ltb _ _ s.0)
     ∙ lines_again 1 (slice_split (λ c. eqb c 10) text) acts s.1

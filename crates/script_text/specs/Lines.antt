@@ -1,4 +1,4 @@
--- The lines of a run, as they are written.
+-- The lines of a run, as they are written (own).
 use Rattle.std.specs.Prelude.{ℕ, ◌+◌, ◌/◌, ◌%◌, ◌==◌, nat_lt, ◌&&◌, List, [], ◌∷◌, ◌++◌, length, codes, decimal, bit_and, Option, Some, None, if◌then◌else◌}
 use Rattle.std.specs.Fmt.{signed_decimal}
 use Rattle.std.specs.List.{flat_map, list_all}
@@ -103,11 +103,13 @@ abbrev pub actor_word : ℕ → Act → List ℕ
 actor_word actor acts.CloseRun = codes "house"
 actor_word actor other = process_word actor
 
+-- what a file is
 abbrev pub kind_word : Kind → List ℕ
 kind_word kinds.Regular = codes "regular"
 kind_word kinds.Fifo = codes "fifo"
 kind_word kinds.Pipe = codes "pipe"
 
+-- the name of an error (XSH 2.3)
 abbrev pub error_word : Errno → List ℕ
 error_word errors.EBADF = codes "EBADF"
 error_word errors.EINVAL = codes "EINVAL"
@@ -130,6 +132,7 @@ error_word errors.ESRCH = codes "ESRCH"
 abbrev pub stat_text : Stat → List ℕ
 stat_text stat = kind_word stat.kind ++ codes " " ++ decimal stat.size ++ codes " " ++ decimal stat.links
 
+-- a reply: ok, a number, data, two numbers, what fstat tells, or an error
 abbrev pub reply_text : Reply → List ℕ
 reply_text replies.Done = codes "ok"
 reply_text (replies.Number n) = decimal n
@@ -138,6 +141,7 @@ reply_text (replies.Pair first second) = decimal first ++ codes " " ++ decimal s
 reply_text (replies.Stat stat) = stat_text stat
 reply_text (replies.Error errno) = codes "error " ++ error_word errno
 
+-- an outcome: a reply, or how much a call has moved that waits
 abbrev pub outcome_text : Outcome → List ℕ
 outcome_text (outcomes.Reply reply) = reply_text reply
 outcome_text (outcomes.Parked moved) = codes "parked " ++ decimal moved
@@ -152,6 +156,7 @@ abbrev pub script_act_text : ScriptAct → List ℕ
 script_act_text scripts.Join = codes "join"
 script_act_text (scripts.Call process call) = call_text call
 
+-- the name of a refusal that is not recorded
 abbrev pub refusal_word : Refusal → List ℕ
 refusal_word refusals.NoMemory = codes "NoMemory"
 refusal_word refusals.RunFull = codes "RunFull"

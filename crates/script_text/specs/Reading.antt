@@ -1,19 +1,21 @@
--- Reading a line from left to right, with the first fault that is met: how many bytes of the line are left there.
+-- Reading a line from left to right, with the first fault that is met: how many bytes of the line are left there (own).
 use Rattle.std.specs.Prelude.{◌≡◌, ℕ, ◌==◌, List, [], ◌∷◌, length, Option, Some, None, Result, Ok, Err, if◌then◌else◌}
 use Rattle.std.specs.Str.{bytes_eq}
 use Rattle.script_text.specs.declared.fault.WordFault.{WordFault}
 use Rattle.script_text.specs.declared.fault.WordFault.TheVariants as faults
 
+-- a value is read on from, a fault ends the reading
 infixl 10 ◌>>=◌
 abbrev pub ◌>>=◌ : {A B E : Type 0} → Result A E → (A → Result B E) → Result B E
 (Ok x) >>= f = f x
 (Err e) >>= f = Err e
 
--- What a function returned, seen by view, is what reading gives, unless memory ran out.
+-- a returned fault is the one that reading gives, unless memory ran out
 abbrev pub Fails : {Y : Type 0} → WordFault → Result Y ℕ → Type 0
 Fails faults.NoMemory read = Unit {0}
 Fails (faults.At left) read = read ≡ Err left
 
+-- the value, or that fault
 abbrev pub Gives : {X Y : Type 0} → (X → Y) → Result X WordFault → Result Y ℕ → Type 0
 Gives view (Ok x) read = read ≡ Ok (view x)
 Gives view (Err e) read = Fails e read
@@ -22,6 +24,7 @@ Gives view (Err e) read = Fails e read
 abbrev pub Left : Type 0
 Left = Option (List ℕ)
 
+-- the same cut, with one more byte in front
 abbrev pub onto : ℕ → List ℕ × Left → List ℕ × Left
 onto c parts = (c ∷ parts.0, parts.1)
 

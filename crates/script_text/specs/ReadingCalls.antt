@@ -1,4 +1,4 @@
--- Reading the calls and acts of a script, word by word.
+-- Reading the calls and acts of a script, word by word (own).
 use Rattle.std.specs.Prelude.{ℕ, ◌+◌, ◌-◌, List, ◌∷◌, length, codes, Some, Result, Ok, Err, if◌then◌else◌}
 use Rattle.std.specs.Str.{bytes_eq}
 use Rattle.call_types.specs.declared.call.Call.{Call}

@@ -1,4 +1,4 @@
--- Words of a script line that are data.
+-- Words of a script line that are data (own).
 use Rattle.std.specs.Prelude.{ℕ, ◌==◌, nat_le, List, [], ◌∷◌, length, replicate, Option, Some, None, if◌then◌else◌}
 use Rattle.script_text.specs.ReadingNumbers.{hex_byte, number_of}
 use Rattle.script_text.specs.ReadingNames.{before, with_rest}

@@ -1,4 +1,4 @@
--- Words of a script line that are flags, as numbers with a bit for each flag.
+-- Words of a script line that are flags, as numbers with a bit for each flag (own).
 use Rattle.std.specs.Prelude.{ℕ, ◌==◌, List, [], ◌∷◌, length, drop, take, fold, codes, bit_or, Option, Some, None, if◌then◌else◌}
 use Rattle.std.specs.Str.{bytes_eq}
 

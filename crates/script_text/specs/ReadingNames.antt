@@ -1,4 +1,4 @@
--- Words of a script line that are names.
+-- Words of a script line that are names (own).
 use Rattle.std.specs.Prelude.{ℕ, ◌==◌, nat_le, Bool, ◌&&◌, not, List, [], ◌∷◌, length, Option, Some, None, if◌then◌else◌}
 use Rattle.std.specs.Char.{is_ascii_graphic}
 use Rattle.script_text.specs.ReadingNumbers.{hex_byte}

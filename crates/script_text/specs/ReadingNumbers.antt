@@ -1,4 +1,4 @@
--- Words of a script line that are numbers, or hexadecimal digits.
+-- Words of a script line that are numbers, or hexadecimal digits (own).
 use Rattle.std.specs.Prelude.{ℕ, zero, suc, ◌+◌, ◌*◌, ◌-◌, List, [], ◌∷◌, Option, Some, None, ◌&&◌, nat_le, ◌==◌, if◌then◌else◌, ℤ, pos, negsuc}
 use Rattle.std.specs.Char.{is_ascii_digit}
 

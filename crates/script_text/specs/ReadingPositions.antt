@@ -1,4 +1,4 @@
--- Reading the calls that name a position, an offset or a length.
+-- Reading the calls that name a position, an offset or a length (own).
 use Rattle.std.specs.Prelude.{ℕ, List, [], ◌∷◌, codes, Option, Some, None, Result, Ok, if◌then◌else◌}
 use Rattle.std.specs.Str.{bytes_eq}
 use Rattle.call_types.specs.declared.call.Call.{Call}

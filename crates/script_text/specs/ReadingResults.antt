@@ -1,4 +1,4 @@
--- What a reader returns, where memory may run out.
+-- What a reader returns, where memory may run out (own).
 use Rattle.std.specs.Prelude.{◌≡◌, ℕ, List, ◌++◌, Result, Ok, Err}
 use Rattle.call_types.specs.declared.act.ScriptAct.{ScriptAct}
 use Rattle.script_text.specs.declared.fault.ReadFault.{ReadFault}

@@ -1,4 +1,4 @@
--- Reading a whole script, line by line.
+-- Reading a whole script, line by line (own).
 use Rattle.std.specs.Prelude.{ℕ, ◌+◌, ◌==◌, nat_lt, List, [], ◌∷◌, ◌++◌, length, Result, Ok, Err, if◌then◌else◌}
 use Rattle.std.specs.List.{slice_split}
 use Rattle.call_types.specs.declared.act.ScriptAct.{ScriptAct}

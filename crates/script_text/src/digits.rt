@@ -1,4 +1,4 @@
-ghost use Rattle.std.specs.Prelude.{◌≡◌, option_map};
+ghost use Rattle.std.specs.Prelude.{◌≡◌};
 ghost use Rattle.script_text.specs.ReadingNumbers.{hex_digit, hex_byte};
 
 /// The value of a lower case hexadecimal digit.

@@ -1,6 +1,6 @@
 ghost use Rattle.std.specs.Prelude.{◌≡◌, bit_or};
 ghost use Rattle.std.specs.Option.{option_map};
-ghost use Rattle.script_text.specs.ReadingFlags.{flags_of, behind_mode, taken, Suffix};
+ghost use Rattle.script_text.specs.ReadingFlags.{flags_of, behind_mode, taken};
 
 use bitflags::Flags;
 use call_types::flags::OpenFlags;

@@ -1,4 +1,4 @@
-ghost use Rattle.std.specs.Prelude.{◌≡◌, ◌≤◌, IfOk, replicate, length};
+ghost use Rattle.std.specs.Prelude.{◌≡◌, ◌≤◌, IfOk, replicate};
 ghost use Rattle.std.specs.Option.{option_map};
 ghost use Rattle.script_text.specs.ReadingData.{first_paired, hex_bytes, hex_data, repeated_data, data_of};
 

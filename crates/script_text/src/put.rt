@@ -1,4 +1,4 @@
-ghost use Rattle.std.specs.Prelude.{◌<◌, ◌≡◌, ◌++◌, ◌∷◌, [], decimal};
+ghost use Rattle.std.specs.Prelude.{◌<◌, ◌≡◌, decimal};
 ghost use Rattle.std.specs.Fmt.{signed_decimal};
 ghost use Rattle.script_text.specs.Writing.{Appends};
 ghost use Rattle.script_text.specs.Lines.{hex_pair, hex_glyph, process_word};

@@ -1,11 +1,20 @@
-ghost use Rattle.std.specs.Prelude.{◌≡◌, ◌<◌, ◌^◌, ◌++◌, ℕ, Ok, codes};
+//! What holds of the reading itself. Each function does nothing; its contract is the law.
+
+ghost use Rattle.std.specs.Prelude.{◌≡◌, ◌<◌, ◌^◌, ◌++◌, ℕ, List, Ok, codes};
 ghost use Rattle.call_types.specs.declared.call.Call.{Call};
+ghost use Rattle.call_types.specs.declared.act.ScriptAct.{ScriptAct};
 ghost use Rattle.call_types.specs.declared.act.ScriptAct.TheVariants as acts;
 ghost use Rattle.script_text.specs.Lines.{process_word, call_text};
 ghost use Rattle.script_text.specs.ReadingCalls.{reading};
-ghost use Rattle.script_text.specs.Spellings.{IsScriptCall};
+ghost use Rattle.script_text.specs.ReadingScripts.{script};
+ghost use Rattle.script_text.specs.Spellings.{IsScriptCall, SpellsScript};
 
 /// Every call that a script may have is read again from the line in which a run writes it.
 pub fn written_calls_are_read_again()
     ensures { (process : ℕ) (call : Call) → process < 2 ^ 32 → IsScriptCall call → reading (process_word process ++ codes " " ++ call_text call) ≡ Ok (acts.Call process call) }
+{}
+
+/// A text that spells acts is read as these, so what is read as a fault spells none.
+pub fn spelled_scripts_are_read()
+    ensures { (acts : List ScriptAct) (text : List ℕ) → SpellsScript acts text → script text ≡ Ok acts }
 {}

@@ -1,4 +1,4 @@
-ghost use Rattle.std.specs.Prelude.{◌≡◌, ◌==◌, List, [], Ok, IfOk};
+ghost use Rattle.std.specs.Prelude.{◌≡◌, ◌==◌, List, Ok, IfOk};
 ghost use Rattle.std.specs.List.{slice_split};
 ghost use Rattle.script_text.specs.ReadingScripts.{line_acts, lines_acts, script};
 ghost use Rattle.script_text.specs.Spellings.{SpellsScript};
@@ -39,15 +39,11 @@ fn push_line(
     }
 }
 
-/// Reads the acts of all lines into `acts`, which has room for them.
-fn push_lines(
-    alloc: Global,
-    mut acts: Vec<ScriptAct>,
-    text: &[u8],
-) -> Result<Vec<ScriptAct>, ScriptFault>
-    requires { acts.items ≡ [] }
+/// The acts of all lines.
+fn push_lines(alloc: Global, text: &[u8]) -> Result<Vec<ScriptAct>, ScriptFault>
     ensures { ScriptGives (λ v. v.items) result (lines_acts 1 (slice_split (λ c. c == 10) text.now)) }
 {
+    let mut acts = Vec::new(alloc);
     let mut number = 0;
     let mut left = Some(text);
     while let Some(rest) = left {
@@ -66,11 +62,7 @@ fn all_acts(alloc: Global, text: &[u8]) -> Result<Vec<ScriptAct>, ScriptFault>
     if text.len() > SCRIPT_MAX {
         return Err(ScriptFault::TooLong);
     }
-    let ends = text.iter().filter(|byte| **byte == b'\n').count();
-    match Vec::with_capacity(alloc, ends + 1) {
-        Ok(acts) => push_lines(alloc, acts, text),
-        Err(_) => Err(ScriptFault::NoMemory),
-    }
+    push_lines(alloc, text)
 }
 
 /// Reads the acts of a script.

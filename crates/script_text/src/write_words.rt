@@ -1,4 +1,4 @@
-ghost use Rattle.std.specs.Prelude.{◌≡◌, ◌++◌, ◌∷◌, ◌==◌, codes, decimal};
+ghost use Rattle.std.specs.Prelude.{◌≡◌, ◌≤◌, ◌++◌, ◌∷◌, ◌==◌, codes, decimal, length};
 ghost use Rattle.std.specs.List.{flat_map, list_all};
 ghost use Rattle.script_text.specs.Writing.{Appends};
 ghost use Rattle.script_text.specs.Lines.{hex_pair, name_byte, name_word, one_byte, data_word, mode_word, suffix, flags_word};
@@ -6,6 +6,7 @@ ghost use Rattle.script_text.specs.Lines.{hex_pair, name_byte, name_word, one_by
 use crate::name::is_plain;
 use crate::put::{put, put_hex, put_number};
 use call_types::flags::OpenFlags;
+use hex::encode_to_slice;
 use std::alloc::AllocError;
 
 /// Appends a byte of a name.
@@ -44,19 +45,22 @@ pub(crate) fn put_name(out: &mut Vec<u8>, name: &[u8]) -> Result<(), AllocError>
 }
 
 /// Appends the digits of bytes.
-#[tactic(auto, using(crate::proofs::Fronts::keeps_behind))]
 fn put_hex_bytes(out: &mut Vec<u8>, bytes: &[u8]) -> Result<(), AllocError>
+    requires few { length bytes.now ≤ 65700 }
     ensures { Appends result out.old.items out.new.items (flat_map hex_pair bytes.now) }
 {
-    for byte in bytes {
-        put_hex(out, *byte)?;
+    let start = out.len();
+    out.resize(start + 2 * bytes.len(), 0)?;
+    match encode_to_slice(bytes, &mut out[start..]) {
+        Ok(()) => Ok(()),
+        Err(_) => unreachable!(),
     }
-    Ok(())
 }
 
 /// Appends an `x` and the digits of bytes.
 #[tactic(auto, using(crate::proofs::Fronts::keeps_behind))]
 fn put_digits(out: &mut Vec<u8>, bytes: &[u8]) -> Result<(), AllocError>
+    requires few { length bytes.now ≤ 65700 }
     ensures { Appends result out.old.items out.new.items (120 ∷ flat_map hex_pair bytes.now) }
 {
     put(out, b"x")?;
@@ -94,6 +98,7 @@ fn repeated_byte(bytes: &[u8]) -> Option<u8>
 
 /// Appends data.
 pub(crate) fn put_data(out: &mut Vec<u8>, bytes: &[u8]) -> Result<(), AllocError>
+    requires few { length bytes.now ≤ 65700 }
     ensures { Appends result out.old.items out.new.items (data_word bytes.now) }
 {
     match repeated_byte(bytes) {
