@@ -1,4 +1,4 @@
--- What the words of a command line ask of the program.
+-- What the words of a command line ask of the program (own).
 use Rattle.std.specs.Prelude.{◌≡◌, ◌≢◌, ◌≤◌, ◌⊎◌, ◌∷◌, ℕ, List, [], Option, Some, None, true, codes}
 use Rattle.std.specs.Prelude.{option_map, option_and_then, ⊤}
 use Rattle.std.specs.Str.Parse.{IsNumeral, digits_value, without_leading_plus}

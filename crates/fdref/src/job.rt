@@ -1,5 +1,5 @@
 //! What the words of a command line ask for.
-ghost use Rattle.std.specs.Prelude.{◌≡◌, ◌∷◌, [], IfOk, IfErr, IfSome, map, option_map, codes, false};
+ghost use Rattle.std.specs.Prelude.{◌≡◌, ◌∷◌, [], IfOk, IfErr, IfSome, map, codes, false};
 ghost use Rattle.clap.specs.Words.{app_of, found_of, first_value, fault_of, kind_of, rule_of};
 ghost use Rattle.clap.specs.declared.builder.command.Command.TheViews.{out-Command as fields_of};
 ghost use Rattle.fdref.specs.CommandLine.{Asks, Deserves, IsFaultOf, IsNoRecords, IsParse, IsRecords, IsReplayOf, RefusesRecords, SaysNotText, fdref_app, line, records_given, records_rule, replay_app, standard, status_of};

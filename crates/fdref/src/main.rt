@@ -4,7 +4,13 @@
 mod job;
 mod replay;
 
-use job::{JobFault, job_of, not_text};
+ghost use Rattle.std.specs.Prelude.{◌≡◌};
+ghost use Rattle.std.specs.Process.{exit_status};
+ghost use Rattle.fdref.specs.CommandLine.{status_of};
+ghost use Rattle.fdref.specs.Replay.{ended_status};
+
+use job::{Job, JobFault, job_of, not_text};
+use replay::{Ended, perform};
 use std::io;
 use std::process::ExitCode;
 
@@ -26,25 +32,35 @@ fn words_of(rt: &HostRuntime) -> Result<Vec<String>, JobFault> {
 }
 
 /// The job that the program is asked to do.
-fn asked(rt: &HostRuntime) -> Result<job::Job, JobFault> {
+fn asked(rt: &HostRuntime) -> Result<Job, JobFault> {
     let words = words_of(rt)?;
     job_of(rt.alloc(), words.as_slice())
 }
 
-/// Does the job, and gives the exit status.
-fn run(rt: &HostRuntime, job: job::Job) -> u8 {
-    let job::Job::Replay { limits } = job;
-    let ended = replay::replay(rt.alloc(), rt.reader(), &mut io::writer(rt), limits);
-    let _ = eprint!(rt; "{ended}");
-    ended.status()
+/// The exit code of how a job ended.
+fn code_of(ended: Ended) -> ExitCode
+    ensures { exit_status result ≡ ended_status ended }
+{
+    ExitCode::from(ended.status())
+}
+
+/// The exit code where no job was asked for.
+fn code_of_fault(fault: &JobFault) -> ExitCode
+    ensures { exit_status result ≡ status_of fault.now }
+{
+    ExitCode::from(fault.status())
 }
 
 fn main(rt: HostRuntime) -> ExitCode {
     match asked(&rt) {
-        Ok(job) => ExitCode::from(run(&rt, job)),
+        Ok(job) => {
+            let ended = perform(rt.alloc(), rt.reader(), &mut io::writer(&rt), job);
+            let _ = eprint!(rt; "{ended}");
+            code_of(ended)
+        }
         Err(fault) => {
             let _ = tell(&rt, &fault);
-            ExitCode::from(fault.status())
+            code_of_fault(&fault)
         }
     }
 }

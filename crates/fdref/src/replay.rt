@@ -1,16 +1,18 @@
 //! One run of a script: its bytes in, its lines out.
 ghost use Rattle.std.specs.Prelude.{◌≡◌, ◌≤◌, ◌++◌, ◌⊎◌, [], length, IfOk, IfErr, OnOk, IfSome};
-ghost use Rattle.std.specs.Io.KnownBytes.{Appends, Keeps};
+ghost use Rattle.std.specs.Io.KnownBytes.{Appends};
 ghost use Rattle.script_text.specs.ReadingScripts.{script};
 ghost use Rattle.script_text.specs.Lines.{totals_line};
-ghost use Rattle.fdref.specs.Replay.{Ends, Puts, RunsActs, ended_status, told_line, told_lines};
+ghost use Rattle.fdref.specs.Replay.{Ends, Puts, RunsActs, ended_status, limits_of, told_line, told_lines};
 
+use crate::job::Job;
 use call_types::act::ScriptAct;
 use call_types::limits::Limits;
 use record_book::book::{Book, Counts};
 use record_book::run::Told;
 use script_text::fault::ScriptFault;
 use script_text::lines::{write_record, write_refused, write_totals};
+use script_text::round_trip::spelled_scripts_are_read;
 use script_text::script::read_script;
 use std::alloc::{AllocError, Global};
 use std::fmt;
@@ -54,13 +56,17 @@ impl Ended {
 }
 
 impl fmt::Display for Ended {
+    ghost use Rattle.std.specs.Prelude.{Some};
+    ghost use Rattle.fdref.specs.Replay.{ended_text};
+
+    ghost output = { λ ended. Some (ended_text ended) };
+
     fn fmt<W: fmt::Write>(&self, f: &mut fmt::Formatter<W>) -> fmt::Result {
         match self {
             Ended::Done => Ok(()),
-            Ended::BadLine { line, column } => writeln!(
-                f,
-                "line {line} column {column}: not an act"
-            ),
+            Ended::BadLine { line, column } => {
+                write!(f, "line {line} column {column}: not an act\n")
+            }
             Ended::TooLong => f.write_str("script too long\n"),
             Ended::CannotRead => f.write_str("cannot read\n"),
             Ended::CannotWrite => f.write_str("cannot write\n"),
@@ -108,7 +114,7 @@ fn put_line(out: &mut Vec<u8>, act: &ScriptAct, told: &Told) -> Result<(), Alloc
 /// Writes what is gathered.
 fn write_out<W: Write>(writer: &mut W, out: &mut Vec<u8>) -> Result<(), Ended>
     ensures text { OnOk result (Puts (W.contents writer.old) (W.contents writer.new) out.old.items out.new.items [] × (out.new.items ≡ [])) }
-    ensures fault { IfErr result (λ ended. (ended ≡ Ended.CannotWrite) ⊎ (ended ≡ Ended.NoMemory)) }
+    ensures fault { IfErr result (λ ended. ended ≡ Ended.CannotWrite) }
 {
     if writer.write_all(out.as_slice()).is_err() {
         return Err(Ended::CannotWrite);
@@ -198,6 +204,7 @@ pub fn replay<R: Read + Drop, W: Write>(
 ) -> Ended
     ensures { Ends limits (R.remaining reader) (W.contents writer.old) (W.contents writer.new) result }
 {
+    spelled_scripts_are_read();
     let text = match read_text(alloc, reader) {
         Ok(text) => text,
         Err(ended) => return ended,
@@ -213,6 +220,19 @@ pub fn replay<R: Read + Drop, W: Write>(
         Ok(()) => Ended::Done,
         Err(ended) => ended,
     }
+}
+
+/// Does a job: reads its input, writes its output, and says how it ended.
+pub fn perform<R: Read + Drop, W: Write>(
+    alloc: Global,
+    reader: R,
+    writer: &mut W,
+    job: Job,
+) -> Ended
+    ensures { Ends (limits_of job) (R.remaining reader) (W.contents writer.old) (W.contents writer.new) result }
+{
+    let Job::Replay { limits } = job;
+    replay(alloc, reader, writer, limits)
 }
 
 #[cfg(test)]
