@@ -11,15 +11,15 @@ fit into a script. A time is the best of N runs (3), from the start of the progr
 the output going to a file. The growth is the cost of an act over its cost in the script before:
 1.00 where the cost does not depend on the length of the run.
 
-`64 KiB` has writes of 65,536 bytes spread over files of sixteen writes each, since a file holds
+`64 KiB, ..` has writes of 65,536 bytes spread over files of sixteen writes each, since a file holds
 1,048,576 bytes. In the spelling `61*65536` there are 1,000 of them. In the spelling `x6162..` each
 takes 131,085 bytes of a script that holds 16,777,216 at most, so there are 127 of them; their bytes
 differ, since that is what such a spelling is for. The peak is what the system tells of the child,
 which cannot be less than what this script itself holds when it starts the child.
 
-`8 bytes at positions` has preads and pwrites of 8 bytes, half of each, at positions spread over a file of 1 KiB
+`8 bytes in ..` has preads and pwrites of 8 bytes, half of each, at positions spread over a file of 1 KiB
 and over one of 1 MiB: an act that costs more in the longer file would cost by what it does not touch.
-`64 KiB` of preads and pwrites moves whole transfers at positions. The last line sets the cost of one
+`64 KiB pwrites` and `64 KiB preads` move whole transfers at positions. The last line sets the cost of one
 such pread beside two copies of its bytes, as this script's own interpreter makes them.
 """
 

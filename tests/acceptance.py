@@ -13,6 +13,7 @@ A failure is told in one line. The last line is `N passed, M failed`, and the ex
 where M is above 0.
 """
 
+import argparse
 import os
 import subprocess
 import sys
@@ -306,7 +307,13 @@ def reader_leaves(program):
 
 
 def main(words):
-    program = os.path.abspath(words[0]) if words else os.path.join(TOP, "crates", "fdref", "out", "fdref")
+    parser = argparse.ArgumentParser(description="Runs the built program against its rows and its other cases.")
+    parser.add_argument("program", nargs="?", default=os.path.join(TOP, "crates", "fdref", "out", "fdref"))
+    program = os.path.abspath(parser.parse_args(words).program)
+    if not os.path.exists(program):
+        print(f"no program at {program}: ./fdref --version builds it")
+        print("0 passed, 1 failed")
+        return 1
     passed, failed = 0, 0
     for name, check in rows() + CASES:
         try:

@@ -1,0 +1,61 @@
+#!/usr/bin/env python3
+"""Prints the table of sizes of the README: lines of code, tests, definitions and proofs of each crate, and its edits.
+
+usage: bench/sizes.py
+
+Lines are those of the files, with comments and empty ones. Tests are the files tests.rt.
+"""
+
+import os
+
+TOP = os.path.dirname(os.path.dirname(os.path.abspath(__file__)))
+
+
+def lines(folder, wanted):
+    """The lines of the files below a folder whose names are wanted."""
+    count = 0
+    for path, _, names in os.walk(folder):
+        for name in names:
+            if wanted(name):
+                with open(os.path.join(path, name), encoding="utf-8") as file:
+                    count += sum(1 for _ in file)
+    return count
+
+
+def crates():
+    """The names in crates.txt, in their order."""
+    with open(os.path.join(TOP, "crates.txt"), encoding="utf-8") as file:
+        return [line.split(":")[0].strip() for line in file if ":" in line and not line.startswith("#")]
+
+
+def sizes(crate):
+    """Code, tests, definitions, proofs and edits of a crate."""
+    folder = os.path.join(TOP, "crates", crate)
+    edits = os.path.join(folder, "must-fail")
+    return (
+        lines(os.path.join(folder, "src"), lambda name: name.endswith(".rt") and name != "tests.rt"),
+        lines(os.path.join(folder, "src"), lambda name: name == "tests.rt"),
+        lines(os.path.join(folder, "specs"), lambda name: name.endswith(".antt")),
+        lines(os.path.join(folder, "proofs"), lambda name: name.endswith(".antt")),
+        len([name for name in os.listdir(edits) if name.endswith(".edit")]) if os.path.isdir(edits) else 0,
+    )
+
+
+def row(name, values):
+    code, tests, definitions, proofs, edits = values
+    print(f"| {name} | {code:,} ({tests:,}) | {definitions:,} | {proofs:,} | {edits} |")
+
+
+def main():
+    print("| Crate | Code (tests) | Definitions | Proofs | Edits |")
+    print("|---|---|---|---|---|")
+    whole = [0] * 5
+    for crate in crates():
+        values = sizes(crate)
+        whole = [a + b for a, b in zip(whole, values)]
+        row(f"`{crate}`", values)
+    row("all", whole)
+
+
+if __name__ == "__main__":
+    main()
