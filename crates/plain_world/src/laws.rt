@@ -50,8 +50,8 @@ pub fn lowest_is_least()
     ensures full { NoLowestIsFull }
 {}
 
-/// Two opens of one file have two open file descriptions, each at the start, and each behind the descriptor that was told
-/// (page of open).
+/// Two opens of one file have two open file descriptions, each at the start of the file that the name leads to, in the
+/// mode and with the flags that were asked, and each behind the descriptor that was told (page of open).
 pub fn open_describes()
     ensures { OpenDescribes }
 {}
