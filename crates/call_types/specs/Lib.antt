@@ -1,2 +1,3 @@
-pub mod Lim
 pub mod Errors
+pub mod Flags
+pub mod CallTable

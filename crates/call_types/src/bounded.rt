@@ -1,5 +1,6 @@
 ghost use Rattle.std.specs.Prelude.{◌≡◌, ◌≤◌, ◌==◌, List, ℕ, length, IfOk};
 
+use crate::limits::{GIVEN_BYTES_MAX, GIVEN_NAME_MAX, TRANSFER_MAX};
 use std::alloc::{AllocError, Global};
 use std::marker::Model;
 
@@ -18,13 +19,13 @@ impl<const MOST: usize> Model for Bounded<MOST> {
 }
 
 /// The name of a file as a call gives it, at most 255 bytes of any value.
-pub type Name = Bounded<255>;
+pub type Name = Bounded<GIVEN_NAME_MAX>;
 
 /// What a call gives to write, at most 65,700 bytes.
-pub type Payload = Bounded<65700>;
+pub type Payload = Bounded<GIVEN_BYTES_MAX>;
 
 /// What a call answers with, at most 65,536 bytes.
-pub type Content = Bounded<65536>;
+pub type Content = Bounded<TRANSFER_MAX>;
 
 /// The greatest lengths of a name, of what a call gives to write and of what it answers with, in bytes.
 pub fn greatest_lengths() -> (usize, usize, usize)

@@ -36,7 +36,7 @@ pub enum Call {
         start: i64,
         bytes: Payload,
     },
-    /// Moves the offset to so many bytes behind a base (page of lseek).
+    /// Moves the offset to so many bytes behind a base (its page).
     Lseek {
         fd: i32,
         offset: i64,
@@ -51,4 +51,21 @@ pub enum Call {
     Fstat {
         fd: i32,
     },
+}
+
+impl Call {
+    ghost use Rattle.std.specs.Prelude.{◌≡◌};
+    ghost use Rattle.std.specs.Option.{option_copied};
+    ghost use Rattle.call_types.specs.CallTable.{payload_of};
+
+    /// The data that the call gives to write, if it is one that writes.
+    pub fn payload(&self) -> Option<&Payload>
+        ensures { option_copied result ≡ payload_of self.now }
+    {
+        match self {
+            Call::Write { bytes, .. } => Some(bytes),
+            Call::Pwrite { bytes, .. } => Some(bytes),
+            _ => None,
+        }
+    }
 }

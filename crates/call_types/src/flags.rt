@@ -1,5 +1,5 @@
-ghost use Rattle.std.specs.Prelude.{⊤, ◌≡◌, ◌==◌, [], ◌∷◌, codes};
-ghost use Rattle.std.specs.Int.RustNames.{bit_and};
+ghost use Rattle.std.specs.Prelude.{⊤, ◌≡◌, [], ◌∷◌, codes};
+ghost use Rattle.call_types.specs.Flags.{has};
 
 use bitflags::{Flag, Flags, bitflag_items};
 
@@ -44,7 +44,7 @@ impl Flags for OpenFlags {
 impl OpenFlags {
     /// Whether each bit of `flag` is set.
     pub fn has(self, flag: OpenFlags) -> bool
-        ensures { result ≡ (bit_and self.0 flag.0 == flag.0) }
+        ensures { result ≡ has self flag.0 }
     {
         self.contains(flag)
     }

@@ -9,6 +9,4 @@ pub mod flags;
 pub mod limits;
 pub mod outcome;
 pub mod refusal;
-#[cfg(test)]
-mod tests;
 pub mod whence;

@@ -1,8 +1,7 @@
-ghost use Rattle.std.specs.Prelude.{◌≡◌, ◌≤◌, ◌<◌, ◌↔◌, ◌-◌, ◌^◌, IsOk, IfOk};
-ghost use Rattle.call_types.specs.Lim.{Lim, RunLimits};
+ghost use Rattle.std.specs.Prelude.{◌≡◌, ◌≤◌, ◌↔◌, ◌-◌, ◌^◌, IsOk, IfOk};
+ghost use Rattle.call_types.specs.declared.limits.TheConstants.{OFFSET_MAX, RECORDS_MAX};
 
 use crate::act::HOUSE;
-use std::marker::Model;
 
 /// Descriptors of one process: the numbers 0 to 31 (XSH 2.14, OPEN_MAX).
 pub const OPEN_MAX: usize = 32;
@@ -22,7 +21,13 @@ pub const PROCESSES_MAX: usize = 64;
 /// Bytes asked or given in one call; more is EINVAL.
 pub const TRANSFER_MAX: usize = 65_536;
 
-/// The greatest offset of a description, in bytes; an lseek past it is EOVERFLOW (page of lseek).
+/// Bytes of a name as a call may give it; a longer one cannot be spelled.
+pub const GIVEN_NAME_MAX: usize = 255;
+
+/// Bytes that a call may give to write; more cannot be spelled, so that EINVAL has calls to be told of.
+pub const GIVEN_BYTES_MAX: usize = 65_700;
+
+/// The greatest offset of a description, in bytes; a call that leads past it is EOVERFLOW.
 pub const OFFSET_MAX: u64 = 9_223_372_036_854_775_807;
 
 /// Bytes of a regular file; a write at this offset or past it is EFBIG.
@@ -43,6 +48,8 @@ pub fn numbers_of_the_profile()
     ensures descriptions_max { DESCRIPTIONS_MAX ≡ 1024 }
     ensures processes_max { PROCESSES_MAX ≡ 64 }
     ensures transfer_max { TRANSFER_MAX ≡ 65536 }
+    ensures given_name_max { GIVEN_NAME_MAX ≡ 255 }
+    ensures given_bytes_max { GIVEN_BYTES_MAX ≡ 65700 }
     ensures offset_max { OFFSET_MAX ≡ 2 ^ 63 - 1 }
     ensures file_size_max { FILE_SIZE_MAX ≡ 1048576 }
     ensures pipe_capacity { PIPE_CAPACITY ≡ 1024 }
@@ -50,24 +57,11 @@ pub fn numbers_of_the_profile()
     ensures house { HOUSE ≡ 4294967295 }
 {}
 
-/// The limits that the model itself depends on, both in bytes: the size of a regular file, and what a pipe holds.
+/// The limits that the definitions take as an argument, both in bytes: the size of a regular file, and what a pipe holds.
 #[derive(Clone, Copy, Debug)]
 pub struct Bounds {
-    file_size: u64,
-    pipe_capacity: u64,
-}
-
-impl Model for Bounds {
-    ghost use Rattle.std.specs.Prelude.{◌≤◌, ◌^◌};
-    ghost use Rattle.call_types.specs.Lim.{Lim};
-
-    ghost Value = { Lim };
-
-    ghost view = { λ b. record { file_size = b.file_size; pipe_capacity = b.pipe_capacity } };
-
-    ghost invariant = { λ b. b.file_size ≤ 2 ^ 62 };
-
-    ghost inverse = { λ lim. record { file_size = lim.file_size; pipe_capacity = lim.pipe_capacity } };
+    pub file_size: u64,
+    pub pipe_capacity: u64,
 }
 
 impl Bounds {
@@ -81,35 +75,15 @@ impl Bounds {
             pipe_capacity: PIPE_CAPACITY,
         }
     }
-
-    /// The greatest size of a regular file, in bytes.
-    pub fn file_size(self) -> u64
-        ensures exact { result ≡ self.file_size }
-        ensures small { result ≤ 2 ^ 62 }
-    {
-        self.file_size
-    }
 }
 
-/// What a run may take: its records, from 1 to 1,000,000, and the model's limits.
+/// What a run may take: its records, from 1 to 1,000,000, and the limits of its definitions.
 #[derive(Clone, Copy, Debug)]
 pub struct Limits {
     records: u64,
     bounds: Bounds,
-}
-
-impl Model for Limits {
-    ghost use Rattle.std.specs.Prelude.{◌≤◌};
-    ghost use Rattle.call_types.specs.Lim.{RunLimits};
-    ghost use Rattle.call_types.specs.declared.limits.TheConstants.{RECORDS_MAX};
-
-    ghost Value = { RunLimits };
-
-    ghost view = { λ l. record { records = l.records; lim = l.bounds } };
-
-    ghost invariant = { λ l. (1 ≤ l.records) × (l.records ≤ RECORDS_MAX) };
-
-    ghost inverse = { λ limits. record { records = limits.records; bounds = limits.lim } };
+    ghost within: { (1 ≤ records) × (records ≤ RECORDS_MAX) },
+    ghost small: { bounds.file_size ≤ OFFSET_MAX },
 }
 
 /// A limit that no run has.
@@ -124,7 +98,7 @@ impl Limits {
     pub fn new(records: u64) -> Result<Self, LimitFault>
         ensures accepted { IsOk result ↔ (1 ≤ records × records ≤ RECORDS_MAX) }
         ensures plain { IsOk result ↔ (1 ≤ records × records ≤ 1000000) }
-        ensures value { IfOk result (λ limits. (limits.records ≡ records) × (limits.lim ≡ record { file_size = FILE_SIZE_MAX; pipe_capacity = PIPE_CAPACITY })) }
+        ensures value { IfOk result (λ limits. (limits.records ≡ records) × (limits.bounds ≡ record { file_size = FILE_SIZE_MAX; pipe_capacity = PIPE_CAPACITY })) }
     {
         if records == 0 || records > RECORDS_MAX {
             return Err(LimitFault::Records);
@@ -143,9 +117,10 @@ impl Limits {
         self.records
     }
 
-    /// The limits of the run's model.
+    /// The limits of the run's definitions; the size of a file is at most the greatest offset.
     pub fn bounds(self) -> Bounds
-        ensures { result ≡ self.lim }
+        ensures exact { result ≡ self.bounds }
+        ensures small { result.file_size ≤ OFFSET_MAX }
     {
         self.bounds
     }

@@ -1,4 +1,4 @@
-/// From where lseek counts (page of lseek).
+/// From where a new offset is counted.
 #[derive(Clone, Copy, Debug, PartialEq, Eq)]
 pub enum Whence {
     /// From the start of the file: SEEK_SET.

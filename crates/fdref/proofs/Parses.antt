@@ -13,7 +13,6 @@ use Rattle.clap.specs.declared.error.kind.ErrorKind.TheVariants as kind
 use Rattle.clap.proofs.WalkLemmas.{first_value-rows}
 use Rattle.fdref.specs.CommandLine.{Asks, Deserves, IsFaultOf, IsMistake, IsParse, IsReplayOf, IsRequest, IsRecords, IsNoRecords, RefusesRecords, fdref_app, records_given, name_given}
 use Rattle.fdref.specs.declared.job.Job.{Job}
-use Rattle.fdref.specs.declared.job.Job.TheVariants.{Replay}
 use Rattle.fdref.specs.declared.job.JobFault.{JobFault}
 use Rattle.fdref.specs.declared.job.JobFault.TheVariants.{Usage, Shown, NoMemory}
 
@@ -56,10 +55,10 @@ name_is words m parse =
 pub asked : (words : List Text) (m inner : ArgMatches) (job : Job) → IsParse words m
     → option_map (λ p. p.1) (subcommand_rows_of m) ≡ Some (rows_of (found_of inner))
     → IsReplayOf (first_value (found_of inner) (codes "records")) job → Asks words job
-asked words m inner (Replay limits) parse rows h = record {
+asked words m inner job parse rows h = record {
   parsed = parse.parsed;
   name = name_is words m parse;
-  records = subst (λ text. IsRecords text limits.records) (given words m inner parse rows) h.0;
+  records = subst (λ text. IsRecords text job.limits.records) (given words m inner parse rows) h.0;
   bounds = h.1;
 }
 

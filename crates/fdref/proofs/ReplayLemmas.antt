@@ -1,53 +1,27 @@
-use Rattle.std.proofs.Common.{◌≡◌, ℕ, ◌+◌, ◌<◌, ◌≤◌, List, [], ◌∷◌, ◌++◌, Option, None, Some, length, take, refl, sym, ◌∙◌, ap, subst, arith, get_or, length-take-le, inl, inr}
-use Rattle.std.proofs.lemmas.List.{append_assoc, append-nil, take_more, take_all}
-use Rattle.std.specs.Prelude.{IfSome}
+-- From the bytes that were read to the script, and from a book's run to what a replay says of it.
+use Rattle.std.proofs.Common.{◌≡◌, ℕ, ◌<◌, ◌≤◌, ◌⊎◌, List, [], ◌∷◌, ◌++◌, Option, None, Some, Result, Ok, Err, length, take, refl, ◌∙◌, ap, subst, arith, length-take-le, inl, inr}
+use Rattle.std.proofs.lemmas.List.{take_all}
+use Rattle.std.specs.Prelude.{IfSome, IfErr, OnErr, OnOk}
 use Rattle.std.specs.Option.{option_map}
 use Rattle.std.proofs.lemmas.Bool.{lt-ltb, cases_lt}
 use Rattle.script_text.specs.ReadingScripts.{script}
 use Rattle.std.specs.Io.KnownBytes.{Appends}
 use Rattle.call_types.specs.declared.act.ScriptAct.{ScriptAct}
+use Rattle.call_types.specs.declared.act.ScriptAct.TheVariants as script_act
+use Rattle.call_types.specs.declared.limits.Limits.{Limits}
+use Rattle.posix_model.specs.History.{legal}
+use Rattle.posix_model.specs.Slots.{slot}
+use Rattle.record_book.specs.Book.{BookState}
+use Rattle.record_book.specs.Seat.{SeatState}
+use Rattle.record_book.specs.Runs.{RunTells, Seats, Tells, TellsCall}
 use Rattle.record_book.specs.declared.run.Told.{Told}
-use Rattle.call_types.specs.Lim.{RunLimits}
+use Rattle.record_book.specs.declared.run.Told.TheVariants.{Recorded, Refused}
+use Rattle.call_types.specs.declared.call.Call.{Call}
 use Rattle.script_text.specs.Spellings.{SpellsScript}
-use Rattle.fdref.specs.Replay.{Puts, RunsActs, WritesReplay, told_line, told_lines}
-
-appends_then : (a b c : Option (List ℕ)) (x y : List ℕ) → Appends a b x → Appends b c y → Appends a c (x ++ y)
-appends_then None b c x y p q = tt
-appends_then (Some a) None c x y p q = absurd p
-appends_then (Some a) (Some b) None x y p q = absurd q
-appends_then (Some a) (Some b) (Some c) x y p q = rw (q, p) (append_assoc a x y)
-
--- one text behind another
-pub puts_then : (a b c : Option (List ℕ)) (o p q : List ℕ) (x y : List ℕ) → Puts a b o p x → Puts b c p q y → Puts a c o q (x ++ y)
-puts_then a b c o p q x y first second = record {
-  added = first.added ++ second.added;
-  appends = appends_then a b c first.added second.added first.appends second.appends;
-  is =
-      append_assoc first.added second.added q ∙ ap (λ l. first.added ++ l) second.is ∙ sym (append_assoc first.added p y)
-      ∙ ap (λ l. l ++ y) first.is ∙ append_assoc o x y;
-}
-
--- nothing was put yet
-pub puts_nothing : (a : Option (List ℕ)) (o : List ℕ) → Puts a a o o []
-puts_nothing None o = record { added = []; appends = tt; is = sym (append-nil o) }
-puts_nothing (Some a) o = record { added = []; appends = sym (append-nil a); is = sym (append-nil o) }
-
--- the lines of one more act
-pub told_lines-more : (acts : List ScriptAct) (tolds : List Told) (a : ScriptAct) (t : Told) → length tolds ≡ length acts → told_lines (acts ++ a ∷ []) (tolds ++ t ∷ []) ≡ told_lines acts tolds ++ told_line a t
-told_lines-more [] [] a t same = append-nil (told_line a t)
-told_lines-more [] (y ∷ tolds) a t same = absurd (omega arith)
-told_lines-more (x ∷ acts) [] a t same = absurd (omega arith)
-told_lines-more (x ∷ acts) (y ∷ tolds) a t same =
-    ap (λ l. told_line x y ++ l) (told_lines-more acts tolds a t (omega arith)) ∙ sym (append_assoc (told_line x y) (told_lines acts tolds) (told_line a t))
-
--- one more act behind those so far
-pub puts_more : (a b c : Option (List ℕ)) (o p q : List ℕ) (acts : List ScriptAct) (tolds : List Told) (i : ℕ) (x : ScriptAct) (t : Told) → length tolds ≡ length acts → i < length acts →
-    x ≡ get_or acts i x → t ≡ get_or tolds i t → Puts a b o p (told_lines (take i acts) (take i tolds)) → Puts b c p q (told_line x t) → Puts a c o q (told_lines (take (i + 1) acts) (take (i + 1) tolds))
-puts_more a b c o p q acts tolds i x t same within x_is t_is first second =
-    let both : told_lines (take (i + 1) acts) (take (i + 1) tolds) ≡ told_lines (take i acts) (take i tolds) ++ told_line x t =
-    rw (take_more acts i x within, take_more tolds i t (omega (arith, same)), ← x_is, ← t_is)
-    (told_lines-more (take i acts) (take i tolds) x t (omega (arith, length-take-le i acts (omega arith), length-take-le i tolds (omega (arith, same))))) in
-    rw both (puts_then a b c o p q (told_lines (take i acts) (take i tolds)) (told_line x t) first second)
+use Rattle.fdref.specs.Output.{AppendsFront, closing_line, told_lines}
+use Rattle.fdref.specs.Replay.{Ends, IsOutput, RunsActs, StopsShort, WritesFront, WritesReplay, WritesReplayFront}
+use Rattle.fdref.specs.declared.ended.Ended.{Ended}
+use Rattle.fdref.specs.declared.ended.Ended.TheVariants as ended
 
 -- a text that is cut behind the limit is too long, as the whole is
 pub script_cut : (most : ℕ) (text input : List ℕ) → most ≡ 16777217 → text ≡ take most input → script text ≡ script input
@@ -74,9 +48,94 @@ read_whole (Some input) most old text limit empty is = λ short.
       | inr whole ↦ cut ∙ take_all most input (omega (arith, limit))
     ]
 
+-- ---- a run's limits stay
+
+call_keeps_limits : (old new : BookState) (seats after : Seats) (process : ℕ) (c : Call) (t : Told) (s : Option SeatState)
+    → TellsCall old new seats after process c t s → new.limits ≡ old.limits
+call_keeps_limits old new seats after process c (Recorded receipt) (Some s) h = h.appends.limits
+call_keeps_limits old new seats after process c (Refused actor refusal) (Some s) h = ap (λ b. b.limits) h.2.book
+call_keeps_limits old new seats after process c t None h = ap (λ b. b.limits) h.1.book
+
+act_keeps_limits : (old new : BookState) (seats after : Seats) (a : ScriptAct) (t : Told) → Tells old new seats after a t → new.limits ≡ old.limits
+act_keeps_limits old new seats after script_act.Join (Recorded receipt) h = h.appends.limits
+act_keeps_limits old new seats after script_act.Join (Refused actor refusal) h = ap (λ b. b.limits) h.2.book
+act_keeps_limits old new seats after (script_act.Call process c) t h = call_keeps_limits old new seats after process c t (slot seats process) h
+
+run_keeps_limits : (old new : BookState) (seats after : Seats) (acts : List ScriptAct) (tolds : List Told) → RunTells old new seats after acts tolds
+    → new.limits ≡ old.limits
+run_keeps_limits old new seats after [] [] h = ap (λ b. b.limits) h.book
+run_keeps_limits old new seats after (a ∷ acts) (t ∷ tolds) h =
+    run_keeps_limits h.0 new h.1 after acts tolds h.3 ∙ act_keeps_limits old h.0 seats h.1 a t h.2
+run_keeps_limits old new seats after [] (t ∷ tolds) h = absurd h
+run_keeps_limits old new seats after (a ∷ acts) [] h = absurd h
+
+-- ---- what a replay says
+
+-- the lines of what is told of the acts in a new book are an output
+pub output_of_run : (limits : Limits) (acts : List ScriptAct) (start book : BookState) (tolds : List Told)
+    → start ≡ record { limits = limits; history = [] } → (seats : Seats) × RunTells start book [] seats acts tolds
+    → legal book.limits.bounds book.history → IsOutput limits acts (told_lines acts tolds ++ closing_line book)
+output_of_run limits acts start book tolds new run sound =
+    let same : book.limits ≡ limits = run_keeps_limits start book [] run.0 acts tolds run.1 ∙ ap (λ b. b.limits) new in
+    record {
+      told = tolds;
+      book = book;
+      seats = run.0;
+      runs = subst (λ b. RunTells b book [] run.0 acts tolds) new run.1;
+      is_legal = subst (λ l. legal l.bounds book.history) same sound;
+      output_is = refl;
+    }
+
+-- what was written of a run that was not written whole
+stops_short : (limits : Limits) (acts : List ScriptAct) (old new : Option (List ℕ)) (output : List ℕ) (e : Ended)
+    → (e ≡ ended.CannotWrite) ⊎ (e ≡ ended.NoMemory) → IsOutput limits acts output → AppendsFront old new output
+    → StopsShort limits acts old new e
+stops_short limits acts old new output ended.CannotWrite how is front = (output, is, front)
+stops_short limits acts old new output ended.NoMemory how is front = inr (output, is, front)
+stops_short limits acts old new output ended.Done (inl bad) is front = cc
+stops_short limits acts old new output ended.Done (inr bad) is front = cc
+stops_short limits acts old new output (ended.BadLine line column) (inl bad) is front = cc
+stops_short limits acts old new output (ended.BadLine line column) (inr bad) is front = cc
+stops_short limits acts old new output ended.TooLong (inl bad) is front = cc
+stops_short limits acts old new output ended.TooLong (inr bad) is front = cc
+stops_short limits acts old new output ended.CannotRead (inl bad) is front = cc
+stops_short limits acts old new output ended.CannotRead (inr bad) is front = cc
+
+-- what was written of a run, by how writing it ended
+pub wrote_all : (limits : Limits) (acts : List ScriptAct) (old new : Option (List ℕ)) (output : List ℕ) (r : Result (Unit {0}) Ended)
+    → IsOutput limits acts output → OnOk r (Appends old new output) → OnOk r (RunsActs limits acts old new)
+wrote_all limits acts old new output (Ok x) is all = (output, is, all)
+wrote_all limits acts old new output (Err e) is all = tt
+
+pub wrote_front : (limits : Limits) (acts : List ScriptAct) (old new : Option (List ℕ)) (output : List ℕ) (r : Result (Unit {0}) Ended)
+    → IfErr r (λ e. (e ≡ ended.CannotWrite) ⊎ (e ≡ ended.NoMemory)) → IsOutput limits acts output → OnErr r (AppendsFront old new output)
+    → IfErr r (StopsShort limits acts old new)
+wrote_front limits acts old new output (Ok x) how is front = tt
+wrote_front limits acts old new output (Err e) how is front = stops_short limits acts old new output e how is front
+
 -- what was run of a text was run of the input
-pub writes_input : (known : Option (List ℕ)) (limits : RunLimits) (old new : Option (List ℕ)) (acts : List ScriptAct) (text : List ℕ) → SpellsScript acts text → IfSome known (λ input. length text ≤ 16777216 → text ≡ input) → RunsActs limits acts old new →
-    IfSome known (WritesReplay limits old new)
+pub writes_input : (known : Option (List ℕ)) (limits : Limits) (old new : Option (List ℕ)) (acts : List ScriptAct) (text : List ℕ)
+    → SpellsScript acts text → IfSome known (λ input. length text ≤ 16777216 → text ≡ input) → RunsActs limits acts old new
+    → IfSome known (WritesReplay limits old new)
 writes_input None limits old new acts text spelled same runs = tt
 writes_input (Some input) limits old new acts text spelled same runs =
     let P : List ℕ → Type 0 = λ l. SpellsScript acts l in (acts, subst P (same spelled.0) spelled, runs)
+
+writes_front : (known : Option (List ℕ)) (limits : Limits) (old new : Option (List ℕ)) (acts : List ScriptAct) (text : List ℕ)
+    → SpellsScript acts text → IfSome known (λ input. length text ≤ 16777216 → text ≡ input) → WritesFront limits acts old new
+    → IfSome known (WritesReplayFront limits old new)
+writes_front None limits old new acts text spelled same front = tt
+writes_front (Some input) limits old new acts text spelled same front =
+    let P : List ℕ → Type 0 = λ l. SpellsScript acts l in (acts, subst P (same spelled.0) spelled, front)
+
+-- the end of a run that was not written whole, as one of the input
+pub ends_short : (known : Option (List ℕ)) (limits : Limits) (old new : Option (List ℕ)) (acts : List ScriptAct) (text : List ℕ) (e : Ended)
+    → SpellsScript acts text → IfSome known (λ input. length text ≤ 16777216 → text ≡ input) → StopsShort limits acts old new e
+    → Ends limits known old new e
+ends_short known limits old new acts text ended.CannotWrite spelled same h = writes_front known limits old new acts text spelled same h
+ends_short known limits old new acts text ended.NoMemory spelled same (inl unwritten) = inl unwritten
+ends_short known limits old new acts text ended.NoMemory spelled same (inr front) = inr (writes_front known limits old new acts text spelled same front)
+ends_short known limits old new acts text ended.Done spelled same h = absurd h
+ends_short known limits old new acts text (ended.BadLine line column) spelled same h = absurd h
+ends_short known limits old new acts text ended.TooLong spelled same h = absurd h
+ends_short known limits old new acts text ended.CannotRead spelled same h = absurd h

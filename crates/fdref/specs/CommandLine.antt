@@ -9,10 +9,10 @@ use Rattle.clap.specs.declared.parser.matches.ArgMatches.{ArgMatches}
 use Rattle.clap.specs.declared.error.Error.{Error}
 use Rattle.clap.specs.declared.error.kind.ErrorKind.{ErrorKind}
 use Rattle.clap.specs.declared.error.kind.ErrorKind.TheVariants as kind
-use Rattle.call_types.specs.Lim.{Lim, RunLimits}
+use Rattle.call_types.specs.declared.limits.Bounds.{Bounds}
+use Rattle.call_types.specs.declared.limits.Limits.{Limits}
 use Rattle.call_types.specs.declared.limits.TheConstants.{RECORDS_MAX, FILE_SIZE_MAX, PIPE_CAPACITY}
 use Rattle.fdref.specs.declared.job.Job.{Job}
-use Rattle.fdref.specs.declared.job.Job.TheVariants.{Replay}
 use Rattle.fdref.specs.declared.job.JobFault.{JobFault}
 use Rattle.fdref.specs.declared.job.JobFault.TheVariants.{Usage, Shown, NoMemory}
 
@@ -77,19 +77,19 @@ pub record IsParse (words : List Text) (m : ArgMatches) : Type 0 where
   pub name : subcommand_name_of m ≡ Some (codes "replay")
 
 -- the limits of the model in each run
-abbrev pub standard : Lim
+abbrev pub standard : Bounds
 standard = record { file_size = FILE_SIZE_MAX; pipe_capacity = PIPE_CAPACITY }
 
 -- the words ask for a replay with these limits
-pub record AsksReplay (words : List Text) (limits : RunLimits) : Type 0 where
+pub record AsksReplay (words : List Text) (limits : Limits) : Type 0 where
   pub parsed : fault_of fdref_app words ≡ []
   pub name : name_given words ≡ Some (codes "replay")
   pub records : IsRecords (records_given words) limits.records
-  pub bounds : limits.lim ≡ standard
+  pub bounds : limits.bounds ≡ standard
 
 -- the words ask for the job
 abbrev pub Asks : List Text → Job → Type 0
-Asks words (Replay limits) = AsksReplay words limits
+Asks words job = AsksReplay words job.limits
 
 -- help or the version was asked for
 abbrev pub IsRequest : ErrorKind → Type 0
@@ -106,7 +106,7 @@ IsOutOfRange words k = (fault_of fdref_app words ≡ []) × IsNoRecords (records
 
 -- the job is a replay, with the records that the text gives
 abbrev pub IsReplayOf : Option Text → Job → Type 0
-IsReplayOf text (Replay limits) = IsRecords text limits.records × (limits.lim ≡ standard)
+IsReplayOf text job = IsRecords text job.limits.records × (job.limits.bounds ≡ standard)
 
 -- the fault says that the text is no number of records, or that memory ran out
 abbrev pub RefusesRecords : Option Text → JobFault → Type 0

@@ -1,54 +1,54 @@
 -- What a replay writes, and what its end says (own).
-use Rattle.std.specs.Prelude.{◌≡◌, ℕ, List, [], ◌∷◌, ◌++◌, Option, Err, IfSome, length, codes, decimal}
+use Rattle.std.specs.Prelude.{◌≡◌, ◌⊎◌, ℕ, List, [], ◌++◌, Option, Err, IfSome, codes, decimal}
 use Rattle.std.specs.Io.KnownBytes.{Appends}
-use Rattle.call_types.specs.Lim.{RunLimits}
 use Rattle.call_types.specs.declared.act.ScriptAct.{ScriptAct}
-use Rattle.plain_world.specs.History.{bytes_in, bytes_out}
-use Rattle.script_text.specs.Lines.{record_line, refused_line, totals_line}
+use Rattle.call_types.specs.declared.limits.Limits.{Limits}
+use Rattle.posix_model.specs.History.{legal}
 use Rattle.script_text.specs.Spellings.{SpellsScript}
 use Rattle.script_text.specs.ReadingScripts.{script}
 use Rattle.script_text.specs.declared.fault.ScriptFault.{ScriptFault}
 use Rattle.script_text.specs.declared.fault.ScriptFault.TheVariants as faults
-use Rattle.record_book.specs.Seat.{SeatState}
 use Rattle.record_book.specs.Book.{BookState}
-use Rattle.record_book.specs.Runs.{RunTells}
+use Rattle.record_book.specs.Runs.{RunTells, Seats}
 use Rattle.record_book.specs.declared.run.Told.{Told}
-use Rattle.record_book.specs.declared.run.Told.TheVariants.{Recorded, Refused}
-use Rattle.fdref.specs.declared.job.Job.{Job}
-use Rattle.fdref.specs.declared.job.Job.TheVariants.{Replay}
-use Rattle.fdref.specs.declared.replay.Ended.{Ended}
-use Rattle.fdref.specs.declared.replay.Ended.TheVariants as ended
+use Rattle.fdref.specs.Output.{AppendsFront, closing_line, told_lines}
+use Rattle.fdref.specs.declared.ended.Ended.{Ended}
+use Rattle.fdref.specs.declared.ended.Ended.TheVariants as ended
 
--- the line of what is told of an act
-abbrev pub told_line : ScriptAct → Told → List ℕ
-told_line act (Recorded receipt) = record_line receipt.place receipt.record_is
-told_line act (Refused actor refusal) = refused_line actor act refusal
-
--- the lines of what is told of each act
-abbrev pub told_lines : List ScriptAct → List Told → List ℕ
-told_lines [] tolds = []
-told_lines (act ∷ acts) [] = []
-told_lines (act ∷ acts) (told ∷ tolds) = told_line act told ++ told_lines acts tolds
-
--- the closing line of a book
-abbrev pub closing_line : BookState → List ℕ
-closing_line b = totals_line (length b.history) (bytes_in b.history) (bytes_out b.history)
-
--- the output is the lines of what is told of the acts in a new book, and the closing line
-pub record IsOutput (limits : RunLimits) (acts : List ScriptAct) (output : List ℕ) : Type 0 where
+-- the output is the lines of what is told of the acts in a new book, and the closing line; the book's records are a run of
+-- the model
+pub record IsOutput (limits : Limits) (acts : List ScriptAct) (output : List ℕ) : Type 0 where
   pub told : List Told
   pub book : BookState
-  pub seats : List SeatState
+  pub seats : Seats
   pub runs : RunTells (record { limits = limits; history = [] }) book [] seats acts told
+  pub is_legal : legal limits.bounds book.history
   pub output_is : output ≡ told_lines acts told ++ closing_line book
 
 -- such an output was written, and nothing else
-abbrev pub RunsActs : RunLimits → List ScriptAct → Option (List ℕ) → Option (List ℕ) → Type 0
+abbrev pub RunsActs : Limits → List ScriptAct → Option (List ℕ) → Option (List ℕ) → Type 0
 RunsActs limits acts old new = (output : List ℕ) × IsOutput limits acts output × Appends old new output
 
+-- a front of such an output was written, and nothing else
+abbrev pub WritesFront : Limits → List ScriptAct → Option (List ℕ) → Option (List ℕ) → Type 0
+WritesFront limits acts old new = (output : List ℕ) × IsOutput limits acts output × AppendsFront old new output
+
+-- a run of the acts was not written whole: the writer failed, or memory ran out before the run or while it was written
+abbrev pub StopsShort : Limits → List ScriptAct → Option (List ℕ) → Option (List ℕ) → Ended → Type 0
+StopsShort limits acts old new ended.CannotWrite = WritesFront limits acts old new
+StopsShort limits acts old new ended.NoMemory = (new ≡ old) ⊎ WritesFront limits acts old new
+StopsShort limits acts old new ended.Done = ⊥
+StopsShort limits acts old new (ended.BadLine line column) = ⊥
+StopsShort limits acts old new ended.TooLong = ⊥
+StopsShort limits acts old new ended.CannotRead = ⊥
+
 -- the text is a script, and the output of its acts was written, and nothing else
-abbrev pub WritesReplay : RunLimits → Option (List ℕ) → Option (List ℕ) → List ℕ → Type 0
+abbrev pub WritesReplay : Limits → Option (List ℕ) → Option (List ℕ) → List ℕ → Type 0
 WritesReplay limits old new text = (acts : List ScriptAct) × SpellsScript acts text × RunsActs limits acts old new
+
+-- the text is a script, and a front of the output of its acts was written, and nothing else
+abbrev pub WritesReplayFront : Limits → Option (List ℕ) → Option (List ℕ) → List ℕ → Type 0
+WritesReplayFront limits old new text = (acts : List ScriptAct) × SpellsScript acts text × WritesFront limits acts old new
 
 -- the text is no script
 abbrev pub IsNoScript : List ℕ → Type 0
@@ -60,17 +60,13 @@ pub record Refuses (fault : ScriptFault) (text : List ℕ) : Type 0 where
   pub fault_is : script text ≡ Err fault
 
 -- what the end says of the input, where that is known, and of what was written
-abbrev pub Ends : RunLimits → Option (List ℕ) → Option (List ℕ) → Option (List ℕ) → Ended → Type 0
+abbrev pub Ends : Limits → Option (List ℕ) → Option (List ℕ) → Option (List ℕ) → Ended → Type 0
 Ends limits input old new ended.Done = IfSome input (WritesReplay limits old new)
 Ends limits input old new (ended.BadLine line column) = IfSome input (Refuses (faults.BadLine line column)) × (new ≡ old)
 Ends limits input old new ended.TooLong = IfSome input (Refuses faults.TooLong) × (new ≡ old)
 Ends limits input old new ended.CannotRead = new ≡ old
-Ends limits input old new ended.CannotWrite = Unit {0}
-Ends limits input old new ended.NoMemory = Unit {0}
-
--- the limits of the run that a job asks for
-abbrev pub limits_of : Job → RunLimits
-limits_of (Replay limits) = limits
+Ends limits input old new ended.CannotWrite = IfSome input (WritesReplayFront limits old new)
+Ends limits input old new ended.NoMemory = (new ≡ old) ⊎ IfSome input (WritesReplayFront limits old new)
 
 -- the exit status of an end
 abbrev pub ended_status : Ended → ℕ
@@ -89,9 +85,3 @@ ended_text ended.TooLong = codes "script too long\n"
 ended_text ended.CannotRead = codes "cannot read\n"
 ended_text ended.CannotWrite = codes "cannot write\n"
 ended_text ended.NoMemory = codes "no memory\n"
-
--- bytes were given to a writer or still stand in the buffer before it, and the text is behind the old ones
-pub record Puts (old new : Option (List ℕ)) (before after : List ℕ) (text : List ℕ) : Type 0 where
-  pub added : List ℕ
-  pub appends : Appends old new added
-  pub is : added ++ after ≡ before ++ text

@@ -14,14 +14,11 @@ use std::fmt;
 /// The records of a run whose command line names no number.
 pub const DEFAULT_RECORDS: u64 = 10_000;
 
-/// What the program is asked to do.
+/// What the program is asked to do: to run the script on standard input.
 #[derive(Clone, Copy, Debug)]
-pub enum Job {
-    /// Run the script on standard input, with these limits.
-    Replay {
-        /// What the run may take.
-        limits: Limits,
-    },
+pub struct Job {
+    /// What the run may take.
+    pub limits: Limits,
 }
 
 /// Why a command line gives no job.
@@ -117,7 +114,7 @@ fn records_error(alloc: Global, text: &str) -> Result<Error, AllocError>
 
 /// The limits that the text of `--records` gives.
 fn limits_of(text: &str) -> Option<Limits>
-    ensures given { IfSome result (λ limits. IsRecords (Some text.now) limits.records × (limits.lim ≡ standard)) }
+    ensures given { IfSome result (λ limits. IsRecords (Some text.now) limits.records × (limits.bounds ≡ standard)) }
     ensures refused { result ≡ None → IsNoRecords (Some text.now) }
 {
     let records = text.parse::<u64>().ok()?;
@@ -126,7 +123,7 @@ fn limits_of(text: &str) -> Option<Limits>
 
 /// The limits of a run whose command line names no number.
 fn default_limits() -> Limits
-    ensures { IsRecords None result.records × (result.lim ≡ standard) }
+    ensures { IsRecords None result.records × (result.bounds ≡ standard) }
 {
     Limits::new(DEFAULT_RECORDS).unwrap()
 }
@@ -154,7 +151,7 @@ fn replay_job(alloc: Global, matches: &ArgMatches<'_>) -> Result<Job, JobFault>
             None => return Err(JobFault::Usage(records_error(alloc, text)?)),
         },
     };
-    Ok(Job::Replay { limits })
+    Ok(Job { limits })
 }
 
 /// The matches of the program's command line.
@@ -212,6 +209,3 @@ pub fn lines_read()
     ensures surplus { fault_of fdref_app (line (codes "replay" ∷ codes "x" ∷ [])) ≡ ErrorKind.UnknownArgument ∷ [] }
     ensures twice { fault_of fdref_app (line (codes "replay" ∷ codes "--records=5" ∷ codes "--records=5" ∷ [])) ≡ ErrorKind.ArgumentConflict ∷ [] }
 {}
-
-#[cfg(test)]
-mod tests;

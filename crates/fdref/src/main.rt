@@ -1,7 +1,9 @@
 //! The program `fdref`.
 #![tactic(auto)]
 
+mod ended;
 mod job;
+mod output;
 mod replay;
 
 ghost use Rattle.std.specs.Prelude.{◌≡◌};
@@ -9,8 +11,9 @@ ghost use Rattle.std.specs.Process.{exit_status};
 ghost use Rattle.fdref.specs.CommandLine.{status_of};
 ghost use Rattle.fdref.specs.Replay.{ended_status};
 
+use ended::Ended;
 use job::{Job, JobFault, job_of, not_text};
-use replay::{Ended, perform};
+use replay::perform;
 use std::io;
 use std::process::ExitCode;
 
@@ -64,3 +67,6 @@ fn main(rt: HostRuntime) -> ExitCode {
         }
     }
 }
+
+#[cfg(test)]
+mod tests;

@@ -1,2 +1,1 @@
-pub mod OpenLemmas
-pub mod PlanLemmas
+pub mod FaultLemmas

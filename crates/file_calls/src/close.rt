@@ -1,38 +1,26 @@
-ghost use Rattle.std.specs.Prelude.{◌≡◌, None, []};
-ghost use Rattle.plain_world.specs.Sweep.{sweep};
-ghost use Rattle.plain_world.specs.Descriptors.{with_descriptor};
-ghost use Rattle.plain_world.specs.Close.{close};
-ghost use Rattle.machine_state.specs.Moves.{IsTaken};
-ghost use Rattle.file_calls.specs.Change.{Decides};
+ghost use Rattle.std.specs.Prelude.{◌≡◌};
+ghost use Rattle.posix_model.specs.Descriptors.{opened};
+ghost use Rattle.posix_model.specs.Pages.{on_open};
+ghost use Rattle.posix_model.specs.Close.{close};
 
-use crate::change::{Change, Decided, refused};
 use call_types::errno::Errno;
-use call_types::outcome::{Outcome, Reply};
-use machine_state::machine::Machine;
-use machine_state::plan::{Need, Plan};
-use plain_world::opened::Opened;
-use std::alloc::Global;
+use call_types::outcome::Reply;
+use posix_model::change::{Decided, FileEdit, TableEdit, does, refused};
+use posix_model::reader::Reader;
 
-/// What close comes to: EBADF, or the descriptor is free (page of close).
-pub fn decide_close(machine: &Machine, process: usize, fd: i32) -> Decided
-    ensures { Decides machine.now.world [] result (close machine.now.world process fd) }
+/// What close comes to: EBADF, or a free descriptor (page of close).
+pub fn decide_close<R: Reader>(state: &R, process: usize, fd: i32) -> Decided
+    ensures { result ≡ on_open (opened (R.world state.now) process fd) (close process) }
 {
-    match machine.opened(process, fd) {
-        Some(opened) => Decided {
-            plan: Plan {
-                outcome: Outcome::Reply(Reply::Done),
-                room: Need::Nothing,
-            },
-            change: Change::Close { process, opened },
-        },
+    match state.opened(process, fd) {
         None => refused(Errno::EBADF),
+        Some(descriptor) => {
+            let edit = TableEdit::Entry {
+                process,
+                fd: descriptor.fd,
+                entry: None,
+            };
+            does(Reply::Done, FileEdit::Nothing, edit)
+        }
     }
-}
-
-/// Frees a descriptor; what it alone kept is gone.
-pub fn apply_close(machine: &mut Machine, alloc: Global, process: usize, opened: Opened)
-    requires { IsTaken machine.old.world process opened }
-    ensures { machine.new.world ≡ sweep (with_descriptor machine.old.world process opened.fd None) }
-{
-    machine.close(alloc, process, opened);
 }

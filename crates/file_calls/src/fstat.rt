@@ -1,42 +1,43 @@
-ghost use Rattle.std.specs.Prelude.{◌≡◌, []};
-ghost use Rattle.plain_world.specs.Fstat.{stat_of, fstat};
-ghost use Rattle.file_calls.specs.Change.{Decides};
+ghost use Rattle.std.specs.Prelude.{◌≡◌};
+ghost use Rattle.posix_model.specs.Descriptors.{opened};
+ghost use Rattle.posix_model.specs.Pages.{on_open};
+ghost use Rattle.posix_model.specs.Fstat.{stat_of, fstat};
 
-use crate::change::{Decided, refused, unchanged};
 use call_types::errno::Errno;
 use call_types::outcome::{Kind, Reply, Stat};
-use machine_state::machine::Machine;
-use plain_world::world::Target;
+use posix_model::change::{Decided, refused, tells};
+use posix_model::reader::Reader;
+use posix_model::world::Target;
 
-/// Kind, size and links of a target.
-fn stat_of(machine: &Machine, target: Target) -> Stat
-    ensures { result ≡ stat_of machine.now.world target }
+/// Kind, size in bytes and links of what a descriptor refers to.
+fn stat_of<R: Reader>(state: &R, target: Target) -> Stat
+    ensures { result ≡ stat_of (R.world state.now) target }
 {
     match target {
         Target::Regular { file } => Stat {
             kind: Kind::Regular,
-            size: machine.bytes_of(file).len() as u64,
-            links: machine.links_told(file),
+            size: state.length_of(file) as u64,
+            links: state.links_told(file),
         },
         Target::Pipe { pipe } => Stat {
             kind: Kind::Pipe,
-            size: machine.held_in(pipe) as u64,
+            size: state.held_in(pipe) as u64,
             links: 0,
         },
         Target::Fifo { file, pipe } => Stat {
             kind: Kind::Fifo,
-            size: machine.held_in(pipe) as u64,
-            links: machine.links_told(file),
+            size: state.held_in(pipe) as u64,
+            links: state.links_told(file),
         },
     }
 }
 
 /// What fstat comes to: EBADF, or kind, size and links (page of fstat).
-pub fn decide_fstat(machine: &Machine, process: usize, fd: i32) -> Decided
-    ensures { Decides machine.now.world [] result (fstat machine.now.world process fd) }
+pub fn decide_fstat<R: Reader>(state: &R, process: usize, fd: i32) -> Decided
+    ensures { result ≡ on_open (opened (R.world state.now) process fd) (fstat (R.world state.now)) }
 {
-    match machine.opened(process, fd) {
-        Some(opened) => unchanged(Reply::Stat(stat_of(machine, opened.description.target))),
+    match state.opened(process, fd) {
         None => refused(Errno::EBADF),
+        Some(descriptor) => tells(Reply::Stat(stat_of(state, descriptor.description.target))),
     }
 }

@@ -1,14 +1,16 @@
-//! The calls on files: what each comes to is decided first, with nothing changed, and then made, with no memory taken.
+//! The calls on files: what each comes to, in any state that can be read as a world. One file a call; none changes
+//! anything.
 #![tactic(auto)]
 
-pub mod apply;
-pub mod change;
 pub mod close;
 pub mod fstat;
 pub mod ftruncate;
 pub mod lseek;
 pub mod open;
+mod opening;
 pub mod pread;
+mod puts;
 pub mod pwrite;
 pub mod read;
+mod targets;
 pub mod write;

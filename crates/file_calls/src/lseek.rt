@@ -1,78 +1,71 @@
-ghost use Rattle.std.specs.Prelude.{◌≡◌, Some, []};
-ghost use Rattle.plain_world.specs.Places.{slot};
-ghost use Rattle.plain_world.specs.Sweep.{sweep};
-ghost use Rattle.plain_world.specs.Descriptors.{with_offset};
-ghost use Rattle.plain_world.specs.Lseek.{base_of, lseek_to, lseek};
-ghost use Rattle.file_calls.specs.Change.{Decides};
+ghost use Rattle.std.specs.Prelude.{◌≡◌, pos, ◌+ℤ◌};
+ghost use Rattle.posix_model.specs.Descriptors.{opened};
+ghost use Rattle.posix_model.specs.Pages.{first_fault, on_open};
+ghost use Rattle.posix_model.specs.Lseek.{base_of, lseek_faults, lseek};
 
-use crate::change::{Change, Decided, refused};
+use crate::targets::{file_at, is_regular};
 use call_types::errno::Errno;
-use call_types::outcome::{Outcome, Reply};
+use call_types::limits::OFFSET_MAX;
+use call_types::outcome::Reply;
 use call_types::whence::Whence;
-use machine_state::machine::Machine;
-use machine_state::plan::{Need, Plan};
-use plain_world::lseek::{lseek_fault, sought};
-use plain_world::opened::Opened;
-use plain_world::world::Target;
+use posix_model::change::{Decided, FileEdit, TableEdit, does, refused};
+use posix_model::opened::OpenDescriptor;
+use posix_model::reader::Reader;
 
-/// From where an lseek counts, in bytes: the start, the offset or the end.
-fn base_of(machine: &Machine, opened: Opened, whence: Whence) -> u64
-    ensures { result ≡ base_of machine.now.world opened whence }
+/// From where the offset is counted, in bytes: the start, the offset or the end.
+fn base_of<R: Reader>(state: &R, descriptor: OpenDescriptor, whence: Whence) -> u64
+    ensures { result ≡ base_of (R.world state.now) descriptor whence }
 {
     match whence {
         Whence::Set => 0,
-        Whence::Cur => opened.description.offset,
-        Whence::End => match opened.description.target {
-            Target::Regular { file } => machine.bytes_of(file).len() as u64,
-            Target::Pipe { .. } | Target::Fifo { .. } => 0,
-        },
+        Whence::Cur => descriptor.description.offset,
+        Whence::End => state.length_of(file_at(descriptor)) as u64,
     }
 }
 
-/// An lseek of an open descriptor to a place.
-fn decide_lseek_to(machine: &Machine, opened: Opened, to: i128) -> Decided
-    requires { slot machine.now.world.descriptions opened.number ≡ Some opened.description }
-    ensures { Decides machine.now.world [] result (lseek_to machine.now.world opened to) }
+/// The byte so far after a base; it may be before the start of the file or past the greatest offset.
+fn sought(base: u64, offset: i64) -> i128
+    ensures { result ≡ pos base +ℤ offset }
 {
-    let _machine = machine;
-    if let Some(error) = lseek_fault(opened, to) {
-        return refused(error);
+    i128::from(base) + i128::from(offset)
+}
+
+/// The first refusal of an lseek of an open descriptor that leads to the byte `to`.
+fn lseek_fault(descriptor: OpenDescriptor, to: i128) -> Option<Errno>
+    ensures { result ≡ first_fault (lseek_faults to descriptor) }
+{
+    if !is_regular(descriptor) {
+        return Some(Errno::ESPIPE);
     }
-    let offset = to.unsigned_abs() as u64;
-    Decided {
-        plan: Plan {
-            outcome: Outcome::Reply(Reply::Number(offset)),
-            room: Need::Nothing,
-        },
-        change: Change::Offset { opened, offset },
+    if to < 0 {
+        return Some(Errno::EINVAL);
     }
+    if to > i128::from(OFFSET_MAX) {
+        return Some(Errno::EOVERFLOW);
+    }
+    None
 }
 
 /// What lseek comes to: EBADF, ESPIPE, EINVAL before the start of the file, EOVERFLOW past the greatest offset, or the new
 /// offset (page of lseek).
-pub fn decide_lseek(
-    machine: &Machine,
+pub fn decide_lseek<R: Reader>(
+    state: &R,
     process: usize,
     fd: i32,
     offset: i64,
     whence: Whence,
 ) -> Decided
-    ensures { Decides machine.now.world [] result (lseek machine.now.world process fd offset whence) }
+    ensures { result ≡ on_open (opened (R.world state.now) process fd) (lseek (R.world state.now) offset whence) }
 {
-    match machine.opened(process, fd) {
-        Some(opened) => {
-            let base = base_of(machine, opened, whence);
-            decide_lseek_to(machine, opened, sought(base, offset))
-        }
-        None => refused(Errno::EBADF),
+    let descriptor = match state.opened(process, fd) {
+        None => return refused(Errno::EBADF),
+        Some(descriptor) => descriptor,
+    };
+    let to = sought(base_of(state, descriptor, whence), offset);
+    if let Some(error) = lseek_fault(descriptor, to) {
+        return refused(error);
     }
-}
-
-/// Moves the offset; a read moves it so too.
-pub fn apply_lseek(machine: &mut Machine, opened: Opened, offset: u64)
-    requires { slot machine.old.world.descriptions opened.number ≡ Some opened.description }
-    ensures { machine.new.world ≡ sweep (with_offset machine.old.world opened offset) }
-{
-    machine.set_offset(opened, offset);
-    machine.is_swept();
+    let offset = to.unsigned_abs() as u64;
+    let edit = TableEdit::Offset { descriptor, offset };
+    does(Reply::Number(offset), FileEdit::Nothing, edit)
 }

@@ -1,69 +1,56 @@
-ghost use Rattle.std.specs.Prelude.{◌≤◌, [], IfOk};
-ghost use Rattle.plain_world.specs.Pread.{pread_file, pread_target, pread};
-ghost use Rattle.file_calls.specs.Change.{Decides};
+ghost use Rattle.std.specs.Prelude.{◌≡◌, IfOk};
+ghost use Rattle.posix_model.specs.Descriptors.{opened};
+ghost use Rattle.posix_model.specs.Pages.{first_fault, on_open};
+ghost use Rattle.posix_model.specs.Pread.{pread_faults, pread};
 
-use crate::change::{Decided, refused, unchanged};
-use call_types::bounded::Content;
+use crate::targets::{can_read, file_at, is_regular};
 use call_types::errno::Errno;
 use call_types::limits::TRANSFER_MAX;
 use call_types::outcome::Reply;
-use machine_state::machine::Machine;
-use plain_world::contents::bytes_at;
-use plain_world::pread::pread_fault;
-use plain_world::world::Target;
+use posix_model::change::{Decided, refused, tells};
+use posix_model::opened::OpenDescriptor;
+use posix_model::reader::Reader;
 use std::alloc::{AllocError, Global};
 
-/// A pread that is not refused, of a regular file.
-fn decide_pread_file(
-    machine: &Machine,
-    alloc: Global,
-    file: usize,
-    start: usize,
-    count: usize,
-) -> Result<Decided, AllocError>
-    requires { count ≤ TRANSFER_MAX }
-    ensures { IfOk result (λ decided. Decides machine.now.world [] decided (pread_file machine.now.world file start count)) }
+/// The first refusal of a pread of an open descriptor.
+fn pread_fault(descriptor: OpenDescriptor, start: i64, count: usize) -> Option<Errno>
+    ensures { result ≡ first_fault (pread_faults start count descriptor) }
 {
-    let got = bytes_at(machine.bytes_of(file), start, count);
-    Ok(unchanged(Reply::Data(Content::copied(alloc, got)?)))
-}
-
-/// A pread of a target, where it is not refused.
-fn decide_pread_target(
-    machine: &Machine,
-    alloc: Global,
-    target: Target,
-    start: usize,
-    count: usize,
-) -> Result<Decided, AllocError>
-    requires { count ≤ TRANSFER_MAX }
-    ensures { IfOk result (λ decided. Decides machine.now.world [] decided (pread_target machine.now.world start count target)) }
-{
-    match target {
-        Target::Regular { file } => decide_pread_file(machine, alloc, file, start, count),
-        Target::Pipe { .. } | Target::Fifo { .. } => Ok(refused(Errno::ESPIPE)),
+    if !can_read(descriptor.description.mode) {
+        return Some(Errno::EBADF);
     }
+    if !is_regular(descriptor) {
+        return Some(Errno::ESPIPE);
+    }
+    if start < 0 {
+        return Some(Errno::EINVAL);
+    }
+    if count > TRANSFER_MAX {
+        return Some(Errno::EINVAL);
+    }
+    None
 }
 
-/// What pread comes to: EBADF, ESPIPE, EINVAL, or the bytes from the position on. Nothing changes, the offset neither
-/// (page of read, pread).
-pub fn decide_pread(
-    machine: &Machine,
+/// What pread comes to: EBADF, ESPIPE, EINVAL, or at most `count` bytes from the position on, none at the end of the file.
+/// The offset stays (page of read, pread). An error says that memory ran out.
+pub fn decide_pread<R: Reader>(
+    state: &R,
     alloc: Global,
     process: usize,
     fd: i32,
     start: i64,
     count: usize,
 ) -> Result<Decided, AllocError>
-    ensures { IfOk result (λ decided. Decides machine.now.world [] decided (pread machine.now.world process fd start count)) }
+    ensures { IfOk result (λ d. d ≡ on_open (opened (R.world state.now) process fd) (pread (R.world state.now) start count)) }
 {
-    let opened = match machine.opened(process, fd) {
-        Some(opened) => opened,
+    let descriptor = match state.opened(process, fd) {
         None => return Ok(refused(Errno::EBADF)),
+        Some(descriptor) => descriptor,
     };
-    if let Some(error) = pread_fault(opened, start, count) {
+    if let Some(error) = pread_fault(descriptor, start, count) {
         return Ok(refused(error));
     }
     let start = start.unsigned_abs() as usize;
-    decide_pread_target(machine, alloc, opened.description.target, start, count)
+    let got = state.read_at(alloc, file_at(descriptor), start, count)?;
+    Ok(tells(Reply::Data(got)))
 }

@@ -1,79 +1,68 @@
-ghost use Rattle.std.specs.Prelude.{◌≡◌, ◌≤◌, Some, [], IfOk};
-ghost use Rattle.plain_world.specs.Places.{slot};
-ghost use Rattle.plain_world.specs.Read.{read_file, read_target, read};
-ghost use Rattle.file_calls.specs.Change.{Decides};
+ghost use Rattle.std.specs.Prelude.{◌≡◌, ◌+◌, ◌<◌, ◌^◌, length, IfOk};
+ghost use Rattle.posix_model.specs.Descriptors.{opened};
+ghost use Rattle.posix_model.specs.Pages.{first_fault, on_open};
+ghost use Rattle.posix_model.specs.Read.{read_faults, gives, read};
 
-use crate::change::{Change, Decided, refused};
+use crate::targets::{can_read, file_at, is_regular};
 use call_types::bounded::Content;
 use call_types::errno::Errno;
 use call_types::limits::TRANSFER_MAX;
-use call_types::outcome::{Outcome, Reply};
-use machine_state::machine::Machine;
-use machine_state::plan::{Need, Plan};
-use plain_world::contents::bytes_at;
-use plain_world::opened::Opened;
-use plain_world::read::read_fault;
-use plain_world::world::Target;
+use call_types::outcome::Reply;
+use posix_model::change::{Decided, FileEdit, TableEdit, does, refused, tells};
+use posix_model::opened::OpenDescriptor;
+use posix_model::reader::Reader;
 use std::alloc::{AllocError, Global};
 
-/// A read that is not refused, of a regular file.
-fn decide_read_file(
-    machine: &Machine,
-    alloc: Global,
-    opened: Opened,
-    file: usize,
-    count: usize,
-) -> Result<Decided, AllocError>
-    requires few { count ≤ TRANSFER_MAX }
-    requires there { slot machine.now.world.descriptions opened.number ≡ Some opened.description }
-    ensures { IfOk result (λ decided. Decides machine.now.world [] decided (read_file machine.now.world opened file count)) }
+/// The first refusal of a read of an open descriptor.
+fn read_fault(descriptor: OpenDescriptor, count: usize) -> Option<Errno>
+    ensures { result ≡ first_fault (read_faults count descriptor) }
 {
-    let offset = opened.description.offset;
-    let got = bytes_at(machine.bytes_of(file), offset as usize, count);
-    let content = Content::copied(alloc, got)?;
-    let offset = offset + got.len() as u64;
-    Ok(Decided {
-        plan: Plan {
-            outcome: Outcome::Reply(Reply::Data(content)),
-            room: Need::Nothing,
-        },
-        change: Change::Offset { opened, offset },
-    })
-}
-
-/// A read of an open descriptor, where it is not refused.
-fn decide_read_target(
-    machine: &Machine,
-    alloc: Global,
-    opened: Opened,
-    count: usize,
-) -> Result<Decided, AllocError>
-    requires few { count ≤ TRANSFER_MAX }
-    requires there { slot machine.now.world.descriptions opened.number ≡ Some opened.description }
-    ensures { IfOk result (λ decided. Decides machine.now.world [] decided (read_target machine.now.world opened count opened.description.target)) }
-{
-    match opened.description.target {
-        Target::Regular { file } => decide_read_file(machine, alloc, opened, file, count),
-        Target::Pipe { .. } | Target::Fifo { .. } => Ok(refused(Errno::EINVAL)),
+    if !can_read(descriptor.description.mode) {
+        return Some(Errno::EBADF);
     }
+    if count > TRANSFER_MAX {
+        return Some(Errno::EINVAL);
+    }
+    if !is_regular(descriptor) {
+        return Some(Errno::EINVAL);
+    }
+    None
 }
 
-/// What read comes to: EBADF, EINVAL, or the bytes from the offset on, which goes behind them (page of read).
-pub fn decide_read(
-    machine: &Machine,
+/// The bytes are told, and the offset goes past them; none are no change.
+fn gives(descriptor: OpenDescriptor, got: Content) -> Decided
+    requires { descriptor.description.offset + length got < 2 ^ 64 }
+    ensures { result ≡ gives descriptor got }
+{
+    if got.is_empty() {
+        return tells(Reply::Data(got));
+    }
+    let offset = descriptor.description.offset + got.len() as u64;
+    let edit = TableEdit::Offset { descriptor, offset };
+    does(Reply::Data(got), FileEdit::Nothing, edit)
+}
+
+/// What read comes to: EBADF, EINVAL, or at most `count` bytes from the offset on, none at the end of the file (page of
+/// read). An error says that memory ran out.
+pub fn decide_read<R: Reader>(
+    state: &R,
     alloc: Global,
     process: usize,
     fd: i32,
     count: usize,
 ) -> Result<Decided, AllocError>
-    ensures { IfOk result (λ decided. Decides machine.now.world [] decided (read machine.now.world process fd count)) }
+    ensures { IfOk result (λ d. d ≡ on_open (opened (R.world state.now) process fd) (read (R.world state.now) count)) }
 {
-    let opened = match machine.opened(process, fd) {
-        Some(opened) => opened,
+    let descriptor = match state.opened(process, fd) {
         None => return Ok(refused(Errno::EBADF)),
+        Some(descriptor) => descriptor,
     };
-    if let Some(error) = read_fault(opened, count) {
+    if let Some(error) = read_fault(descriptor, count) {
         return Ok(refused(error));
     }
-    decide_read_target(machine, alloc, opened, count)
+    let file = file_at(descriptor);
+    let start = descriptor.description.offset as usize;
+    let _len = state.length_of(file);
+    let got = state.read_at(alloc, file, start, count)?;
+    Ok(gives(descriptor, got))
 }

@@ -1,10 +1,6 @@
-pub mod KeptLemmas
-pub mod CountLemmas
-pub mod SweepLemmas
-pub mod ReferredLemmas
-pub mod DropLemmas
-pub mod FileLemmas
-pub mod ViewLemmas
-pub mod AnyLemmas
-pub mod CloseLemmas
-pub mod OpenLemmas
+pub mod SlotLaws
+pub mod EntryLaws
+pub mod UseLaws
+pub mod FileLaws
+pub mod CountLaws
+pub mod StoredLaws

@@ -1,10 +1,16 @@
 -- What contracts see of a machine: its world, and the room reserved.
-use Rattle.std.specs.Prelude.{ℕ, List, Option, None, Some, map}
-use Rattle.plain_world.specs.declared.world.World.{World}
-use Rattle.plain_world.specs.declared.world.File.{File}
-use Rattle.plain_world.specs.declared.world.File.TheVariants as file
+use Rattle.std.specs.Prelude.{ℕ, ◌-◌, Bool, List, [], Option, None, Some, map, vec_len, vec_capacity}
+use Rattle.posix_model.specs.Names.{Entries}
+use Rattle.posix_model.specs.declared.world.World.{World}
+use Rattle.posix_model.specs.declared.world.File.{File}
+use Rattle.posix_model.specs.declared.world.File.TheVariants as file
+use Rattle.posix_model.specs.declared.world.Process.{Process}
+use Rattle.posix_model.specs.declared.world.Description.{Description}
+use Rattle.machine_state.specs.Uses.{values_in}
+use Rattle.machine_state.specs.declared.numbered.used.Used.{Used}
+use Rattle.machine_state.specs.declared.machine.Machine.TheInside.{Inside}
 
--- for how many places and names there is room, and for how many bytes in each file
+-- for how many more files, descriptions, processes and names there is room, and for how many bytes in all in each file
 pub record Room : Type 0 where
   pub files : ℕ
   pub descriptions : ℕ
@@ -18,19 +24,61 @@ pub record Held : Type 0 where
   pub room : Room
 
 -- the bytes of a file with their room, as a file of a world
-abbrev pub file_place : Option (List ℕ × ℕ) → Option File
-file_place None = None
-file_place (Some buffer) = Some (file.Regular buffer.0)
+abbrev pub file_slot : Option (List ℕ × ℕ) → Option File
+file_slot None = None
+file_slot (Some buffer) = Some (file.Regular buffer.0)
 
 -- the same for each file
-abbrev pub file_places : List (Option (List ℕ × ℕ)) → List (Option File)
-file_places buffers = map file_place buffers
+abbrev pub file_slots : List (Option (List ℕ × ℕ)) → List (Option File)
+file_slots buffers = map file_slot buffers
 
--- the room for bytes at a place
-abbrev pub room_place : Option (List ℕ × ℕ) → ℕ
-room_place None = 0
-room_place (Some buffer) = buffer.1
+-- the room for bytes at a slot
+abbrev pub room_slot : Option (List ℕ × ℕ) → ℕ
+room_slot None = 0
+room_slot (Some buffer) = buffer.1
 
 -- the same for each file
-abbrev pub room_places : List (Option (List ℕ × ℕ)) → List ℕ
-room_places buffers = map room_place buffers
+abbrev pub room_slots : List (Option (List ℕ × ℕ)) → List ℕ
+room_slots buffers = map room_slot buffers
+
+-- what a machine stores: its files and descriptions have the counts of their uses
+pub record Stored : Type 0 where
+  pub files : List (Option (Used (List ℕ × ℕ)))
+  pub descriptions : List (Option (Used Description))
+  pub processes : List (Option Process)
+  pub names : Entries
+  pub closed : Bool
+
+-- its world; there are no pipes yet
+abbrev pub world_in : Stored → World
+world_in s = record {
+  files = file_slots (values_in s.files);
+  pipes = [];
+  descriptions = values_in s.descriptions;
+  processes = s.processes;
+  names = s.names;
+  closed = s.closed;
+}
+
+-- what is inside a machine
+abbrev pub stored_in : Inside → Stored
+stored_in m = record {
+  files = m.files.0;
+  descriptions = m.descriptions.0;
+  processes = m.processes.0;
+  names = m.names.items;
+  closed = m.closed;
+}
+
+-- what contracts see of it
+abbrev pub held_by : Inside → Held
+held_by m = record {
+  world = world_in (stored_in m);
+  room = record {
+    files = m.files.1;
+    descriptions = m.descriptions.1;
+    processes = m.processes.1;
+    names = vec_capacity m.names - vec_len m.names;
+    bytes = room_slots (values_in m.files.0);
+  };
+}

@@ -1,6 +1,6 @@
-pub mod Referred
+pub mod Entries
+pub mod Uses
 pub mod Targets
 pub mod Held
-pub mod View
-pub mod Moves
-pub mod Need
+pub mod Consistent
+pub mod Room

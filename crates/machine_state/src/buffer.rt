@@ -1,11 +1,11 @@
 ghost use Rattle.std.specs.Prelude.{◌≡◌, ◌+◌, ◌≤◌, [], List, ℕ, length, vec_capacity, OnOk};
-ghost use Rattle.plain_world.specs.Bytes.{splice, resized};
+ghost use Rattle.posix_model.specs.Bytes.{splice, resized};
 
-use plain_world::contents::{overwrite, pad};
+use posix_model::contents::{overwrite, pad};
 use std::alloc::{AllocError, Global};
 use std::marker::Model;
 
-/// The bytes of a regular file. Contracts see their list, and for how many bytes there is room.
+/// The bytes of a regular file. Contracts see their list, and for how many bytes in all there is room.
 #[derive(Drop)]
 pub struct Buffer {
     bytes: Vec<u8>,
@@ -34,7 +34,7 @@ impl Buffer {
         self.bytes.as_slice()
     }
 
-    /// Makes room for so many bytes in all.
+    /// Makes room for `len` bytes in all.
     pub(crate) fn reserve(&mut self, len: usize) -> Result<(), AllocError>
         ensures bytes { self.new.0 ≡ self.old.0 }
         ensures room { OnOk result (len ≤ self.new.1) }
@@ -45,7 +45,7 @@ impl Buffer {
         Ok(())
     }
 
-    /// Writes `new` from `start` on; a gap before it is filled with zeros.
+    /// Writes `new` from the byte `start` on; a gap before it is filled with zeros.
     pub(crate) fn write(&mut self, start: usize, new: &[u8])
         requires { start + length new.now ≤ self.old.1 }
         ensures { self.new.0 ≡ splice self.old.0 start new.now }
@@ -54,19 +54,12 @@ impl Buffer {
         overwrite(&mut self.bytes, start, new);
     }
 
-    /// Sets the length to `len` bytes: what is behind goes, and zeros come where there were fewer.
+    /// Sets the length to `len` bytes: later ones go, and zeros come where there were fewer.
     pub(crate) fn set_len(&mut self, len: usize)
         requires { len ≤ self.old.1 }
         ensures { self.new.0 ≡ resized self.old.0 len }
     {
         self.bytes.truncate(len);
         pad(&mut self.bytes, len);
-    }
-
-    /// Drops all bytes.
-    pub(crate) fn clear(&mut self)
-        ensures { self.new.0 ≡ [] }
-    {
-        self.bytes.clear();
     }
 }

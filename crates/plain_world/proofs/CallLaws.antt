@@ -1,308 +1,151 @@
--- What holds of the effect of every call, by cases.
-use Rattle.std.proofs.Common.{◌≡◌, ℕ, zero, suc, ◌+◌, ℤ, pos, nat_abs, ◌∙◌, Bool, true, false, cond, List, [], ◌∷◌, ◌++◌, Option, None, Some, length, set, refl, ap, sym, subst, length-append, length-set, leb, eqb}
-use Rattle.std.specs.Option.{option_map, is_some, unwrap_or}
-use Rattle.std.proofs.lemmas.List.{get_or-set_same}
-use Rattle.std.proofs.lemmas.List.Sums.{sum_by-cons, sum_by_push}
-use Rattle.call_types.specs.Lim.{Lim}
-use Rattle.call_types.specs.declared.call.Call.{Call}
+-- What calls on an open descriptor do.
+use Rattle.std.proofs.Common.{◌≡◌, ℕ, zero, suc, ◌+◌, ℤ, pos, negsuc, ◌∙◌, Bool, true, cond, List, [], ◌∷◌, ◌++◌, Option, None, Some, length, set, take, refl, ap, sym, subst, append-nil, eqb}
+use Rattle.std.specs.Option.{unwrap_or}
 use Rattle.call_types.specs.declared.call.Call.TheVariants as call
-use Rattle.call_types.specs.declared.errno.Errno.{Errno}
-use Rattle.call_types.specs.declared.errno.Errno.TheVariants.{EAGAIN, EFBIG}
-use Rattle.call_types.specs.declared.flags.OpenFlags.{OpenFlags}
-use Rattle.call_types.specs.declared.outcome.Outcome.{Outcome}
 use Rattle.call_types.specs.declared.outcome.Outcome.TheVariants.{Reply as Replied}
-use Rattle.call_types.specs.declared.outcome.Reply.TheVariants.{Error, Number}
-use Rattle.call_types.specs.declared.whence.Whence.{Whence}
-use Rattle.plain_world.specs.Places.{slot, lowest, live}
-use Rattle.plain_world.specs.Descriptors.{opened, opened_number, opened_description, table_of, with_entry, bytes_of}
-use Rattle.plain_world.specs.Faults.{Stepped, first_fault, refused, unless}
-use Rattle.plain_world.specs.Open.{has, open_found, open_faults, with_open, created, emptied, truncated, new_description, free_descriptor}
-use Rattle.plain_world.specs.Names.{file_of}
-use Rattle.plain_world.proofs.NameLemmas.{named_file}
-use Rattle.plain_world.specs.Close.{close_opened}
-use Rattle.plain_world.specs.Read.{read_opened, read_target, read_file, read_faults}
-use Rattle.plain_world.specs.Write.{write_opened, write_target, write_at, written, pwritten, nothing_written, write_faults, write_start}
-use Rattle.plain_world.specs.Positions.{bytes_before}
-use Rattle.plain_world.specs.Pread.{pread_opened, pread_target, pread_file, pread_faults}
-use Rattle.plain_world.specs.Pwrite.{pwrite_opened, pwrite_target, pwrite_faults}
-use Rattle.plain_world.specs.Lseek.{lseek_opened, lseek_to, moved_to, sought, lseek_faults}
-use Rattle.plain_world.specs.Ftruncate.{ftruncate_opened, ftruncate_target, ftruncate_file, ftruncate_faults}
-use Rattle.plain_world.specs.Fstat.{fstat_opened}
-use Rattle.plain_world.specs.Join.{is_full, joined}
-use Rattle.plain_world.specs.Step.{call_effect}
-use Rattle.plain_world.specs.Sweep.{sweep}
-use Rattle.plain_world.specs.Laws.{SameProcesses, CallKeepsProcesses, SweptCallKeepsProcesses, RefusalKeepsWorld, RefusedStepOnlySweeps, RefusedStepKeepsWorld, Joins, JoinAdds, FullJoinRefused, Opens, OpenDescribes}
-use Rattle.plain_world.specs.declared.world.World.{World}
-use Rattle.plain_world.specs.declared.world.Description.{Description}
-use Rattle.plain_world.specs.declared.world.Target.{Target}
-use Rattle.plain_world.specs.declared.world.Target.TheVariants as target
-use Rattle.plain_world.specs.declared.opened.Opened.{Opened}
-use Rattle.plain_world.specs.declared.world.Process.{Process}
-use Rattle.plain_world.proofs.OpenLemmas.{open_has_free}
-use Rattle.plain_world.proofs.PlaceLemmas.{lowest_is_least, slot_set_there, slot_at_end}
-use Rattle.plain_world.proofs.StepLemmas.{step_case}
+use Rattle.call_types.specs.declared.outcome.Reply.TheVariants.{Number, Done, Data}
+use Rattle.posix_model.specs.Bytes.{bytes_at, splice, resized}
+use Rattle.posix_model.specs.Slots.{slot}
+use Rattle.posix_model.specs.Positions.{bytes_before, regular_file, file_at}
+use Rattle.posix_model.specs.Descriptors.{opened, opened_number, opened_description, table_of, file_bytes, bytes_of}
+use Rattle.posix_model.specs.Change.{changed}
+use Rattle.posix_model.specs.Whole.{is_regular_file}
+use Rattle.posix_model.specs.Pages.{tells, does, on_open}
+use Rattle.posix_model.specs.Close.{close}
+use Rattle.posix_model.specs.Read.{read}
+use Rattle.posix_model.specs.Write.{fitting, puts, write_start, write}
+use Rattle.posix_model.specs.Pread.{pread}
+use Rattle.posix_model.specs.Pwrite.{pwrite}
+use Rattle.posix_model.specs.Lseek.{lseek}
+use Rattle.posix_model.specs.Ftruncate.{ftruncate}
+use Rattle.posix_model.specs.Fstat.{fstat}
+use Rattle.posix_model.specs.Step.{decided}
+use Rattle.posix_model.specs.declared.world.World.{World}
+use Rattle.posix_model.specs.declared.world.Description.{Description}
+use Rattle.posix_model.specs.declared.world.File.{File}
+use Rattle.posix_model.specs.declared.world.File.TheVariants as file
+use Rattle.posix_model.specs.declared.opened.OpenDescriptor.{OpenDescriptor}
+use Rattle.posix_model.specs.declared.change.FileEdit.TheVariants as on_files
+use Rattle.posix_model.specs.declared.change.TableEdit.TheVariants as on_table
+use Rattle.posix_model.specs.declared.change.Decided.{Decided}
+use Rattle.plain_world.specs.FileLaws.{WriteAppends, PreadKeepsWorld, NothingRead, NothingWritten, NothingPwritten, PwriteKeepsOffsets, with_append, with_appending, PwriteSameUnderAppend, SameContents, ContentsStay, FtruncateLeavesResized}
+use Rattle.plain_world.proofs.PageLemmas.{on_open_has, opened_has, if_has}
+use Rattle.plain_world.proofs.ChangeLemmas.{same_files}
+use Rattle.plain_world.proofs.BytesLaws.{added_at_end}
+use Rattle.plain_world.proofs.SlotLemmas.{slot_set_there}
 
--- a process that is edited in its place is there as before
-pub live_edited : {T : Type 0} (f : T → T) (places : List (Option T)) (n : ℕ) → live (set places n (option_map f (slot places n))) ≡ live places
-live_edited f [] n = refl
-live_edited f (None ∷ places) zero = refl
-live_edited f (Some x ∷ places) zero = refl
-live_edited f (place ∷ places) (suc n) =
-    rw (sum_by-cons (λ p. cond (is_some p) 1 0) place (set places n (option_map f (slot places n))), sum_by-cons (λ p. cond (is_some p) 1 0) place places)
-    (ap (λ k. cond (is_some place) 1 0 + k) (live_edited f places n))
+pub pread_keeps_world : PreadKeepsWorld
+pread_keeps_world bounds w process fd start count = on_open_has (λ d. changed w [] d.change ≡ w) (opened w process fd) (pread w start count) (λ _. refl) (λ _. refl)
 
--- whether an outcome is an error
-abbrev pub is_error : Outcome → Bool
-is_error (Replied (Error error)) = true
-is_error _ = false
+pub nothing_read : NothingRead
+nothing_read bounds w process fd = on_open_has (λ d. changed w [] d.change ≡ w) (opened w process fd) (read w 0) (λ _. refl) (λ _. refl)
 
--- a call that neither makes nor ends a process nor closes the run, and that changes nothing where it is refused
-pub record Keeps (w : World) (s : Stepped) : Type 0 where
-  pub processes : SameProcesses w s.world
-  pub refusal : (error : Errno) → s.outcome ≡ Replied (Error error) → s.world ≡ w
-  pub closed : s.world.closed ≡ w.closed
+pub nothing_is_written : NothingWritten
+nothing_is_written bounds w process fd = on_open_has (λ d. changed w [] d.change ≡ w) (opened w process fd) (write bounds w []) (λ _. refl) (λ _. refl)
 
-keeps_refused : (w : World) (error : Errno) → Keeps w (refused w error)
-keeps_refused w error = record { processes = record { all = refl; living = refl }; refusal = λ _ _. refl; closed = refl }
+pub nothing_pwritten : NothingPwritten
+nothing_pwritten bounds w process fd start = on_open_has (λ d. changed w [] d.change ≡ w) (opened w process fd) (pwrite bounds start []) (λ _. refl) (λ _. refl)
 
--- a call that leaves the processes and the run as they are, and is not refused
-keeps_reply : (w : World) (s : Stepped) → s.world.processes ≡ w.processes → s.world.closed ≡ w.closed → is_error s.outcome ≡ false → Keeps w s
-keeps_reply w s processes closed replied = record {
-  processes = record { all = ap length processes; living = ap live processes };
-  refusal = λ error h. let e : is_error s.outcome ≡ true = ap is_error h in cc;
-  closed = closed;
-}
+pub pwrite_keeps_offsets : PwriteKeepsOffsets
+pwrite_keeps_offsets bounds w process fd start bytes =
+    let Same : Decided → Type 0 = λ d. (changed w bytes d.change).descriptions ≡ w.descriptions in
+    let n = fitting bounds (bytes_before start) bytes in
+    on_open_has Same (opened w process fd) (pwrite bounds start bytes) (λ _. refl)
+    (λ o. if_has Same (eqb (length bytes) 0) (tells (Number 0)) (does (Number n) (on_files.Bytes (file_at o) (bytes_before start) n) on_table.Nothing) refl refl)
 
-keeps_unless : (fault : Option Errno) (w : World) (s : Stepped) → Keeps w s → Keeps w (unless fault w s)
-keeps_unless None w s k = k
-keeps_unless (Some error) w s k = keeps_refused w error
+pub contents_stay : ContentsStay
+contents_stay bounds w process (call.Open name flags) other = cc
+contents_stay bounds w process (call.Write fd bytes) other = cc
+contents_stay bounds w process (call.Pwrite fd start bytes) other = cc
+contents_stay bounds w process (call.Ftruncate fd len) other = cc
+contents_stay bounds w process (call.Close fd) other =
+    on_open_has (λ d. SameContents w (changed w [] d.change)) (opened w process fd) (close process)
+    (λ _. record { files = refl; names = refl; pipes = refl }) (λ _. record { files = refl; names = refl; pipes = refl })
+contents_stay bounds w process (call.Read fd count) other =
+    let Same : Decided → Type 0 = λ d. SameContents w (changed w [] d.change) in
+    on_open_has Same (opened w process fd) (read w count) (λ _. record { files = refl; names = refl; pipes = refl })
+    (λ o.
+    let got = bytes_at (bytes_of w (file_at o)) o.description.offset count in
+    if_has Same (eqb (length got) 0) (tells (Data got)) (does (Data got) on_files.Nothing (on_table.Offset o (o.description.offset + length got)))
+    (record { files = refl; names = refl; pipes = refl }) (record { files = refl; names = refl; pipes = refl }))
+contents_stay bounds w process (call.Pread fd start count) other =
+    on_open_has (λ d. SameContents w (changed w [] d.change)) (opened w process fd) (pread w start count)
+    (λ _. record { files = refl; names = refl; pipes = refl }) (λ _. record { files = refl; names = refl; pipes = refl })
+contents_stay bounds w process (call.Lseek fd offset from) other =
+    on_open_has (λ d. SameContents w (changed w [] d.change)) (opened w process fd) (lseek w offset from)
+    (λ _. record { files = refl; names = refl; pipes = refl }) (λ _. record { files = refl; names = refl; pipes = refl })
+contents_stay bounds w process (call.Fstat fd) other =
+    on_open_has (λ d. SameContents w (changed w [] d.change)) (opened w process fd) (fstat w)
+    (λ _. record { files = refl; names = refl; pipes = refl }) (λ _. record { files = refl; names = refl; pipes = refl })
 
-keeps_if : (b : Bool) (w : World) (s t : Stepped) → Keeps w s → Keeps w t → Keeps w (cond b s t)
-keeps_if true w s t k m = k
-keeps_if false w s t k m = m
+-- the bytes of a regular file that is written
+bytes_set : (files : List (Option File)) (n : ℕ) (bytes : List ℕ) → is_regular_file (slot files n) ≡ true → file_bytes (slot (set files n (Some (file.Regular bytes))) n) ≡ bytes
+bytes_set [] n bytes there = cc
+bytes_set (f ∷ files) zero bytes there = refl
+bytes_set (f ∷ files) (suc n) bytes there = bytes_set files n bytes there
 
-keeps_with_open : (w v : World) (process : ℕ) (d : Description) → v.processes ≡ w.processes → v.closed ≡ w.closed → Keeps w (with_open v process d)
-keeps_with_open w v process d e c = record {
-  processes = record {
-    all = length-set v.processes process _ ∙ ap length e;
-    living = live_edited _ v.processes process ∙ ap live e;
-  };
-  refusal = λ _ h. cc;
-  closed = c;
-}
+-- what a decided write that tells a number leaves in a file
+abbrev Appends : World → List ℕ → ℕ → ℕ → Decided → Type 0
+Appends w bytes f n d = d.outcome ≡ Replied (Number n) → bytes_of (changed w bytes d.change) f ≡ bytes_of w f ++ take n bytes
 
-truncated_processes : (w : World) (n : ℕ) (flags : OpenFlags) → (truncated w n flags).processes ≡ w.processes
-truncated_processes w n flags =
-    elim (has flags 16) as (λ b. (cond b (record w { files = set w.files n (emptied (slot w.files n)) }) w).processes ≡ w.processes) [ true ↦ refl | false ↦ refl ]
+-- bytes that are put at the end of a file
+puts_at_end : (w : World) (o : OpenDescriptor) (f count offset n : ℕ) (bytes : List ℕ) → is_regular_file (slot w.files f) ≡ true →
+    Appends w bytes f n (puts bytes f (length (bytes_of w f)) count (on_table.Offset o offset))
+puts_at_end w o f count offset n bytes there =
+    let end = length (bytes_of w f) in
+    if_has (Appends w bytes f n) (eqb (length bytes) 0) (tells (Number 0)) (does (Number count) (on_files.Bytes f end count) (on_table.Offset o offset))
+    (λ told. let none : n ≡ 0 = cc in rw none (sym (append-nil (bytes_of w f))))
+    (λ told.
+    let same : count ≡ n = cc in
+    bytes_set w.files f (splice (bytes_of w f) end (take count bytes)) there ∙
+    (added_at_end (bytes_of w f) (take count bytes) ∙ ap (λ k. bytes_of w f ++ take k bytes) same))
 
-truncated_closed : (w : World) (n : ℕ) (flags : OpenFlags) → (truncated w n flags).closed ≡ w.closed
-truncated_closed w n flags =
-    elim (has flags 16) as (λ b. (cond b (record w { files = set w.files n (emptied (slot w.files n)) }) w).closed ≡ w.closed) [ true ↦ refl | false ↦ refl ]
+pub write_appends : WriteAppends
+write_appends bounds w process fd bytes o f n is append told =
+    let Puts : ℕ → ℕ → Type 0 = λ g start. let count = fitting bounds start bytes in Appends w bytes f n (puts bytes g start count (on_table.Offset o (start + count))) in
+    let end = length (bytes_of w f) in
+    let at : file_at o ≡ f = ap (λ t. unwrap_or (regular_file t) 0) is.target_is in
+    let from : write_start o.description (length (bytes_of w (file_at o))) ≡ end =
+    ap (λ b. cond b (length (bytes_of w (file_at o))) o.description.offset) append ∙ ap (λ g. length (bytes_of w g)) at in
+    let count = fitting bounds end bytes in
+    let puts_there : Puts f end = puts_at_end w o f count (end + count) n bytes is.there in
+    let puts_here : Puts (file_at o) (write_start o.description (length (bytes_of w (file_at o)))) = subst (Puts (file_at o)) (sym from) (subst (λ g. Puts g end) (sym at) puts_there) in
+    opened_has (Appends w bytes f n) (opened w process fd) o (write bounds w bytes) is.opened_is (λ error refused. cc) puts_here told
 
-keeps_open_found : (w : World) (process : ℕ) (name : List ℕ) (flags : OpenFlags) (found : Option ℕ) → Keeps w (open_found w process name flags found)
-keeps_open_found w process name flags None = keeps_with_open w (created w name) process (new_description (length w.files) flags) refl refl
-keeps_open_found w process name flags (Some n) = keeps_with_open w (truncated w n flags) process (new_description n flags) (truncated_processes w n flags) (truncated_closed w n flags)
+pub ftruncate_leaves_resized : FtruncateLeavesResized
+ftruncate_leaves_resized bounds w process fd len o f is told =
+    let Resizes : Decided → Type 0 = λ d. d.outcome ≡ Replied Done → bytes_of (changed w [] d.change) f ≡ resized (bytes_of w f) (bytes_before len) in
+    let at : file_at o ≡ f = ap (λ t. unwrap_or (regular_file t) 0) is.target_is in
+    let there : Resizes (does Done (on_files.Resize f (bytes_before len)) on_table.Nothing) = λ _. bytes_set w.files f (resized (bytes_of w f) (bytes_before len)) is.there in
+    opened_has Resizes (opened w process fd) o (ftruncate bounds len) is.opened_is (λ error refused. cc)
+    (subst (λ g. Resizes (does Done (on_files.Resize g (bytes_before len)) on_table.Nothing)) (sym at) there) told
 
-keeps_close : (w : World) (process : ℕ) (o : Option Opened) → Keeps w (close_opened w process o)
-keeps_close w process None = keeps_refused w _
-keeps_close w process (Some o) = record {
-  processes = record { all = length-set w.processes process (option_map (with_entry o.fd None) (slot w.processes process)); living = live_edited (with_entry o.fd None) w.processes process };
-  refusal = λ _ h. cc;
-  closed = refl;
-}
+appending_description : (w : World) (fd number : ℕ) (there : Option Description) (o : OpenDescriptor) (append : Bool) → slot w.descriptions number ≡ there →
+    opened_description fd number there ≡ Some o → opened_number (with_appending w o append) fd (Some number) ≡ Some (with_append o append)
+appending_description w fd number None o append stands h = cc
+appending_description w fd number (Some d) o append stands h =
+    let opens : OpenDescriptor = record { fd = fd; number = number; description = d } in
+    let same : opens ≡ o = cc in
+    subst (λ (x : OpenDescriptor). opened_number (with_appending w x append) fd (Some number) ≡ Some (with_append x append)) same
+    (ap (opened_description fd number) (slot_set_there w.descriptions number d (Some (record d { append = append })) stands))
 
-keeps_read_target : (w : World) (o : Opened) (count : ℕ) (t : Target) → Keeps w (read_target w o count t)
-keeps_read_target w o count (target.Regular file) = keeps_reply w (read_file w o file count) refl refl refl
-keeps_read_target w o count (target.Pipe pipe) = keeps_refused w _
-keeps_read_target w o count (target.Fifo file pipe) = keeps_refused w _
+appending_number : (w : World) (fd : ℕ) (entry : Option ℕ) (o : OpenDescriptor) (append : Bool) → opened_number w fd entry ≡ Some o →
+    opened_number (with_appending w o append) fd entry ≡ Some (with_append o append)
+appending_number w fd None o append h = cc
+appending_number w fd (Some number) o append h = appending_description w fd number (slot w.descriptions number) o append refl h
 
-keeps_read : (w : World) (count : ℕ) (o : Option Opened) → Keeps w (read_opened w count o)
-keeps_read w count None = keeps_refused w _
-keeps_read w count (Some o) = keeps_unless (first_fault (read_faults o count)) w (read_target w o count o.description.target) (keeps_read_target w o count o.description.target)
+opened_appending : (w : World) (process : ℕ) (fd : ℤ) (o : OpenDescriptor) (append : Bool) → opened w process fd ≡ Some o →
+    opened (with_appending w o append) process fd ≡ Some (with_append o append)
+opened_appending w process (pos fd) o append h = appending_number w fd (slot (table_of (slot w.processes process)) fd) o append h
+opened_appending w process (negsuc n) o append h = cc
 
-keeps_nothing : (w : World) → Keeps w (nothing_written w)
-keeps_nothing w = keeps_reply w (nothing_written w) refl refl refl
-
-keeps_write_at : (lim : Lim) (w : World) (bytes : List ℕ) (start : ℕ) (effect : Stepped) → Keeps w effect → Keeps w (write_at lim w bytes start effect)
-keeps_write_at lim w bytes start effect k =
-    keeps_if (eqb (length bytes) 0) w (nothing_written w) (cond (leb lim.file_size start) (refused w EFBIG) effect) (keeps_nothing w)
-    (keeps_if (leb lim.file_size start) w (refused w EFBIG) effect (keeps_refused w EFBIG) k)
-
-keeps_write_target : (lim : Lim) (w : World) (o : Opened) (bytes : List ℕ) (t : Target) → Keeps w (write_target lim w o bytes t)
-keeps_write_target lim w o bytes (target.Regular file) =
-    let start = write_start o.description (bytes_of w file) in
-    keeps_write_at lim w bytes start (written lim w o file bytes start) (keeps_reply w (written lim w o file bytes start) refl refl refl)
-keeps_write_target lim w o bytes (target.Pipe pipe) = keeps_refused w _
-keeps_write_target lim w o bytes (target.Fifo file pipe) = keeps_refused w _
-
-keeps_write : (lim : Lim) (w : World) (bytes : List ℕ) (o : Option Opened) → Keeps w (write_opened lim w bytes o)
-keeps_write lim w bytes None = keeps_refused w _
-keeps_write lim w bytes (Some o) = keeps_unless (first_fault (write_faults o bytes)) w (write_target lim w o bytes o.description.target) (keeps_write_target lim w o bytes o.description.target)
-
-keeps_pread_target : (w : World) (start count : ℕ) (t : Target) → Keeps w (pread_target w start count t)
-keeps_pread_target w start count (target.Regular file) = keeps_reply w (pread_file w file start count) refl refl refl
-keeps_pread_target w start count (target.Pipe pipe) = keeps_refused w _
-keeps_pread_target w start count (target.Fifo file pipe) = keeps_refused w _
-
-keeps_pread : (w : World) (start : ℤ) (count : ℕ) (o : Option Opened) → Keeps w (pread_opened w start count o)
-keeps_pread w start count None = keeps_refused w _
-keeps_pread w start count (Some o) =
-    keeps_unless (first_fault (pread_faults o start count)) w (pread_target w (bytes_before start) count o.description.target) (keeps_pread_target w (bytes_before start) count o.description.target)
-
-keeps_pwrite_target : (lim : Lim) (w : World) (bytes : List ℕ) (start : ℕ) (t : Target) → Keeps w (pwrite_target lim w bytes start t)
-keeps_pwrite_target lim w bytes start (target.Regular file) =
-    keeps_write_at lim w bytes start (pwritten lim w file bytes start) (keeps_reply w (pwritten lim w file bytes start) refl refl refl)
-keeps_pwrite_target lim w bytes start (target.Pipe pipe) = keeps_refused w _
-keeps_pwrite_target lim w bytes start (target.Fifo file pipe) = keeps_refused w _
-
-keeps_pwrite : (lim : Lim) (w : World) (start : ℤ) (bytes : List ℕ) (o : Option Opened) → Keeps w (pwrite_opened lim w start bytes o)
-keeps_pwrite lim w start bytes None = keeps_refused w _
-keeps_pwrite lim w start bytes (Some o) =
-    keeps_unless (first_fault (pwrite_faults o start bytes)) w (pwrite_target lim w bytes (bytes_before start) o.description.target) (keeps_pwrite_target lim w bytes (bytes_before start) o.description.target)
-
-keeps_lseek_to : (w : World) (o : Opened) (to : ℤ) → Keeps w (lseek_to w o to)
-keeps_lseek_to w o to = keeps_unless (first_fault (lseek_faults o to)) w (moved_to w o (nat_abs to)) (keeps_reply w (moved_to w o (nat_abs to)) refl refl refl)
-
-keeps_lseek : (w : World) (offset : ℤ) (from : Whence) (o : Option Opened) → Keeps w (lseek_opened w offset from o)
-keeps_lseek w offset from None = keeps_refused w _
-keeps_lseek w offset from (Some o) = keeps_lseek_to w o (sought w o offset from)
-
-keeps_ftruncate_target : (w : World) (len : ℕ) (t : Target) → Keeps w (ftruncate_target w len t)
-keeps_ftruncate_target w len (target.Regular file) = keeps_reply w (ftruncate_file w file len) refl refl refl
-keeps_ftruncate_target w len (target.Pipe pipe) = keeps_refused w _
-keeps_ftruncate_target w len (target.Fifo file pipe) = keeps_refused w _
-
-keeps_ftruncate : (lim : Lim) (w : World) (len : ℤ) (o : Option Opened) → Keeps w (ftruncate_opened lim w len o)
-keeps_ftruncate lim w len None = keeps_refused w _
-keeps_ftruncate lim w len (Some o) =
-    keeps_unless (first_fault (ftruncate_faults lim o len)) w (ftruncate_target w (bytes_before len) o.description.target) (keeps_ftruncate_target w (bytes_before len) o.description.target)
-
-keeps_fstat : (w : World) (o : Option Opened) → Keeps w (fstat_opened w o)
-keeps_fstat w None = keeps_refused w _
-keeps_fstat w (Some o) = keeps_reply w (fstat_opened w (Some o)) refl refl refl
-
--- one case for each call; what holds of all calls follows from it
-pub keeps_call : (lim : Lim) (w : World) (process : ℕ) (c : Call) → Keeps w (call_effect lim w process c)
-keeps_call lim w process (call.Open name flags) =
-    keeps_unless (first_fault (open_faults w process name flags)) w (open_found w process name flags (file_of name w.names)) (keeps_open_found w process name flags (file_of name w.names))
-keeps_call lim w process (call.Close fd) = keeps_close w process (opened w process fd)
-keeps_call lim w process (call.Read fd count) = keeps_read w count (opened w process fd)
-keeps_call lim w process (call.Write fd bytes) = keeps_write lim w bytes (opened w process fd)
-keeps_call lim w process (call.Pread fd start count) = keeps_pread w start count (opened w process fd)
-keeps_call lim w process (call.Pwrite fd start bytes) = keeps_pwrite lim w start bytes (opened w process fd)
-keeps_call lim w process (call.Lseek fd offset from) = keeps_lseek w offset from (opened w process fd)
-keeps_call lim w process (call.Ftruncate fd len) = keeps_ftruncate lim w len (opened w process fd)
-keeps_call lim w process (call.Fstat fd) = keeps_fstat w (opened w process fd)
-
-pub call_keeps_processes : CallKeepsProcesses
-call_keeps_processes lim w process c = (keeps_call lim w process c).processes
-
-pub swept_call_keeps_processes : SweptCallKeepsProcesses
-swept_call_keeps_processes lim w process c = let same = call_keeps_processes lim w process c in record { all = same.all; living = same.living }
-
-pub refusal_keeps_world : RefusalKeepsWorld
-refusal_keeps_world lim w process c = (keeps_call lim w process c).refusal
-
-full_join_keeps : (full : Bool) (w : World) (error : Errno) → (cond full (refused w EAGAIN) (joined w)).outcome ≡ Replied (Error error) →
-    (cond full (refused w EAGAIN) (joined w)).world ≡ w
-full_join_keeps true w error h = refl
-full_join_keeps false w error h = cc
-
-pub refused_step_only_sweeps : RefusedStepOnlySweeps
-refused_step_only_sweeps lim w actor act s error h k =
-    step_case (λ t. t.outcome ≡ Replied (Error error) → t.world ≡ sweep w) lim w actor act s
-    (λ refused. ap sweep (full_join_keeps (is_full w) w error refused)) (λ c refused. ap sweep (refusal_keeps_world lim w actor c error refused)) h k
-
-pub refused_step_keeps_world : RefusedStepKeepsWorld
-refused_step_keeps_world lim w actor act s error settled h k = refused_step_only_sweeps lim w actor act s error h k ∙ settled
-
--- a join, where there is room
-pub joins : (w : World) → Joins w (joined w)
-joins w = record {
-  number = refl;
-  all = rw length-append refl;
-  living = sum_by_push (λ p. cond (is_some p) 1 0) w.processes _;
-}
-
-pub join_adds : JoinAdds
-join_adds w room = rw room (let j = joins w in (j, record { number = j.number; all = j.all; living = j.living }))
-
-pub full_join_refused : FullJoinRefused
-full_join_refused w full = rw full refl
-
-pub truncated_descriptions : (w : World) (n : ℕ) (flags : OpenFlags) → (truncated w n flags).descriptions ≡ w.descriptions
-truncated_descriptions w n flags =
-    elim (has flags 16) as (λ b. (cond b (record w { files = set w.files n (emptied (slot w.files n)) }) w).descriptions ≡ w.descriptions) [ true ↦ refl | false ↦ refl ]
-
--- the table of a process with one more entry has it
-entry_stands : (ps : List (Option Process)) (p k n : ℕ) (old : Option Process) → slot ps p ≡ old → lowest (table_of old) ≡ Some k →
-    slot (table_of (slot (set ps p (option_map (with_entry k (Some n)) old)) p)) k ≡ Some n
-entry_stands ps p k n None stands h = cc
-entry_stands ps p k n (Some process) stands h =
-    let here : slot (set ps p (Some (with_entry k (Some n) process))) p ≡ Some (with_entry k (Some n) process) = slot_set_there ps p process (Some (with_entry k (Some n) process)) stands in
-    ap (λ x. slot (table_of x) k) here ∙ get_or-set_same process.table k (Some n) None (lowest_is_least process.table k h).within
-
--- the lowest free descriptor leads to the description that is opened
-opened_leads : (v : World) (process : ℕ) (d : Description) (k : ℕ) → lowest (table_of (slot v.processes process)) ≡ Some k →
-    opened (with_open v process d).world process (pos k) ≡ Some (record { fd = k; number = length v.descriptions; description = d })
-opened_leads v process d k h =
-    let n = length v.descriptions in
-    let x = (with_open v process d).world in
-    let free : free_descriptor v process ≡ k = ap (λ low. unwrap_or low 0) h in
-    let entry : slot (table_of (slot x.processes process)) k ≡ Some n =
-    subst (λ (fd : ℕ). slot (table_of (slot (set v.processes process (option_map (with_entry fd (Some n)) (slot v.processes process))) process)) k ≡ Some n) (sym free)
-    (entry_stands v.processes process k n (slot v.processes process) refl h) in
-    ap (opened_number x k) entry ∙ ap (opened_description k n) (slot_at_end v.descriptions (Some d))
-
-opens_with : (w v : World) (process : ℕ) (name : List ℕ) (flags : OpenFlags) (file k : ℕ) → v.descriptions ≡ w.descriptions → v.processes ≡ w.processes →
-    file_of name v.names ≡ Some file → lowest (table_of (slot w.processes process)) ≡ Some k → Opens w process name flags k (with_open v process (new_description file flags))
-opens_with w v process name flags file k e f named low =
-    let d = new_description file flags in
+pub pwrite_same_under_append : PwriteSameUnderAppend
+pwrite_same_under_append bounds w process fd start bytes o append h =
+    let v = with_appending w o append in
+    let c = call.Pwrite fd start bytes in
+    let page = pwrite bounds start bytes in
+    let same : decided bounds v process c ≡ decided bounds w process c = ap (λ x. on_open x page) (opened_appending w process fd o append h) ∙ sym (ap (λ x. on_open x page) h) in
     record {
-      description = d;
-      file = file;
-      named = named;
-      target_is = refl;
-      at_start = refl;
-      mode_is = refl;
-      append_is = refl;
-      nonblock_is = refl;
-      appended = ap (λ ds. ds ++ Some d ∷ []) e;
-      leads =
-          opened_leads v process d k (ap (λ ps. lowest (table_of (slot ps process))) f ∙ low) ∙
-          ap (λ ds. Some (record { fd = k; number = length ds; description = d })) e;
+      outcome = ap (λ d. d.outcome) same;
+      files = ap (λ d. (changed v bytes d.change).files) same ∙ same_files w v bytes (decided bounds w process c).change refl;
     }
-
-truncated_names : (w : World) (n : ℕ) (flags : OpenFlags) → (truncated w n flags).names ≡ w.names
-truncated_names w n flags =
-    elim (has flags 16) as (λ b. (cond b (record w { files = set w.files n (emptied (slot w.files n)) }) w).names ≡ w.names) [ true ↦ refl | false ↦ refl ]
-
-opens_found : (w : World) (process : ℕ) (name : List ℕ) (flags : OpenFlags) (found : Option ℕ) (k : ℕ) → file_of name w.names ≡ found → lowest (table_of (slot w.processes process)) ≡ Some k →
-    Opens w process name flags k (open_found w process name flags found)
-opens_found w process name flags None k is low = opens_with w (created w name) process name flags (length w.files) k refl refl (named_file name (length w.files) w.names) low
-opens_found w process name flags (Some n) k is low =
-    opens_with w (truncated w n flags) process name flags n k (truncated_descriptions w n flags) (truncated_processes w n flags) (ap (file_of name) (truncated_names w n flags) ∙ is) low
-
--- the number that an open tells
-told_found : (w : World) (process : ℕ) (name : List ℕ) (flags : OpenFlags) (found : Option ℕ) (k : ℕ) → lowest (table_of (slot w.processes process)) ≡ Some k →
-    (open_found w process name flags found).outcome ≡ Replied (Number k)
-told_found w process name flags None k low = ap (λ l. Replied (Number (unwrap_or l 0))) low
-told_found w process name flags (Some n) k low = ap (λ ps. Replied (Number (unwrap_or (lowest (table_of (slot ps process))) 0))) (truncated_processes w n flags) ∙ ap (λ l. Replied (Number (unwrap_or l 0))) low
-
-opens_unless : (fault : Option Errno) (w : World) (process : ℕ) (name : List ℕ) (flags : OpenFlags) (s : Stepped) (fd : ℕ) →
-    (fault ≡ None → (k : ℕ) × (s.outcome ≡ Replied (Number k)) × Opens w process name flags k s) → (unless fault w s).outcome ≡ Replied (Number fd) →
-    Opens w process name flags fd (unless fault w s)
-opens_unless None w process name flags s fd all h =
-    let found = all refl in
-    let told : s.outcome ≡ Replied (Number found.0) = found.1 in
-    let same : found.0 ≡ fd = cc in
-    subst (λ (k : ℕ). Opens w process name flags k s) same found.2
-opens_unless (Some error) w process name flags s fd all h = cc
-
-pub open_describes : OpenDescribes
-open_describes w process name flags fd h =
-    let found = file_of name w.names in
-    let faults = open_faults w process name flags in
-    opens_unless (first_fault faults) w process name flags (open_found w process name flags found) fd
-    (λ free. let low = open_has_free w process name flags free in
-    (low.0, told_found w process name flags found low.0 low.1, opens_found w process name flags found low.0 refl low.1)) h

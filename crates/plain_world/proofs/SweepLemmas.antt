@@ -1,8 +1,15 @@
-use Rattle.std.proofs.Common.{◌≡◌, ℕ, zero, suc, ◌+◌, Bool, true, false, ◌||◌, cond, List, [], ◌∷◌, ◌++◌, Option, None, length, set, get_or, take, drop, map, refl, ap, sym, ◌∙◌, arith, ltb}
+-- A sweep, slot by slot.
+use Rattle.std.proofs.Common.{◌≡◌, ℕ, zero, suc, ◌+◌, Bool, true, false, ◌&&◌, ◌||◌, cond, List, [], ◌∷◌, ◌++◌, Option, None, Some, length, set, get_or, take, drop, map, refl, ap, arith, ltb}
 use Rattle.std.specs.List.{list_any, sum_by, count_by}
 use Rattle.std.proofs.lemmas.List.Sums.{sum_by-cons}
 use Rattle.std.proofs.lemmas.Bool.Decides.{nat_tests}
-use Rattle.plain_world.specs.Places.{kept, kept_from}
+use Rattle.posix_model.specs.Slots.{kept, kept_from}
+use Rattle.posix_model.specs.Counts.{reads, writes, is_pipe, can_read, can_write}
+use Rattle.posix_model.specs.Sweep.{is_open}
+use Rattle.posix_model.specs.declared.world.Description.{Description}
+use Rattle.posix_model.specs.declared.world.Mode.{Mode}
+use Rattle.posix_model.specs.declared.world.Mode.TheVariants as mode
+use Rattle.plain_world.specs.Ends.{is_end}
 
 -- a sum of two is above zero where one of them is
 pub any_of_both : (a b : ℕ) → (ltb 0 a || ltb 0 b) ≡ ltb 0 (a + b)
@@ -13,21 +20,7 @@ pub any_of_sum : {X : Type 0} (f : X → ℕ) (xs : List X) → list_any (λ x. 
 any_of_sum f [] = refl
 any_of_sum f (x ∷ xs) = rw (sum_by-cons f x xs, any_of_sum f xs) (any_of_both (f x) (sum_by f xs))
 
--- a count is above zero where one element passes
-pub any_of_count : {X : Type 0} (p : X → Bool) (xs : List X) → list_any p xs ≡ ltb 0 (count_by p xs)
-any_of_count p [] = refl
-any_of_count p (x ∷ xs) = rw (sum_by-cons (λ x. cond (p x) 1 0) x xs, any_of_count p xs)
-    (elim (p x) as (λ b. (b || ltb 0 (count_by p xs)) ≡ ltb 0 (cond b 1 0 + count_by p xs)) [
-      | true ↦ grind (arith, nat_tests)
-      | false ↦ grind (arith, nat_tests)
-    ])
-
--- two counts together are above zero where one element passes
-pub any_of_counts : {X Y : Type 0} (p : X → Bool) (q : Y → Bool) (xs : List X) (ys : List Y) →
-    (list_any p xs || list_any q ys) ≡ ltb 0 (count_by p xs + count_by q ys)
-any_of_counts p q xs ys = rw (any_of_count p xs, any_of_count q ys) (any_of_both (count_by p xs) (count_by q ys))
-
--- the places so far are swept, and the others are as they were
+-- the slots so far are swept, and the others are as they were
 abbrev pub kept_below : {T : Type 0} → (ℕ → Bool) → ℕ → ℕ → List (Option T) → List (Option T)
 kept_below keeps m n xs = take n (kept_from keeps m xs) ++ drop n xs
 
@@ -40,7 +33,7 @@ kept_below_more keeps m (suc n) (x ∷ xs) =
     let e : m + suc n ≡ suc m + n = omega arith in
     rw e (ap (λ ys. cond (keeps m) x None ∷ ys) (kept_below_more keeps (suc m) n xs))
 
--- one more place is swept
+-- one more slot is swept
 pub kept_more : {T : Type 0} (keeps : ℕ → Bool) (n : ℕ) (xs ys : List (Option T)) →
     ys ≡ kept_below keeps 0 n xs →
     set ys n (cond (keeps n) (get_or ys n None) None) ≡ kept_below keeps 0 (n + 1) xs
@@ -53,7 +46,7 @@ kept_below_all : {T : Type 0} (keeps : ℕ → Bool) (m : ℕ) (xs : List (Optio
 kept_below_all keeps m [] = refl
 kept_below_all keeps m (x ∷ xs) = ap (λ ys. cond (keeps m) x None ∷ ys) (kept_below_all keeps (suc m) xs)
 
--- all places are swept
+-- all slots are swept
 pub kept_all : {T : Type 0} (keeps : ℕ → Bool) (n : ℕ) (xs : List (Option T)) → n ≡ length xs → kept_below keeps 0 n xs ≡ kept keeps xs
 kept_all keeps n xs e = rw e (kept_below_all keeps 0 xs)
 
@@ -72,13 +65,28 @@ map_more f d e n xs ys is =
     let next : n + 1 ≡ suc n = omega arith in
     rw (is, next) (map_so_far f d e n xs)
 
--- a first count is above zero
-pub any_first : {X : Type 0} (p : X → Bool) (xs : List X) (n : ℕ) → list_any p xs ≡ true → true ≡ ltb 0 (count_by p xs + n)
-any_first p xs n e =
-    let first : ltb 0 (count_by p xs) ≡ true = sym (any_of_count p xs) ∙ e in
-    grind (arith, nat_tests, first, any_of_both (count_by p xs) n)
+-- an end of a pipe is for reading or for writing
+end_counts : (p : ℕ) (x : Option Description) → ltb 0 (cond (is_end p x) 1 0) ≡ ltb 0 (cond (reads p x) 1 0 + cond (writes p x) 1 0)
+end_counts p None = refl
+end_counts p (Some d) = by_mode (is_pipe p d.target) d.mode
+  where
+    by_mode : (b : Bool) (m : Mode) → ltb 0 (cond b 1 0) ≡ ltb 0 (cond (b && can_read m) 1 0 + cond (b && can_write m) 1 0)
+    by_mode true mode.Read = refl
+    by_mode true mode.Write = refl
+    by_mode true mode.ReadWrite = refl
+    by_mode false m = refl
 
--- a first count is zero, and the second one decides
-pub any_second : {X Y : Type 0} (p : X → Bool) (q : Y → Bool) (xs : List X) (ys : List Y) →
-    list_any p xs ≡ false → list_any q ys ≡ ltb 0 (count_by p xs + count_by q ys)
-any_second p q xs ys e = rw e at (any_of_counts p q xs ys)
+either_counts : (e es r w rs ws : ℕ) → ltb 0 e ≡ ltb 0 (r + w) → ltb 0 es ≡ ltb 0 (rs + ws) → ltb 0 (e + es) ≡ ltb 0 ((r + rs) + (w + ws))
+either_counts e es r w rs ws first rest = grind (arith, nat_tests)
+
+-- a pipe is open where some description is an end of it
+pub any_end : (p : ℕ) (ds : List (Option Description)) → ltb 0 (count_by (is_end p) ds) ≡ is_open ds p
+any_end p [] = refl
+any_end p (x ∷ ds) =
+    let e = cond (is_end p x) 1 0 in
+    let r = cond (reads p x) 1 0 in
+    let w = cond (writes p x) 1 0 in
+    let first = end_counts p x in
+    let rest = any_end p ds in
+    rw (sum_by-cons (λ x. cond (is_end p x) 1 0) x ds, sum_by-cons (λ x. cond (reads p x) 1 0) x ds, sum_by-cons (λ x. cond (writes p x) 1 0) x ds)
+    (either_counts e (count_by (is_end p) ds) r w (count_by (reads p) ds) (count_by (writes p) ds) first rest)

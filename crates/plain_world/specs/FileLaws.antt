@@ -1,78 +1,104 @@
--- What holds of reads and writes at a position, of lengths, and of opens that make or empty a file.
-use Rattle.std.specs.Prelude.{◌≡◌, ◌≢◌, ℕ, ℤ, ◌≤◌, ◌<◌, Bool, true, List, [], ◌++◌, Option, None, Some, length, take, slice_index, slice_set}
-use Rattle.std.specs.Option.{option_map}
-use Rattle.call_types.specs.Lim.{Lim}
-use Rattle.call_types.specs.declared.act.Act.TheVariants as act
+-- What holds of the calls on files, in words that the pages use.
+use Rattle.std.specs.Prelude.{◌≡◌, ◌≢◌, ℕ, ℤ, pos, ◌+◌, ◌-◌, ◌≤◌, ◌<◌, Bool, true, false, max, List, [], ◌∷◌, ◌++◌, None, Some, length, take, slice_index, slice_set}
+use Rattle.call_types.specs.Flags.{has}
+use Rattle.call_types.specs.Flags as flag
+use Rattle.call_types.specs.declared.limits.Bounds.{Bounds}
 use Rattle.call_types.specs.declared.call.Call.{Call}
 use Rattle.call_types.specs.declared.call.Call.TheVariants as call
 use Rattle.call_types.specs.declared.flags.OpenFlags.{OpenFlags}
 use Rattle.call_types.specs.declared.outcome.Outcome.TheVariants.{Reply as Replied}
 use Rattle.call_types.specs.declared.outcome.Reply.TheVariants.{Number, Done}
-use Rattle.call_types.specs.declared.whence.Whence.{Whence}
-use Rattle.plain_world.specs.Bytes.{splice, resized}
-use Rattle.plain_world.specs.Names.{file_of}
-use Rattle.plain_world.specs.Places.{slot}
-use Rattle.plain_world.specs.Descriptors.{opened, bytes_of}
-use Rattle.plain_world.specs.Faults.{Stepped}
-use Rattle.plain_world.specs.Step.{call_effect, step}
-use Rattle.plain_world.specs.Open.{has, truncated, open_file}
-use Rattle.plain_world.specs.Read.{read}
-use Rattle.plain_world.specs.Write.{write_start, write}
-use Rattle.plain_world.specs.Pread.{pread}
-use Rattle.plain_world.specs.Pwrite.{pwrite, pwrite_opened}
-use Rattle.plain_world.specs.Lseek.{lseek}
-use Rattle.plain_world.specs.Ftruncate.{ftruncate}
-use Rattle.plain_world.specs.NumberLaws.{is_regular_file}
-use Rattle.plain_world.specs.Positions.{bytes_before}
-use Rattle.plain_world.specs.declared.world.World.{World}
-use Rattle.plain_world.specs.declared.world.Description.{Description}
-use Rattle.plain_world.specs.declared.world.Target.TheVariants as target
-use Rattle.plain_world.specs.declared.opened.Opened.{Opened}
+use Rattle.posix_model.specs.Bytes.{splice, resized}
+use Rattle.posix_model.specs.Names.{file_of}
+use Rattle.posix_model.specs.Slots.{slot}
+use Rattle.posix_model.specs.Positions.{bytes_before}
+use Rattle.posix_model.specs.Descriptors.{opened, bytes_of}
+use Rattle.posix_model.specs.Whole.{is_regular_file}
+use Rattle.posix_model.specs.Open.{mode_of}
+use Rattle.posix_model.specs.declared.world.World.{World}
+use Rattle.posix_model.specs.declared.world.Description.{Description}
+use Rattle.posix_model.specs.declared.world.Target.TheVariants as target
+use Rattle.posix_model.specs.declared.opened.OpenDescriptor.{OpenDescriptor}
+use Rattle.plain_world.specs.Calls.{outcome_of, before_sweep}
+
+-- the bytes after a write: the new ones where they were put, else those that were there, else zeros (page of write)
+pub record Spliced (bytes : List ℕ) (start : ℕ) (new : List ℕ) : Type 0 where
+  pub size : length (splice bytes start new) ≡ max (length bytes) (start + length new)
+  pub inside : (i : ℕ) → start ≤ i → i < start + length new → slice_index (splice bytes start new) i ≡ slice_index new (i - start)
+  pub before : (i : ℕ) → i < length bytes → i < start → slice_index (splice bytes start new) i ≡ slice_index bytes i
+  pub past : (i : ℕ) → i < length bytes → start + length new ≤ i → slice_index (splice bytes start new) i ≡ slice_index bytes i
+  pub gap : (i : ℕ) → length bytes ≤ i → i < start → slice_index (splice bytes start new) i ≡ 0
+
+-- and so they are after every write (page of write)
+abbrev pub WriteSplices : Type 0
+WriteSplices = (bytes : List ℕ) (start : ℕ) (new : List ℕ) → Spliced bytes start new
+
+-- bytes that were given a length: the first ones as they were, and zeros after them (page of ftruncate)
+pub record Resized (bytes : List ℕ) (len : ℕ) : Type 0 where
+  pub size : length (resized bytes len) ≡ len
+  pub first : (i : ℕ) → i < len → i < length bytes → slice_index (resized bytes len) i ≡ slice_index bytes i
+  pub zeros : (i : ℕ) → length bytes ≤ i → i < len → slice_index (resized bytes len) i ≡ 0
+
+-- and so they are after every ftruncate (page of ftruncate)
+abbrev pub FtruncateResizes : Type 0
+FtruncateResizes = (bytes : List ℕ) (len : ℕ) → Resized bytes len
+
+-- a descriptor of a process is open, on a regular file that is there, as it is in every world of a history (own)
+pub record OpenOn (w : World) (process : ℕ) (fd : ℤ) (o : OpenDescriptor) (file : ℕ) : Type 0 where
+  pub opened_is : opened w process fd ≡ Some o
+  pub target_is : o.description.target ≡ target.Regular file
+  pub there : is_regular_file (slot w.files file) ≡ true
+
+-- an ftruncate that is not refused leaves its file with just that length, cut or extended by zeros (page of ftruncate)
+abbrev pub FtruncateLeavesResized : Type 0
+FtruncateLeavesResized = (bounds : Bounds) (w : World) (process : ℕ) (fd len : ℤ) (o : OpenDescriptor) (file : ℕ) → OpenOn w process fd o file →
+    outcome_of bounds w process (call.Ftruncate fd len) ≡ Replied Done →
+    bytes_of (before_sweep bounds w process (call.Ftruncate fd len)) file ≡ resized (bytes_of w file) (bytes_before len)
+
+-- a write under append leaves the bytes that were there, and after them those that it took, whatever the offset (page of write)
+abbrev pub WriteAppends : Type 0
+WriteAppends = (bounds : Bounds) (w : World) (process : ℕ) (fd : ℤ) (bytes : List ℕ) (o : OpenDescriptor) (file n : ℕ) → OpenOn w process fd o file →
+    o.description.append ≡ true → outcome_of bounds w process (call.Write fd bytes) ≡ Replied (Number n) →
+    bytes_of (before_sweep bounds w process (call.Write fd bytes)) file ≡ bytes_of w file ++ take n bytes
 
 -- a pread changes nothing: no byte, and no offset (page of read, pread)
 abbrev pub PreadKeepsWorld : Type 0
-PreadKeepsWorld = (w : World) (process : ℕ) (fd start : ℤ) (count : ℕ) → (pread w process fd start count).world ≡ w
+PreadKeepsWorld = (bounds : Bounds) (w : World) (process : ℕ) (fd start : ℤ) (count : ℕ) → before_sweep bounds w process (call.Pread fd start count) ≡ w
 
 -- a read of no bytes changes nothing, and moves no offset (page of read)
 abbrev pub NothingRead : Type 0
-NothingRead = (w : World) (process : ℕ) (fd : ℤ) → (read w process fd 0).world ≡ w
+NothingRead = (bounds : Bounds) (w : World) (process : ℕ) (fd : ℤ) → before_sweep bounds w process (call.Read fd 0) ≡ w
 
 -- nor does a write of none, past the end or at the size limit (page of write)
 abbrev pub NothingWritten : Type 0
-NothingWritten = (lim : Lim) (w : World) (process : ℕ) (fd : ℤ) → (write lim w process fd []).world ≡ w
+NothingWritten = (bounds : Bounds) (w : World) (process : ℕ) (fd : ℤ) → before_sweep bounds w process (call.Write fd []) ≡ w
 
 -- nor does a pwrite of none (page of write, pwrite)
 abbrev pub NothingPwritten : Type 0
-NothingPwritten = (lim : Lim) (w : World) (process : ℕ) (fd start : ℤ) → (pwrite lim w process fd start []).world ≡ w
+NothingPwritten = (bounds : Bounds) (w : World) (process : ℕ) (fd start : ℤ) → before_sweep bounds w process (call.Pwrite fd start []) ≡ w
 
 -- a pwrite leaves every open file description, with its offset, as it was (page of write, pwrite)
 abbrev pub PwriteKeepsOffsets : Type 0
-PwriteKeepsOffsets = (lim : Lim) (w : World) (process : ℕ) (fd start : ℤ) (bytes : List ℕ) →
-    (pwrite lim w process fd start bytes).world.descriptions ≡ w.descriptions
+PwriteKeepsOffsets = (bounds : Bounds) (w : World) (process : ℕ) (fd start : ℤ) (bytes : List ℕ) →
+    (before_sweep bounds w process (call.Pwrite fd start bytes)).descriptions ≡ w.descriptions
 
 -- an open descriptor whose description is under append, or is not
-abbrev pub with_append : Opened → Bool → Opened
+abbrev pub with_append : OpenDescriptor → Bool → OpenDescriptor
 with_append o append = record o { description = record o.description { append = append } }
 
--- a pwrite writes at its position, under append or not (page of write, pwrite)
-abbrev pub PwriteIgnoresAppend : Type 0
-PwriteIgnoresAppend = (lim : Lim) (w : World) (start : ℤ) (bytes : List ℕ) (o : Opened) (append : Bool) →
-    pwrite_opened lim w start bytes (Some (with_append o append)) ≡ pwrite_opened lim w start bytes (Some o)
-
 -- the world in which the description of an open descriptor is under append, or is not
-abbrev pub with_appending : World → Opened → Bool → World
+abbrev pub with_appending : World → OpenDescriptor → Bool → World
 with_appending w o append = record w { descriptions = slice_set w.descriptions o.number (Some (with_append o append).description) }
 
--- the second call tells what the first tells, and leaves the same bytes in every file
-pub record SameWriting (s t : Stepped) : Type 0 where
-  pub outcome : t.outcome ≡ s.outcome
-  pub files : t.world.files ≡ s.world.files
+-- a call tells the same in two worlds, and leaves the same bytes in every file
+pub record SameWriting (bounds : Bounds) (process : ℕ) (c : Call) (w v : World) : Type 0 where
+  pub outcome : outcome_of bounds v process c ≡ outcome_of bounds w process c
+  pub files : (before_sweep bounds v process c).files ≡ (before_sweep bounds w process c).files
 
--- so in two worlds that differ in that flag alone a pwrite does the same (page of write, pwrite)
+-- in two worlds that differ in that flag alone a pwrite does the same (page of write, pwrite)
 abbrev pub PwriteSameUnderAppend : Type 0
-PwriteSameUnderAppend = (lim : Lim) (w : World) (process : ℕ) (fd start : ℤ) (bytes : List ℕ) (o : Opened) (append : Bool) →
-    opened w process fd ≡ Some o →
-    SameWriting (pwrite lim w process fd start bytes) (pwrite lim (with_appending w o append) process fd start bytes)
+PwriteSameUnderAppend = (bounds : Bounds) (w : World) (process : ℕ) (fd start : ℤ) (bytes : List ℕ) (o : OpenDescriptor) (append : Bool) →
+    opened w process fd ≡ Some o → SameWriting bounds process (call.Pwrite fd start bytes) w (with_appending w o append)
 
 -- the second world has the files, names and pipes of the first, with their bytes
 pub record SameContents (w v : World) : Type 0 where
@@ -80,95 +106,49 @@ pub record SameContents (w v : World) : Type 0 where
   pub names : v.names ≡ w.names
   pub pipes : v.pipes ≡ w.pipes
 
--- an lseek neither makes a file longer nor changes a byte (page of lseek)
-abbrev pub LseekKeepsContents : Type 0
-LseekKeepsContents = (w : World) (process : ℕ) (fd offset : ℤ) (from : Whence) → SameContents w (lseek w process fd offset from).world
+-- whether a call may change a file, a name or a pipe
+abbrev pub may_change_contents : Call → Bool
+may_change_contents (call.Open name flags) = true
+may_change_contents (call.Write fd bytes) = true
+may_change_contents (call.Pwrite fd start bytes) = true
+may_change_contents (call.Ftruncate fd len) = true
+may_change_contents other = false
 
--- bytes that were given a length: the first ones as they were, and zeros behind them (page of ftruncate)
-pub record Resized (bytes : List ℕ) (len : ℕ) : Type 0 where
-  pub size : length (resized bytes len) ≡ len
-  pub kept : (i : ℕ) → i < len → i < length bytes → slice_index (resized bytes len) i ≡ slice_index bytes i
-  pub zeros : (i : ℕ) → length bytes ≤ i → i < len → slice_index (resized bytes len) i ≡ 0
+-- every other call leaves all of them: a seek past the end neither makes a file longer nor changes a byte (their pages)
+abbrev pub ContentsStay : Type 0
+ContentsStay = (bounds : Bounds) (w : World) (process : ℕ) (c : Call) → may_change_contents c ≡ false → SameContents w (before_sweep bounds w process c)
 
--- an ftruncate cuts a file, or extends it by zeros
-abbrev pub FtruncateResizes : Type 0
-FtruncateResizes = (bytes : List ℕ) (len : ℕ) → Resized bytes len
+-- one more open file description, at the start of the file that the name leads to, for what the flags ask; the others are as
+-- they were, and the descriptor leads to it
+pub record Opens (w v : World) (process : ℕ) (name : List ℕ) (flags : OpenFlags) (fd : ℕ) : Type 0 where
+  pub description : Description
+  pub file : ℕ
+  pub named : file_of name v.names ≡ Some file
+  pub target_is : description.target ≡ target.Regular file
+  pub at_start : description.offset ≡ 0
+  pub mode_is : description.mode ≡ mode_of flags
+  pub append_is : description.append ≡ has flags flag.appending
+  pub nonblock_is : description.nonblock ≡ has flags flag.nonblocking
+  pub appended : v.descriptions ≡ w.descriptions ++ Some description ∷ []
+  pub leads : opened v process (pos fd) ≡ Some (record { fd = fd; number = length w.descriptions; description = description })
 
--- a descriptor of a process is open, on a regular file that is there, as it is in every world of a history (own)
-pub record OpenOn (w : World) (process : ℕ) (fd : ℤ) (o : Opened) (file : ℕ) : Type 0 where
-  pub opened_is : opened w process fd ≡ Some o
-  pub target_is : o.description.target ≡ target.Regular file
-  pub there : is_regular_file (slot w.files file) ≡ true
-
--- an ftruncate that is not refused leaves its file with just that length, cut or extended by zeros (page of ftruncate)
-abbrev pub FtruncateLeavesResized : Type 0
-FtruncateLeavesResized = (lim : Lim) (w : World) (process : ℕ) (fd len : ℤ) (o : Opened) (file : ℕ) → OpenOn w process fd o file →
-    (ftruncate lim w process fd len).outcome ≡ Replied Done →
-    bytes_of (ftruncate lim w process fd len).world file ≡ resized (bytes_of w file) (bytes_before len)
-
--- under append a write puts its bytes at the end, whatever the offset (page of write)
-abbrev pub AppendAddsAtEnd : Type 0
-AppendAddsAtEnd = (d : Description) (there new : List ℕ) → d.append ≡ true → splice there (write_start d there) new ≡ there ++ new
-
--- so a write under append leaves the bytes that were there, and behind them those that it took (page of write)
-abbrev pub WriteAppends : Type 0
-WriteAppends = (lim : Lim) (w : World) (process : ℕ) (fd : ℤ) (bytes : List ℕ) (o : Opened) (file n : ℕ) → OpenOn w process fd o file →
-    o.description.append ≡ true → (write lim w process fd bytes).outcome ≡ Replied (Number n) →
-    bytes_of (write lim w process fd bytes).world file ≡ bytes_of w file ++ take n bytes
+-- each open that is not refused has a description of its own, to which the descriptor that is told leads (page of open)
+abbrev pub OpenDescribes : Type 0
+OpenDescribes = (bounds : Bounds) (w : World) (process : ℕ) (name : List ℕ) (flags : OpenFlags) (fd : ℕ) →
+    outcome_of bounds w process (call.Open name flags) ≡ Replied (Number fd) → Opens w (before_sweep bounds w process (call.Open name flags)) process name flags fd
 
 -- an open under excl and creat that is not refused is of a name that was not there (page of open)
 abbrev pub ExclOpensNew : Type 0
-ExclOpensNew = (w : World) (process : ℕ) (name : List ℕ) (flags : OpenFlags) (fd : ℕ) → has flags 8 ≡ true → has flags 4 ≡ true →
-    (open_file w process name flags).outcome ≡ Replied (Number fd) → file_of name w.names ≡ None
-
--- the second world has no byte in the file of this number, and all else as it is in the first
-pub record Empties (number : ℕ) (w v : World) : Type 0 where
-  pub emptied : bytes_of v number ≡ []
-  pub others : (n : ℕ) → n ≢ number → slot v.files n ≡ slot w.files n
-  pub names : v.names ≡ w.names
-  pub descriptions : v.descriptions ≡ w.descriptions
-  pub processes : v.processes ≡ w.processes
-  pub pipes : v.pipes ≡ w.pipes
-  pub closed : v.closed ≡ w.closed
-
--- trunc empties the file that is opened, and no other (page of open)
-abbrev pub TruncEmpties : Type 0
-TruncEmpties = (w : World) (number : ℕ) (flags : OpenFlags) → has flags 16 ≡ true → Empties number w (truncated w number flags)
+ExclOpensNew = (bounds : Bounds) (w : World) (process : ℕ) (name : List ℕ) (flags : OpenFlags) (fd : ℕ) → has flags flag.excl ≡ true → has flags flag.creat ≡ true →
+    outcome_of bounds w process (call.Open name flags) ≡ Replied (Number fd) → file_of name w.names ≡ None
 
 -- the second world has no byte in the file of this number, and every other file as it was
 pub record EmptiesFile (number : ℕ) (w v : World) : Type 0 where
   pub emptied : bytes_of v number ≡ []
   pub others : (n : ℕ) → n ≢ number → slot v.files n ≡ slot w.files n
 
--- so an open under trunc that is not refused leaves the file of its name empty, and no other is changed (page of open)
+-- an open under trunc that is not refused leaves the file of its name empty, and no other is changed (page of open)
 abbrev pub TruncOpenEmpties : Type 0
-TruncOpenEmpties = (w : World) (process : ℕ) (name : List ℕ) (flags : OpenFlags) (fd number : ℕ) → file_of name w.names ≡ Some number →
-    has flags 16 ≡ true → (open_file w process name flags).outcome ≡ Replied (Number fd) →
-    EmptiesFile number w (open_file w process name flags).world
-
--- the descriptor that a call is on; an open has none (own)
-abbrev pub descriptor_of : Call → Option ℤ
-descriptor_of (call.Open name flags) = None
-descriptor_of (call.Close fd) = Some fd
-descriptor_of (call.Read fd count) = Some fd
-descriptor_of (call.Write fd bytes) = Some fd
-descriptor_of (call.Pread fd start count) = Some fd
-descriptor_of (call.Pwrite fd start bytes) = Some fd
-descriptor_of (call.Lseek fd offset from) = Some fd
-descriptor_of (call.Ftruncate fd len) = Some fd
-descriptor_of (call.Fstat fd) = Some fd
-
--- the number of the open file description behind a descriptor, if it is open (XBD 3, File Descriptor)
-abbrev pub number_behind : World → ℕ → ℤ → Option ℕ
-number_behind w process fd = option_map (λ o. o.number) (opened w process fd)
-
--- a call on a descriptor leaves each open file description, with its offset, but the one behind that descriptor (XBD 3, File Offset)
-abbrev pub OffsetsAreApart : Type 0
-OffsetsAreApart = (lim : Lim) (w : World) (process : ℕ) (c : Call) (fd : ℤ) (number : ℕ) → descriptor_of c ≡ Some fd →
-    number_behind w process fd ≢ Some number → slot (call_effect lim w process c).world.descriptions number ≡ slot w.descriptions number
-
--- and what of the others is there after the step was there before, as it is (XBD 3, File Offset)
-abbrev pub OffsetsStayApart : Type 0
-OffsetsStayApart = (lim : Lim) (w : World) (process : ℕ) (c : Call) (s : Stepped) (fd : ℤ) (number : ℕ) (description : Description) →
-    step lim w process (act.Call c) ≡ Some s → descriptor_of c ≡ Some fd → number_behind w process fd ≢ Some number →
-    slot s.world.descriptions number ≡ Some description → slot w.descriptions number ≡ Some description
+TruncOpenEmpties = (bounds : Bounds) (w : World) (process : ℕ) (name : List ℕ) (flags : OpenFlags) (fd number : ℕ) → file_of name w.names ≡ Some number →
+    has flags flag.trunc ≡ true → outcome_of bounds w process (call.Open name flags) ≡ Replied (Number fd) →
+    EmptiesFile number w (before_sweep bounds w process (call.Open name flags))

@@ -1,13 +1,14 @@
-ghost use Rattle.std.specs.Prelude.{◌≡◌, ◌==◌, nat_lt};
+ghost use Rattle.std.specs.Prelude.{◌≡◌, count_by, nat_lt};
 ghost use Rattle.std.specs.List.{list_any};
-ghost use Rattle.plain_world.specs.Counts.{links, refers, refs_of, is_file, is_pipe, can_read, can_write, holds, reads, writes};
+ghost use Rattle.posix_model.specs.Counts.{refers, refs_of, is_file, is_pipe, holds, links, holders};
+ghost use Rattle.plain_world.specs.Ends.{is_end};
 
-use crate::names::Names;
-use crate::slots::Slots;
-use crate::world::{Description, Mode, Process, Target};
+use posix_model::names::Names;
+use posix_model::slots::Slots;
+use posix_model::world::{Description, Process, Target};
 
 /// Whether a descriptor refers to the description of a number.
-pub(crate) fn refers(number: usize, entry: Option<usize>) -> bool
+fn refers(number: usize, entry: Option<usize>) -> bool
     ensures { result ≡ refers number entry }
 {
     match entry {
@@ -16,55 +17,29 @@ pub(crate) fn refers(number: usize, entry: Option<usize>) -> bool
     }
 }
 
-/// Whether a descriptor of a table refers to the description of a number.
-pub(crate) fn table_refers(number: usize, table: &Slots<usize>) -> bool
-    ensures { result ≡ list_any (refers number) table.now }
+/// How many descriptors of a table refer to the description of a number.
+fn entries_of(number: usize, table: &Slots<usize>) -> usize
+    ensures { result ≡ count_by (refers number) table.now }
 {
-    table.places().iter().any(|entry| refers(number, *entry))
+    table
+        .all()
+        .iter()
+        .filter(|entry| refers(number, **entry))
+        .count()
 }
 
-/// Whether a descriptor of a process refers to the description of a number.
-pub(crate) fn process_refers(number: usize, process: &Option<Process>) -> bool
-    ensures { result ≡ nat_lt 0 (refs_of number process.now) }
+/// How many descriptors of a process refer to the description of a number.
+fn refs_of(number: usize, process: &Option<Process>) -> usize
+    ensures { result ≡ refs_of number process.now }
 {
     match process {
-        Some(process) => table_refers(number, &process.table),
-        None => false,
-    }
-}
-
-/// Whether a descriptor of any process refers to the description of a number.
-pub(crate) fn any_refers(number: usize, processes: &Slots<Process>) -> bool
-    ensures { result ≡ list_any (λ process. nat_lt 0 (refs_of number process)) processes.now }
-{
-    processes
-        .places()
-        .iter()
-        .any(|process| process_refers(number, process))
-}
-
-/// Whether a mode has reading.
-pub(crate) fn can_read(mode: Mode) -> bool
-    ensures { result ≡ can_read mode }
-{
-    match mode {
-        Mode::Read | Mode::ReadWrite => true,
-        Mode::Write => false,
-    }
-}
-
-/// Whether a mode has writing.
-pub(crate) fn can_write(mode: Mode) -> bool
-    ensures { result ≡ can_write mode }
-{
-    match mode {
-        Mode::Write | Mode::ReadWrite => true,
-        Mode::Read => false,
+        Some(process) => entries_of(number, &process.table),
+        None => 0,
     }
 }
 
 /// Whether a target is the file of a number.
-pub(crate) fn is_file(number: usize, target: Target) -> bool
+fn is_file(number: usize, target: Target) -> bool
     ensures { result ≡ is_file number target }
 {
     match target {
@@ -74,7 +49,7 @@ pub(crate) fn is_file(number: usize, target: Target) -> bool
 }
 
 /// Whether a target is an end of the pipe of a number.
-pub(crate) fn is_pipe(number: usize, target: Target) -> bool
+fn is_pipe(number: usize, target: Target) -> bool
     ensures { result ≡ is_pipe number target }
 {
     match target {
@@ -83,64 +58,24 @@ pub(crate) fn is_pipe(number: usize, target: Target) -> bool
     }
 }
 
-/// Whether a place has a description that holds the file of a number.
-pub(crate) fn holds(number: usize, place: Option<Description>) -> bool
-    ensures { result ≡ holds number place }
+/// Whether a slot has a description that holds the file of a number.
+fn holds(number: usize, slot: Option<Description>) -> bool
+    ensures { result ≡ holds number slot }
 {
-    match place {
+    match slot {
         Some(description) => is_file(number, description.target),
         None => false,
     }
 }
 
-/// Whether a place has a reading end of the pipe of a number.
-pub(crate) fn reads(number: usize, place: Option<Description>) -> bool
-    ensures { result ≡ reads number place }
+/// Whether a slot has a description that is an end of the pipe of a number.
+fn is_end(number: usize, slot: Option<Description>) -> bool
+    ensures { result ≡ is_end number slot }
 {
-    match place {
-        Some(description) => is_pipe(number, description.target) && can_read(description.mode),
+    match slot {
+        Some(description) => is_pipe(number, description.target),
         None => false,
     }
-}
-
-/// Whether a place has a writing end of the pipe of a number.
-pub(crate) fn writes(number: usize, place: Option<Description>) -> bool
-    ensures { result ≡ writes number place }
-{
-    match place {
-        Some(description) => is_pipe(number, description.target) && can_write(description.mode),
-        None => false,
-    }
-}
-
-/// Whether a pipe has a reading end.
-pub(crate) fn has_reader(descriptions: &Slots<Description>, pipe: usize) -> bool
-    ensures { result ≡ list_any (reads pipe) descriptions.now }
-{
-    descriptions
-        .places()
-        .iter()
-        .any(|place| reads(pipe, *place))
-}
-
-/// Whether a pipe has a writing end.
-pub(crate) fn has_writer(descriptions: &Slots<Description>, pipe: usize) -> bool
-    ensures { result ≡ list_any (writes pipe) descriptions.now }
-{
-    descriptions
-        .places()
-        .iter()
-        .any(|place| writes(pipe, *place))
-}
-
-/// Whether a description holds a file.
-pub(crate) fn has_holder(descriptions: &Slots<Description>, file: usize) -> bool
-    ensures { result ≡ list_any (holds file) descriptions.now }
-{
-    descriptions
-        .places()
-        .iter()
-        .any(|place| holds(file, *place))
 }
 
 /// How many names a file has (XBD 3, Link Count).
@@ -154,9 +89,34 @@ pub(crate) fn links(names: &Names, file: usize) -> usize
         .count()
 }
 
-/// Whether a file has a name.
-pub(crate) fn has_name(names: &Names, file: usize) -> bool
-    ensures { result ≡ list_any (λ entry. entry.1 == file) names.now }
+/// How many descriptions hold a file.
+pub(crate) fn holders(descriptions: &Slots<Description>, file: usize) -> usize
+    ensures { result ≡ holders descriptions.now file }
 {
-    names.entries().iter().any(|entry| entry.1 == file)
+    descriptions
+        .all()
+        .iter()
+        .filter(|slot| holds(file, **slot))
+        .count()
+}
+
+/// How many descriptions are ends of a pipe.
+pub(crate) fn ends(descriptions: &Slots<Description>, pipe: usize) -> usize
+    ensures { result ≡ count_by (is_end pipe) descriptions.now }
+{
+    descriptions
+        .all()
+        .iter()
+        .filter(|slot| is_end(pipe, **slot))
+        .count()
+}
+
+/// Whether a descriptor of any process refers to the description of a number.
+pub(crate) fn any_refers(number: usize, processes: &Slots<Process>) -> bool
+    ensures { result ≡ list_any (λ process. nat_lt 0 (refs_of number process)) processes.now }
+{
+    processes
+        .all()
+        .iter()
+        .any(|process| refs_of(number, process) > 0)
 }

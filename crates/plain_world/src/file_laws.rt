@@ -1,7 +1,16 @@
-//! What holds of reads and writes at a position, of lengths, and of opens that make or empty a file. Each function does
-//! nothing; its contract is the law.
+//! Laws of the calls on files. Each function does nothing; its contract is the law.
 
-ghost use Rattle.plain_world.specs.FileLaws.{PreadKeepsWorld, NothingRead, NothingWritten, NothingPwritten, PwriteKeepsOffsets, PwriteIgnoresAppend, PwriteSameUnderAppend, LseekKeepsContents, FtruncateResizes, FtruncateLeavesResized, AppendAddsAtEnd, WriteAppends, ExclOpensNew, TruncEmpties, TruncOpenEmpties, OffsetsAreApart, OffsetsStayApart};
+ghost use Rattle.plain_world.specs.FileLaws.{WriteSplices, WriteAppends, PreadKeepsWorld, NothingRead, NothingWritten, NothingPwritten, PwriteKeepsOffsets, PwriteSameUnderAppend, ContentsStay, FtruncateResizes, FtruncateLeavesResized, OpenDescribes, ExclOpensNew, TruncOpenEmpties};
+
+/// A write puts its bytes where they belong, leaves the others, and fills a gap with zeros (page of write).
+pub fn write_splices()
+    ensures { WriteSplices }
+{}
+
+/// Under append a write puts its bytes at the end of the file, whatever the offset (page of write).
+pub fn append_adds_at_end()
+    ensures { WriteAppends }
+{}
 
 /// A pread changes nothing: no byte, and no offset (page of read, pread).
 pub fn pread_keeps_world()
@@ -22,13 +31,13 @@ pub fn pwrite_keeps_offsets()
 
 /// A pwrite writes at its position, under append or not (page of write, pwrite).
 pub fn pwrite_ignores_append()
-    ensures effect { PwriteIgnoresAppend }
-    ensures call { PwriteSameUnderAppend }
+    ensures { PwriteSameUnderAppend }
 {}
 
-/// An lseek changes no file, no name and no pipe, so a file is no longer for it (page of lseek).
-pub fn lseek_keeps_contents()
-    ensures { LseekKeepsContents }
+/// Only an open, a write, a pwrite and an ftruncate may change a file, a name or a pipe; so a file is no longer for a seek
+/// past its end (pages of the other calls).
+pub fn contents_stay()
+    ensures { ContentsStay }
 {}
 
 /// An ftruncate cuts a file or extends it by zeros, and leaves the bytes before the new end (page of ftruncate).
@@ -37,10 +46,10 @@ pub fn ftruncate_resizes()
     ensures call { FtruncateLeavesResized }
 {}
 
-/// Under append a write puts its bytes at the end of the file, whatever the offset (page of write).
-pub fn append_adds_at_end()
-    ensures bytes { AppendAddsAtEnd }
-    ensures call { WriteAppends }
+/// Two opens of one file have two open file descriptions, each at the start of the file that the name leads to, in the
+/// mode and with the flags that were asked, and the descriptor that is told leads to it (page of open).
+pub fn open_describes()
+    ensures { OpenDescribes }
 {}
 
 /// An open under creat and excl that is not refused is of a name that was not there (page of open).
@@ -50,13 +59,5 @@ pub fn excl_opens_new()
 
 /// An open under trunc empties its file, and changes no other (page of open).
 pub fn trunc_empties()
-    ensures effect { TruncEmpties }
-    ensures call { TruncOpenEmpties }
-{}
-
-/// Two open file descriptions have two offsets, also of one file: a call on a descriptor leaves each description but the
-/// one behind that descriptor as it was (XBD 3, File Offset).
-pub fn offsets_are_apart()
-    ensures effect { OffsetsAreApart }
-    ensures step { OffsetsStayApart }
+    ensures { TruncOpenEmpties }
 {}

@@ -1,9 +1,9 @@
 ghost use Rattle.std.specs.Prelude.{◌≡◌};
-ghost use Rattle.plain_world.specs.History.{empty_world};
+ghost use Rattle.posix_model.specs.History.{empty_world};
 
-use crate::names::Names;
-use crate::slots::Slots;
-use crate::world::World;
+use posix_model::names::Names;
+use posix_model::slots::Slots;
+use posix_model::world::World;
 use std::alloc::Global;
 
 /// The world in which a run begins: there is nothing.

@@ -1,46 +1,26 @@
-//! What holds of calls, joins and the sweep, and of the steps and histories that they make. Each function does nothing; its contract is the law.
+//! Laws of steps and histories, and worked runs. None of these functions does anything; each contract is its law.
 
-ghost use Rattle.plain_world.specs.Laws.{CallKeepsProcesses, SweptCallKeepsProcesses, RefusalKeepsWorld, RefusedStepOnlySweeps, RefusedStepKeepsWorld, RefusedNextKeepsWorld, JoinAdds, FullJoinRefused, SweepSettles, StepSettles, HistorySettles, SweepLeaves, WriteSplices, LowestIsLeast, NoLowestIsFull, OpenDescribes};
-ghost use Rattle.plain_world.specs.LimitLaws.{StepKeepsLimits, LimitsHold};
-ghost use Rattle.plain_world.specs.NumberLaws.{StepRaisesNumbers, StepKeepsWhole, HistoryIsWhole, HistoryRaisesNumbers, NextRaisesNumbers, HistoryKeepsExactly};
+ghost use Rattle.plain_world.specs.Laws.{RefusedStepKeepsWorld, RefusedNextKeepsWorld, JoinAdds, FullJoinRefused, LowestIsLeast, NoLowestIsFull, OffsetsAreApart, OffsetsStayApart, TakesFew, StepKeepsLimits, LimitsHold, HistoryKeepsExactly, LegalIsAnswered, AnsweredIsLegal};
+ghost use Rattle.plain_world.specs.Rows.{Runs, standard, small, path, hole, greatest_offset, size_limit, pwrite_under_append, opening};
 
-/// A call leaves as many processes as there were, and as many live ones; so does the sweep behind it.
-pub fn call_keeps_processes()
-    ensures effect { CallKeepsProcesses }
-    ensures step { SweptCallKeepsProcesses }
-{}
+use posix_model::laws::{
+    acts_are_sound, numbers_rise, sweep_leaves_wanted, sweep_releases, sweep_settles,
+};
 
-/// A call that ends with an error changes nothing. Neither does a step that records one, of a call or of a join, where
-/// the world was its own sweep, as it is in a history.
+/// A step that records an error changes nothing, where the world was its own sweep, as it is in a history. (A call that
+/// waits and is taken up may have moved bytes before.)
 pub fn refusal_keeps_world()
-    ensures effect { RefusalKeepsWorld }
-    ensures swept { RefusedStepOnlySweeps }
     ensures step { RefusedStepKeepsWorld }
     ensures history { RefusedNextKeepsWorld }
-{}
+{
+    acts_are_sound();
+    sweep_settles();
+}
 
 /// A join adds one live process under the next number, or is refused with EAGAIN and changes nothing.
 pub fn join_adds_one()
     ensures added { JoinAdds }
     ensures full { FullJoinRefused }
-{}
-
-/// The sweep of a sweep changes nothing, so the world after a step is its own sweep, and so is each of a history.
-pub fn sweep_settles()
-    ensures sweep { SweepSettles }
-    ensures step { StepSettles }
-    ensures history { HistorySettles }
-{}
-
-/// A file stays exactly while it has a name or a live description, a description while a descriptor refers to it, and
-/// a pipe while an end of it is open; what stays is as it was, but that a FIFO forgets a pipe that is gone (page of close).
-pub fn sweep_leaves_wanted()
-    ensures { SweepLeaves }
-{}
-
-/// A write puts its bytes where they belong, leaves the others, and fills a gap with zeros (page of write).
-pub fn write_splices()
-    ensures { WriteSplices }
 {}
 
 /// The lowest free descriptor is the least one that is free; where there is none, every one is taken (XSH 2.14, File
@@ -50,22 +30,22 @@ pub fn lowest_is_least()
     ensures full { NoLowestIsFull }
 {}
 
-/// Two opens of one file have two open file descriptions, each at the start of the file that the name leads to, in the
-/// mode and with the flags that were asked, and each behind the descriptor that was told (page of open).
-pub fn open_describes()
-    ensures { OpenDescribes }
-{}
+/// Two open file descriptions have two offsets, also of one file: an act leaves each description but the one that its own
+/// descriptor leads to as it was (XBD 3, File Offset).
+pub fn offsets_are_apart()
+    ensures effect { OffsetsAreApart }
+    ensures step { OffsetsStayApart }
+{
+    acts_are_sound();
+    sweep_leaves_wanted();
+}
 
-/// A number is a place in its list, and is not used again: a step makes no list shorter, fills no place that is gone, and
-/// lets no file become one of another kind, nor a description one of another target or mode. So it is from every world
-/// in which nothing refers to what is gone, and of a history every world is one.
-pub fn numbers_rise()
-    ensures step { StepRaisesNumbers }
-    ensures whole { StepKeepsWhole }
-    ensures history_whole { HistoryIsWhole }
-    ensures next { NextRaisesNumbers }
-    ensures history { HistoryRaisesNumbers }
-{}
+/// A write, or whatever gives bytes, takes at most the bytes that it gives (page of write).
+pub fn write_takes_few()
+    ensures { TakesFew }
+{
+    acts_are_sound();
+}
 
 /// No step goes past a limit, so no history does: each regular file is at most as long as the size limit, each offset at
 /// most the greatest one, each process has the descriptors 0 to 31, and there are at most so many names, live open file
@@ -73,10 +53,34 @@ pub fn numbers_rise()
 pub fn limits_hold()
     ensures step { StepKeepsLimits }
     ensures history { LimitsHold }
-{}
+{
+    acts_are_sound();
+    sweep_leaves_wanted();
+}
 
 /// In a history a file is there exactly while it has a name or a live description holds it, a pipe while an end of it is
 /// open, and a description while a descriptor refers to it (page of close).
 pub fn file_kept_exactly()
     ensures { HistoryKeepsExactly }
+{
+    numbers_rise();
+    sweep_settles();
+    sweep_releases();
+}
+
+/// A history is legal exactly where each of its records has the outcome that the step gives in the world of the records
+/// before it.
+pub fn legal_is_answered()
+    ensures each { LegalIsAnswered }
+    ensures only { AnsweredIsLegal }
+{}
+
+/// Six runs, each answer as it is written down, computed from the definitions alone.
+pub fn worked_runs()
+    ensures path { Runs standard path 6 6 }
+    ensures hole { Runs standard hole 4 11 }
+    ensures greatest_offset { Runs standard greatest_offset 0 0 }
+    ensures size_limit { Runs small size_limit 1 0 }
+    ensures pwrite_under_append { Runs standard pwrite_under_append 5 4 }
+    ensures opening { Runs standard opening 2 3 }
 {}

@@ -1,36 +1,36 @@
 ghost use Rattle.std.specs.Prelude.{◌≡◌, map, slice_set};
-ghost use Rattle.plain_world.specs.Places.{slot, kept};
-ghost use Rattle.plain_world.specs.Sweep.{is_referred, is_open, is_wanted, open_pipe, without_gone_pipe, sweep};
+ghost use Rattle.posix_model.specs.Slots.{slot, kept};
+ghost use Rattle.posix_model.specs.Sweep.{is_referred, is_open, is_wanted, open_pipe, without_gone_pipe, sweep};
 
-use crate::contents::Contents;
-use crate::counts::{any_refers, has_holder, has_name, has_reader, has_writer};
-use crate::names::Names;
-use crate::slots::Slots;
-use crate::world::{Description, Fifo, File, Process, World};
+use crate::counts::{any_refers, ends, holders, links};
+use posix_model::contents::Contents;
+use posix_model::names::Names;
+use posix_model::slots::Slots;
+use posix_model::world::{Description, Fifo, File, Process, World};
 
 /// Whether an open file description stays: while a descriptor refers to it.
-pub(crate) fn is_referred(processes: &Slots<Process>, number: usize) -> bool
+fn is_referred(processes: &Slots<Process>, number: usize) -> bool
     ensures { result ≡ is_referred processes.now number }
 {
     any_refers(number, processes)
 }
 
 /// Whether an end of a pipe is open.
-pub(crate) fn is_open(descriptions: &Slots<Description>, pipe: usize) -> bool
+fn is_open(descriptions: &Slots<Description>, pipe: usize) -> bool
     ensures { result ≡ is_open descriptions.now pipe }
 {
-    has_reader(descriptions, pipe) || has_writer(descriptions, pipe)
+    ends(descriptions, pipe) > 0
 }
 
 /// Whether a file has a name or is held by a description.
-pub(crate) fn is_wanted(names: &Names, descriptions: &Slots<Description>, file: usize) -> bool
+fn is_wanted(names: &Names, descriptions: &Slots<Description>, file: usize) -> bool
     ensures { result ≡ is_wanted names.now descriptions.now file }
 {
-    has_name(names, file) || has_holder(descriptions, file)
+    links(names, file) > 0 || holders(descriptions, file) > 0
 }
 
 /// The pipe of a FIFO, if an end of it is open.
-pub(crate) fn open_pipe(descriptions: &Slots<Description>, pipe: Option<usize>) -> Option<usize>
+fn open_pipe(descriptions: &Slots<Description>, pipe: Option<usize>) -> Option<usize>
     ensures { result ≡ open_pipe descriptions.now pipe }
 {
     let pipe = pipe?;
@@ -43,11 +43,7 @@ pub(crate) fn open_pipe(descriptions: &Slots<Description>, pipe: Option<usize>) 
 
 #[tactic(auto, using(crate::proofs::SlotLemmas::put_same))]
 /// Lets a FIFO forget a pipe that is gone.
-pub(crate) fn forget_gone_pipe(
-    descriptions: &Slots<Description>,
-    files: &mut Slots<File>,
-    file: usize,
-)
+fn forget_gone_pipe(descriptions: &Slots<Description>, files: &mut Slots<File>, file: usize)
     ensures { files.new ≡ slice_set files.old file (without_gone_pipe descriptions.now (slot files.old file)) }
 {
     if let Some(File::Fifo(fifo)) = files.get(file) {
@@ -57,9 +53,9 @@ pub(crate) fn forget_gone_pipe(
     }
 }
 
-#[tactic(auto, using(crate::proofs::SweepLemmas::kept_more, crate::proofs::SweepLemmas::kept_all))]
+#[tactic(auto, using(crate::proofs::SweepLemmas::kept_all))]
 /// The descriptions without a descriptor go.
-pub(crate) fn sweep_descriptions(processes: &Slots<Process>, descriptions: &mut Slots<Description>)
+fn sweep_descriptions(processes: &Slots<Process>, descriptions: &mut Slots<Description>)
     ensures { descriptions.new ≡ kept (is_referred processes.now) descriptions.old }
 {
     for number in 0..descriptions.len() {
@@ -67,9 +63,9 @@ pub(crate) fn sweep_descriptions(processes: &Slots<Process>, descriptions: &mut 
     }
 }
 
-#[tactic(auto, using(crate::proofs::SweepLemmas::kept_more, crate::proofs::SweepLemmas::kept_all))]
+#[tactic(auto, using(crate::proofs::SweepLemmas::kept_all))]
 /// The pipes without an open end go.
-pub(crate) fn sweep_pipes(descriptions: &Slots<Description>, pipes: &mut Slots<Contents>)
+fn sweep_pipes(descriptions: &Slots<Description>, pipes: &mut Slots<Contents>)
     ensures { pipes.new ≡ kept (is_open descriptions.now) pipes.old }
 {
     for number in 0..pipes.len() {
@@ -78,7 +74,7 @@ pub(crate) fn sweep_pipes(descriptions: &Slots<Description>, pipes: &mut Slots<C
 }
 
 /// The FIFOs forget the pipes that are gone.
-pub(crate) fn forget_gone_pipes(descriptions: &Slots<Description>, files: &mut Slots<File>)
+fn forget_gone_pipes(descriptions: &Slots<Description>, files: &mut Slots<File>)
     ensures { files.new ≡ map (without_gone_pipe descriptions.now) files.old }
 {
     for number in 0..files.len() {
@@ -86,9 +82,9 @@ pub(crate) fn forget_gone_pipes(descriptions: &Slots<Description>, files: &mut S
     }
 }
 
-#[tactic(auto, using(crate::proofs::SweepLemmas::kept_more, crate::proofs::SweepLemmas::kept_all))]
+#[tactic(auto, using(crate::proofs::SweepLemmas::kept_all))]
 /// The files without a name and a holder go.
-pub(crate) fn sweep_files(names: &Names, descriptions: &Slots<Description>, files: &mut Slots<File>)
+fn sweep_files(names: &Names, descriptions: &Slots<Description>, files: &mut Slots<File>)
     ensures { files.new ≡ kept (is_wanted names.now descriptions.now) files.old }
 {
     for number in 0..files.len() {

@@ -1,36 +1,30 @@
-use Rattle.std.proofs.Common.{◌≡◌, ◌+◌, List, [], ◌∷◌, ◌++◌, Some, refl, arith}
+-- Histories with one more record.
+use Rattle.std.proofs.Common.{◌≡◌, ℕ, ◌+◌, List, [], ◌∷◌, ◌++◌, Some, refl, arith}
 use Rattle.std.specs.Option.{option_map}
-use Rattle.std.proofs.lemmas.List.Sums.{sum_by-append}
-use Rattle.call_types.specs.Lim.{Lim}
+use Rattle.call_types.specs.declared.limits.Bounds.{Bounds}
 use Rattle.call_types.specs.declared.act.Record.{Record}
-use Rattle.plain_world.specs.Faults.{Stepped}
-use Rattle.plain_world.specs.Sweep.{sweep}
-use Rattle.plain_world.specs.Step.{effect, step}
-use Rattle.plain_world.specs.History.{after, world_from, world_of, legal_from, legal, took, gave, bytes_in, bytes_out}
-use Rattle.plain_world.specs.declared.world.World.{World}
+use Rattle.posix_model.specs.Step.{step}
+use Rattle.posix_model.specs.History.{empty_world, after, world_from, world_of, legal_from}
+use Rattle.posix_model.specs.Turns.{took, gave, sum_from, bytes_in, bytes_out}
+use Rattle.posix_model.specs.declared.world.World.{World}
 
-world_from-push : (lim : Lim) (w : World) (h : List Record) (r : Record) → world_from lim w (h ++ r ∷ []) ≡ after lim (world_from lim w h) r
-world_from-push lim w [] r = refl
-world_from-push lim w (x ∷ h) r = world_from-push lim (after lim w x) h r
+pub world_from-push : (bounds : Bounds) (w : World) (h : List Record) (r : Record) → world_from bounds w (h ++ r ∷ []) ≡ after bounds (world_from bounds w h) r
+world_from-push bounds w [] r = refl
+world_from-push bounds w (x ∷ h) r = world_from-push bounds (after bounds w x) h r
 
 -- one more record that is the model's leaves a history legal
-legal_from-push : (lim : Lim) (w : World) (h : List Record) (r : Record) → legal_from lim w h → option_map (λ s. s.outcome) (step lim (world_from lim w h) r.actor r.act) ≡ Some r.outcome → legal_from lim w (h ++ r ∷ [])
-legal_from-push lim w [] r is_legal e = (e, tt)
-legal_from-push lim w (x ∷ h) r is_legal e = (is_legal.0, legal_from-push lim (after lim w x) h r is_legal.1 e)
+pub legal_from-push : (bounds : Bounds) (w : World) (h : List Record) (r : Record) → legal_from bounds w h → option_map (λ s. s.outcome) (step bounds (world_from bounds w h) r.actor r.act) ≡ Some r.outcome → legal_from bounds w (h ++ r ∷ [])
+legal_from-push bounds w [] r is_legal e = (e, tt)
+legal_from-push bounds w (x ∷ h) r is_legal e = (is_legal.0, legal_from-push bounds (after bounds w x) h r is_legal.1 e)
 
--- a legal history and the world after it, with one more record
-pub record Pushed (lim : Lim) (h : List Record) (r : Record) (s : Stepped) : Type 0 where
-  pub is_legal : legal lim (h ++ r ∷ [])
-  pub world : sweep s.world ≡ world_of lim (h ++ r ∷ [])
+-- a sum along a history goes on by the record in the world before it
+sum_from-push : (count : World → Record → ℕ) (bounds : Bounds) (w : World) (h : List Record) (r : Record) →
+    sum_from count bounds w (h ++ r ∷ []) ≡ sum_from count bounds w h + count (world_from bounds w h) r
+sum_from-push count bounds w [] r = omega arith
+sum_from-push count bounds w (x ∷ h) r = omega (arith, sum_from-push count bounds (after bounds w x) h r)
 
-pub pushed : (lim : Lim) (h : List Record) (r : Record) (s : Stepped) → legal lim h → effect lim (world_of lim h) r.actor r.act ≡ Some s → r.outcome ≡ s.outcome → Pushed lim h r s
-pushed lim h r s is_legal is outcome = record {
-  is_legal = legal_from-push lim _ h r is_legal (rw (is, outcome) refl);
-  world = rw (world_from-push lim _ h r, is) refl;
-}
+pub bytes_in-push : (bounds : Bounds) (h : List Record) (r : Record) → bytes_in bounds (h ++ r ∷ []) ≡ bytes_in bounds h + took (world_of bounds h) r
+bytes_in-push bounds h r = sum_from-push took bounds empty_world h r
 
-pub bytes_in-push : (h : List Record) (r : Record) → bytes_in (h ++ r ∷ []) ≡ bytes_in h + took r
-bytes_in-push h r = omega (arith, sum_by-append took h (r ∷ []))
-
-pub bytes_out-push : (h : List Record) (r : Record) → bytes_out (h ++ r ∷ []) ≡ bytes_out h + gave r
-bytes_out-push h r = omega (arith, sum_by-append gave h (r ∷ []))
+pub bytes_out-push : (bounds : Bounds) (h : List Record) (r : Record) → bytes_out bounds (h ++ r ∷ []) ≡ bytes_out bounds h + gave (world_of bounds h) r
+bytes_out-push bounds h r = sum_from-push gave bounds empty_world h r

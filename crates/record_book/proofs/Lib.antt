@@ -1,4 +1,4 @@
 pub mod HistoryLemmas
 pub mod GrowLemmas
-pub mod CallLemmas
+pub mod PlanLemmas
 pub mod RunLemmas

@@ -1,39 +1,39 @@
--- What contracts see of a book, and what holds of each.
+-- What contracts see of a book, and what acts do to it.
 use Rattle.std.specs.Prelude.{◌≡◌, ℕ, ◌+◌, Bool, nat_le, List, ◌∷◌, [], ◌++◌, Some, length, if◌then◌else◌}
 use Rattle.std.specs.Option.{option_map}
-use Rattle.call_types.specs.Lim.{RunLimits}
+use Rattle.call_types.specs.declared.limits.Limits.{Limits}
 use Rattle.call_types.specs.declared.act.Act.{Act}
 use Rattle.call_types.specs.declared.act.Record.{Record}
-use Rattle.plain_world.specs.Places.{live}
-use Rattle.plain_world.specs.Step.{step}
-use Rattle.plain_world.specs.History.{after_act, world_of}
-use Rattle.plain_world.specs.declared.world.World.{World}
+use Rattle.posix_model.specs.Slots.{live}
+use Rattle.posix_model.specs.Step.{step}
+use Rattle.posix_model.specs.History.{after_act, world_of}
+use Rattle.posix_model.specs.declared.world.World.{World}
 use Rattle.record_book.specs.Seat.{Receipted, SeatState}
 
 -- the limits of a run, and its records so far
 pub record BookState : Type 0 where
-  pub limits : RunLimits
+  pub limits : Limits
   pub history : List Record
 
 -- the world after the records so far
 abbrev pub world_now : BookState → World
-world_now b = world_of b.limits.lim b.history
+world_now b = world_of b.limits.bounds b.history
 
 -- how many records the exits and the closing of a run will take (own)
 abbrev pub exits_left : World → ℕ
 exits_left w = if w.closed then live w.processes else live w.processes + 1
 
 -- whether the records that are free are enough for the exits and the closing (own)
-abbrev pub is_kept : ℕ → World → ℕ → Bool
-is_kept records w len = nat_le (len + exits_left w) records
+abbrev pub has_reserve : ℕ → World → ℕ → Bool
+has_reserve records w len = nat_le (len + exits_left w) records
 
 -- the world after one more act
 abbrev pub world_after : BookState → ℕ → Act → World
-world_after b actor act = after_act b.limits.lim (world_now b) actor act
+world_after b actor act = after_act b.limits.bounds (world_now b) actor act
 
 -- one record of this act is appended, with the model's outcome, and its receipt tells its place
 pub record Appends (old new : BookState) (actor : ℕ) (act : Act) (receipt : Receipted) : Type 0 where
-  pub outcome : option_map (λ s. s.outcome) (step old.limits.lim (world_now old) actor act) ≡ Some receipt.record_is.outcome
+  pub outcome : option_map (λ s. s.outcome) (step old.limits.bounds (world_now old) actor act) ≡ Some receipt.record_is.outcome
   pub actor_is : receipt.record_is.actor ≡ actor
   pub act_is : receipt.record_is.act ≡ act
   pub place : receipt.place ≡ length old.history

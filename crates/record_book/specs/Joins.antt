@@ -1,7 +1,7 @@
 -- What a join gives (own).
 use Rattle.std.specs.Prelude.{◌≡◌, ℕ, ◌+◌, true, false, [], ◌∷◌, length}
 use Rattle.call_types.specs.declared.act.Act.TheVariants as act
-use Rattle.plain_world.specs.Join.{is_full}
+use Rattle.posix_model.specs.Join.{is_full}
 use Rattle.record_book.specs.Seat.{Receipted, SeatState}
 use Rattle.record_book.specs.Book.{BookState, world_now, Appends}
 use Rattle.record_book.specs.declared.join.Opened.{Opened}

@@ -1,8 +1,7 @@
 pub mod Seat
 pub mod Book
 pub mod Refusals
-pub mod Change
 pub mod Planned
-pub mod Kept
+pub mod Inside
 pub mod Joins
 pub mod Runs

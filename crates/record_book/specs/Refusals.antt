@@ -5,19 +5,19 @@ use Rattle.call_types.specs.declared.act.Act.TheVariants as act
 use Rattle.call_types.specs.declared.call.Call.{Call}
 use Rattle.call_types.specs.declared.refusal.Refusal.{Refusal}
 use Rattle.call_types.specs.declared.refusal.Refusal.TheVariants.{NoMemory, RunFull, Waiting, NotHere, Foreign}
-use Rattle.plain_world.specs.Places.{slot}
-use Rattle.plain_world.specs.Step.{is_here, is_parked}
+use Rattle.posix_model.specs.Slots.{slot}
+use Rattle.posix_model.specs.Step.{is_here, is_parked}
 use Rattle.record_book.specs.Seat.{SeatState}
-use Rattle.record_book.specs.Book.{BookState, world_now, world_after, is_kept}
+use Rattle.record_book.specs.Book.{BookState, world_now, world_after, has_reserve}
 
 -- the refusal of the first condition that holds
 abbrev pub first_refusal : List (Bool × Refusal) → Option Refusal
 first_refusal [] = None
 first_refusal (r ∷ rs) = if r.0 then Some r.1 else first_refusal rs
 
--- whether too few records would be left behind the record of this act
+-- whether too few records would be left after the record of this act
 abbrev pub is_too_full : BookState → ℕ → Act → Bool
-is_too_full b actor act = not (is_kept b.limits.records (world_after b actor act) (length b.history + 1))
+is_too_full b actor act = not (has_reserve b.limits.records (world_after b actor act) (length b.history + 1))
 
 -- the refusals of a call: the seat has seen more records than there are, its process is not live and attached, it waits
 -- in a call, or the run is full

@@ -1,11 +1,12 @@
 -- What is told of the acts of a script, one after another (own).
-use Rattle.std.specs.Prelude.{◌≡◌, ℕ, ◌==◌, Bool, true, false, List, [], ◌∷◌, ◌++◌, Option, None, Some, slice_set, slice_get, position}
+use Rattle.std.specs.Prelude.{◌≡◌, ℕ, ◌-◌, nat_lt, Bool, true, false, List, [], ◌∷◌, ◌++◌, Option, None, Some, length, replicate, slice_set, if◌then◌else◌}
 use Rattle.call_types.specs.declared.act.Act.TheVariants as act
 use Rattle.call_types.specs.declared.act.ScriptAct.{ScriptAct}
 use Rattle.call_types.specs.declared.act.ScriptAct.TheVariants as script
 use Rattle.call_types.specs.declared.call.Call.{Call}
 use Rattle.call_types.specs.declared.refusal.Refusal.TheVariants.{NotHere}
-use Rattle.plain_world.specs.Join.{is_full}
+use Rattle.posix_model.specs.Slots.{slot}
+use Rattle.posix_model.specs.Join.{is_full}
 use Rattle.record_book.specs.Seat.{Receipted, SeatState}
 use Rattle.record_book.specs.Book.{BookState, world_now, Appends, Receives}
 use Rattle.record_book.specs.Refusals.{start_refusal, join_refusal, IsDue}
@@ -13,59 +14,60 @@ use Rattle.record_book.specs.Joins.{next_pid, first_seat}
 use Rattle.record_book.specs.declared.run.Told.{Told}
 use Rattle.record_book.specs.declared.run.Told.TheVariants.{Recorded, Refused}
 
--- the place of the seat of a process among those that the script opened
-abbrev pub seat_place : ℕ → List SeatState → Option ℕ
-seat_place process seats = position (λ s. s.pid == process) seats
+-- the seats that a script opened: that of a process stands at the process's number
+abbrev pub Seats : Type 0
+Seats = List (Option SeatState)
+
+-- the seats with that of one more process
+abbrev pub with_seat : ℕ → SeatState → Seats → Seats
+with_seat process s seats =
+    if nat_lt process (length seats) then slice_set seats process (Some s)
+    else seats ++ replicate (process - length seats) None ++ Some s ∷ []
 
 -- the seats after a join that is recorded: one more, where there was room for a process
-abbrev pub seats_after : BookState → Receipted → List SeatState → Bool → List SeatState
+abbrev pub seats_after : BookState → Receipted → Seats → Bool → Seats
 seats_after b receipt seats true = seats
-seats_after b receipt seats false = seats ++ first_seat b receipt ∷ []
+seats_after b receipt seats false = with_seat (next_pid b) (first_seat b receipt) seats
 
 -- a join is recorded
-pub record JoinRecorded (old new : BookState) (seats after : List SeatState) (receipt : Receipted) : Type 0 where
+pub record JoinRecorded (old new : BookState) (seats after : Seats) (receipt : Receipted) : Type 0 where
   pub free : join_refusal old ≡ None
   pub appends : Appends old new (next_pid old) act.Join receipt
   pub seats_are : after ≡ seats_after old receipt seats (is_full (world_now old))
 
 -- nothing is recorded, and nothing changes
-pub record Unchanged (old new : BookState) (seats after : List SeatState) : Type 0 where
+pub record Unchanged (old new : BookState) (seats after : Seats) : Type 0 where
   pub book : new ≡ old
   pub seats_are : after ≡ seats
 
 -- what is told of a join
-abbrev pub TellsJoin : BookState → BookState → List SeatState → List SeatState → Told → Type 0
+abbrev pub TellsJoin : BookState → BookState → Seats → Seats → Told → Type 0
 TellsJoin old new seats after (Recorded receipt) = JoinRecorded old new seats after receipt
 TellsJoin old new seats after (Refused actor refusal) = (actor ≡ next_pid old) × IsDue (join_refusal old) refusal × Unchanged old new seats after
 
 -- a call of a seat's process is recorded, and the seat has its receipt
-pub record CallRecorded (old new : BookState) (seats after : List SeatState) (place : ℕ) (s : SeatState) (c : Call) (receipt : Receipted) : Type 0 where
+pub record CallRecorded (old new : BookState) (seats after : Seats) (process : ℕ) (s : SeatState) (c : Call) (receipt : Receipted) : Type 0 where
   pub free : start_refusal old s c ≡ None
   pub appends : Appends old new s.pid (act.Call c) receipt
   pub seat : SeatState
   pub receives : Receives s seat receipt
-  pub seats_are : after ≡ slice_set seats place seat
+  pub seats_are : after ≡ slice_set seats process (Some seat)
 
--- what is told of a call of a process that has a seat
-abbrev pub TellsSeated : BookState → BookState → List SeatState → List SeatState → ℕ → ℕ → Call → Told → Option SeatState → Type 0
-TellsSeated old new seats after process place c (Recorded receipt) (Some s) = CallRecorded old new seats after place s c receipt
-TellsSeated old new seats after process place c (Refused actor refusal) (Some s) = (actor ≡ process) × IsDue (start_refusal old s c) refusal × Unchanged old new seats after
-TellsSeated old new seats after process place c told None = ⊥
-
--- what is told of a call: NotHere where the script opened no such process
-abbrev pub TellsCall : BookState → BookState → List SeatState → List SeatState → ℕ → Call → Told → Option ℕ → Type 0
-TellsCall old new seats after process c told (Some place) = TellsSeated old new seats after process place c told (slice_get seats place)
+-- what is told of a call of a process with this seat: NotHere where the script opened no such process
+abbrev pub TellsCall : BookState → BookState → Seats → Seats → ℕ → Call → Told → Option SeatState → Type 0
+TellsCall old new seats after process c (Recorded receipt) (Some s) = CallRecorded old new seats after process s c receipt
+TellsCall old new seats after process c (Refused actor refusal) (Some s) = (actor ≡ process) × IsDue (start_refusal old s c) refusal × Unchanged old new seats after
 TellsCall old new seats after process c told None = (told ≡ Refused process NotHere) × Unchanged old new seats after
 
 -- what is told of an act
-abbrev pub Tells : BookState → BookState → List SeatState → List SeatState → ScriptAct → Told → Type 0
+abbrev pub Tells : BookState → BookState → Seats → Seats → ScriptAct → Told → Type 0
 Tells old new seats after script.Join told = TellsJoin old new seats after told
-Tells old new seats after (script.Call process c) told = TellsCall old new seats after process c told (seat_place process seats)
+Tells old new seats after (script.Call process c) told = TellsCall old new seats after process c told (slot seats process)
 
 -- what is told of acts one after another, from a book and seats on
-abbrev pub RunTells : BookState → BookState → List SeatState → List SeatState → List ScriptAct → List Told → Type 0
+abbrev pub RunTells : BookState → BookState → Seats → Seats → List ScriptAct → List Told → Type 0
 RunTells old new seats after [] [] = Unchanged old new seats after
 RunTells old new seats after (a ∷ acts) (t ∷ tolds) =
-    (mid : BookState) × (between : List SeatState) × Tells old mid seats between a t × RunTells mid new between after acts tolds
+    (mid : BookState) × (between : Seats) × Tells old mid seats between a t × RunTells mid new between after acts tolds
 RunTells old new seats after [] (t ∷ tolds) = ⊥
 RunTells old new seats after (a ∷ acts) [] = ⊥

@@ -1,50 +1,38 @@
-ghost use Rattle.std.specs.Prelude.{◌≡◌, ◌≤◌, length, IfOk, OnErr};
-ghost use Rattle.plain_world.specs.History.{took, gave};
+ghost use Rattle.std.specs.Prelude.{◌≡◌, ◌≤◌, [], length, unwrap_or, IfOk, OnErr};
+ghost use Rattle.std.specs.Option.{option_copied};
+ghost use Rattle.posix_model.specs.Step.{given};
 ghost use Rattle.record_book.specs.Book.{BookState, Appends, Receives};
-ghost use Rattle.record_book.specs.Planned.{IsPlanned, given_by};
+ghost use Rattle.record_book.specs.Planned.{IsPlanned};
 
 use crate::book::Book;
-use crate::change::{Decided, apply};
+use crate::moved::{gave, took};
 use crate::seat::{Receipt, Seat};
 use call_types::act::{Act, Record};
-use call_types::call::Call;
-use call_types::outcome::{Outcome, Reply};
-use file_calls::apply::given;
+use call_types::bounded::Payload;
+use call_types::limits::GIVEN_BYTES_MAX;
+use posix_model::change::Decided;
 use std::alloc::{AllocError, Global};
 use std::sync::Arc;
 
+/// The bytes of some data, or none.
+fn bytes_in(payload: Option<&Payload>) -> &[u8]
+    ensures bytes { result.now ≡ unwrap_or (option_copied payload.entry) [] }
+    ensures few { length result.now ≤ GIVEN_BYTES_MAX }
+{
+    match payload {
+        Some(payload) => payload.as_slice(),
+        None => &[],
+    }
+}
+
 /// The bytes that an act gives to write.
-fn given_by(act: &Act) -> &[u8]
-    ensures bytes { result.now ≡ given_by act.now }
-    ensures few { length result.now ≤ 65700 }
+fn given(act: &Act) -> &[u8]
+    ensures bytes { result.now ≡ given act.now }
+    ensures few { length result.now ≤ GIVEN_BYTES_MAX }
 {
     match act {
-        Act::Call(call) => given(call),
+        Act::Call(call) => bytes_in(call.payload()),
         Act::Join | Act::Attach | Act::Resume | Act::Exit | Act::CloseRun => &[],
-    }
-}
-
-/// The bytes that a record took from its process.
-fn took(item: &Record) -> u64
-    ensures { result ≡ took item.now }
-{
-    match (&item.act, &item.outcome) {
-        (Act::Call(Call::Write { .. }), Outcome::Reply(Reply::Number(count))) => *count,
-        (Act::Call(Call::Write { .. }), Outcome::Parked { moved }) => u64::from(*moved),
-        (Act::Call(Call::Pwrite { .. }), Outcome::Reply(Reply::Number(count))) => *count,
-        (Act::Call(Call::Pwrite { .. }), Outcome::Parked { moved }) => u64::from(*moved),
-        _ => 0,
-    }
-}
-
-/// The bytes that a record gave to its process.
-fn gave(item: &Record) -> u64
-    ensures bytes { result ≡ gave item.now }
-    ensures few { result ≤ 65536 }
-{
-    match &item.outcome {
-        Outcome::Reply(Reply::Data(content)) => content.len() as u64,
-        _ => 0,
     }
 }
 
@@ -55,29 +43,31 @@ impl Book {
         &mut self,
         alloc: Global,
         seat: &mut Seat,
+        actor: u32,
         act: Act,
         decided: Decided,
     ) -> Result<Receipt, AllocError>
-        requires { IsPlanned self.old seat.old.pid act decided }
-        ensures ok { IfOk result (λ receipt. Appends self.old self.new seat.old.pid act receipt × Receives seat.old seat.new receipt) }
+        requires { IsPlanned self.old actor act decided }
+        ensures ok { IfOk result (λ receipt. Appends self.old self.new actor act receipt × Receives seat.old seat.new receipt) }
         ensures err { OnErr result ((self.new ≡ self.old) × (seat.new ≡ seat.old)) }
     {
-        let Decided { plan, change } = decided;
+        let Decided { outcome, change } = decided;
         let place = self.history.len() as u64;
-        self.machine.reserve_for(alloc, &plan)?;
+        self.machine.reserve_for(&change)?;
         let item = Arc::new(
             alloc,
             Record {
-                actor: seat.pid(),
+                actor,
                 act,
-                outcome: plan.outcome,
+                outcome,
             },
         )?;
         let receipt = Receipt::new(place, item.clone()?);
         seat.receive(receipt.share()?)?;
-        apply(&mut self.machine, alloc, given_by(&item.act), change);
-        self.bytes_in += took(&item);
+        let bytes = given(&item.act);
+        self.bytes_in += took(&self.machine, &item);
         self.bytes_out += gave(&item);
+        self.machine.apply(bytes, change);
         self.history.push_reserved(item);
         Ok(receipt)
     }

@@ -1,5 +1,6 @@
 ghost use Rattle.std.specs.Prelude.{◌≡◌, ◌≤◌, ◌+◌, ◌<◌, [], length, IfOk};
-ghost use Rattle.plain_world.specs.History.{legal, bytes_in, bytes_out};
+ghost use Rattle.posix_model.specs.History.{legal};
+ghost use Rattle.posix_model.specs.Turns.{bytes_in, bytes_out};
 ghost use Rattle.record_book.specs.Book.{BookState, world_now, exits_left};
 
 use call_types::act::Record;
@@ -25,7 +26,7 @@ impl Model for Book {
 
     ghost Value = { BookState };
 
-    ghost use Rattle.record_book.specs.Kept.{state_of, IsBook};
+    ghost use Rattle.record_book.specs.Inside.{state_of, IsBook};
 
     ghost view = { state_of };
 
@@ -58,10 +59,10 @@ impl Book {
     /// How much the book holds. What it holds is a run of the model.
     pub fn counts(&self) -> Counts
         ensures records { result.records ≡ length self.now.history }
-        ensures bytes_in { result.bytes_in ≡ bytes_in self.now.history }
-        ensures bytes_out { result.bytes_out ≡ bytes_out self.now.history }
-        ensures is_legal { legal self.now.limits.lim self.now.history }
-        ensures kept { length self.now.history + exits_left (world_now self.now) ≤ self.now.limits.records }
+        ensures bytes_in { result.bytes_in ≡ bytes_in self.now.limits.bounds self.now.history }
+        ensures bytes_out { result.bytes_out ≡ bytes_out self.now.limits.bounds self.now.history }
+        ensures is_legal { legal self.now.limits.bounds self.now.history }
+        ensures reserve { length self.now.history + exits_left (world_now self.now) ≤ self.now.limits.records }
     {
         Counts {
             records: self.history.len() as u64,

@@ -1,16 +1,16 @@
 ghost use Rattle.std.specs.Prelude.{◌≡◌, None, [], IfOk, IfErr, OnOk, OnErr};
-ghost use Rattle.plain_world.specs.Join.{join};
-ghost use Rattle.record_book.specs.Book.{BookState, world_now};
+ghost use Rattle.record_book.specs.Book.{BookState};
 ghost use Rattle.record_book.specs.Refusals.{join_refusal, is_too_full, IsDue};
-ghost use Rattle.record_book.specs.Change.{Decides};
-ghost use Rattle.record_book.specs.Planned.{IsPlanned};
 
 use crate::book::Book;
-use crate::change::{Decided, decide_join};
 use crate::seat::{Receipt, Seat, SpentSeat};
 use call_types::act::Act;
 use call_types::refusal::Refusal;
+use posix_model::laws::processes_are_counted;
+use posix_model::reader::Reader;
 use std::alloc::Global;
+use table_calls::decide::adds;
+use table_calls::join::{decide_join, is_full};
 
 /// What a join gives.
 #[derive(Drop)]
@@ -36,22 +36,8 @@ impl Book {
     pub(crate) fn join_overfills(&self) -> bool
         ensures { result ≡ is_too_full self.now (next_pid self.now) Act.Join }
     {
-        let live = self.machine.live_processes();
-        let live = if self.machine.is_full() {
-            live
-        } else {
-            live + 1
-        };
-        self.overfills(live)
-    }
-
-    /// What a join that is not refused comes to, the book can record.
-    fn is_join_planned(&self, decided: &Decided)
-        requires free { join_refusal self.now ≡ None }
-        requires decides { Decides (world_now self.now) [] decided.now (join (world_now self.now)) }
-        ensures { IsPlanned self.now (next_pid self.now) Act.Join decided.now }
-    {
-        let _decided = decided;
+        processes_are_counted();
+        self.overfills(self.machine.live_processes() + adds(&self.machine, &Act::Join))
     }
 
     /// Records a join, and gives its receipt once more beside the seat.
@@ -64,11 +50,12 @@ impl Book {
         if self.join_overfills() {
             return Err(Refusal::RunFull);
         }
-        let full = self.machine.is_full();
-        let mut seat = Seat::new(alloc, self.next_pid());
+        let full = is_full(&self.machine);
+        let actor = self.next_pid();
+        let mut seat = Seat::new(alloc, actor);
         let decided = decide_join(&self.machine, alloc)?;
-        self.is_join_planned(&decided);
-        let receipt = self.append(alloc, &mut seat, Act::Join, decided)?;
+        self.is_planned(actor, &Act::Join, &decided);
+        let receipt = self.append(alloc, &mut seat, actor, Act::Join, decided)?;
         if full {
             return Ok((Opened::Refused(SpentSeat::new(seat)), receipt));
         }

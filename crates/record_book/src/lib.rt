@@ -3,11 +3,9 @@
 
 pub mod append;
 pub mod book;
-mod calls;
-mod change;
 pub mod join;
+mod moved;
 pub mod run;
 pub mod seat;
+mod seats;
 pub mod start;
-#[cfg(test)]
-mod tests;

@@ -6,6 +6,7 @@ ghost use Rattle.record_book.specs.Refusals.{start_refusal, IsDue};
 use crate::book::Book;
 use crate::join::Opened;
 use crate::seat::{Receipt, Seat};
+use crate::seats::Seats;
 use call_types::act::{Act, ScriptAct};
 use call_types::call::Call;
 use call_types::refusal::Refusal;
@@ -39,11 +40,12 @@ impl Book {
         Ok(self.record_call(alloc, seat, call)?)
     }
 
-    ghost use Rattle.record_book.specs.Runs.{TellsJoin, TellsCall, Tells, RunTells, seat_place};
+    ghost use Rattle.posix_model.specs.Slots.{slot};
+    ghost use Rattle.record_book.specs.Runs.{TellsJoin, TellsCall, Tells, RunTells};
 
-    /// Runs a join of a script; where it makes a process, its seat goes behind the others.
-    fn run_join(&mut self, alloc: Global, seats: &mut Vec<Seat>) -> Told
-        ensures { TellsJoin self.old self.new seats.old.items seats.new.items result }
+    /// Runs a join of a script; where it makes a process, its seat is put among the others.
+    fn run_join(&mut self, alloc: Global, seats: &mut Seats) -> Told
+        ensures { TellsJoin self.old self.new seats.old.0 seats.new.0 result }
     {
         let actor = self.next_pid();
         if self.join_overfills() {
@@ -52,7 +54,7 @@ impl Book {
                 refusal: Refusal::RunFull,
             };
         }
-        if seats.reserve(1).is_err() {
+        if seats.reserve(actor as usize).is_err() {
             return Told::Refused {
                 actor,
                 refusal: Refusal::NoMemory,
@@ -61,7 +63,7 @@ impl Book {
         match self.join_told(alloc) {
             Ok((opened, receipt)) => {
                 if let Opened::Seated(seat) = opened {
-                    seats.push_reserved(seat);
+                    seats.put(actor as usize, seat);
                 }
                 Told::Recorded(receipt)
             }
@@ -69,36 +71,35 @@ impl Book {
         }
     }
 
-    /// Where the seat of a process is among those that the script opened.
-    fn place_of(seats: &[Seat], process: u32) -> Option<usize>
-        ensures { result ≡ seat_place process seats.now }
-    {
-        seats.iter().position(|seat| seat.pid() == process)
-    }
-
     /// Runs a call of a script.
-    fn run_call(&mut self, alloc: Global, seats: &mut Vec<Seat>, process: u32, call: &Call) -> Told
-        ensures { TellsCall self.old self.new seats.old.items seats.new.items process call.now result (seat_place process seats.old.items) }
+    fn run_call(&mut self, alloc: Global, seats: &mut Seats, process: u32, call: &Call) -> Told
+        ensures { TellsCall self.old self.new seats.old.0 seats.new.0 process call.now result (slot seats.old.0 process) }
     {
-        let Some(place) = Self::place_of(seats.as_slice(), process) else {
+        let number = process as usize;
+        if number >= seats.slots.len() {
             return Told::Refused {
                 actor: process,
                 refusal: Refusal::NotHere,
             };
-        };
-        let seat = &mut seats[place];
-        match self.start_copy(alloc, seat, call) {
-            Ok(receipt) => Told::Recorded(receipt),
-            Err(refusal) => Told::Refused {
-                actor: process,
-                refusal,
-            },
+        }
+        if let Some(seat) = &mut seats.slots[number] {
+            return match self.start_copy(alloc, seat, call) {
+                Ok(receipt) => Told::Recorded(receipt),
+                Err(refusal) => Told::Refused {
+                    actor: process,
+                    refusal,
+                },
+            };
+        }
+        Told::Refused {
+            actor: process,
+            refusal: Refusal::NotHere,
         }
     }
 
     /// Runs one act of a script.
-    fn run_act(&mut self, alloc: Global, seats: &mut Vec<Seat>, act: &ScriptAct) -> Told
-        ensures { Tells self.old self.new seats.old.items seats.new.items act.now result }
+    fn run_act(&mut self, alloc: Global, seats: &mut Seats, act: &ScriptAct) -> Told
+        ensures { Tells self.old self.new seats.old.0 seats.new.0 act.now result }
     {
         match act {
             ScriptAct::Join => self.run_join(alloc, seats),
@@ -109,12 +110,12 @@ impl Book {
     /// Runs the acts of a script in their order, and tells of each. Only the room for what is told can be wanting as a
     /// whole, and then nothing was run.
     pub fn run_acts(&mut self, alloc: Global, acts: &[ScriptAct]) -> Result<Vec<Told>, AllocError>
-        ensures told { IfOk result (λ told. (seats : List SeatState) × RunTells self.old self.new [] seats acts.now told.items) }
+        ensures told { IfOk result (λ told. (seats : List (Option SeatState)) × RunTells self.old self.new [] seats acts.now told.items) }
         ensures each { IfOk result (λ told. vec_len told ≡ length acts.now) }
         ensures err { OnErr result (self.new ≡ self.old) }
     {
         let mut told = Vec::with_capacity(alloc, acts.len())?;
-        let mut seats = Vec::new(alloc);
+        let mut seats = Seats::new(alloc);
         for act in acts {
             told.push_reserved(self.run_act(alloc, &mut seats, act));
         }

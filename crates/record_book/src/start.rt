@@ -1,25 +1,23 @@
-ghost use Rattle.std.specs.Prelude.{◌≡◌, ◌≤◌, ◌+◌, None, not, nat_le, length, if◌then◌else◌, IfOk, IfErr, OnOk, OnErr};
-ghost use Rattle.plain_world.specs.Places.{live as live_in};
-ghost use Rattle.file_calls.specs.Change.{given};
-ghost use Rattle.plain_world.specs.Step.{call_effect};
+ghost use Rattle.std.specs.Prelude.{◌≡◌, ◌≤◌, ◌+◌, None, Some, false, not, nat_le, length, if◌then◌else◌, IfOk, IfErr, OnOk, OnErr};
+ghost use Rattle.posix_model.specs.Slots.{live as live_in};
+ghost use Rattle.posix_model.specs.Step.{comes_to};
 ghost use Rattle.record_book.specs.Book.{BookState, world_now, Appends, Receives};
 ghost use Rattle.record_book.specs.Refusals.{start_refusal, is_too_full, IsDue};
-ghost use Rattle.record_book.specs.Change.{Decides};
 ghost use Rattle.record_book.specs.Planned.{IsPlanned};
 
 use crate::book::Book;
-use crate::calls::decide;
-use crate::change::Decided;
 use crate::seat::{Receipt, Seat};
 use call_types::act::Act;
 use call_types::call::Call;
 use call_types::refusal::Refusal;
-use plain_world::laws::call_keeps_processes;
-use plain_world::run_laws::{call_keeps_closed, pwrite_takes_few, write_takes_few};
+use posix_model::change::Decided;
+use posix_model::laws::{acts_are_sound, numbers_rise, processes_are_counted};
+use posix_model::reader::Reader;
 use std::alloc::{AllocError, Global};
+use table_calls::decide::decide_call;
 
 impl Book {
-    /// Whether too few records would be left behind one more, with so many live processes.
+    /// Whether too few records would be left after one more, with so many live processes.
     pub(crate) fn overfills(&self, live: usize) -> bool
         requires { live ≤ live_in (world_now self.now).processes + 1 }
         ensures { result ≡ not (nat_le ((length self.now.history + 1) + (if (world_now self.now).closed then live else live + 1)) self.now.limits.records) }
@@ -38,8 +36,7 @@ impl Book {
     {
         let _call = call;
         let _process = process;
-        call_keeps_processes();
-        call_keeps_closed();
+        processes_are_counted();
         self.overfills(self.machine.live_processes())
     }
 
@@ -57,7 +54,7 @@ impl Book {
         if !self.machine.is_here(seat.pid() as usize) {
             return Some(Refusal::NotHere);
         }
-        if self.machine.is_parked(seat.pid() as usize) {
+        if self.machine.parked(seat.pid() as usize).is_some() {
             return Some(Refusal::Waiting);
         }
         if self.call_overfills(seat.pid(), call) {
@@ -66,18 +63,19 @@ impl Book {
         None
     }
 
-    /// What was decided of a call that is not refused, the book can record. It does nothing.
-    fn is_planned(&self, seat: &Seat, call: &Call, decided: &Decided)
-        requires free { start_refusal self.now seat.now call.now ≡ None }
-        requires decides { Decides (world_now self.now) (given call.now) decided.now (call_effect self.now.limits.lim (world_now self.now) seat.now.pid call.now) }
-        ensures { IsPlanned self.now seat.now.pid (Act.Call call.now) decided.now }
+    /// What an act comes to, whose record fits into the run, the book can record. It does nothing.
+    pub(crate) fn is_planned(&self, actor: u32, act: &Act, decided: &Decided)
+        requires comes { comes_to self.now.limits.bounds (world_now self.now) actor act.now ≡ Some decided.now }
+        requires roomy { is_too_full self.now actor act.now ≡ false }
+        ensures { IsPlanned self.now actor act.now decided.now }
     {
-        let _seat = seat;
-        let _call = call;
+        let _actor = actor;
+        let _act = act;
         let _decided = decided;
-        call_keeps_processes();
-        write_takes_few();
-        pwrite_takes_few();
+        numbers_rise();
+        acts_are_sound();
+        processes_are_counted();
+        let _bounds = self.limits.bounds();
     }
 
     /// Records a call that is not refused. On an error all is as it was.
@@ -91,10 +89,12 @@ impl Book {
         ensures recorded { IfOk result (λ receipt. Appends self.old self.new seat.old.pid (Act.Call call) receipt × Receives seat.old seat.new receipt) }
         ensures unchanged { OnErr result ((self.new ≡ self.old) × (seat.new ≡ seat.old)) }
     {
-        let process = seat.pid() as usize;
-        let decided = decide(&self.machine, alloc, self.limits.bounds(), process, &call)?;
-        self.is_planned(seat, &call, &decided);
-        self.append(alloc, seat, Act::Call(call), decided)
+        let actor = seat.pid();
+        let bounds = self.limits.bounds();
+        let decided = decide_call(&self.machine, alloc, bounds, actor as usize, &call)?;
+        let act = Act::Call(call);
+        self.is_planned(actor, &act, &decided);
+        self.append(alloc, seat, actor, act, decided)
     }
 
     /// Records a call of the seat's process, or its refusal by the rules; the seat gets the receipt too. A `Refusal`

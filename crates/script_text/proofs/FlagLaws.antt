@@ -3,12 +3,12 @@ use Rattle.std.proofs.Common.{◌≡◌, ℕ, zero, suc, ◌<◌, Bool, true, fa
 use Rattle.std.specs.Prelude.{codes, not}
 use Rattle.std.specs.List.{fold, list_all}
 use Rattle.std.specs.Str.{bytes_eq}
-use Rattle.std.proofs.lemmas.Bool.{eqb-true, and_parts, ltb-true, cases_eq}
+use Rattle.std.proofs.lemmas.Bool.{eqb-true, and_parts, ltb-true}
 use Rattle.std.proofs.lemmas.List.{take-append-drop}
 use Rattle.std.proofs.lemmas.Slice.Eq.{bytes_eq-Decides}
-use Rattle.script_text.specs.ReadingFlags.{Suffix, suffixes, taken, whole, behind_mode, behind_r, flags_of}
+use Rattle.script_text.specs.ReadingFlags.{Suffix, suffixes, with_suffix, whole, after_mode, after_r, flags_of}
 use Rattle.script_text.specs.Lines.{flags_word}
-use Rattle.script_text.proofs.Numerals.{chosen}
+use Rattle.script_text.proofs.Numerals.{chosen, each_below}
 use Rattle.script_text.proofs.WordLaws.{Unbroken, unbroken}
 
 whole_takes : (bits n : ℕ) (cs : List ℕ) → whole bits cs ≡ Some n → (cs ≡ []) × (bits ≡ n)
@@ -27,16 +27,16 @@ bits_with [] mode ss = mode
 bits_with (b ∷ bs) mode [] = mode
 bits_with (b ∷ bs) mode (s ∷ ss) = bits_with bs (cond b (bit_or mode s.bit) mode) ss
 
--- what stands behind a mode is a choice of the suffixes
+-- what stands after a mode is a choice of the suffixes
 record Ends (mode n : ℕ) (cs : List ℕ) (ss : List Suffix) : Type 0 where
   pub choice : List Bool
   pub many : length choice ≡ length ss
   pub text : cs ≡ texts choice ss
   pub bits : n ≡ bits_with choice mode ss
 
--- the bits behind all suffixes, if nothing is left
+-- the bits after all suffixes, if nothing is left
 abbrev read_all : ℕ × List ℕ → List Suffix → Option ℕ
-read_all x ss = whole (fold taken x ss).0 (fold taken x ss).1
+read_all x ss = whole (fold with_suffix x ss).0 (fold with_suffix x ss).1
 
 by_test : (b : Bool) (s : Suffix) (ss : List Suffix) (mode n : ℕ) (cs : List ℕ) → bytes_eq (take (length s.text) cs) s.text ≡ b
     → ((mode : ℕ) (cs : List ℕ) → read_all (mode, cs) ss ≡ Some n → Ends mode n cs ss)
@@ -80,7 +80,7 @@ abbrev pub IsFlags : List ℕ → ℕ → Type 0
 IsFlags word n = (word ≡ flags_word n) × (n < 64)
 
 -- a mode's letters before its end
-with_end : (front : List ℕ) (mode n : ℕ) (cs : List ℕ) → all_choices (length suffixes) (is_word front mode) ≡ true → behind_mode mode cs ≡ Some n → IsFlags (front ++ cs) n
+with_end : (front : List ℕ) (mode n : ℕ) (cs : List ℕ) → all_choices (length suffixes) (is_word front mode) ≡ true → after_mode mode cs ≡ Some n → IsFlags (front ++ cs) n
 with_end front mode n cs all e =
     let end = ends suffixes mode n cs e in
     let bits : ℕ = bits_with end.choice mode suffixes in
@@ -88,20 +88,20 @@ with_end front mode n cs all e =
     let spelled : front ++ texts end.choice suffixes ≡ flags_word bits = (bytes_eq-Decides (front ++ texts end.choice suffixes) (flags_word bits)).0 parts.0 in
     (ap (λ (t : List ℕ). front ++ t) end.text ∙ spelled ∙ ap flags_word (sym end.bits), subst (λ (m : ℕ). m < 64) (sym end.bits) (ltb-true bits 64 parts.1))
 
-r_takes : (n : ℕ) (cs : List ℕ) → behind_r cs ≡ Some n → IsFlags (114 ∷ cs) n
+r_takes : (n : ℕ) (cs : List ℕ) → after_r cs ≡ Some n → IsFlags (114 ∷ cs) n
 r_takes n [] e = with_end (codes "r") 1 n [] refl e
 r_takes n (c ∷ cs) e =
-    elim (chosen (eqb c 119) (behind_mode 3 cs) (behind_mode 1 (c ∷ cs)) (Some n) e) [
+    elim (chosen (eqb c 119) (after_mode 3 cs) (after_mode 1 (c ∷ cs)) (Some n) e) [
       | inl w ↦ subst (λ (d : ℕ). IsFlags (114 ∷ d ∷ cs) n) (sym (eqb-true c 119 w.0)) (with_end (codes "rw") 3 n cs refl w.1)
       | inr other ↦ with_end (codes "r") 1 n (c ∷ cs) refl other.1
     ]
 
-rest_takes : (c n : ℕ) (cs : List ℕ) → cond (eqb c 119) (behind_mode 2 cs) (cond (eqb c 45) (behind_mode 0 cs) None) ≡ Some n → IsFlags (c ∷ cs) n
+rest_takes : (c n : ℕ) (cs : List ℕ) → cond (eqb c 119) (after_mode 2 cs) (cond (eqb c 45) (after_mode 0 cs) None) ≡ Some n → IsFlags (c ∷ cs) n
 rest_takes c n cs e =
-    elim (chosen (eqb c 119) (behind_mode 2 cs) (cond (eqb c 45) (behind_mode 0 cs) None) (Some n) e) [
+    elim (chosen (eqb c 119) (after_mode 2 cs) (cond (eqb c 45) (after_mode 0 cs) None) (Some n) e) [
       | inl w ↦ subst (λ (d : ℕ). IsFlags (d ∷ cs) n) (sym (eqb-true c 119 w.0)) (with_end (codes "w") 2 n cs refl w.1)
       | inr other ↦
-          elim (chosen (eqb c 45) (behind_mode 0 cs) None (Some n) other.1) [
+          elim (chosen (eqb c 45) (after_mode 0 cs) None (Some n) other.1) [
             | inl minus ↦ subst (λ (d : ℕ). IsFlags (d ∷ cs) n) (sym (eqb-true c 45 minus.0)) (with_end (codes "-") 0 n cs refl minus.1)
             | inr none ↦ absurd (let f = none.1 in cc)
           ]
@@ -110,31 +110,19 @@ rest_takes c n cs e =
 pub flags_takes : (word : List ℕ) (n : ℕ) → flags_of word ≡ Some n → IsFlags word n
 flags_takes [] n e = absurd cc
 flags_takes (c ∷ cs) n e =
-    elim (chosen (eqb c 114) (behind_r cs) (cond (eqb c 119) (behind_mode 2 cs) (cond (eqb c 45) (behind_mode 0 cs) None)) (Some n) e) [
+    elim (chosen (eqb c 114) (after_r cs) (cond (eqb c 119) (after_mode 2 cs) (cond (eqb c 45) (after_mode 0 cs) None)) (Some n) e) [
       | inl r ↦ subst (λ (d : ℕ). IsFlags (d ∷ cs) n) (sym (eqb-true c 114 r.0)) (r_takes n cs r.1)
       | inr other ↦ rest_takes c n cs other.1
     ]
 
--- the flags are read again, and have no space: a test of each
+-- whether these flags were read
 abbrev is_read : ℕ → Option ℕ → Bool
 is_read n None = false
 is_read n (Some m) = eqb m n
 
+-- whether flags are read again from their word, which has no space
 abbrev is_fine : ℕ → Bool
 is_fine n = is_read n (flags_of (flags_word n)) && list_all (λ c. not (eqb c 32)) (flags_word n)
-
-abbrev all_below : ℕ → (ℕ → Bool) → Bool
-all_below zero p = true
-all_below (suc k) p = p k && all_below k p
-
-each_below : (k n : ℕ) (p : ℕ → Bool) → all_below k p ≡ true → n < k → p n ≡ true
-each_below zero n p h lt = absurd (omega arith)
-each_below (suc k) n p h lt =
-    let parts = and_parts (p k) (all_below k p) h in
-    elim (cases_eq n k) [
-      | inl is ↦ ap p is ∙ parts.0
-      | inr other ↦ each_below k n p parts.1 (omega arith)
-    ]
 
 read_takes : (n : ℕ) (o : Option ℕ) → is_read n o ≡ true → o ≡ Some n
 read_takes n None e = absurd cc

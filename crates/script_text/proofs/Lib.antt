@@ -10,6 +10,8 @@ pub mod DataLaws
 pub mod FlagLaws
 pub mod FieldLaws
 pub mod FieldKinds
+pub mod CallParts
 pub mod CallLaws
+pub mod WrittenWords
 pub mod RoundTrip
 pub mod ScriptLaws

@@ -4,40 +4,28 @@ use Rattle.std.specs.Prelude.{not}
 use Rattle.std.proofs.lemmas.Bool.{eqb-true, ne_eqb, and_parts, leb-true, le-leb, cond-true, cond-false, cond_both, not-true}
 use Rattle.std.proofs.lemmas.Option.{cond_some}
 use Rattle.std.specs.Char.{is_ascii_graphic}
+use Rattle.call_types.specs.declared.limits.TheConstants.{GIVEN_NAME_MAX}
 use Rattle.script_text.specs.ReadingNumbers.{hex_byte}
-use Rattle.script_text.specs.ReadingNames.{plain, before, itself, decoded, at_most, name_of}
+use Rattle.script_text.specs.ReadingNames.{is_plain, before, itself, decoded, at_most, name_of}
 use Rattle.script_text.specs.Lines.{hex_pair, hex_glyph}
 use Rattle.script_text.specs.Spellings.{SpellsBytes, SpellsName}
-use Rattle.script_text.proofs.Numerals.{chosen, pair_takes, pair_again}
+use Rattle.script_text.proofs.Numerals.{both_parts, chosen, pair_takes, pair_again}
 use Rattle.script_text.proofs.WordLaws.{Unbroken}
-
--- a first byte and the others
-pub record Parts (o : Option ℕ) (rest : Option (List ℕ)) (bytes : List ℕ) : Type 0 where
-  pub byte : ℕ
-  pub others : List ℕ
-  pub first : o ≡ Some byte
-  pub more : rest ≡ Some others
-  pub is : (byte ∷ others) ≡ bytes
-
-pub before_parts : (o : Option ℕ) (rest : Option (List ℕ)) (bytes : List ℕ) → before o rest ≡ Some bytes → Parts o rest bytes
-before_parts None rest bytes e = absurd cc
-before_parts (Some b) None bytes e = absurd cc
-before_parts (Some b) (Some bs) bytes e = record { byte = b; others = bs; first = refl; more = refl; is = cc }
 
 -- a plain byte, and the others
 itself_takes : (c : ℕ) (cs : List ℕ) (bytes : List ℕ) → ((others : List ℕ) → decoded cs ≡ Some others → SpellsBytes others cs) → before (itself c) (decoded cs) ≡ Some bytes → SpellsBytes bytes (c ∷ cs)
 itself_takes c cs bytes rest e =
-    let p = before_parts (itself c) (decoded cs) bytes e in
-    let one = cond_some (plain c) c p.byte p.first in
-    subst (λ (bs : List ℕ). SpellsBytes bs (c ∷ cs)) p.is (inl (cs, subst (λ (b : ℕ). plain b ≡ true) one.1 one.0, ap (λ (b : ℕ). b ∷ cs) one.1, rest p.others p.more))
+    let p = both_parts (λ (b : ℕ) (bs : List ℕ). b ∷ bs) (itself c) (decoded cs) bytes e in
+    let one = cond_some (is_plain c) c p.0 p.2 in
+    subst (λ (bs : List ℕ). SpellsBytes bs (c ∷ cs)) p.4 (inl (cs, subst (λ (b : ℕ). is_plain b ≡ true) one.1 one.0, ap (λ (b : ℕ). b ∷ cs) one.1, rest p.1 p.3))
 
 -- a byte by its digits, and the others
 digits_takes : (c d e : ℕ) (cs : List ℕ) (bytes : List ℕ) → c ≡ 37 → ((others : List ℕ) → decoded cs ≡ Some others → SpellsBytes others cs) → before (hex_byte d e) (decoded cs) ≡ Some bytes → SpellsBytes bytes (c ∷ d ∷ e ∷ cs)
 digits_takes c d e cs bytes percent rest h =
-    let p = before_parts (hex_byte d e) (decoded cs) bytes h in
-    let pair = pair_takes d e p.byte p.first in
-    let text : (c ∷ d ∷ e ∷ cs) ≡ 37 ∷ (hex_pair p.byte ++ cs) = ap (λ (x : ℕ). x ∷ d ∷ e ∷ cs) percent ∙ ap (λ (x : ℕ). 37 ∷ x ∷ e ∷ cs) pair.0 ∙ ap (λ (x : ℕ). 37 ∷ hex_glyph (p.byte / 16) ∷ x ∷ cs) pair.1 in
-    subst (λ (bs : List ℕ). SpellsBytes bs (c ∷ d ∷ e ∷ cs)) p.is (inr (cs, pair.2, text, rest p.others p.more))
+    let p = both_parts (λ (b : ℕ) (bs : List ℕ). b ∷ bs) (hex_byte d e) (decoded cs) bytes h in
+    let pair = pair_takes d e p.0 p.2 in
+    let text : (c ∷ d ∷ e ∷ cs) ≡ 37 ∷ (hex_pair p.0 ++ cs) = ap (λ (x : ℕ). x ∷ d ∷ e ∷ cs) percent ∙ ap (λ (x : ℕ). 37 ∷ x ∷ e ∷ cs) pair.0 ∙ ap (λ (x : ℕ). 37 ∷ hex_glyph (p.0 / 16) ∷ x ∷ cs) pair.1 in
+    subst (λ (bs : List ℕ). SpellsBytes bs (c ∷ d ∷ e ∷ cs)) p.4 (inr (cs, pair.2, text, rest p.1 p.3))
 
 pub decoded_takes : (text bytes : List ℕ) → decoded text ≡ Some bytes → SpellsBytes bytes text
 decoded_takes [] bytes e = let is : [] ≡ bytes = cc in subst (λ (bs : List ℕ). SpellsBytes bs []) is refl
@@ -49,13 +37,13 @@ decoded_takes (c ∷ d ∷ f ∷ cs) bytes e =
       | inr other ↦ itself_takes c (d ∷ f ∷ cs) bytes (λ others h. decoded_takes (d ∷ f ∷ cs) others h) other.1
     ]
 
-no_percent : (c : ℕ) → plain c ≡ true → eqb c 37 ≡ false
+no_percent : (c : ℕ) → is_plain c ≡ true → eqb c 37 ≡ false
 no_percent c h = not-true (eqb c 37) (and_parts (is_ascii_graphic c) (not (eqb c 37)) h).1
 
-itself_is : (c : ℕ) → plain c ≡ true → itself c ≡ Some c
-itself_is c h = cond-true (plain c) (Some c) None h
+itself_is : (c : ℕ) → is_plain c ≡ true → itself c ≡ Some c
+itself_is c h = cond-true (is_plain c) (Some c) None h
 
-plain_again : (c : ℕ) (rest bytes : List ℕ) → plain c ≡ true → decoded rest ≡ Some bytes → decoded (c ∷ rest) ≡ Some (c ∷ bytes)
+plain_again : (c : ℕ) (rest bytes : List ℕ) → is_plain c ≡ true → decoded rest ≡ Some bytes → decoded (c ∷ rest) ≡ Some (c ∷ bytes)
 plain_again c [] bytes h e = ap (λ (o : Option ℕ). before o (decoded [])) (itself_is c h) ∙ ap (before (Some c)) e
 plain_again c (d ∷ []) bytes h e = ap (λ (o : Option ℕ). before o (decoded (d ∷ []))) (itself_is c h) ∙ ap (before (Some c)) e
 plain_again c (d ∷ f ∷ cs) bytes h e =
@@ -76,7 +64,7 @@ glyph_high d = cond_both (ltb d 10) (48 + d) (87 + d) (λ x. 48 ≤ x) (λ _. om
 pub glyph_unbroken : (d : ℕ) → hex_glyph d ≡ 32 → ⊥
 glyph_unbroken d e = omega (arith, glyph_high d)
 
-plain_unbroken : (c : ℕ) → plain c ≡ true → c ≡ 32 → ⊥
+plain_unbroken : (c : ℕ) → is_plain c ≡ true → c ≡ 32 → ⊥
 plain_unbroken c h e =
     let graphic = and_parts (is_ascii_graphic c) (not (eqb c 37)) h in
     let low = and_parts (leb 33 c) (leb c 126) graphic.0 in
@@ -97,18 +85,18 @@ at_most_takes most (Some found) bytes e =
     let c = cond_some (leb (length found) most) found bytes e in
     (ap (λ (b : List ℕ). Some b) c.1, subst (λ (b : List ℕ). length b ≤ most) c.1 (leb-true _ _ c.0))
 
-some_name : (word name : List ℕ) → 0 < length word → at_most 255 (decoded word) ≡ Some name → SpellsName name word
+some_name : (word name : List ℕ) → 0 < length word → at_most GIVEN_NAME_MAX (decoded word) ≡ Some name → SpellsName name word
 some_name word [] lt e =
-    let empty : word ≡ [] = decoded_takes word [] (at_most_takes 255 (decoded word) [] e).0 in
+    let empty : word ≡ [] = decoded_takes word [] (at_most_takes GIVEN_NAME_MAX (decoded word) [] e).0 in
     absurd (omega (arith, ap length empty))
 some_name word (b ∷ bs) lt e =
-    let found = at_most_takes 255 (decoded word) (b ∷ bs) e in
+    let found = at_most_takes GIVEN_NAME_MAX (decoded word) (b ∷ bs) e in
     (found.1, decoded_takes word (b ∷ bs) found.0)
 
 pub name_takes : (word name : List ℕ) → name_of word ≡ Some name → SpellsName name word
 name_takes [] name e = absurd cc
 name_takes (c ∷ []) name e =
-    elim (chosen (eqb c 37) (Some []) (at_most 255 (decoded (c ∷ []))) (Some name) e) [
+    elim (chosen (eqb c 37) (Some []) (at_most GIVEN_NAME_MAX (decoded (c ∷ []))) (Some name) e) [
       | inl percent ↦
           let none : [] ≡ name = let f = percent.1 in cc in
           subst (λ (n : List ℕ). SpellsName n (c ∷ [])) none (ap (λ (x : ℕ). x ∷ []) (eqb-true c 37 percent.0))
@@ -123,11 +111,11 @@ nonempty : (word name : List ℕ) → 0 < length name → decoded word ≡ Some 
 nonempty [] name lt e = let is : [] ≡ name = cc in absurd (omega (arith, ap length is))
 nonempty (c ∷ cs) name lt e = omega arith
 
-longer_name : (word name : List ℕ) → word ≢ 37 ∷ [] → 0 < length word → decoded word ≡ Some name → length name ≤ 255 → name_of word ≡ Some name
+longer_name : (word name : List ℕ) → word ≢ 37 ∷ [] → 0 < length word → decoded word ≡ Some name → length name ≤ GIVEN_NAME_MAX → name_of word ≡ Some name
 longer_name [] name other lt e h = absurd (omega arith)
 longer_name (c ∷ []) name other lt e h =
-    cond-false (eqb c 37) (Some []) (at_most 255 (decoded (c ∷ []))) (ne_eqb c 37 (λ is. other (ap (λ (x : ℕ). x ∷ []) is))) ∙ at_most_again 255 (decoded (c ∷ [])) name e h
-longer_name (c ∷ d ∷ cs) name other lt e h = at_most_again 255 (decoded (c ∷ d ∷ cs)) name e h
+    cond-false (eqb c 37) (Some []) (at_most GIVEN_NAME_MAX (decoded (c ∷ []))) (ne_eqb c 37 (λ is. other (ap (λ (x : ℕ). x ∷ []) is))) ∙ at_most_again GIVEN_NAME_MAX (decoded (c ∷ [])) name e h
+longer_name (c ∷ d ∷ cs) name other lt e h = at_most_again GIVEN_NAME_MAX (decoded (c ∷ d ∷ cs)) name e h
 
 pub name_again : (name word : List ℕ) → SpellsName name word → name_of word ≡ Some name
 name_again [] word e = ap name_of e

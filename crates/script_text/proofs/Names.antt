@@ -5,11 +5,11 @@ use Rattle.script_text.specs.ReadingNames.{before, decoded, first_decoded, with_
 use Rattle.script_text.specs.ReadingData.{hex_bytes, first_paired}
 
 -- the bytes so far, and those that follow, where there are some
-abbrev pub behind : List ℕ → Option (List ℕ) → Option (List ℕ)
-behind front None = None
-behind front (Some bytes) = Some (front ++ bytes)
+abbrev pub joined : List ℕ → Option (List ℕ) → Option (List ℕ)
+joined front None = None
+joined front (Some bytes) = Some (front ++ bytes)
 
--- what all makes of the bytes behind a first one
+-- what all makes of the bytes after a first one
 abbrev pub from_first : (List ℕ → Option (List ℕ)) → Option (ℕ × List ℕ) → Option (List ℕ)
 from_first all None = None
 from_first all (Some x) = before (Some x.0) (all x.1)
@@ -43,13 +43,13 @@ pub hex_bytes_is : (bytes : List ℕ) (x : ℕ × List ℕ) → first_paired byt
 hex_bytes_is [] x h = absurd cc
 hex_bytes_is (c ∷ cs) x h = hex_bytes_first (c ∷ cs) (omega arith) ∙ ap (from_first hex_bytes) h
 
-behind_more : (front : List ℕ) (byte : ℕ) (rest : Option (List ℕ)) → behind (front ++ byte ∷ []) rest ≡ behind front (before (Some byte) rest)
-behind_more front byte None = refl
-behind_more front byte (Some bytes) = ap (λ (b : List ℕ). Some b) (simp append_assoc)
+joined_more : (front : List ℕ) (byte : ℕ) (rest : Option (List ℕ)) → joined (front ++ byte ∷ []) rest ≡ joined front (before (Some byte) rest)
+joined_more front byte None = refl
+joined_more front byte (Some bytes) = ap (λ (b : List ℕ). Some b) (simp append_assoc)
 
 -- one byte further
-pub goes_on : (all : List ℕ → Option (List ℕ)) (front bytes : List ℕ) (byte : ℕ) (after : List ℕ) (total : Option (List ℕ)) → all bytes ≡ from_first all (Some (byte, after)) → behind front (all bytes) ≡ total → behind (front ++ byte ∷ []) (all after) ≡ total
-goes_on all front bytes byte after total h so_far = behind_more front byte (all after) ∙ ap (behind front) (sym h) ∙ so_far
+pub goes_on : (all : List ℕ → Option (List ℕ)) (front bytes : List ℕ) (byte : ℕ) (after : List ℕ) (total : Option (List ℕ)) → all bytes ≡ from_first all (Some (byte, after)) → joined front (all bytes) ≡ total → joined (front ++ byte ∷ []) (all after) ≡ total
+goes_on all front bytes byte after total h so_far = joined_more front byte (all after) ∙ ap (joined front) (sym h) ∙ so_far
 
 -- how many bytes the digits stand for
 halves : (o : Option ℕ) (rest : Option (List ℕ)) (bytes : List ℕ) (n : ℕ) → ((others : List ℕ) → rest ≡ Some others → length others + length others ≡ n) → before o rest ≡ Some bytes → length bytes + length bytes ≡ n + 2

@@ -8,7 +8,8 @@ use Rattle.std.proofs.lemmas.Fmt.{decimal-digits_value, digits_decimal, digits_v
 use Rattle.std.specs.Char.{is_ascii_digit}
 use Rattle.std.specs.Str.{all_ascii_digits}
 use Rattle.std.specs.Fmt.{decimal}
-use Rattle.script_text.specs.ReadingNumbers.{hex_digit, hex_byte, pair_value, digits_on, number_of}
+use Rattle.script_text.specs.Reading.{both}
+use Rattle.script_text.specs.ReadingNumbers.{hex_digit, hex_byte, digits_on, number_of}
 use Rattle.script_text.specs.Lines.{hex_glyph}
 
 -- the value of digits, from the left
@@ -88,6 +89,21 @@ pub number_again : (most n : ℕ) → most < 2 ^ 64 → n ≤ most → number_of
 number_again most zero fits small = ap (number_of most) (decimal_digit 0 (omega arith))
 number_again most (suc n) fits small = positive most (suc n) (decimal (suc n)) refl (omega arith) (omega arith) small
 
+-- a test of all numbers below one
+abbrev pub all_below : ℕ → (ℕ → Bool) → Bool
+all_below zero p = true
+all_below (suc k) p = p k && all_below k p
+
+-- what passes such a test, number by number
+pub each_below : (k n : ℕ) (p : ℕ → Bool) → all_below k p ≡ true → n < k → p n ≡ true
+each_below zero n p h lt = absurd (omega arith)
+each_below (suc k) n p h lt =
+    let parts = and_parts (p k) (all_below k p) h in
+    elim (cases_eq n k) [
+      | inl is ↦ ap p is ∙ parts.0
+      | inr other ↦ each_below k n p parts.1 (omega arith)
+    ]
+
 -- which way a test went
 pub chosen : {A : Type 0} (b : Bool) (x y z : A) → cond b x y ≡ z → ((b ≡ true) × (x ≡ z)) ⊎ ((b ≡ false) × (y ≡ z))
 chosen true x y z e = inl (refl, e)
@@ -115,15 +131,16 @@ digit_takes c d e =
 digit_again : (d : ℕ) → d < 16 → hex_digit (hex_glyph d) ≡ Some d
 digit_again d h = grind (arith, nat_tests)
 
-pair_parts : (high low : Option ℕ) (byte : ℕ) → pair_value high low ≡ Some byte → (h : ℕ) × (l : ℕ) × (high ≡ Some h) × (low ≡ Some l) × (h * 16 + l ≡ byte)
-pair_parts None low byte e = absurd cc
-pair_parts (Some h) None byte e = absurd cc
-pair_parts (Some h) (Some l) byte e = (h, l, refl, refl, cc)
+-- what is made of two values has both
+pub both_parts : {A B C : Type 0} (f : A → B → C) (o : Option A) (p : Option B) (z : C) → both f o p ≡ Some z → (x : A) × (y : B) × (o ≡ Some x) × (p ≡ Some y) × (f x y ≡ z)
+both_parts f None p z e = absurd cc
+both_parts f (Some x) None z e = absurd cc
+both_parts f (Some x) (Some y) z e = (x, y, refl, refl, cc)
 
 -- two lower case digits are those of a byte
 pub pair_takes : (c d byte : ℕ) → hex_byte c d ≡ Some byte → (c ≡ hex_glyph (byte / 16)) × (d ≡ hex_glyph (byte % 16)) × (byte < 256)
 pair_takes c d byte e =
-    let parts = pair_parts (hex_digit c) (hex_digit d) byte e in
+    let parts = both_parts (λ (h l : ℕ). h * 16 + l) (hex_digit c) (hex_digit d) byte e in
     let high = digit_takes c parts.0 parts.2 in
     let low = digit_takes d parts.1 parts.3 in
     let quotient : parts.0 ≡ byte / 16 = omega (arith, high.1, low.1, parts.4) in

@@ -1,28 +1,19 @@
 -- A script is read from its spellings alone.
-use Rattle.std.proofs.Common.{◌≡◌, ℕ, ◌+◌, eqb, ltb, List, [], ◌∷◌, ◌++◌, length, Result, Ok, Err, refl, sym, ap, subst, ◌∙◌, inl, inr}
+use Rattle.std.proofs.Common.{◌≡◌, ℕ, ◌+◌, ◌≤◌, eqb, ltb, List, [], ◌∷◌, ◌++◌, length, Result, Ok, Err, refl, sym, ap, subst, ◌∙◌}
 use Rattle.std.specs.Prelude.{IfOk}
 use Rattle.std.specs.List.{slice_split}
-use Rattle.std.proofs.lemmas.Bool.{ltb-false, le-ltb, cond-false}
+use Rattle.std.proofs.lemmas.Bool.{le-ltb, cond-false}
 use Rattle.call_types.specs.declared.act.ScriptAct.{ScriptAct}
 use Rattle.script_text.specs.declared.fault.ScriptFault.{ScriptFault}
 use Rattle.script_text.specs.declared.fault.ScriptFault.TheVariants as faults
-use Rattle.script_text.specs.Reading.{◌>>=◌}
+use Rattle.script_text.specs.declared.script.TheConstants.{SCRIPT_MAX}
+use Rattle.script_text.specs.Reading.{◌>>=◌, line_feed}
 use Rattle.script_text.specs.ReadingCalls.{reading}
-use Rattle.script_text.specs.ReadingScripts.{numbered, line_acts, lines_acts, followed, script}
+use Rattle.script_text.specs.ReadingScripts.{numbered, line_acts, lines_acts, followed, script_acts, script}
 use Rattle.script_text.specs.ReadingResults.{ScriptGives}
 use Rattle.script_text.specs.Spellings.{SpellsLine, SpellsLines, SpellsScript}
-use Rattle.script_text.proofs.Numerals.{chosen}
+use Rattle.script_text.proofs.WordLaws.{ok_is, bind_ok}
 use Rattle.script_text.proofs.CallLaws.{reading_takes, reading_again}
-
-abbrev done : {A : Type 0} → A → Result A ScriptFault
-done x = Ok x
-
-ok_is : {A : Type 0} (x y : A) → done x ≡ done y → x ≡ y
-ok_is x y e = cc
-
-bind_ok : {A B : Type 0} (r : Result A ScriptFault) (f : A → Result B ScriptFault) (y : B) → (r >>= f) ≡ Ok y → (x : A) × (r ≡ Ok x) × (f x ≡ Ok y)
-bind_ok (Ok x) f y e = (x, refl, e)
-bind_ok (Err d) f y e = absurd cc
 
 followed_parts : (front acts : List ScriptAct) (read : Result (List ScriptAct) ScriptFault) → followed front read ≡ Ok acts → (rest : List ScriptAct) × (read ≡ Ok rest) × (front ++ rest ≡ acts)
 followed_parts front acts (Ok rest) e = (rest, refl, ok_is (front ++ rest) acts e)
@@ -55,23 +46,16 @@ lines_again : (n : ℕ) (lines : List (List ℕ)) (acts : List ScriptAct) → Sp
 lines_again n [] acts s = ap (λ (a : List ScriptAct). Ok a) (sym s)
 lines_again n (line ∷ lines) acts s = line_again n line acts s.0 (lines_acts (n + 1) lines) s.1 (lines_again (n + 1) lines s.0 s.2)
 
-script_takes : (text : List ℕ) (acts : List ScriptAct) → script text ≡ Ok acts → SpellsScript acts text
-script_takes text acts e =
-    elim (chosen (ltb 16777216 (length text)) (Err faults.TooLong) (lines_acts 1 (slice_split (λ c. eqb c 10) text)) (Ok acts) e) [
-      | inl long ↦ absurd (let f = long.1 in cc)
-      | inr short ↦ (ltb-false _ _ short.0, lines_takes 1 (slice_split (λ c. eqb c 10) text) acts short.1)
-    ]
-
 pub script_again : (text : List ℕ) (acts : List ScriptAct) → SpellsScript acts text → script text ≡ Ok acts
 script_again text acts s =
-    cond-false (ltb 16777216 (length text)) (Err faults.TooLong) (lines_acts 1 (slice_split (λ c. eqb c 10) text)) (le-ltb _ _ s.0)
-    ∙ lines_again 1 (slice_split (λ c. eqb c 10) text) acts s.1
+    cond-false (ltb SCRIPT_MAX (length text)) (Err faults.TooLong) (script_acts text) (le-ltb _ _ s.0)
+    ∙ lines_again 1 (slice_split (λ c. eqb c line_feed) text) acts s.1
 
--- ---- the two directions, of what a reader returns
+-- ---- the two directions, of what a reader of lines returns
 
-pub found : {X : Type 0} (view : X → List ScriptAct) (text : List ℕ) (result : Result X ScriptFault) → ScriptGives view result (script text) → IfOk result (λ acts. SpellsScript (view acts) text)
-found view text (Ok acts) e = script_takes text (view acts) e
-found view text (Err fault) e = tt
+pub found : {X : Type 0} (view : X → List ScriptAct) (text : List ℕ) (result : Result X ScriptFault) → length text ≤ SCRIPT_MAX → ScriptGives view result (script_acts text) → IfOk result (λ acts. SpellsScript (view acts) text)
+found view text (Ok acts) short e = (short, lines_takes 1 (slice_split (λ c. eqb c line_feed) text) (view acts) e)
+found view text (Err fault) short e = tt
 
-pub only : {X : Type 0} (view : X → List ScriptAct) (text : List ℕ) (result : Result X ScriptFault) (acts : List ScriptAct) → ScriptGives view result (script text) → SpellsScript acts text → ScriptGives view result (Ok acts)
-only view text result acts g s = subst (ScriptGives view result) (script_again text acts s) g
+pub only : {X : Type 0} (view : X → List ScriptAct) (text : List ℕ) (result : Result X ScriptFault) (acts : List ScriptAct) → ScriptGives view result (script_acts text) → SpellsScript acts text → ScriptGives view result (Ok acts)
+only view text result acts g s = subst (ScriptGives view result) (lines_again 1 (slice_split (λ c. eqb c line_feed) text) acts s.1) g

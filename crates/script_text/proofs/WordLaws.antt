@@ -1,5 +1,5 @@
 -- Words that are numbers are read from their one spelling alone; a word ends at the first space.
-use Rattle.std.proofs.Common.{◌≡◌, ℕ, zero, suc, ◌+◌, ◌^◌, ◌<◌, ◌≤◌, Bool, true, false, cond, eqb, leb, List, [], ◌∷◌, ◌++◌, length, Option, Some, None, Result, Ok, Err, refl, sym, ap, subst, ◌∙◌, arith, inl, inr, ℤ, pos, FitsSigned, w32, w64}
+use Rattle.std.proofs.Common.{◌≡◌, ℕ, zero, suc, ◌+◌, ◌-◌, ◌^◌, ◌<◌, ◌≤◌, Bool, true, false, cond, eqb, leb, List, [], ◌∷◌, ◌++◌, length, Option, Some, None, Result, Ok, Err, refl, sym, ap, subst, ◌∙◌, arith, inl, inr, ℤ, pos, FitsSigned, w32, w64}
 use Rattle.std.specs.Prelude.{negsuc, not}
 use Rattle.std.specs.List.{list_all}
 use Rattle.std.proofs.lemmas.Bool.{eqb-true, eq-eqb, ne_eqb, and_parts, leb-true, cond-false, not-true}
@@ -8,8 +8,8 @@ use Rattle.std.specs.Char.{is_ascii_digit}
 use Rattle.std.specs.Str.{all_ascii_digits}
 use Rattle.std.specs.Fmt.{decimal, signed_decimal}
 use Rattle.std.proofs.lemmas.Fmt.{digits_decimal, decimal_nonempty}
-use Rattle.script_text.specs.Reading.{◌>>=◌, Left, cut, onto, kept, field, ended}
-use Rattle.script_text.specs.ReadingNumbers.{number_of, process_of, signed_of, descriptor_of, position_of, negative, not_negative}
+use Rattle.script_text.specs.Reading.{◌>>=◌, Left, cut, onto, valued, field, ended}
+use Rattle.script_text.specs.ReadingNumbers.{number_of, process_of, signed_of, negative, not_negative}
 use Rattle.script_text.specs.Lines.{process_word}
 use Rattle.script_text.proofs.Numerals.{own, number_takes, number_again, chosen}
 
@@ -63,30 +63,37 @@ cut_again [] None h = refl
 cut_again [] (Some bytes) h = refl
 cut_again (c ∷ cs) after h = rw (ne_eqb c 32 h.0) (ap (onto c) (cut_again cs after h.1))
 
--- a word that has a value, and what is left behind it
+-- a word that has a value, and what is left after it
 pub record Field {A : Type 0} (value : List ℕ → Option A) (left : Left) (a : A) (after : Left) : Type 0 where
   pub word : List ℕ
   pub is : left ≡ Some (word ++ tail after)
   pub has : value word ≡ Some a
 
-pub kept_parts : {A : Type 0} (o : Option A) (place : ℕ) (after rest : Left) (a : A) → kept o place after ≡ Ok (a, rest) → (o ≡ Some a) × (after ≡ rest)
-kept_parts None place after rest a e = absurd cc
-kept_parts {A} (Some b) place after rest a e =
+pub valued_parts : {A : Type 0} (o : Option A) (remaining : ℕ) (after rest : Left) (a : A) → valued o remaining after ≡ Ok (a, rest) → (o ≡ Some a) × (after ≡ rest)
+valued_parts None remaining after rest a e = absurd cc
+valued_parts {A} (Some b) remaining after rest a e =
     let both : (b, after) ≡ (a, rest) = cc in
     (ap (λ (p : A × Left). Some p.0) both, ap (λ (p : A × Left). p.1) both)
 
 pub field_takes : {A : Type 0} (value : List ℕ → Option A) (left : Left) (a : A) (after : Left) → field value left ≡ Ok (a, after) → Field value left a after
 field_takes value None a after e = absurd cc
 field_takes value (Some bytes) a after e =
-    let parts = kept_parts (value (cut 32 bytes).0) (length bytes) (cut 32 bytes).1 after a e in
+    let parts = valued_parts (value (cut 32 bytes).0) (length bytes) (cut 32 bytes).1 after a e in
     record { word = (cut 32 bytes).0; is = ap (λ (b : List ℕ). Some b) (cut_joined bytes ∙ ap (λ (l : Left). (cut 32 bytes).0 ++ tail l) parts.1); has = parts.0 }
 
 pub field_again : {A : Type 0} (value : List ℕ → Option A) (word : List ℕ) (a : A) (after : Left) → Unbroken word → value word ≡ Some a → field value (Some (word ++ tail after)) ≡ Ok (a, after)
 field_again value word a after h e =
     rw (cut_again word after h, e) refl
 
+-- a value that was read
+abbrev pub done : {A : Type 0} → (E : Type 0) → A → Result A E
+done E x = Ok x
+
+pub ok_is : {A E : Type 0} (x y : A) → done E x ≡ done E y → x ≡ y
+ok_is x y e = cc
+
 -- the value of a step that did not fail
-pub bind_ok : {A B : Type 0} (r : Result A ℕ) (f : A → Result B ℕ) (y : B) → (r >>= f) ≡ Ok y → (x : A) × (r ≡ Ok x) × (f x ≡ Ok y)
+pub bind_ok : {A B E : Type 0} (r : Result A E) (f : A → Result B E) (y : B) → (r >>= f) ≡ Ok y → (x : A) × (r ≡ Ok x) × (f x ≡ Ok y)
 bind_ok (Ok x) f y e = (x, refl, e)
 bind_ok (Err d) f y e = absurd cc
 
@@ -94,20 +101,20 @@ pub ended_takes : (left : Left) (u : Unit {0}) → ended left ≡ Ok u → left 
 ended_takes None u e = refl
 ended_takes (Some bytes) u e = absurd cc
 
--- ---- processes, descriptors and positions
+-- ---- processes, and numbers that may be negative
 
 pub process_takes : (word : List ℕ) (p : ℕ) → process_of word ≡ Some p → (word ≡ process_word p) × (p < 2 ^ 32)
 process_takes [] p e = absurd cc
 process_takes (c ∷ cs) p e =
-    elim (chosen (eqb c 112) (number_of 4294967295 cs) None (Some p) e) [
+    elim (chosen (eqb c 112) (number_of (2 ^ 32 - 1) cs) None (Some p) e) [
       | inl is ↦
-          let n = number_takes 4294967295 p cs (omega arith) is.1 in
+          let n = number_takes (2 ^ 32 - 1) p cs (omega arith) is.1 in
           (ap (λ (d : ℕ). d ∷ cs) (eqb-true c 112 is.0) ∙ ap (λ (ds : List ℕ). 112 ∷ ds) n.0, omega (arith, n.1))
       | inr other ↦ absurd (let f = other.1 in cc)
     ]
 
 pub process_again : (p : ℕ) → p < 2 ^ 32 → process_of (process_word p) ≡ Some p
-process_again p h = number_again 4294967295 p (omega arith) (omega arith)
+process_again p h = number_again (2 ^ 32 - 1) p (omega arith) (omega arith)
 
 pub process_unbroken : (p : ℕ) → p < 2 ^ 32 → Unbroken (process_word p)
 process_unbroken p h = (λ e. omega arith, decimal_unbroken p (omega arith))
@@ -126,7 +133,7 @@ abbrev pub Within : ℕ → ℤ → Type 0
 Within most (pos n) = n ≤ most
 Within most (negsuc n) = n ≤ most
 
-signed_takes : (most : ℕ) (word : List ℕ) (z : ℤ) → most + 1 < 2 ^ 64 → signed_of most word ≡ Some z → (word ≡ signed_decimal z) × Within most z
+pub signed_takes : (most : ℕ) (word : List ℕ) (z : ℤ) → most + 1 < 2 ^ 64 → signed_of most word ≡ Some z → (word ≡ signed_decimal z) × Within most z
 signed_takes most [] z fits e = absurd cc
 signed_takes most (c ∷ cs) z fits e =
     elim (chosen (eqb c 45) (negative (number_of (most + 1) cs)) (not_negative (number_of most (c ∷ cs))) (Some z) e) [
@@ -150,48 +157,26 @@ not_minus most (c ∷ cs) n fits e h =
     let read : number_of most (c ∷ cs) ≡ Some n = ap (number_of most) e ∙ number_again most n (omega arith) h in
     cond-false (eqb c 45) (negative (number_of (most + 1) cs)) (not_negative (number_of most (c ∷ cs))) (ne_eqb c 45 (λ m. omega arith)) ∙ ap not_negative read
 
-signed_again : (most : ℕ) (z : ℤ) → most + 1 < 2 ^ 64 → Within most z → signed_of most (signed_decimal z) ≡ Some z
+pub signed_again : (most : ℕ) (z : ℤ) → most + 1 < 2 ^ 64 → Within most z → signed_of most (signed_decimal z) ≡ Some z
 signed_again most (pos n) fits h = not_minus most (decimal n) n fits refl h
 signed_again most (negsuc n) fits h = ap negative (number_again (most + 1) (suc n) fits (omega arith))
 
-signed_unbroken : (most : ℕ) (z : ℤ) → most + 1 < 2 ^ 64 → Within most z → Unbroken (signed_decimal z)
+pub signed_unbroken : (most : ℕ) (z : ℤ) → most + 1 < 2 ^ 64 → Within most z → Unbroken (signed_decimal z)
 signed_unbroken most (pos n) fits h = decimal_unbroken n (omega arith)
 signed_unbroken most (negsuc n) fits h = (λ e. omega arith, decimal_unbroken (suc n) (omega arith))
 
-fits_32 : (z : ℤ) → Within 2147483647 z → FitsSigned w32 z
+pub fits_32 : (z : ℤ) → Within (2 ^ 31 - 1) z → FitsSigned w32 z
 fits_32 (pos n) h = omega (arith, ints)
 fits_32 (negsuc n) h = omega (arith, ints)
 
-within_32 : (z : ℤ) → FitsSigned w32 z → Within 2147483647 z
+pub within_32 : (z : ℤ) → FitsSigned w32 z → Within (2 ^ 31 - 1) z
 within_32 (pos n) h = omega (arith, ints)
 within_32 (negsuc n) h = omega (arith, ints)
 
-fits_64 : (z : ℤ) → Within 9223372036854775807 z → FitsSigned w64 z
+pub fits_64 : (z : ℤ) → Within (2 ^ 63 - 1) z → FitsSigned w64 z
 fits_64 (pos n) h = omega (arith, ints)
 fits_64 (negsuc n) h = omega (arith, ints)
 
-within_64 : (z : ℤ) → FitsSigned w64 z → Within 9223372036854775807 z
+pub within_64 : (z : ℤ) → FitsSigned w64 z → Within (2 ^ 63 - 1) z
 within_64 (pos n) h = omega (arith, ints)
 within_64 (negsuc n) h = omega (arith, ints)
-
-pub descriptor_takes : (word : List ℕ) (fd : ℤ) → descriptor_of word ≡ Some fd → (word ≡ signed_decimal fd) × FitsSigned w32 fd
-descriptor_takes word fd e =
-    let s = signed_takes 2147483647 word fd (omega arith) e in
-    (s.0, fits_32 fd s.1)
-
-pub descriptor_again : (fd : ℤ) → FitsSigned w32 fd → descriptor_of (signed_decimal fd) ≡ Some fd
-descriptor_again fd h = signed_again 2147483647 fd (omega arith) (within_32 fd h)
-
-pub descriptor_unbroken : (fd : ℤ) → FitsSigned w32 fd → Unbroken (signed_decimal fd)
-descriptor_unbroken fd h = signed_unbroken 2147483647 fd (omega arith) (within_32 fd h)
-
-pub position_takes : (word : List ℕ) (start : ℤ) → position_of word ≡ Some start → (word ≡ signed_decimal start) × FitsSigned w64 start
-position_takes word start e =
-    let s = signed_takes 9223372036854775807 word start (omega arith) e in
-    (s.0, fits_64 start s.1)
-
-pub position_again : (start : ℤ) → FitsSigned w64 start → position_of (signed_decimal start) ≡ Some start
-position_again start h = signed_again 9223372036854775807 start (omega arith) (within_64 start h)
-
-pub position_unbroken : (start : ℤ) → FitsSigned w64 start → Unbroken (signed_decimal start)
-position_unbroken start h = signed_unbroken 9223372036854775807 start (omega arith) (within_64 start h)

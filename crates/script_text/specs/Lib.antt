@@ -3,10 +3,10 @@ pub mod ReadingNumbers
 pub mod ReadingNames
 pub mod ReadingData
 pub mod ReadingFlags
-pub mod ReadingPositions
 pub mod ReadingCalls
 pub mod ReadingResults
 pub mod ReadingScripts
 pub mod Writing
 pub mod Lines
 pub mod Spellings
+pub mod CallRows

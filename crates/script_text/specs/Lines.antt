@@ -1,9 +1,10 @@
 -- The lines of a run, as they are written (own).
-use Rattle.std.specs.Prelude.{ℕ, ◌+◌, ◌/◌, ◌%◌, ◌==◌, nat_lt, ◌&&◌, List, [], ◌∷◌, ◌++◌, length, codes, decimal, bit_and, Option, Some, None, if◌then◌else◌}
+use Rattle.std.specs.Prelude.{ℕ, ◌+◌, ◌-◌, ◌/◌, ◌%◌, ◌==◌, nat_lt, ◌&&◌, List, [], ◌∷◌, ◌++◌, length, codes, decimal, Option, Some, None, if◌then◌else◌}
 use Rattle.std.specs.Fmt.{signed_decimal}
 use Rattle.std.specs.List.{flat_map, list_all}
 use Rattle.call_types.specs.declared.call.Call.{Call}
-use Rattle.call_types.specs.declared.call.Call.TheVariants as calls
+use Rattle.call_types.specs.CallTable.{FieldKind, a_descriptor, a_position, a_count, a_name, a_payload, some_flags, a_whence, Value, Values, parts}
+use Rattle.call_types.specs.Flags.{reading, writing, creat, excl, trunc, appending, nonblocking, bits_have}
 use Rattle.call_types.specs.declared.whence.Whence.{Whence}
 use Rattle.call_types.specs.declared.whence.Whence.TheVariants as whences
 use Rattle.call_types.specs.declared.act.ScriptAct.{ScriptAct}
@@ -22,7 +23,8 @@ use Rattle.call_types.specs.declared.errno.Errno.{Errno}
 use Rattle.call_types.specs.declared.errno.Errno.TheVariants as errors
 use Rattle.call_types.specs.declared.refusal.Refusal.{Refusal}
 use Rattle.call_types.specs.declared.refusal.Refusal.TheVariants as refusals
-use Rattle.script_text.specs.ReadingNames.{plain}
+use Rattle.script_text.specs.ReadingNumbers.{digit_0, letter_a}
+use Rattle.script_text.specs.ReadingNames.{is_plain}
 
 -- a process: a p, and its number
 abbrev pub process_word : ℕ → List ℕ
@@ -30,7 +32,7 @@ process_word process = codes "p" ++ decimal process
 
 -- a lower case hexadecimal digit
 abbrev pub hex_glyph : ℕ → ℕ
-hex_glyph digit = if nat_lt digit 10 then 48 + digit else 87 + digit
+hex_glyph digit = if nat_lt digit 10 then digit_0 + digit else letter_a - 10 + digit
 
 -- the two digits of a byte
 abbrev pub hex_pair : ℕ → List ℕ
@@ -38,7 +40,7 @@ hex_pair byte = hex_glyph (byte / 16) ∷ hex_glyph (byte % 16) ∷ []
 
 -- a byte of a name: itself, or a % and its digits
 abbrev pub name_byte : ℕ → List ℕ
-name_byte byte = if plain byte then byte ∷ [] else 37 ∷ hex_pair byte
+name_byte byte = if is_plain byte then byte ∷ [] else codes "%" ++ hex_pair byte
 
 -- a name: % alone is the empty one
 abbrev pub name_word : List ℕ → List ℕ
@@ -59,37 +61,46 @@ data_text (Some byte) bytes = hex_pair byte ++ codes "*" ++ decimal (length byte
 abbrev pub data_word : List ℕ → List ℕ
 data_word bytes = data_text (one_byte bytes) bytes
 
--- the mode, by its two bits
+-- the mode, by its two flags
 abbrev pub mode_word : ℕ → List ℕ
-mode_word bits = if bit_and bits 1 == 1 then if bit_and bits 2 == 2 then codes "rw" else codes "r" else if bit_and bits 2 == 2 then codes "w" else codes "-"
+mode_word bits = if bits_have bits reading then if bits_have bits writing then codes "rw" else codes "r" else if bits_have bits writing then codes "w" else codes "-"
 
--- a suffix, where its bit is set
+-- a suffix, where its flag is set
 abbrev pub suffix : ℕ → ℕ → List ℕ → List ℕ
-suffix bits bit text = if bit_and bits bit == bit then text else []
+suffix bits flag text = if bits_have bits flag then text else []
 
 -- flags: the mode, and then the suffixes
 abbrev pub flags_word : ℕ → List ℕ
-flags_word bits = mode_word bits ++ suffix bits 4 (codes ",creat") ++ suffix bits 8 (codes ",excl") ++ suffix bits 16 (codes ",trunc") ++ suffix bits 32 (codes ",append") ++ suffix bits 64 (codes ",nonblock")
+flags_word bits =
+    mode_word bits ++ suffix bits creat (codes ",creat") ++ suffix bits excl (codes ",excl") ++ suffix bits trunc (codes ",trunc") ++ suffix bits appending (codes ",append")
+    ++ suffix bits nonblocking (codes ",nonblock")
 
--- from where an lseek counts
+-- the base of an offset
 abbrev pub whence_word : Whence → List ℕ
 whence_word whences.Set = codes "set"
 whence_word whences.Cur = codes "cur"
 whence_word whences.End = codes "end"
 
--- a call, behind its process
-abbrev pub call_text : Call → List ℕ
-call_text (calls.Open name flags) = codes "open " ++ name_word name ++ codes " " ++ flags_word flags.0
-call_text (calls.Close fd) = codes "close " ++ signed_decimal fd
-call_text (calls.Read fd count) = codes "read " ++ signed_decimal fd ++ codes " " ++ decimal count
-call_text (calls.Write fd bytes) = codes "write " ++ signed_decimal fd ++ codes " " ++ data_word bytes
-call_text (calls.Pread fd start count) = codes "pread " ++ signed_decimal fd ++ codes " " ++ signed_decimal start ++ codes " " ++ decimal count
-call_text (calls.Pwrite fd start bytes) = codes "pwrite " ++ signed_decimal fd ++ codes " " ++ signed_decimal start ++ codes " " ++ data_word bytes
-call_text (calls.Lseek fd offset whence) = codes "lseek " ++ signed_decimal fd ++ codes " " ++ signed_decimal offset ++ codes " " ++ whence_word whence
-call_text (calls.Ftruncate fd len) = codes "ftruncate " ++ signed_decimal fd ++ codes " " ++ signed_decimal len
-call_text (calls.Fstat fd) = codes "fstat " ++ signed_decimal fd
+-- a field, by its kind
+abbrev pub field_word : (k : FieldKind) → Value k → List ℕ
+field_word a_descriptor fd = signed_decimal fd
+field_word a_position start = signed_decimal start
+field_word a_count n = decimal n
+field_word a_name name = name_word name
+field_word a_payload bytes = data_word bytes
+field_word some_flags bits = flags_word bits
+field_word a_whence whence = whence_word whence
 
--- an act, behind the actor
+-- fields, each after a space
+abbrev pub fields_text : (ks : List FieldKind) → Values ks → List ℕ
+fields_text [] vs = []
+fields_text (k ∷ ks) vs = codes " " ++ (field_word k vs.0 ++ fields_text ks vs.1)
+
+-- a call, after its process: its word and its fields
+unfoldable pub call_text : Call → List ℕ
+call_text call = (parts call).entry.word ++ fields_text (parts call).entry.fields (parts call).values
+
+-- an act, after the actor
 abbrev pub act_text : Act → List ℕ
 act_text acts.Join = codes "join"
 act_text acts.Attach = codes "attach"
@@ -151,7 +162,7 @@ outcome_text (outcomes.Part moved) = codes "part " ++ decimal moved
 abbrev pub record_line : ℕ → Record → List ℕ
 record_line place r = decimal place ++ codes " " ++ actor_word r.actor r.act ++ codes " " ++ act_text r.act ++ codes " = " ++ outcome_text r.outcome ++ codes "\n"
 
--- an act of a script, behind the actor
+-- an act of a script, after the actor
 abbrev pub script_act_text : ScriptAct → List ℕ
 script_act_text scripts.Join = codes "join"
 script_act_text (scripts.Call process call) = call_text call

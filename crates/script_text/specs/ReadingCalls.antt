@@ -1,73 +1,58 @@
 -- Reading the calls and acts of a script, word by word (own).
-use Rattle.std.specs.Prelude.{ℕ, ◌+◌, ◌-◌, List, ◌∷◌, length, codes, Some, Result, Ok, Err, if◌then◌else◌}
+use Rattle.std.specs.Prelude.{ℕ, ◌+◌, ◌-◌, List, [], ◌∷◌, length, codes, Option, Some, None, Result, Ok, Err, if◌then◌else◌}
 use Rattle.std.specs.Str.{bytes_eq}
+use Rattle.call_types.specs.CallTable.{FieldKind, a_descriptor, a_position, a_count, a_name, a_payload, some_flags, a_whence, Value, Makes, Entry, call_table}
 use Rattle.call_types.specs.declared.call.Call.{Call}
-use Rattle.call_types.specs.declared.call.Call.TheVariants as calls
+use Rattle.call_types.specs.declared.whence.Whence.{Whence}
+use Rattle.call_types.specs.declared.whence.Whence.TheVariants as whences
 use Rattle.call_types.specs.declared.act.ScriptAct.{ScriptAct}
 use Rattle.call_types.specs.declared.act.ScriptAct.TheVariants as acts
-use Rattle.script_text.specs.Reading.{◌>>=◌, Left, Word, Named, one_of, word_at, kept, field, ended}
-use Rattle.script_text.specs.ReadingNumbers.{number_of, process_of, descriptor_of}
+use Rattle.script_text.specs.Reading.{◌>>=◌, Left, Word, word_at, valued, field, ended}
+use Rattle.script_text.specs.ReadingNumbers.{count_of, process_of, descriptor_of, position_of}
 use Rattle.script_text.specs.ReadingNames.{name_of}
 use Rattle.script_text.specs.ReadingData.{data_of}
 use Rattle.script_text.specs.ReadingFlags.{flags_of}
-use Rattle.script_text.specs.ReadingPositions.{position_calls}
 
--- open NAME FLAGS, behind its first word
-abbrev pub open_call : Left → Result Call ℕ
-open_call left = do
-  name ← field name_of left
-  flags ← field flags_of name.1
-  end ← ended flags.1
-  Ok (calls.Open name.0 (record { 0 = flags.0 }))
+-- the base of an offset: set, cur or end
+abbrev pub whence_of : List ℕ → Option Whence
+whence_of word =
+    if bytes_eq word (codes "set") then Some whences.Set
+    else if bytes_eq word (codes "cur") then Some whences.Cur
+    else if bytes_eq word (codes "end") then Some whences.End
+    else None
 
--- close FD
-abbrev pub close_call : Left → Result Call ℕ
-close_call left = do
-  fd ← field descriptor_of left
-  end ← ended fd.1
-  Ok (calls.Close fd.0)
+-- a word as a field of a kind
+abbrev pub value_of : (k : FieldKind) → List ℕ → Option (Value k)
+value_of a_descriptor word = descriptor_of word
+value_of a_position word = position_of word
+value_of a_count word = count_of word
+value_of a_name word = name_of word
+value_of a_payload word = data_of word
+value_of some_flags word = flags_of word
+value_of a_whence word = whence_of word
 
--- read FD N
-abbrev pub read_call : Left → Result Call ℕ
-read_call left = do
-  fd ← field descriptor_of left
-  count ← field (number_of 4294967295) fd.1
-  end ← ended count.1
-  Ok (calls.Read fd.0 count.0)
+-- fields of these kinds, one word each, and then the end of the line
+abbrev pub fields_at : (ks : List FieldKind) → Makes ks → Left → Result Call ℕ
+fields_at [] make left = ended left >>= λ end. Ok make
+fields_at (k ∷ ks) make left = field (value_of k) left >>= λ value. fields_at ks (make value.0) value.1
 
--- write FD DATA
-abbrev pub write_call : Left → Result Call ℕ
-write_call left = do
-  fd ← field descriptor_of left
-  bytes ← field data_of fd.1
-  end ← ended bytes.1
-  Ok (calls.Write fd.0 bytes.0)
+-- the call of an entry, after its word
+abbrev pub entry_at : Entry → Left → Result Call ℕ
+entry_at e left = fields_at e.fields e.make left
 
--- fstat FD
-abbrev pub fstat_call : Left → Result Call ℕ
-fstat_call left = do
-  fd ← field descriptor_of left
-  end ← ended fd.1
-  Ok (calls.Fstat fd.0)
-
--- the calls that a script may have
-abbrev pub script_calls : List (Named Call)
-script_calls =
-    record { first = codes "open"; reads = open_call }
-    ∷ record { first = codes "close"; reads = close_call }
-    ∷ record { first = codes "read"; reads = read_call }
-    ∷ record { first = codes "write"; reads = write_call }
-    ∷ record { first = codes "fstat"; reads = fstat_call }
-    ∷ position_calls
+-- the call of the first entry that a word names; a word that names none isn't allowed
+abbrev pub one_of : List Entry → Word → Result Call ℕ
+one_of [] w = Err w.remaining
+one_of (e ∷ es) w = if bytes_eq w.text e.word then entry_at e w.after else one_of es w
 
 -- a call, by its first word
 abbrev pub named_call : Word → Result Call ℕ
-named_call w = one_of script_calls w
+named_call w = one_of call_table w
 
 -- the call of a process, whose word is the first
 abbrev pub process_act : Word → Result ScriptAct ℕ
 process_act w = do
-  process ← kept (process_of w.text) w.place w.after
+  process ← valued (process_of w.text) w.remaining w.after
   word ← word_at process.1
   call ← named_call word
   Ok (acts.Call process.0 call)
@@ -84,12 +69,11 @@ act_at left = do
   word ← word_at left
   if bytes_eq word.text (codes "join") then join_act word.after else process_act word
 
--- a fault where so many bytes are left, as a column
+-- a fault where so many bytes remain, as a column
 abbrev pub with_column : ℕ → Result ScriptAct ℕ → Result ScriptAct ℕ
 with_column len (Ok act) = Ok act
-with_column len (Err left) = Err (len - left + 1)
+with_column len (Err remaining) = Err (len - remaining + 1)
 
--- The act that a line spells, or the column of the first word that isn't allowed there, or one past the
--- last byte where a word is missing.
+-- the act that a line spells, or the column of the first word that isn't allowed there, or one past the last byte where a word is missing
 abbrev pub reading : List ℕ → Result ScriptAct ℕ
 reading line = with_column (length line) (act_at (Some line))

@@ -23,7 +23,7 @@ abbrev pub ScriptGives : {X : Type 0} → (X → List ScriptAct) → Result X Sc
 ScriptGives view (Ok acts) read = read ≡ Ok (view acts)
 ScriptGives view (Err fault) read = ScriptFails fault read
 
--- a line's acts stand behind those before, or it has the fault, unless memory ran out
+-- a line's acts stand after those before, or it has the fault, unless memory ran out
 abbrev pub LineAdds : List ScriptAct → List ScriptAct → Result (Unit {0}) ScriptFault → Result (List ScriptAct) ScriptFault → Type 0
 LineAdds old new (Ok done) read = (acts : List ScriptAct) × (read ≡ Ok acts) × (new ≡ old ++ acts)
 LineAdds old new (Err fault) read = ScriptFails fault read

@@ -4,7 +4,8 @@ use Rattle.std.specs.List.{slice_split}
 use Rattle.call_types.specs.declared.act.ScriptAct.{ScriptAct}
 use Rattle.script_text.specs.declared.fault.ScriptFault.{ScriptFault}
 use Rattle.script_text.specs.declared.fault.ScriptFault.TheVariants as faults
-use Rattle.script_text.specs.Reading.{◌>>=◌}
+use Rattle.script_text.specs.declared.script.TheConstants.{SCRIPT_MAX}
+use Rattle.script_text.specs.Reading.{◌>>=◌, line_feed}
 use Rattle.script_text.specs.ReadingCalls.{reading}
 
 -- a line's act, or the fault with the line's number
@@ -27,7 +28,10 @@ abbrev pub lines_acts : ℕ → List (List ℕ) → Result (List ScriptAct) Scri
 lines_acts n [] = Ok []
 lines_acts n (line ∷ lines) = line_acts n line >>= λ acts. followed acts (lines_acts (n + 1) lines)
 
--- The acts of a script, whose lines end with an LF (the last may lack it) and are counted from 1, or its
--- first fault. More than 16,777,216 bytes are too long, whatever the lines are.
+-- the acts of the lines of a script, which are counted from 1 and end with an LF, which the last may lack; or the first fault
+abbrev pub script_acts : List ℕ → Result (List ScriptAct) ScriptFault
+script_acts text = lines_acts 1 (slice_split (λ c. c == line_feed) text)
+
+-- the acts of a script, or its first fault; one that is too long has that fault, whatever its lines are
 abbrev pub script : List ℕ → Result (List ScriptAct) ScriptFault
-script text = if nat_lt 16777216 (length text) then Err faults.TooLong else lines_acts 1 (slice_split (λ c. c == 10) text)
+script text = if nat_lt SCRIPT_MAX (length text) then Err faults.TooLong else script_acts text

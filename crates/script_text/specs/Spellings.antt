@@ -1,77 +1,99 @@
 -- Which lines spell an act, stated apart from how they are read. A number, a flag set or a first word has one
--- spelling; a name and data may have several.
+-- spelling; a name and data may have several (own).
 use Rattle.std.specs.Prelude.{◌≡◌, ◌==◌, ◌≤◌, ◌<◌, ◌^◌, ◌⊎◌, ℕ, List, [], ◌∷◌, ◌++◌, length, replicate, codes, decimal, IsTrue, FitsSigned}
 use Rattle.std.specs.Int.{w32, w64}
 use Rattle.std.specs.Fmt.{signed_decimal}
 use Rattle.std.specs.List.{AllByRecursion, slice_split}
 use Rattle.call_types.specs.declared.call.Call.{Call}
-use Rattle.call_types.specs.declared.call.Call.TheVariants as calls
+use Rattle.call_types.specs.CallTable.{FieldKind, a_descriptor, a_position, a_count, a_name, a_payload, some_flags, a_whence, Value, Values, Parts, parts}
+use Rattle.call_types.specs.Flags.{nonblocking}
+use Rattle.call_types.specs.declared.limits.TheConstants.{GIVEN_NAME_MAX, GIVEN_BYTES_MAX}
 use Rattle.call_types.specs.declared.act.ScriptAct.{ScriptAct}
 use Rattle.call_types.specs.declared.act.ScriptAct.TheVariants as acts
-use Rattle.script_text.specs.ReadingNames.{plain}
+use Rattle.script_text.specs.ReadingNames.{is_plain}
+use Rattle.script_text.specs.declared.script.TheConstants.{SCRIPT_MAX}
+use Rattle.script_text.specs.Reading.{line_feed}
 use Rattle.script_text.specs.Lines.{hex_pair, flags_word, whence_word, process_word}
 
 -- each byte by itself, if it is plain, or by a % and its two digits
 abbrev pub SpellsBytes : List ℕ → List ℕ → Type 0
 SpellsBytes [] text = text ≡ []
 SpellsBytes (byte ∷ bytes) text =
-    ((rest : List ℕ) × IsTrue (plain byte) × (text ≡ byte ∷ rest) × SpellsBytes bytes rest)
-    ⊎ ((rest : List ℕ) × (byte < 256) × (text ≡ 37 ∷ (hex_pair byte ++ rest)) × SpellsBytes bytes rest)
+    ((rest : List ℕ) × IsTrue (is_plain byte) × (text ≡ byte ∷ rest) × SpellsBytes bytes rest)
+    ⊎ ((rest : List ℕ) × (byte < 256) × (text ≡ codes "%" ++ (hex_pair byte ++ rest)) × SpellsBytes bytes rest)
 
--- a name of at most 255 bytes; a % alone is the empty one
+-- a name, no longer than a call may give it; a % alone is the empty one
 abbrev pub SpellsName : List ℕ → List ℕ → Type 0
 SpellsName [] text = text ≡ codes "%"
-SpellsName (byte ∷ bytes) text = (length (byte ∷ bytes) ≤ 255) × SpellsBytes (byte ∷ bytes) text
+SpellsName (byte ∷ bytes) text = (length (byte ∷ bytes) ≤ GIVEN_NAME_MAX) × SpellsBytes (byte ∷ bytes) text
 
 -- each byte by its two digits
 abbrev pub SpellsPairs : List ℕ → List ℕ → Type 0
 SpellsPairs [] text = text ≡ []
 SpellsPairs (byte ∷ bytes) text = (rest : List ℕ) × (byte < 256) × (text ≡ hex_pair byte ++ rest) × SpellsPairs bytes rest
 
--- an x and the digits of each byte, at most 65,700
+-- an x and the digits of each byte, of as many bytes as a call may give at most
 abbrev pub SpellsDigits : List ℕ → List ℕ → Type 0
-SpellsDigits bytes text = (rest : List ℕ) × (length bytes ≤ 65700) × (text ≡ 120 ∷ rest) × SpellsPairs bytes rest
+SpellsDigits bytes text = (rest : List ℕ) × (length bytes ≤ GIVEN_BYTES_MAX) × (text ≡ codes "x" ++ rest) × SpellsPairs bytes rest
 
--- a byte, a * and how many times it stands, at most 65,700
+-- a byte, a * and how many times it stands, as often as a call may give bytes at most
 abbrev pub SpellsRepeated : List ℕ → List ℕ → Type 0
-SpellsRepeated bytes text = (byte : ℕ) × (count : ℕ) × (byte < 256) × (count ≤ 65700) × (bytes ≡ replicate count byte) × (text ≡ hex_pair byte ++ (42 ∷ decimal count))
+SpellsRepeated bytes text = (byte : ℕ) × (count : ℕ) × (byte < 256) × (count ≤ GIVEN_BYTES_MAX) × (bytes ≡ replicate count byte) × (text ≡ hex_pair byte ++ (codes "*" ++ decimal count))
 
 -- data, in either way
 abbrev pub SpellsData : List ℕ → List ℕ → Type 0
 SpellsData bytes text = SpellsDigits bytes text ⊎ SpellsRepeated bytes text
 
--- a call, behind its process; a script may have every flag but nonblock
+-- a field, by its kind; a script may have every flag but nonblock
+abbrev pub SpellsField : (k : FieldKind) → Value k → List ℕ → Type 0
+SpellsField a_descriptor fd word = (word ≡ signed_decimal fd) × FitsSigned w32 fd
+SpellsField a_position start word = (word ≡ signed_decimal start) × FitsSigned w64 start
+SpellsField a_count n word = (word ≡ decimal n) × (n < 2 ^ 32)
+SpellsField a_name name word = SpellsName name word
+SpellsField a_payload bytes word = SpellsData bytes word
+SpellsField some_flags bits word = (word ≡ flags_word bits) × (bits < nonblocking)
+SpellsField a_whence whence word = word ≡ whence_word whence
+
+-- fields: a space and a word for each
+abbrev pub SpellsFields : (ks : List FieldKind) → Values ks → List ℕ → Type 0
+SpellsFields [] vs text = text ≡ []
+SpellsFields (k ∷ ks) vs text = (word : List ℕ) × (rest : List ℕ) × SpellsField k vs.0 word × (text ≡ codes " " ++ (word ++ rest)) × SpellsFields ks vs.1 rest
+
+-- a call's parts: the word, and then the fields
+abbrev pub SpellsParts : Parts → List ℕ → Type 0
+SpellsParts p text = (rest : List ℕ) × SpellsFields p.entry.fields p.values rest × (text ≡ p.entry.word ++ rest)
+
+-- a call, after its process
 abbrev pub SpellsCall : Call → List ℕ → Type 0
-SpellsCall (calls.Open name flags) text = (word : List ℕ) × SpellsName name word × (flags.0 < 64) × (text ≡ codes "open " ++ (word ++ (32 ∷ flags_word flags.0)))
-SpellsCall (calls.Close fd) text = FitsSigned w32 fd × (text ≡ codes "close " ++ signed_decimal fd)
-SpellsCall (calls.Read fd count) text = FitsSigned w32 fd × (count < 2 ^ 32) × (text ≡ codes "read " ++ (signed_decimal fd ++ (32 ∷ decimal count)))
-SpellsCall (calls.Write fd bytes) text = (word : List ℕ) × FitsSigned w32 fd × SpellsData bytes word × (text ≡ codes "write " ++ (signed_decimal fd ++ (32 ∷ word)))
-SpellsCall (calls.Pread fd start count) text = FitsSigned w32 fd × FitsSigned w64 start × (count < 2 ^ 32) × (text ≡ codes "pread " ++ (signed_decimal fd ++ (32 ∷ (signed_decimal start ++ (32 ∷ decimal count)))))
-SpellsCall (calls.Pwrite fd start bytes) text = (word : List ℕ) × FitsSigned w32 fd × FitsSigned w64 start × SpellsData bytes word × (text ≡ codes "pwrite " ++ (signed_decimal fd ++ (32 ∷ (signed_decimal start ++ (32 ∷ word)))))
-SpellsCall (calls.Lseek fd offset whence) text = FitsSigned w32 fd × FitsSigned w64 offset × (text ≡ codes "lseek " ++ (signed_decimal fd ++ (32 ∷ (signed_decimal offset ++ (32 ∷ whence_word whence)))))
-SpellsCall (calls.Ftruncate fd len) text = FitsSigned w32 fd × FitsSigned w64 len × (text ≡ codes "ftruncate " ++ (signed_decimal fd ++ (32 ∷ signed_decimal len)))
-SpellsCall (calls.Fstat fd) text = FitsSigned w32 fd × (text ≡ codes "fstat " ++ signed_decimal fd)
+SpellsCall call text = SpellsParts (parts call) text
 
 -- an act
 abbrev pub SpellsAct : ScriptAct → List ℕ → Type 0
 SpellsAct acts.Join line = line ≡ codes "join"
-SpellsAct (acts.Call process call) line = (text : List ℕ) × (process < 2 ^ 32) × SpellsCall call text × (line ≡ process_word process ++ (32 ∷ text))
+SpellsAct (acts.Call process call) line = (text : List ℕ) × (process < 2 ^ 32) × SpellsCall call text × (line ≡ process_word process ++ (codes " " ++ text))
 
 -- bytes, each below 256
 abbrev pub AreBytes : List ℕ → Type 0
 AreBytes bytes = AllByRecursion (λ byte. byte < 256) bytes
 
+-- a field in its range
+abbrev pub FieldFits : (k : FieldKind) → Value k → Type 0
+FieldFits a_descriptor fd = FitsSigned w32 fd
+FieldFits a_position start = FitsSigned w64 start
+FieldFits a_count n = n < 2 ^ 32
+FieldFits a_name name = AreBytes name × (length name ≤ GIVEN_NAME_MAX)
+FieldFits a_payload bytes = AreBytes bytes × (length bytes ≤ GIVEN_BYTES_MAX)
+FieldFits some_flags bits = bits < nonblocking
+FieldFits a_whence whence = Unit {0}
+
+-- each of the fields in its range
+abbrev pub FieldsFit : (ks : List FieldKind) → Values ks → Type 0
+FieldsFit [] vs = Unit {0}
+FieldsFit (k ∷ ks) vs = FieldFits k vs.0 × FieldsFit ks vs.1
+
 -- a call that a script may have, with its fields in range
 abbrev pub IsScriptCall : Call → Type 0
-IsScriptCall (calls.Open name flags) = AreBytes name × (length name ≤ 255) × (flags.0 < 64)
-IsScriptCall (calls.Close fd) = FitsSigned w32 fd
-IsScriptCall (calls.Read fd count) = FitsSigned w32 fd × (count < 2 ^ 32)
-IsScriptCall (calls.Write fd bytes) = FitsSigned w32 fd × AreBytes bytes × (length bytes ≤ 65700)
-IsScriptCall (calls.Pread fd start count) = FitsSigned w32 fd × FitsSigned w64 start × (count < 2 ^ 32)
-IsScriptCall (calls.Pwrite fd start bytes) = FitsSigned w32 fd × FitsSigned w64 start × AreBytes bytes × (length bytes ≤ 65700)
-IsScriptCall (calls.Lseek fd offset whence) = FitsSigned w32 fd × FitsSigned w64 offset
-IsScriptCall (calls.Ftruncate fd len) = FitsSigned w32 fd × FitsSigned w64 len
-IsScriptCall (calls.Fstat fd) = FitsSigned w32 fd
+IsScriptCall call = FieldsFit (parts call).entry.fields (parts call).values
 
 -- a line of a script: it has no act, where it is empty, or the next one
 abbrev pub SpellsLine : List ScriptAct → List ScriptAct → List ℕ → Type 0
@@ -83,6 +105,6 @@ abbrev pub SpellsLines : List ScriptAct → List (List ℕ) → Type 0
 SpellsLines acts [] = acts ≡ []
 SpellsLines acts (line ∷ lines) = (rest : List ScriptAct) × SpellsLine acts rest line × SpellsLines rest lines
 
--- a script of at most 16,777,216 bytes: its lines are cut at each LF
+-- a script that is not too long: its lines are cut at each LF
 abbrev pub SpellsScript : List ScriptAct → List ℕ → Type 0
-SpellsScript acts text = (length text ≤ 16777216) × SpellsLines acts (slice_split (λ c. c == 10) text)
+SpellsScript acts text = (length text ≤ SCRIPT_MAX) × SpellsLines acts (slice_split (λ c. c == line_feed) text)

@@ -1,19 +1,32 @@
+//! Each call, read from a line and written to one.
+#![tactic(auto, using(crate::proofs::Fronts::keeps_after), unfolding(crate::specs::Lines::call_text))]
+
 ghost use Rattle.std.specs.Prelude.{◌≡◌};
 ghost use Rattle.std.specs.Option.{option_copied};
+ghost use Rattle.call_types.specs.CallTable.{open_entry, close_entry, read_entry, write_entry, pread_entry, pwrite_entry, lseek_entry, ftruncate_entry, fstat_entry, position_table};
 ghost use Rattle.script_text.specs.Reading.{Gives, Word};
-ghost use Rattle.script_text.specs.ReadingCalls.{open_call, close_call, read_call, write_call, fstat_call, named_call};
+ghost use Rattle.script_text.specs.ReadingCalls.{entry_at, one_of, named_call};
+ghost use Rattle.script_text.specs.Writing.{Appends};
+ghost use Rattle.script_text.specs.Lines.{call_text};
 
 use crate::cutting::Left;
 use crate::fault::WordFault;
 use crate::fields;
-use crate::positions::position_call;
+use crate::flags::put_flags;
+use crate::name::put_name;
+use crate::payload::put_data;
+use crate::put::{put, put_descriptor, put_number, put_position};
+use crate::whence::whence_text;
 use crate::words::{Next, line_end};
+use call_types::bounded::{Name, Payload};
 use call_types::call::Call;
-use std::alloc::Global;
+use call_types::flags::OpenFlags;
+use call_types::whence::Whence;
+use std::alloc::{AllocError, Global};
 
-/// `open NAME FLAGS`, behind its first word.
-fn open(alloc: Global, left: Left<'_>) -> Result<Call, WordFault>
-    ensures { Gives (λ x. x) result (open_call (option_copied left.entry)) }
+/// `open NAME FLAGS`, after its first word.
+fn open_call(alloc: Global, left: Left<'_>) -> Result<Call, WordFault>
+    ensures { Gives (λ x. x) result (entry_at open_entry (option_copied left.entry)) }
 {
     let (name, left) = fields::name(alloc, left)?;
     let (flags, left) = fields::flags(left)?;
@@ -21,18 +34,38 @@ fn open(alloc: Global, left: Left<'_>) -> Result<Call, WordFault>
     Ok(Call::Open { name, flags })
 }
 
+/// Appends an open.
+fn put_open(out: &mut Vec<u8>, name: &Name, flags: OpenFlags) -> Result<(), AllocError>
+    ensures { Appends result out.old.items out.new.items (call_text (Call.Open name.now flags)) }
+{
+    put(out, b"open ")?;
+    put_name(out, name.as_slice())?;
+    put(out, b" ")?;
+    put_flags(out, flags)?;
+    Ok(())
+}
+
 /// `close FD`
-fn close(left: Left<'_>) -> Result<Call, WordFault>
-    ensures { Gives (λ x. x) result (close_call (option_copied left.entry)) }
+fn close_call(left: Left<'_>) -> Result<Call, WordFault>
+    ensures { Gives (λ x. x) result (entry_at close_entry (option_copied left.entry)) }
 {
     let (fd, left) = fields::descriptor(left)?;
     line_end(left)?;
     Ok(Call::Close { fd })
 }
 
+/// Appends a close.
+fn put_close(out: &mut Vec<u8>, fd: i32) -> Result<(), AllocError>
+    ensures { Appends result out.old.items out.new.items (call_text (Call.Close fd)) }
+{
+    put(out, b"close ")?;
+    put_descriptor(out, fd)?;
+    Ok(())
+}
+
 /// `read FD N`
-fn read(left: Left<'_>) -> Result<Call, WordFault>
-    ensures { Gives (λ x. x) result (read_call (option_copied left.entry)) }
+fn read_call(left: Left<'_>) -> Result<Call, WordFault>
+    ensures { Gives (λ x. x) result (entry_at read_entry (option_copied left.entry)) }
 {
     let (fd, left) = fields::descriptor(left)?;
     let (count, left) = fields::count(left)?;
@@ -40,9 +73,20 @@ fn read(left: Left<'_>) -> Result<Call, WordFault>
     Ok(Call::Read { fd, count })
 }
 
+/// Appends a read.
+fn put_read(out: &mut Vec<u8>, fd: i32, count: u32) -> Result<(), AllocError>
+    ensures { Appends result out.old.items out.new.items (call_text (Call.Read fd count)) }
+{
+    put(out, b"read ")?;
+    put_descriptor(out, fd)?;
+    put(out, b" ")?;
+    put_number(out, count as u64)?;
+    Ok(())
+}
+
 /// `write FD DATA`
-fn write(alloc: Global, left: Left<'_>) -> Result<Call, WordFault>
-    ensures { Gives (λ x. x) result (write_call (option_copied left.entry)) }
+fn write_call(alloc: Global, left: Left<'_>) -> Result<Call, WordFault>
+    ensures { Gives (λ x. x) result (entry_at write_entry (option_copied left.entry)) }
 {
     let (fd, left) = fields::descriptor(left)?;
     let (bytes, left) = fields::payload(alloc, left)?;
@@ -50,30 +94,180 @@ fn write(alloc: Global, left: Left<'_>) -> Result<Call, WordFault>
     Ok(Call::Write { fd, bytes })
 }
 
+/// Appends a write.
+fn put_write(out: &mut Vec<u8>, fd: i32, bytes: &Payload) -> Result<(), AllocError>
+    ensures { Appends result out.old.items out.new.items (call_text (Call.Write fd bytes.now)) }
+{
+    put(out, b"write ")?;
+    put_descriptor(out, fd)?;
+    put(out, b" ")?;
+    put_data(out, bytes.as_slice())?;
+    Ok(())
+}
+
+/// `pread FD POS N`
+fn pread_call(left: Left<'_>) -> Result<Call, WordFault>
+    ensures { Gives (λ x. x) result (entry_at pread_entry (option_copied left.entry)) }
+{
+    let (fd, left) = fields::descriptor(left)?;
+    let (start, left) = fields::position(left)?;
+    let (count, left) = fields::count(left)?;
+    line_end(left)?;
+    Ok(Call::Pread { fd, start, count })
+}
+
+/// Appends a pread.
+fn put_pread(out: &mut Vec<u8>, fd: i32, start: i64, count: u32) -> Result<(), AllocError>
+    ensures { Appends result out.old.items out.new.items (call_text (Call.Pread fd start count)) }
+{
+    put(out, b"pread ")?;
+    put_descriptor(out, fd)?;
+    put(out, b" ")?;
+    put_position(out, start)?;
+    put(out, b" ")?;
+    put_number(out, count as u64)?;
+    Ok(())
+}
+
+/// `pwrite FD POS DATA`
+fn pwrite_call(alloc: Global, left: Left<'_>) -> Result<Call, WordFault>
+    ensures { Gives (λ x. x) result (entry_at pwrite_entry (option_copied left.entry)) }
+{
+    let (fd, left) = fields::descriptor(left)?;
+    let (start, left) = fields::position(left)?;
+    let (bytes, left) = fields::payload(alloc, left)?;
+    line_end(left)?;
+    Ok(Call::Pwrite { fd, start, bytes })
+}
+
+/// Appends a pwrite.
+fn put_pwrite(out: &mut Vec<u8>, fd: i32, start: i64, bytes: &Payload) -> Result<(), AllocError>
+    ensures { Appends result out.old.items out.new.items (call_text (Call.Pwrite fd start bytes.now)) }
+{
+    put(out, b"pwrite ")?;
+    put_descriptor(out, fd)?;
+    put(out, b" ")?;
+    put_position(out, start)?;
+    put(out, b" ")?;
+    put_data(out, bytes.as_slice())?;
+    Ok(())
+}
+
+/// `lseek FD OFF set`, or `cur`, or `end`
+fn lseek_call(left: Left<'_>) -> Result<Call, WordFault>
+    ensures { Gives (λ x. x) result (entry_at lseek_entry (option_copied left.entry)) }
+{
+    let (fd, left) = fields::descriptor(left)?;
+    let (offset, left) = fields::position(left)?;
+    let (whence, left) = fields::whence(left)?;
+    line_end(left)?;
+    Ok(Call::Lseek { fd, offset, whence })
+}
+
+/// Appends an lseek.
+fn put_lseek(out: &mut Vec<u8>, fd: i32, offset: i64, whence: Whence) -> Result<(), AllocError>
+    ensures { Appends result out.old.items out.new.items (call_text (Call.Lseek fd offset whence)) }
+{
+    put(out, b"lseek ")?;
+    put_descriptor(out, fd)?;
+    put(out, b" ")?;
+    put_position(out, offset)?;
+    put(out, b" ")?;
+    put(out, whence_text(whence))?;
+    Ok(())
+}
+
+/// `ftruncate FD LEN`
+fn ftruncate_call(left: Left<'_>) -> Result<Call, WordFault>
+    ensures { Gives (λ x. x) result (entry_at ftruncate_entry (option_copied left.entry)) }
+{
+    let (fd, left) = fields::descriptor(left)?;
+    let (len, left) = fields::position(left)?;
+    line_end(left)?;
+    Ok(Call::Ftruncate { fd, len })
+}
+
+/// Appends an ftruncate.
+fn put_ftruncate(out: &mut Vec<u8>, fd: i32, len: i64) -> Result<(), AllocError>
+    ensures { Appends result out.old.items out.new.items (call_text (Call.Ftruncate fd len)) }
+{
+    put(out, b"ftruncate ")?;
+    put_descriptor(out, fd)?;
+    put(out, b" ")?;
+    put_position(out, len)?;
+    Ok(())
+}
+
 /// `fstat FD`
-fn fstat(left: Left<'_>) -> Result<Call, WordFault>
-    ensures { Gives (λ x. x) result (fstat_call (option_copied left.entry)) }
+fn fstat_call(left: Left<'_>) -> Result<Call, WordFault>
+    ensures { Gives (λ x. x) result (entry_at fstat_entry (option_copied left.entry)) }
 {
     let (fd, left) = fields::descriptor(left)?;
     line_end(left)?;
     Ok(Call::Fstat { fd })
 }
 
+/// Appends an fstat.
+fn put_fstat(out: &mut Vec<u8>, fd: i32) -> Result<(), AllocError>
+    ensures { Appends result out.old.items out.new.items (call_text (Call.Fstat fd)) }
+{
+    put(out, b"fstat ")?;
+    put_descriptor(out, fd)?;
+    Ok(())
+}
+
 /// The call that a first word names.
 pub(crate) fn call(alloc: Global, word: Next<'_>) -> Result<Call, WordFault>
-    ensures { Gives (λ x. x) result (named_call (record { text = word.entry.text.now; place = word.entry.place; after = option_copied word.entry.after })) }
+    ensures { Gives (λ x. x) result (named_call (record { text = word.entry.text.now; remaining = word.entry.remaining; after = option_copied word.entry.after })) }
 {
     if word.is(b"open") {
-        open(alloc, word.after)
+        open_call(alloc, word.after)
     } else if word.is(b"close") {
-        close(word.after)
+        close_call(word.after)
     } else if word.is(b"read") {
-        read(word.after)
+        read_call(word.after)
     } else if word.is(b"write") {
-        write(alloc, word.after)
+        write_call(alloc, word.after)
     } else if word.is(b"fstat") {
-        fstat(word.after)
+        fstat_call(word.after)
     } else {
         position_call(alloc, word)
+    }
+}
+
+/// The call with a position, an offset or a length that a first word names.
+fn position_call(alloc: Global, word: Next<'_>) -> Result<Call, WordFault>
+    ensures { Gives (λ x. x) result (one_of position_table (record { text = word.entry.text.now; remaining = word.entry.remaining; after = option_copied word.entry.after })) }
+{
+    if word.is(b"pread") {
+        pread_call(word.after)
+    } else if word.is(b"pwrite") {
+        pwrite_call(alloc, word.after)
+    } else if word.is(b"lseek") {
+        lseek_call(word.after)
+    } else if word.is(b"ftruncate") {
+        ftruncate_call(word.after)
+    } else {
+        Err(WordFault::At {
+            remaining: word.remaining,
+        })
+    }
+}
+
+/// Appends a call, after its process.
+#[tactic(auto)]
+pub(crate) fn put_call(out: &mut Vec<u8>, call: &Call) -> Result<(), AllocError>
+    ensures { Appends result out.old.items out.new.items (call_text call.now) }
+{
+    match call {
+        Call::Open { name, flags } => put_open(out, name, *flags),
+        Call::Close { fd } => put_close(out, *fd),
+        Call::Read { fd, count } => put_read(out, *fd, *count),
+        Call::Write { fd, bytes } => put_write(out, *fd, bytes),
+        Call::Pread { fd, start, count } => put_pread(out, *fd, *start, *count),
+        Call::Pwrite { fd, start, bytes } => put_pwrite(out, *fd, *start, bytes),
+        Call::Lseek { fd, offset, whence } => put_lseek(out, *fd, *offset, *whence),
+        Call::Ftruncate { fd, len } => put_ftruncate(out, *fd, *len),
+        Call::Fstat { fd } => put_fstat(out, *fd),
     }
 }

@@ -1,3 +1,5 @@
+//! A line or a script, cut at a byte.
+
 ghost use Rattle.std.specs.Prelude.{◌≡◌, ◌<◌, ◌==◌, length, position, IfSome};
 ghost use Rattle.std.specs.Option.{option_copied};
 ghost use Rattle.script_text.specs.Reading.{cut};
@@ -5,10 +7,10 @@ ghost use Rattle.memchr.specs.Find.{IsFirstByte, is_byte};
 
 use memchr::memchr;
 
-/// What is left of a line behind a space, or of a script behind an LF; `None` where it has ended.
+/// What is left of a line after a space, or of a script after an LF; `None` where it has ended.
 pub(crate) type Left<'a> = Option<&'a [u8]>;
 
-/// The place of the first byte that is `mark`, byte by byte.
+/// The index of the first byte that is `mark`, byte by byte.
 #[inline(always)]
 fn first_of(mark: u8, bytes: &[u8]) -> Option<usize>
     ensures { result ≡ position (λ b. b == mark) bytes.now }
@@ -16,9 +18,9 @@ fn first_of(mark: u8, bytes: &[u8]) -> Option<usize>
     bytes.iter().position(|byte| *byte == mark)
 }
 
-/// The place of the first byte that is `mark`. A call of `memchr` costs more than it saves in a short text.
+/// The index of the first byte that is `mark`. A call of `memchr` costs more than it saves in a short text.
 #[inline(always)]
-fn place_of(mark: u8, bytes: &[u8]) -> Option<usize>
+fn find(mark: u8, bytes: &[u8]) -> Option<usize>
     ensures { IsFirstByte (is_byte mark) bytes.now result }
 {
     if bytes.len() < 64 {
@@ -27,13 +29,13 @@ fn place_of(mark: u8, bytes: &[u8]) -> Option<usize>
     memchr(mark, bytes)
 }
 
-/// The bytes up to the first that is `mark`, and what is left behind it.
+/// The bytes up to the first that is `mark`, and what is left after it.
 #[inline(always)]
 pub(crate) fn cut_at(mark: u8, bytes: &[u8]) -> (&[u8], Left<'_>)
     ensures value { (result.0.now, option_copied result.1) ≡ cut mark bytes.now }
     ensures shorter { IfSome result.1 (λ rest. length rest.now < length bytes.now) }
 {
-    match place_of(mark, bytes) {
+    match find(mark, bytes) {
         Some(i) => (&bytes[..i], Some(&bytes[i + 1..])),
         None => (bytes, None),
     }

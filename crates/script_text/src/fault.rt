@@ -1,6 +1,8 @@
+//! Why a line or a script is not read.
+
 ghost use Rattle.std.specs.Prelude.{◌≡◌};
 
-use std::alloc::{AllocError, AllocFailed};
+use std::alloc::AllocError;
 
 /// Why a line isn't read.
 #[derive(Clone, Copy, Debug, PartialEq, Eq)]
@@ -17,7 +19,7 @@ pub enum ReadFault {
 pub enum ScriptFault {
     /// The first line that is no act, counted from 1, and the column as for a line alone.
     BadLine { line: usize, column: usize },
-    /// The script has more than 16,777,216 bytes.
+    /// The script has more than `SCRIPT_MAX` bytes.
     TooLong,
     /// Memory ran out.
     NoMemory,
@@ -26,8 +28,8 @@ pub enum ScriptFault {
 /// Why words aren't read.
 #[derive(Clone, Copy, Debug)]
 pub(crate) enum WordFault {
-    /// A word isn't allowed or is missing where so many bytes of the line are left.
-    At { left: usize },
+    /// A word isn't allowed or is missing where so many bytes of the line remain.
+    At { remaining: usize },
     NoMemory,
 }
 
@@ -37,16 +39,6 @@ impl From<AllocError> for WordFault {
     ghost from_gives = { λ _ e. e ≡ NoMemory };
 
     fn from(_fault: AllocError) -> WordFault {
-        WordFault::NoMemory
-    }
-}
-
-impl<T: Drop> From<AllocFailed<T>> for WordFault {
-    ghost use Rattle.script_text.specs.declared.fault.WordFault.TheVariants.{NoMemory};
-
-    ghost from_gives = { λ _ e. e ≡ NoMemory };
-
-    fn from(_fault: AllocFailed<T>) -> WordFault {
         WordFault::NoMemory
     }
 }

@@ -1,11 +1,12 @@
-ghost use Rattle.std.specs.Prelude.{◌≡◌};
+//! The next word of a line, as a field of a call.
+
 ghost use Rattle.std.specs.Option.{option_copied};
 ghost use Rattle.script_text.specs.Reading.{Gives, field};
-ghost use Rattle.script_text.specs.ReadingNumbers.{number_of, descriptor_of, position_of};
+ghost use Rattle.script_text.specs.ReadingNumbers.{count_of, descriptor_of, position_of};
 ghost use Rattle.script_text.specs.ReadingNames.{name_of};
 ghost use Rattle.script_text.specs.ReadingData.{data_of};
 ghost use Rattle.script_text.specs.ReadingFlags.{flags_of};
-ghost use Rattle.script_text.specs.ReadingPositions.{whence_of};
+ghost use Rattle.script_text.specs.ReadingCalls.{whence_of};
 
 use crate::cutting::Left;
 use crate::fault::WordFault;
@@ -13,7 +14,8 @@ use crate::flags::flags_value;
 use crate::name::name_value;
 use crate::number::{descriptor_value, number_value, position_value};
 use crate::payload::data_value;
-use crate::words::{next_word, valued};
+use crate::whence::whence_value;
+use crate::words::next_word;
 use call_types::bounded::{Name, Payload};
 use call_types::flags::OpenFlags;
 use call_types::whence::Whence;
@@ -24,7 +26,7 @@ pub(crate) fn descriptor(left: Left<'_>) -> Result<(i32, Left<'_>), WordFault>
     ensures { Gives (λ x. (x.0, option_copied x.1)) result (field descriptor_of (option_copied left.entry)) }
 {
     let word = next_word(left)?;
-    valued(descriptor_value(word.text), word.place, word.after)
+    word.valued(descriptor_value(word.text))
 }
 
 /// The next word as a position, an offset or a length, in bytes.
@@ -32,35 +34,23 @@ pub(crate) fn position(left: Left<'_>) -> Result<(i64, Left<'_>), WordFault>
     ensures { Gives (λ x. (x.0, option_copied x.1)) result (field position_of (option_copied left.entry)) }
 {
     let word = next_word(left)?;
-    valued(position_value(word.text), word.place, word.after)
+    word.valued(position_value(word.text))
 }
 
-/// From where a word of lseek counts.
-fn whence_value(word: &[u8]) -> Option<Whence>
-    ensures { result ≡ whence_of word.now }
-{
-    match word {
-        b"set" => Some(Whence::Set),
-        b"cur" => Some(Whence::Cur),
-        b"end" => Some(Whence::End),
-        _ => None,
-    }
-}
-
-/// The next word as what lseek counts from.
+/// The next word as a base of an offset: the start, the current offset, or the end.
 pub(crate) fn whence(left: Left<'_>) -> Result<(Whence, Left<'_>), WordFault>
     ensures { Gives (λ x. (x.0, option_copied x.1)) result (field whence_of (option_copied left.entry)) }
 {
     let word = next_word(left)?;
-    valued(whence_value(word.text), word.place, word.after)
+    word.valued(whence_value(word.text))
 }
 
 /// The next word as a count of bytes.
 pub(crate) fn count(left: Left<'_>) -> Result<(u32, Left<'_>), WordFault>
-    ensures { Gives (λ x. (x.0, option_copied x.1)) result (field (number_of 4294967295) (option_copied left.entry)) }
+    ensures { Gives (λ x. (x.0, option_copied x.1)) result (field count_of (option_copied left.entry)) }
 {
     let word = next_word(left)?;
-    valued(number_value(u32::MAX, word.text), word.place, word.after)
+    word.valued(number_value(u32::MAX, word.text))
 }
 
 /// The next word as flags.
@@ -68,7 +58,7 @@ pub(crate) fn flags(left: Left<'_>) -> Result<(OpenFlags, Left<'_>), WordFault>
     ensures { Gives (λ x. (x.0.0, option_copied x.1)) result (field flags_of (option_copied left.entry)) }
 {
     let word = next_word(left)?;
-    valued(flags_value(word.text), word.place, word.after)
+    word.valued(flags_value(word.text))
 }
 
 /// The next word as a name.
@@ -76,7 +66,7 @@ pub(crate) fn name(alloc: Global, left: Left<'_>) -> Result<(Name, Left<'_>), Wo
     ensures { Gives (λ x. (x.0, option_copied x.1)) result (field name_of (option_copied left.entry)) }
 {
     let word = next_word(left)?;
-    valued(name_value(alloc, word.text)?, word.place, word.after)
+    word.valued(name_value(alloc, word.text)?)
 }
 
 /// The next word as data.
@@ -84,5 +74,5 @@ pub(crate) fn payload(alloc: Global, left: Left<'_>) -> Result<(Payload, Left<'_
     ensures { Gives (λ x. (x.0, option_copied x.1)) result (field data_of (option_copied left.entry)) }
 {
     let word = next_word(left)?;
-    valued(data_value(alloc, word.text)?, word.place, word.after)
+    word.valued(data_value(alloc, word.text)?)
 }

@@ -1,9 +1,15 @@
+//! Flags of open, read from a word and written as one.
+
 ghost use Rattle.std.specs.Prelude.{◌≡◌, bit_or};
 ghost use Rattle.std.specs.Option.{option_map};
-ghost use Rattle.script_text.specs.ReadingFlags.{flags_of, behind_mode, taken};
+ghost use Rattle.script_text.specs.Lines.{mode_word, suffix, flags_word};
+ghost use Rattle.script_text.specs.Writing.{Appends};
+ghost use Rattle.script_text.specs.ReadingFlags.{flags_of, after_mode, with_suffix};
 
+use crate::put::put;
 use bitflags::Flags;
 use call_types::flags::OpenFlags;
+use std::alloc::AllocError;
 
 /// The flags with a further one.
 fn with_flag(mut flags: OpenFlags, flag: OpenFlags) -> OpenFlags
@@ -13,14 +19,14 @@ fn with_flag(mut flags: OpenFlags, flag: OpenFlags) -> OpenFlags
     flags
 }
 
-/// The flags and what is left of their word, behind a suffix that may stand there.
+/// The flags and what is left of their word, after a suffix that may stand there.
 fn with_suffix<'a>(
     flags: OpenFlags,
     rest: &'a [u8],
     text: &[u8],
     flag: OpenFlags,
 ) -> (OpenFlags, &'a [u8])
-    ensures { (result.0.0, result.1.now) ≡ taken (flags.0, rest.entry.now) (record { text = text.now; bit = flag.0 }) }
+    ensures { (result.0.0, result.1.now) ≡ with_suffix (flags.0, rest.entry.now) (record { text = text.now; bit = flag.0 }) }
 {
     match rest.strip_prefix(text) {
         Some(after) => (with_flag(flags, flag), after),
@@ -30,7 +36,7 @@ fn with_suffix<'a>(
 
 /// The flags of a mode and of the suffixes that follow it.
 fn mode_and_suffixes(mode: OpenFlags, rest: &[u8]) -> Option<OpenFlags>
-    ensures { option_map (λ flags. flags.0) result ≡ behind_mode mode.0 rest.now }
+    ensures { option_map (λ flags. flags.0) result ≡ after_mode mode.0 rest.now }
 {
     let (flags, rest) = with_suffix(mode, rest, b",creat", OpenFlags::CREAT);
     let (flags, rest) = with_suffix(flags, rest, b",excl", OpenFlags::EXCL);
@@ -53,4 +59,46 @@ pub(crate) fn flags_value(word: &[u8]) -> Option<OpenFlags>
         [b'-', rest @ ..] => mode_and_suffixes(OpenFlags::empty(), rest),
         _ => None,
     }
+}
+
+/// How the mode of flags is written.
+fn mode_text(flags: OpenFlags) -> &'static [u8]
+    ensures { result.now ≡ mode_word flags.0 }
+{
+    match (flags.has(OpenFlags::READ), flags.has(OpenFlags::WRITE)) {
+        (true, true) => b"rw",
+        (true, false) => b"r",
+        (false, true) => b"w",
+        (false, false) => b"-",
+    }
+}
+
+/// Appends the suffix of a flag, if its bit is set.
+#[tactic(auto, using(crate::proofs::Fronts::keeps_after, crate::proofs::Fronts::keeps))]
+fn put_suffix(
+    out: &mut Vec<u8>,
+    flags: OpenFlags,
+    flag: OpenFlags,
+    text: &[u8],
+) -> Result<(), AllocError>
+    ensures { Appends result out.old.items out.new.items (suffix flags.0 flag.0 text.now) }
+{
+    if flags.has(flag) {
+        put(out, text)?;
+    }
+    Ok(())
+}
+
+/// Appends flags.
+#[tactic(auto, using(crate::proofs::Fronts::keeps_after))]
+pub(crate) fn put_flags(out: &mut Vec<u8>, flags: OpenFlags) -> Result<(), AllocError>
+    ensures { Appends result out.old.items out.new.items (flags_word flags.0) }
+{
+    put(out, mode_text(flags))?;
+    put_suffix(out, flags, OpenFlags::CREAT, b",creat")?;
+    put_suffix(out, flags, OpenFlags::EXCL, b",excl")?;
+    put_suffix(out, flags, OpenFlags::TRUNC, b",trunc")?;
+    put_suffix(out, flags, OpenFlags::APPEND, b",append")?;
+    put_suffix(out, flags, OpenFlags::NONBLOCK, b",nonblock")?;
+    Ok(())
 }

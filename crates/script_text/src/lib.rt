@@ -3,23 +3,18 @@
 
 mod calls;
 mod cutting;
-mod digits;
 pub mod fault;
 mod fields;
 mod flags;
+mod hexadecimal;
 pub mod lines;
 mod name;
 mod number;
+mod outcomes;
 mod payload;
-mod positions;
 mod put;
 pub mod reading;
 pub mod round_trip;
 pub mod script;
-#[cfg(test)]
-mod tests;
+mod whence;
 mod words;
-mod write_calls;
-mod write_outcomes;
-mod write_positions;
-mod write_words;

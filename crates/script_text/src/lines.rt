@@ -1,15 +1,18 @@
+//! The lines of a run, written.
+#![tactic(auto, using(crate::proofs::Fronts::keeps_after))]
+
 ghost use Rattle.std.specs.Prelude.{◌≡◌};
 ghost use Rattle.script_text.specs.Writing.{Appends};
 ghost use Rattle.script_text.specs.Lines.{act_text, actor_word, record_line, script_act_text, refusal_word, refused_line, totals_line};
 
+use crate::calls::put_call;
+use crate::outcomes::put_outcome;
 use crate::put::{put, put_number, put_process};
-use crate::write_calls::put_call;
-use crate::write_outcomes::put_outcome;
 use call_types::act::{Act, Record, ScriptAct};
 use call_types::refusal::Refusal;
 use std::alloc::AllocError;
 
-/// Appends an act, behind its actor.
+/// Appends an act, after its actor.
 fn put_act(out: &mut Vec<u8>, act: &Act) -> Result<(), AllocError>
     ensures { Appends result out.old.items out.new.items (act_text act.now) }
 {
@@ -34,9 +37,8 @@ fn put_actor(out: &mut Vec<u8>, actor: u32, act: &Act) -> Result<(), AllocError>
 }
 
 /// Appends the line of the record at a place, with its LF.
-#[tactic(auto, using(crate::proofs::Fronts::keeps_behind))]
 pub fn write_record(out: &mut Vec<u8>, place: u64, record: &Record) -> Result<(), AllocError>
-    // The line stands behind the old bytes; where memory runs out these are still the front.
+    // The line stands after the old bytes; where memory runs out these are still the front.
     ensures { Appends result out.old.items out.new.items (record_line place «record».now) }
 {
     put_number(out, place)?;
@@ -50,7 +52,7 @@ pub fn write_record(out: &mut Vec<u8>, place: u64, record: &Record) -> Result<()
     Ok(())
 }
 
-/// Appends an act of a script, behind its actor.
+/// Appends an act of a script, after its actor.
 fn put_script_act(out: &mut Vec<u8>, act: &ScriptAct) -> Result<(), AllocError>
     ensures { Appends result out.old.items out.new.items (script_act_text act.now) }
 {
@@ -74,14 +76,13 @@ fn refusal_text(refusal: Refusal) -> &'static [u8]
 }
 
 /// Appends the line of an act that isn't recorded, with its LF. The actor of a join is the one that it would have had.
-#[tactic(auto, using(crate::proofs::Fronts::keeps_behind))]
 pub fn write_refused(
     out: &mut Vec<u8>,
     actor: u32,
     act: &ScriptAct,
     refusal: Refusal,
 ) -> Result<(), AllocError>
-    // The line stands behind the old bytes; where memory runs out these are still the front.
+    // The line stands after the old bytes; where memory runs out these are still the front.
     ensures { Appends result out.old.items out.new.items (refused_line actor act.now refusal) }
 {
     put(out, b"- ")?;
@@ -95,14 +96,13 @@ pub fn write_refused(
 }
 
 /// Appends the last line, of the number of records and of the bytes that went in and out, with its LF.
-#[tactic(auto, using(crate::proofs::Fronts::keeps_behind))]
 pub fn write_totals(
     out: &mut Vec<u8>,
     records: u64,
     bytes_in: u64,
     bytes_out: u64,
 ) -> Result<(), AllocError>
-    // The line stands behind the old bytes; where memory runs out these are still the front.
+    // The line stands after the old bytes; where memory runs out these are still the front.
     ensures { Appends result out.old.items out.new.items (totals_line records bytes_in bytes_out) }
 {
     put(out, b"records ")?;

@@ -1,24 +1,32 @@
+//! Names, read from a word and written as one.
+
 ghost use Rattle.std.specs.Prelude.{◌≡◌, IfOk, Some};
 ghost use Rattle.std.specs.Option.{option_map};
-ghost use Rattle.script_text.specs.ReadingNames.{decoded, first_decoded, name_of, plain, at_most};
+ghost use Rattle.std.specs.List.{flat_map};
+ghost use Rattle.call_types.specs.declared.limits.TheConstants.{GIVEN_NAME_MAX};
+ghost use Rattle.script_text.specs.Lines.{name_byte, name_word};
+ghost use Rattle.script_text.specs.Writing.{Appends};
+ghost use Rattle.script_text.specs.ReadingNames.{decoded, first_decoded, name_of, is_plain, at_most};
 
-use crate::digits::hex_byte_value;
+use crate::hexadecimal::{byte_value, put_hex};
+use crate::put::put;
 use call_types::bounded::Name;
+use call_types::limits::GIVEN_NAME_MAX;
 use std::alloc::{AllocError, Global};
 
 /// Whether a byte of a name stands for itself.
-pub(crate) fn is_plain(byte: u8) -> bool
-    ensures { result ≡ plain byte }
+fn is_plain(byte: u8) -> bool
+    ensures { result ≡ is_plain byte }
 {
     byte.is_ascii_graphic() && byte != b'%'
 }
 
-/// The first byte that a word of a name stands for, and what is left behind it.
+/// The first byte that a word of a name stands for, and what is left after it.
 fn first_byte(word: &[u8]) -> Option<(u8, &[u8])>
     ensures { option_map (λ x. (x.0, x.1.now)) result ≡ first_decoded word.now }
 {
     match word {
-        [b'%', high, low, rest @ ..] => Some((hex_byte_value(*high, *low)?, rest)),
+        [b'%', high, low, rest @ ..] => Some((byte_value(*high, *low)?, rest)),
         [byte, rest @ ..] if is_plain(*byte) => Some((*byte, rest)),
         _ => None,
     }
@@ -40,11 +48,11 @@ fn decoded_bytes(alloc: Global, word: &[u8]) -> Result<Option<Vec<u8>>, AllocErr
     Ok(Some(bytes))
 }
 
-/// A name of at most 255 bytes.
+/// A name, unless it is longer than a call may give it.
 fn short_name(bytes: Vec<u8>) -> Option<Name>
-    ensures { result ≡ at_most 255 (Some bytes.items) }
+    ensures { result ≡ at_most GIVEN_NAME_MAX (Some bytes.items) }
 {
-    if bytes.len() > 255 {
+    if bytes.len() > GIVEN_NAME_MAX {
         return None;
     }
     Some(Name::new(bytes))
@@ -62,4 +70,39 @@ pub(crate) fn name_value(alloc: Global, word: &[u8]) -> Result<Option<Name>, All
             Some(bytes) => Ok(short_name(bytes)),
         },
     }
+}
+
+/// Appends a byte of a name.
+#[tactic(auto, using(crate::proofs::Fronts::keeps_after, crate::proofs::Fronts::keeps))]
+fn put_name_byte(out: &mut Vec<u8>, byte: u8) -> Result<(), AllocError>
+    ensures { Appends result out.old.items out.new.items (name_byte byte) }
+{
+    if is_plain(byte) {
+        out.push(byte)?;
+        return Ok(());
+    }
+    put(out, b"%")?;
+    put_hex(out, byte)?;
+    Ok(())
+}
+
+/// Appends the bytes of a name.
+#[tactic(auto, using(crate::proofs::Fronts::keeps_after))]
+fn put_name_bytes(out: &mut Vec<u8>, name: &[u8]) -> Result<(), AllocError>
+    ensures { Appends result out.old.items out.new.items (flat_map name_byte name.now) }
+{
+    for byte in name {
+        put_name_byte(out, *byte)?;
+    }
+    Ok(())
+}
+
+/// Appends a name.
+pub(crate) fn put_name(out: &mut Vec<u8>, name: &[u8]) -> Result<(), AllocError>
+    ensures { Appends result out.old.items out.new.items (name_word name.now) }
+{
+    if name.is_empty() {
+        return put(out, b"%");
+    }
+    put_name_bytes(out, name)
 }

@@ -1,5 +1,7 @@
+//! Numbers, read from a word.
+
 ghost use Rattle.std.specs.Prelude.{◌≡◌, ◌≤◌, ◌<◌, ◌+◌, ◌^◌, Some, IfSome, pos, negsuc, ◌≤ℤ◌};
-ghost use Rattle.script_text.specs.ReadingNumbers.{digits_on, number_of, process_of, signed_of, descriptor_of, position_of, negative, not_negative};
+ghost use Rattle.script_text.specs.ReadingNumbers.{digits_on, number_of, process_of, signed_of, descriptor_of, position_of, negative};
 
 /// The number at most `most` that a word is in decimal, without leading zeros.
 pub(crate) fn number_value(most: u32, word: &[u8]) -> Option<u32>
@@ -54,14 +56,14 @@ pub(crate) fn process_value(word: &[u8]) -> Option<u32>
 pub(crate) fn descriptor_value(word: &[u8]) -> Option<i32>
     ensures { result ≡ descriptor_of word.now }
 {
-    Some(signed_value((1 << 31) - 1, word)? as i32)
+    Some(signed_value(i32::MAX as u64, word)? as i32)
 }
 
 /// The position, offset or length that a word is, in bytes: a number that may be negative.
 pub(crate) fn position_value(word: &[u8]) -> Option<i64>
     ensures { result ≡ position_of word.now }
 {
-    signed_value((1 << 63) - 1, word)
+    signed_value(i64::MAX as u64, word)
 }
 
 /// The number that a word is, from -(`most` + 1) to `most`.
@@ -73,7 +75,7 @@ fn signed_value(most: u64, word: &[u8]) -> Option<i64>
     match word {
         [] => None,
         [b'-', digits @ ..] => negative_value(wide_number_value(most + 1, digits)?),
-        digits => plain_value(wide_number_value(most, digits)?),
+        digits => Some(wide_number_value(most, digits)? as i64),
     }
 }
 
@@ -86,12 +88,4 @@ fn negative_value(size: u64) -> Option<i64>
         return None;
     }
     Some(-((size - 1) as i64) - 1)
-}
-
-/// The size itself.
-fn plain_value(size: u64) -> Option<i64>
-    requires { size < 2 ^ 63 }
-    ensures { result ≡ not_negative (Some size) }
-{
-    Some(size as i64)
 }

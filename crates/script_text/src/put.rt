@@ -1,13 +1,15 @@
-ghost use Rattle.std.specs.Prelude.{◌<◌, ◌≡◌, decimal};
+//! Texts and numbers, appended to a line.
+#![tactic(auto, using(crate::proofs::Fronts::keeps))]
+
+ghost use Rattle.std.specs.Prelude.{decimal};
 ghost use Rattle.std.specs.Fmt.{signed_decimal};
 ghost use Rattle.script_text.specs.Writing.{Appends};
-ghost use Rattle.script_text.specs.Lines.{hex_pair, hex_glyph, process_word};
+ghost use Rattle.script_text.specs.Lines.{process_word};
 
 use itoa::Buffer;
 use std::alloc::AllocError;
 
 /// Appends a text.
-#[tactic(auto, using(crate::proofs::Fronts::keeps))]
 pub(crate) fn put(out: &mut Vec<u8>, text: &[u8]) -> Result<(), AllocError>
     ensures { Appends result out.old.items out.new.items text.now }
 {
@@ -16,22 +18,11 @@ pub(crate) fn put(out: &mut Vec<u8>, text: &[u8]) -> Result<(), AllocError>
 }
 
 /// Appends a number.
-#[tactic(auto, using(crate::proofs::Fronts::keeps))]
 pub(crate) fn put_number(out: &mut Vec<u8>, number: u64) -> Result<(), AllocError>
     ensures { Appends result out.old.items out.new.items (decimal number) }
 {
     let mut buffer = Buffer::new();
-    put(out, buffer.format(number).as_bytes())?;
-    Ok(())
-}
-
-/// Appends a number that may be negative.
-#[tactic(auto, using(crate::proofs::Fronts::keeps))]
-pub(crate) fn put_signed(out: &mut Vec<u8>, number: i64) -> Result<(), AllocError>
-    ensures { Appends result out.old.items out.new.items (signed_decimal number) }
-{
-    let mut buffer = Buffer::new();
-    put(out, buffer.format(number).as_bytes())?;
+    out.extend_from_slice(buffer.format(number).as_bytes())?;
     Ok(())
 }
 
@@ -39,32 +30,22 @@ pub(crate) fn put_signed(out: &mut Vec<u8>, number: i64) -> Result<(), AllocErro
 pub(crate) fn put_descriptor(out: &mut Vec<u8>, fd: i32) -> Result<(), AllocError>
     ensures { Appends result out.old.items out.new.items (signed_decimal fd) }
 {
-    put_signed(out, fd as i64)
+    let mut buffer = Buffer::new();
+    out.extend_from_slice(buffer.format(fd).as_bytes())?;
+    Ok(())
 }
 
-/// A lower case hexadecimal digit.
-fn hex_digit(digit: u8) -> u8
-    requires { digit < 16 }
-    ensures { result ≡ hex_glyph digit }
+/// Appends a position, an offset or a length.
+pub(crate) fn put_position(out: &mut Vec<u8>, start: i64) -> Result<(), AllocError>
+    ensures { Appends result out.old.items out.new.items (signed_decimal start) }
 {
-    if digit < 10 {
-        b'0' + digit
-    } else {
-        b'a' - 10 + digit
-    }
-}
-
-/// Appends the two digits of a byte.
-#[tactic(auto, using(crate::proofs::Fronts::keeps))]
-pub(crate) fn put_hex(out: &mut Vec<u8>, byte: u8) -> Result<(), AllocError>
-    ensures { Appends result out.old.items out.new.items (hex_pair byte) }
-{
-    put(out, &[hex_digit(byte / 16), hex_digit(byte % 16)])?;
+    let mut buffer = Buffer::new();
+    out.extend_from_slice(buffer.format(start).as_bytes())?;
     Ok(())
 }
 
 /// Appends the word of a process.
-#[tactic(auto, using(crate::proofs::Fronts::keeps_behind))]
+#[tactic(auto, using(crate::proofs::Fronts::keeps_after))]
 pub(crate) fn put_process(out: &mut Vec<u8>, process: u32) -> Result<(), AllocError>
     ensures { Appends result out.old.items out.new.items (process_word process) }
 {

@@ -4,10 +4,13 @@ ghost use Rattle.std.specs.Prelude.{◌≡◌, ◌<◌, ◌^◌, ◌++◌, ℕ, 
 ghost use Rattle.call_types.specs.declared.call.Call.{Call};
 ghost use Rattle.call_types.specs.declared.act.ScriptAct.{ScriptAct};
 ghost use Rattle.call_types.specs.declared.act.ScriptAct.TheVariants as acts;
+ghost use Rattle.script_text.specs.CallRows.{CallRows};
 ghost use Rattle.script_text.specs.Lines.{process_word, call_text};
 ghost use Rattle.script_text.specs.ReadingCalls.{reading};
 ghost use Rattle.script_text.specs.ReadingScripts.{script};
 ghost use Rattle.script_text.specs.Spellings.{IsScriptCall, SpellsScript};
+
+use crate::script::SCRIPT_MAX;
 
 /// Every call that a script may have is read again from the line in which a run writes it.
 pub fn written_calls_are_read_again()
@@ -17,4 +20,11 @@ pub fn written_calls_are_read_again()
 /// A text that spells acts is read as these, so what is read as a fault spells none.
 pub fn spelled_scripts_are_read()
     ensures { (acts : List ScriptAct) (text : List ℕ) → SpellsScript acts text → script text ≡ Ok acts }
+{}
+
+/// The words of the calls, the order of their fields and the greatest length of a script, each said once more: what is
+/// read and what is written both go by the one table of calls and the one constant.
+pub fn calls_as_read()
+    ensures calls { CallRows }
+    ensures script_max { SCRIPT_MAX ≡ 2 ^ 24 }
 {}

@@ -1,6 +1,7 @@
-ghost use Rattle.std.specs.Prelude.{◌≡◌, ◌==◌, List, Ok, IfOk};
-ghost use Rattle.std.specs.List.{slice_split};
-ghost use Rattle.script_text.specs.ReadingScripts.{line_acts, lines_acts, script};
+//! Reading a whole script.
+
+ghost use Rattle.std.specs.Prelude.{◌≡◌, List, Ok, IfOk};
+ghost use Rattle.script_text.specs.ReadingScripts.{line_acts, script_acts, script};
 ghost use Rattle.script_text.specs.Spellings.{SpellsScript};
 ghost use Rattle.call_types.specs.declared.act.ScriptAct.{ScriptAct};
 ghost use Rattle.script_text.specs.ReadingResults.{ScriptGives, LineAdds};
@@ -12,7 +13,7 @@ use call_types::act::ScriptAct;
 use std::alloc::Global;
 
 /// The bytes of a script, at most.
-const SCRIPT_MAX: usize = 16_777_216;
+pub const SCRIPT_MAX: usize = 16_777_216;
 
 /// Adds the act of line `number`, if the line isn't empty.
 fn push_line(
@@ -40,8 +41,8 @@ fn push_line(
 }
 
 /// The acts of all lines.
-fn push_lines(alloc: Global, text: &[u8]) -> Result<Vec<ScriptAct>, ScriptFault>
-    ensures { ScriptGives (λ v. v.items) result (lines_acts 1 (slice_split (λ c. c == 10) text.now)) }
+fn read_lines(alloc: Global, text: &[u8]) -> Result<Vec<ScriptAct>, ScriptFault>
+    ensures { ScriptGives (λ v. v.items) result (script_acts text.now) }
 {
     let mut acts = Vec::new(alloc);
     let mut number = 0;
@@ -55,17 +56,7 @@ fn push_lines(alloc: Global, text: &[u8]) -> Result<Vec<ScriptAct>, ScriptFault>
     Ok(acts)
 }
 
-/// The acts of a script, or its fault.
-fn all_acts(alloc: Global, text: &[u8]) -> Result<Vec<ScriptAct>, ScriptFault>
-    ensures { ScriptGives (λ v. v.items) result (script text.now) }
-{
-    if text.len() > SCRIPT_MAX {
-        return Err(ScriptFault::TooLong);
-    }
-    push_lines(alloc, text)
-}
-
-/// Reads the acts of a script.
+/// Reads the acts of a script, of at most `SCRIPT_MAX` bytes.
 pub fn read_script(alloc: Global, text: &[u8]) -> Result<Vec<ScriptAct>, ScriptFault>
     // What is read is spelled so.
     ensures found { IfOk result (λ acts. SpellsScript acts.items text.now) }
@@ -74,5 +65,8 @@ pub fn read_script(alloc: Global, text: &[u8]) -> Result<Vec<ScriptAct>, ScriptF
     // Which fault it is.
     ensures exact { ScriptGives (λ v. v.items) result (script text.now) }
 {
-    all_acts(alloc, text)
+    if text.len() > SCRIPT_MAX {
+        return Err(ScriptFault::TooLong);
+    }
+    read_lines(alloc, text)
 }

@@ -1,4 +1,4 @@
-use Rattle.plain_world.proofs.FileLaws.{pwrite_keeps_offsets}
+use Rattle.plain_world.proofs.CallLaws.{pwrite_keeps_offsets}
 use Rattle.plain_world.proofs.file_laws.pwrite_keeps_offsets.Goals as goal
 
 pub returns : goal.returns

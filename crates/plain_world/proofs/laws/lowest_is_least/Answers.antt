@@ -1,8 +1,5 @@
-use Rattle.plain_world.proofs.PlaceLemmas.{lowest_is_least, no_lowest_is_full}
+use Rattle.plain_world.proofs.StepLaws.{lowest_is_least, no_lowest_is_full}
 use Rattle.plain_world.proofs.laws.lowest_is_least.Goals as goal
 
-pub returns-clause-there : goal.returns-clause-there
-returns-clause-there c = lowest_is_least
-
-pub returns-clause-full : goal.returns-clause-full
-returns-clause-full c = no_lowest_is_full
+pub returns : goal.returns
+returns c = record { there = lowest_is_least; full = no_lowest_is_full }

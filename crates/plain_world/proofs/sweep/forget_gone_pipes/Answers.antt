@@ -1,5 +1,5 @@
 use Rattle.std.proofs.Common.{None, refl}
-use Rattle.plain_world.specs.Sweep.{without_gone_pipe}
+use Rattle.posix_model.specs.Sweep.{without_gone_pipe}
 use Rattle.plain_world.proofs.SweepLemmas.{map_more}
 use Rattle.plain_world.proofs.sweep.forget_gone_pipes.Goals as goal
 

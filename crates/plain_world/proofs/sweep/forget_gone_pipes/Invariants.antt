@@ -1,5 +1,5 @@
 use Rattle.std.proofs.Common.{◌≡◌, ◌++◌, take, drop, map}
-use Rattle.plain_world.specs.Sweep.{without_gone_pipe}
+use Rattle.posix_model.specs.Sweep.{without_gone_pipe}
 use Rattle.plain_world.proofs.sweep.forget_gone_pipes.Given as goal
 
 -- the files below the number have forgotten

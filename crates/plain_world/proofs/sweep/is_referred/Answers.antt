@@ -1,5 +1,5 @@
 use Rattle.std.proofs.Common.{◌∙◌}
-use Rattle.plain_world.specs.Counts.{refs_of}
+use Rattle.posix_model.specs.Counts.{refs_of}
 use Rattle.plain_world.proofs.SweepLemmas.{any_of_sum}
 use Rattle.plain_world.proofs.sweep.is_referred.Goals as goal
 

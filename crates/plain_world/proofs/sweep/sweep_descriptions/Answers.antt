@@ -1,4 +1,4 @@
-use Rattle.plain_world.specs.Sweep.{is_referred}
+use Rattle.posix_model.specs.Sweep.{is_referred}
 use Rattle.plain_world.proofs.SweepLemmas.{kept_more}
 use Rattle.plain_world.proofs.sweep.sweep_descriptions.Goals as goal
 

@@ -1,4 +1,4 @@
-use Rattle.plain_world.specs.Sweep.{is_wanted}
+use Rattle.posix_model.specs.Sweep.{is_wanted}
 use Rattle.plain_world.proofs.SweepLemmas.{kept_more}
 use Rattle.plain_world.proofs.sweep.sweep_files.Goals as goal
 

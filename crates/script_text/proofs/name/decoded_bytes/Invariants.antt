@@ -1,10 +1,10 @@
 use Rattle.std.proofs.Common.{◌≡◌, length}
 use Rattle.script_text.specs.ReadingNames.{decoded}
-use Rattle.script_text.proofs.Names.{behind}
+use Rattle.script_text.proofs.Names.{joined}
 use Rattle.script_text.proofs.name.decoded_bytes.Given as goal
 
 abbrev pub decreases-loop-rest : goal.decreases-loop-rest
 decreases-loop-rest l = length l.rest
 
 abbrev pub invariant-loop-rest : goal.invariant-loop-rest
-invariant-loop-rest l = behind l.bytes.items (decoded l.rest) ≡ decoded l.word
+invariant-loop-rest l = joined l.bytes.items (decoded l.rest) ≡ decoded l.word

@@ -1,8 +1,12 @@
-use Rattle.script_text.proofs.CallLaws as laws
+use Rattle.std.proofs.Common.{sym, ◌∙◌}
+use Rattle.script_text.proofs.CallLaws.{act_takes, act_again, fails_on_none}
 use Rattle.script_text.proofs.reading.read_act.Goals as goal
 
-pub returns-clause-found : goal.returns-clause-found
-returns-clause-found c = laws.found c.args.line.now c.line_act.result c.line_act.ensures
+pub returns-in-Ok-clause-found : goal.returns-in-Ok-clause-found
+returns-in-Ok-clause-found c = act_takes c.args.line.now c.in-Ok.act c.in-Ok.ensures
 
-pub returns-clause-only : goal.returns-clause-only
-returns-clause-only c = λ act spelled. laws.only c.args.line.now c.line_act.result act c.line_act.ensures spelled
+pub returns-in-Ok-clause-only : goal.returns-in-Ok-clause-only
+returns-in-Ok-clause-only c = λ act spelled. sym (act_again act c.args.line.now spelled) ∙ c.in-Ok.ensures
+
+pub returns-in-Err-At-clause-only : goal.returns-in-Err-At-clause-only
+returns-in-Err-At-clause-only c = λ act spelled. absurd (fails_on_none c.args.line.now c.in-Err-At.remaining act (rw c.in-Err-At.field-0-is at c.in-Err-At.ensures) spelled)

@@ -6,7 +6,7 @@ use Rattle.record_book.proofs.book.Book.run_acts.Given as goal
 abbrev pub invariant-loop-act : goal.invariant-loop-act
 invariant-loop-act l =
     record {
-      runs : RunTells l.fn.self l.self [] l.seats.items (take l.act-index l.acts) l.told.items;
+      runs : RunTells l.fn.self l.self [] l.seats.0 (take l.act-index l.acts) l.told.items;
       count : vec_len l.told ≡ l.act-index;
       room : length l.acts ≤ vec_capacity l.told;
     }

@@ -1,0 +1,157 @@
+-- What was written so far, and the fronts of a text.
+use Rattle.std.proofs.Common.{◌≡◌, ℕ, zero, suc, ◌+◌, ◌-◌, ◌<◌, List, [], ◌∷◌, ◌++◌, Option, Result, Ok, Err, length, take, drop, refl, sym, ◌∙◌, ap, arith, get_or, length-take-le, take-append-drop}
+use Rattle.std.specs.Prelude.{OnErr}
+use Rattle.std.proofs.lemmas.List.{append_assoc, append-nil, take_more, take_rest}
+use Rattle.std.proofs.KnownBytes.{Appends-nil, Appends-trans, Appends-kept}
+use Rattle.std.specs.Io.KnownBytes.{Appends, Keeps}
+use Rattle.call_types.specs.declared.act.ScriptAct.{ScriptAct}
+use Rattle.record_book.specs.declared.run.Told.{Told}
+use Rattle.fdref.specs.Output.{AppendsFront, Puts, told_line, told_lines}
+
+-- ---- fronts
+
+-- what holds, holds of an error
+pub of_error : {T E : Type 0} (r : Result T E) {P : Type 0} → P → OnErr r P
+of_error (Ok x) p = tt
+of_error (Err e) p = p
+
+-- nothing was written yet
+pub front_nothing : (a : Option (List ℕ)) (text : List ℕ) → AppendsFront a a text
+front_nothing a text = record { front = []; rest = text; is = refl; appends = Appends-nil a }
+
+-- all was written
+pub front_whole : (a b : Option (List ℕ)) (text : List ℕ) → Appends a b text → AppendsFront a b text
+front_whole a b text all = record { front = text; rest = []; is = sym (append-nil text); appends = all }
+
+-- all was written, and the writer kept it
+pub front_kept : (a b c : Option (List ℕ)) (text : List ℕ) → Appends a b text → Keeps b c → AppendsFront a c text
+front_kept a b c text all kept = front_whole a c text (Appends-kept a b c text all kept)
+
+-- a front of a text is one of a longer text
+pub front_longer : (a b : Option (List ℕ)) (text more : List ℕ) → AppendsFront a b text → AppendsFront a b (text ++ more)
+front_longer a b text more f = record {
+  front = f.front;
+  rest = f.rest ++ more;
+  is = ap (λ l. l ++ more) f.is ∙ append_assoc f.front f.rest more;
+  appends = f.appends;
+}
+
+-- a front behind what was written before
+pub front_behind : (a b c : Option (List ℕ)) (before text : List ℕ) → Appends a b before → AppendsFront b c text → AppendsFront a c (before ++ text)
+front_behind a b c before text first f = record {
+  front = before ++ f.front;
+  rest = f.rest;
+  is = ap (λ l. before ++ l) f.is ∙ sym (append_assoc before f.front f.rest);
+  appends = Appends-trans a b c before f.front first f.appends;
+}
+
+-- some of a text was written, and its writer kept that
+pub front_so_far : (a b c : Option (List ℕ)) (text rest : List ℕ) → ((done : List ℕ) × (text ≡ done ++ rest) × Appends a b done) → Keeps b c
+    → AppendsFront a c text
+front_so_far a b c text rest so_far kept = record { front = so_far.0; rest = rest; is = so_far.1; appends = Appends-kept a b c so_far.0 so_far.2 kept }
+
+-- some of a text was written
+pub front_ended : (a b : Option (List ℕ)) (text rest : List ℕ) → ((done : List ℕ) × (text ≡ done ++ rest) × Appends a b done) → AppendsFront a b text
+front_ended a b text rest so_far = record { front = so_far.0; rest = rest; is = so_far.1; appends = so_far.2 }
+
+-- one more front of the rest was written
+pub wrote_more : (a b c : Option (List ℕ)) (text rest : List ℕ) (n : ℕ) → ((done : List ℕ) × (text ≡ done ++ rest) × Appends a b done)
+    → Appends b c (take n rest) → (done : List ℕ) × (text ≡ done ++ take (length rest - n) (drop n rest)) × Appends a c done
+wrote_more a b c text rest n so_far more = (
+  so_far.0 ++ take n rest,
+  so_far.1 ∙ ap (λ l. so_far.0 ++ l) (sym (take-append-drop n rest)) ∙ sym (append_assoc so_far.0 (take n rest) (drop n rest))
+      ∙ ap (λ l. (so_far.0 ++ take n rest) ++ l) (sym (take_rest rest n)),
+  Appends-trans a b c so_far.0 (take n rest) so_far.2 more,
+)
+
+-- a front of another text that is the same
+pub front_same : (a b : Option (List ℕ)) (text other : List ℕ) → text ≡ other → AppendsFront a b text → AppendsFront a b other
+front_same a b text other same f = rw (← same) f
+
+-- ---- what is put
+
+-- one text behind another
+pub puts_then : (a b c : Option (List ℕ)) (o p q : List ℕ) (x y : List ℕ) → Puts a b o p x → Puts b c p q y → Puts a c o q (x ++ y)
+puts_then a b c o p q x y first second = record {
+  added = first.added ++ second.added;
+  appends = Appends-trans a b c first.added second.added first.appends second.appends;
+  is =
+      append_assoc first.added second.added q ∙ ap (λ l. first.added ++ l) second.is ∙ sym (append_assoc first.added p y)
+      ∙ ap (λ l. l ++ y) first.is ∙ append_assoc o x y;
+}
+
+-- nothing was put yet
+pub puts_nothing : (a : Option (List ℕ)) (o : List ℕ) → Puts a a o o []
+puts_nothing a o = record { added = []; appends = Appends-nil a; is = sym (append-nil o) }
+
+-- a front of what stands in the buffer and of a text to come, behind what was put
+pub puts_front : (a b c : Option (List ℕ)) (o p : List ℕ) (x y : List ℕ) → Puts a b o p x → AppendsFront b c (p ++ y) → AppendsFront a c (o ++ (x ++ y))
+puts_front a b c o p x y first f =
+    front_same a c (first.added ++ (p ++ y)) (o ++ (x ++ y))
+    (sym (append_assoc first.added p y) ∙ ap (λ l. l ++ y) first.is ∙ append_assoc o x y)
+    (front_behind a b c first.added (p ++ y) first.appends f)
+
+-- a text behind what stood in an empty buffer is written whole
+pub puts_all : (a b c : Option (List ℕ)) (o p : List ℕ) (x y : List ℕ) → o ≡ [] → Puts a b o p x → Appends b c (p ++ y) → Appends a c (x ++ y)
+puts_all a b c o p x y empty first last =
+    rw (← (sym (append_assoc first.added p y) ∙ ap (λ l. l ++ y) (first.is ∙ ap (λ l. l ++ x) empty)))
+    (Appends-trans a b c first.added (p ++ y) first.appends last)
+
+-- a front of the last text, where the buffer was empty at first
+pub puts_last_front : (a b c : Option (List ℕ)) (o p : List ℕ) (x y : List ℕ) → o ≡ [] → Puts a b o p x → AppendsFront b c (p ++ y) → AppendsFront a c (x ++ y)
+puts_last_front a b c o p x y empty first f =
+    front_same a c (o ++ (x ++ y)) (x ++ y) (ap (λ l. l ++ (x ++ y)) empty) (puts_front a b c o p x y first f)
+
+-- ---- the lines
+
+-- the lines of one more act
+pub told_lines-more : (acts : List ScriptAct) (tolds : List Told) (a : ScriptAct) (t : Told) → length tolds ≡ length acts
+    → told_lines (acts ++ a ∷ []) (tolds ++ t ∷ []) ≡ told_lines acts tolds ++ told_line a t
+told_lines-more [] [] a t same = append-nil (told_line a t)
+told_lines-more [] (y ∷ tolds) a t same = absurd (omega arith)
+told_lines-more (x ∷ acts) [] a t same = absurd (omega arith)
+told_lines-more (x ∷ acts) (y ∷ tolds) a t same =
+    ap (λ l. told_line x y ++ l) (told_lines-more acts tolds a t (omega arith)) ∙ sym (append_assoc (told_line x y) (told_lines acts tolds) (told_line a t))
+
+-- the lines of the first acts and the next one
+pub told_lines-next : (acts : List ScriptAct) (tolds : List Told) (i : ℕ) (x : ScriptAct) (t : Told) → length tolds ≡ length acts → i < length acts
+    → x ≡ get_or acts i x → t ≡ get_or tolds i t
+    → told_lines (take (i + 1) acts) (take (i + 1) tolds) ≡ told_lines (take i acts) (take i tolds) ++ told_line x t
+told_lines-next acts tolds i x t same within x_is t_is =
+    rw (take_more acts i x within, take_more tolds i t (omega (arith, same)), ← x_is, ← t_is)
+    (told_lines-more (take i acts) (take i tolds) x t (omega (arith, length-take-le i acts (omega arith), length-take-le i tolds (omega (arith, same)))))
+
+told_lines-untold : (acts : List ScriptAct) → told_lines acts [] ≡ []
+told_lines-untold [] = refl
+told_lines-untold (x ∷ acts) = refl
+
+-- the lines of the first acts stand before those of the others
+pub told_lines-parted : (acts : List ScriptAct) (tolds : List Told) (i : ℕ)
+    → told_lines acts tolds ≡ told_lines (take i acts) (take i tolds) ++ told_lines (drop i acts) (drop i tolds)
+told_lines-parted acts tolds zero = refl
+told_lines-parted [] tolds (suc i) = refl
+told_lines-parted (x ∷ acts) [] (suc i) = sym (told_lines-untold (drop i acts))
+told_lines-parted (x ∷ acts) (y ∷ tolds) (suc i) =
+    ap (λ l. told_line x y ++ l) (told_lines-parted acts tolds i)
+    ∙ sym (append_assoc (told_line x y) (told_lines (take i acts) (take i tolds)) (told_lines (drop i acts) (drop i tolds)))
+
+-- one more act behind those so far
+pub puts_more : (a b c : Option (List ℕ)) (o p q : List ℕ) (acts : List ScriptAct) (tolds : List Told) (i : ℕ) (x : ScriptAct) (t : Told)
+    → length tolds ≡ length acts → i < length acts → x ≡ get_or acts i x → t ≡ get_or tolds i t
+    → Puts a b o p (told_lines (take i acts) (take i tolds)) → Puts b c p q (told_line x t)
+    → Puts a c o q (told_lines (take (i + 1) acts) (take (i + 1) tolds))
+puts_more a b c o p q acts tolds i x t same within x_is t_is first second =
+    rw (told_lines-next acts tolds i x t same within x_is t_is) (puts_then a b c o p q (told_lines (take i acts) (take i tolds)) (told_line x t) first second)
+
+-- a front of one more act's line, as a front of all lines
+pub front_more : (a b c : Option (List ℕ)) (o p : List ℕ) (acts : List ScriptAct) (tolds : List Told) (i : ℕ) (x : ScriptAct) (t : Told)
+    → length tolds ≡ length acts → i < length acts → x ≡ get_or acts i x → t ≡ get_or tolds i t
+    → Puts a b o p (told_lines (take i acts) (take i tolds)) → AppendsFront b c (p ++ told_line x t)
+    → AppendsFront a c (o ++ told_lines acts tolds)
+front_more a b c o p acts tolds i x t same within x_is t_is first f =
+    let so_far = told_lines (take i acts) (take i tolds) in
+    let next = told_lines (take (i + 1) acts) (take (i + 1) tolds) in
+    let others = told_lines (drop (i + 1) acts) (drop (i + 1) tolds) in
+    let here : AppendsFront a c (o ++ next) = rw (told_lines-next acts tolds i x t same within x_is t_is) (puts_front a b c o p so_far (told_line x t) first f) in
+    front_same a c ((o ++ next) ++ others) (o ++ told_lines acts tolds)
+    (append_assoc o next others ∙ ap (λ l. o ++ l) (sym (told_lines-parted acts tolds (i + 1)))) (front_longer a c (o ++ next) others here)

@@ -1,0 +1,37 @@
+-- The lines of a run, and what it says that they are written (own).
+use Rattle.std.specs.Prelude.{◌≡◌, ℕ, List, [], ◌∷◌, ◌++◌, Option, length}
+use Rattle.std.specs.Io.KnownBytes.{Appends}
+use Rattle.call_types.specs.declared.act.ScriptAct.{ScriptAct}
+use Rattle.posix_model.specs.Turns.{bytes_in, bytes_out}
+use Rattle.script_text.specs.Lines.{record_line, refused_line, totals_line}
+use Rattle.record_book.specs.Book.{BookState}
+use Rattle.record_book.specs.declared.run.Told.{Told}
+use Rattle.record_book.specs.declared.run.Told.TheVariants.{Recorded, Refused}
+
+-- the line of what is told of an act
+abbrev pub told_line : ScriptAct → Told → List ℕ
+told_line act (Recorded receipt) = record_line receipt.place receipt.record_is
+told_line act (Refused actor refusal) = refused_line actor act refusal
+
+-- the lines of what is told of each act
+abbrev pub told_lines : List ScriptAct → List Told → List ℕ
+told_lines [] tolds = []
+told_lines (act ∷ acts) [] = []
+told_lines (act ∷ acts) (told ∷ tolds) = told_line act told ++ told_lines acts tolds
+
+-- the closing line of a book
+abbrev pub closing_line : BookState → List ℕ
+closing_line b = totals_line (length b.history) (bytes_in b.limits.bounds b.history) (bytes_out b.limits.bounds b.history)
+
+-- a front of the text was given to a writer, and nothing else
+pub record AppendsFront (old new : Option (List ℕ)) (text : List ℕ) : Type 0 where
+  pub front : List ℕ
+  pub rest : List ℕ
+  pub is : text ≡ front ++ rest
+  pub appends : Appends old new front
+
+-- bytes were given to a writer or still stand in the buffer before it, and the text is behind the old ones
+pub record Puts (old new : Option (List ℕ)) (before after : List ℕ) (text : List ℕ) : Type 0 where
+  pub added : List ℕ
+  pub appends : Appends old new added
+  pub is : added ++ after ≡ before ++ text

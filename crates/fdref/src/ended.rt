@@ -1,0 +1,68 @@
+//! How a replay ends.
+ghost use Rattle.std.specs.Prelude.{◌≡◌};
+ghost use Rattle.fdref.specs.Replay.{ended_status};
+
+use std::alloc::AllocError;
+use std::fmt;
+
+/// How a replay ended.
+#[derive(Clone, Copy, Debug, PartialEq, Eq)]
+pub enum Ended {
+    /// The script was run, and all its lines are written.
+    Done,
+    /// A line of the script is no act; line and column are counted from 1. Nothing was run or written.
+    BadLine { line: usize, column: usize },
+    /// The script has more than 16,777,216 bytes. Nothing was run or written.
+    TooLong,
+    /// The input failed. Nothing was run or written.
+    CannotRead,
+    /// The output failed; a front of the right output is written, and nothing else.
+    CannotWrite,
+    /// Memory ran out; nothing is written, or a front of the right output.
+    NoMemory,
+}
+
+impl Ended {
+    /// The exit status of the program.
+    pub fn status(self) -> u8
+        ensures { result ≡ ended_status self }
+    {
+        match self {
+            Ended::Done => 0,
+            Ended::BadLine { .. } | Ended::TooLong => 3,
+            Ended::CannotRead | Ended::CannotWrite => 4,
+            Ended::NoMemory => 5,
+        }
+    }
+}
+
+impl fmt::Display for Ended {
+    ghost use Rattle.std.specs.Prelude.{Some};
+    ghost use Rattle.fdref.specs.Replay.{ended_text};
+
+    ghost output = { λ ended. Some (ended_text ended) };
+
+    fn fmt<W: fmt::Write>(&self, f: &mut fmt::Formatter<W>) -> fmt::Result {
+        match self {
+            Ended::Done => Ok(()),
+            Ended::BadLine { line, column } => {
+                write!(f, "line {line} column {column}: not an act\n")
+            }
+            Ended::TooLong => f.write_str("script too long\n"),
+            Ended::CannotRead => f.write_str("cannot read\n"),
+            Ended::CannotWrite => f.write_str("cannot write\n"),
+            Ended::NoMemory => f.write_str("no memory\n"),
+        }
+    }
+}
+
+impl From<AllocError> for Ended {
+    ghost use Rattle.std.specs.Prelude.{◌≡◌};
+    ghost use Rattle.fdref.specs.declared.ended.Ended.TheVariants.{NoMemory};
+
+    ghost from_gives = { λ _ ended. ended ≡ NoMemory };
+
+    fn from(_error: AllocError) -> Ended {
+        Ended::NoMemory
+    }
+}

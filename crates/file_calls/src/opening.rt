@@ -1,0 +1,89 @@
+ghost use Rattle.std.specs.Prelude.{◌≡◌};
+ghost use Rattle.std.specs.List.{list_all};
+ghost use Rattle.posix_model.specs.Pages.{first_fault};
+ghost use Rattle.posix_model.specs.Open.{is_name_byte, is_dots, name_faults, flag_faults, mode_of, new_description};
+
+use call_types::errno::Errno;
+use call_types::flags::OpenFlags;
+use call_types::limits::NAME_MAX;
+use posix_model::world::{Description, Mode, Target};
+
+/// Whether a byte may stand in a name (XBD 3, Portable Filename Character Set).
+fn is_name_byte(byte: u8) -> bool
+    ensures { result ≡ is_name_byte byte }
+{
+    byte.is_ascii_alphanumeric() || b"._-".contains(&byte)
+}
+
+/// Whether a name is one of . and .., which are directories.
+fn is_dots(name: &[u8]) -> bool
+    ensures { result ≡ is_dots name.now }
+{
+    name == b".".as_slice() || name == b"..".as_slice()
+}
+
+/// Whether each byte may stand in a name.
+fn is_portable(name: &[u8]) -> bool
+    ensures { result ≡ list_all is_name_byte name.now }
+{
+    name.iter().all(|byte| is_name_byte(*byte))
+}
+
+/// The first refusal of a name: ENOENT, ENAMETOOLONG or EINVAL.
+pub(crate) fn name_fault(name: &[u8]) -> Option<Errno>
+    ensures { result ≡ first_fault (name_faults name.now) }
+{
+    if name.is_empty() {
+        return Some(Errno::ENOENT);
+    }
+    if name.len() > NAME_MAX {
+        return Some(Errno::ENAMETOOLONG);
+    }
+    if is_dots(name) || !is_portable(name) {
+        return Some(Errno::EINVAL);
+    }
+    None
+}
+
+/// The first refusal of flags: EINVAL of those that the standard leaves undefined.
+pub(crate) fn flag_fault(flags: OpenFlags) -> Option<Errno>
+    ensures { result ≡ first_fault (flag_faults flags) }
+{
+    if !(flags.has(OpenFlags::READ) || flags.has(OpenFlags::WRITE)) {
+        return Some(Errno::EINVAL);
+    }
+    if flags.has(OpenFlags::EXCL) && !flags.has(OpenFlags::CREAT) {
+        return Some(Errno::EINVAL);
+    }
+    if flags.has(OpenFlags::TRUNC) && !flags.has(OpenFlags::WRITE) {
+        return Some(Errno::EINVAL);
+    }
+    None
+}
+
+/// For what a file is opened.
+fn mode_of(flags: OpenFlags) -> Mode
+    ensures { result ≡ mode_of flags }
+{
+    if !flags.has(OpenFlags::READ) {
+        return Mode::Write;
+    }
+    if flags.has(OpenFlags::WRITE) {
+        Mode::ReadWrite
+    } else {
+        Mode::Read
+    }
+}
+
+/// A new open file description of a regular file, with offset 0.
+pub(crate) fn new_description(file: usize, flags: OpenFlags) -> Description
+    ensures { result ≡ new_description file flags }
+{
+    Description {
+        target: Target::Regular { file },
+        offset: 0,
+        mode: mode_of(flags),
+        append: flags.has(OpenFlags::APPEND),
+        nonblock: flags.has(OpenFlags::NONBLOCK),
+    }
+}

@@ -1,0 +1,126 @@
+use Rattle.std.proofs.Common.{◌≡◌, ℕ, zero, suc, ◌+◌, ◌*◌, ◌≤◌, ◌<◌, ◌∙◌, Bool, true, cond, List, [], ◌∷◌, ◌++◌, Option, None, Some, length, set, refl, ap, sym, false, arith}
+use Rattle.std.specs.Prelude.{is_some, ◌==◌}
+use Rattle.std.specs.List.{count_by}
+use Rattle.std.proofs.lemmas.List.Sums.{sum_by-set, sum_by-append, sum_by-cons}
+use Rattle.std.specs.Ordering.{nat_cmp, is_eq}
+use Rattle.std.specs.Cmp.Lexicographic.{slice_cmp}
+use Rattle.std.specs.FinMap.Entries.{by_order}
+use Rattle.std.specs.declared.cmp.Ordering.TheVariants.{Less, Equal, Greater}
+use Rattle.call_types.specs.declared.limits.TheConstants.{OPEN_MAX}
+use Rattle.posix_model.specs.Slots.{slot, live, edited}
+use Rattle.posix_model.specs.Names.{Entries, file_of, with_name}
+use Rattle.posix_model.specs.Counts.{links, refers, refs, refs_of, holds, holders}
+use Rattle.posix_model.specs.Descriptors.{with_entry, table_of}
+use Rattle.posix_model.specs.Whole.{EachThere}
+use Rattle.posix_model.specs.declared.world.Process.{Process}
+use Rattle.posix_model.specs.declared.world.Description.{Description}
+use Rattle.machine_state.specs.Targets.{file_of_target}
+use Rattle.posix_model.specs.declared.world.Target.{Target}
+use Rattle.posix_model.specs.declared.world.Target.TheVariants as target
+use Rattle.posix_model.specs.Counts.{is_file}
+use Rattle.machine_state.proofs.SlotLaws.{one, there_below}
+
+-- what one entry of a table adds to the references: new count + what stood there = old count + what stands there
+pub refs_entry : (ps : List (Option Process)) (p fd : ℕ) (entry : Option ℕ) (d : ℕ) → fd < length (table_of (slot ps p)) →
+    refs (edited p (with_entry fd entry) ps) d + one (refers d (slot (table_of (slot ps p)) fd)) ≡ refs ps d + one (refers d entry)
+refs_entry [] p fd entry d within = absurd (omega arith)
+refs_entry (None ∷ ps) zero fd entry d within = absurd (omega arith)
+refs_entry (Some process ∷ ps) zero fd entry d within =
+    omega (arith, sum_by-set (λ x. one (refers d x)) process.table fd entry None within, sum_by-cons (refs_of d) (Some process) ps, sum_by-cons (refs_of d) (Some (with_entry fd entry process)) ps)
+refs_entry (x ∷ ps) (suc p) fd entry d within =
+    omega (arith, refs_entry ps p fd entry d within, sum_by-cons (refs_of d) x ps, sum_by-cons (refs_of d) x (edited p (with_entry fd entry) ps))
+
+-- a count is at most how many there are
+pub count_most : {X : Type 0} (p : X → Bool) (xs : List X) → count_by p xs ≤ length xs
+count_most p [] = omega arith
+count_most p (x ∷ xs) = omega (arith, count_most p xs, sum_by-cons (λ x. one (p x)) x xs, at_most_one (p x))
+  where
+    at_most_one : (b : Bool) → one b ≤ 1
+    at_most_one true = omega arith
+    at_most_one false = omega arith
+
+-- no description has more references than there are descriptors
+pub refs_most : (ps : List (Option Process)) (d : ℕ) → EachThere (λ process. length process.table ≡ OPEN_MAX) ps → refs ps d ≤ 32 * live ps
+refs_most [] d tables = omega arith
+refs_most (None ∷ ps) d tables =
+    let rest = refs_most ps d (λ n x is. tables (suc n) x is) in
+    omega (arith, rest, sum_by-cons (refs_of d) None ps, sum_by-cons (λ (x : Option Process). one (is_some x)) None ps)
+refs_most (Some process ∷ ps) d tables =
+    let rest = refs_most ps d (λ n x is. tables (suc n) x is) in
+    let all : length process.table ≡ 32 = tables 0 process refl in
+    omega (arith, rest, all, count_most (refers d) process.table, sum_by-cons (refs_of d) (Some process) ps, sum_by-cons (λ (x : Option Process). one (is_some x)) (Some process) ps)
+
+-- no file has more holders than there are live descriptions
+pub holders_most : (ds : List (Option Description)) (f : ℕ) → holders ds f ≤ live ds
+holders_most [] f = omega arith
+holders_most (x ∷ ds) f = omega (arith, holders_most ds f, sum_by-cons (λ x. one (holds f x)) x ds, sum_by-cons (λ (x : Option Description). one (is_some x)) x ds, here x)
+  where
+    at_most_one : (b : Bool) → one b ≤ 1
+    at_most_one true = omega arith
+    at_most_one false = omega arith
+
+    here : (x : Option Description) → one (holds f x) ≤ one (is_some x)
+    here None = omega arith
+    here (Some d) = at_most_one (is_file f d.target)
+
+-- a target is the file that it holds
+pub refers_target : (f : ℕ) (t : Target) → refers f (file_of_target t) ≡ is_file f t
+refers_target f (target.Regular file) = refl
+refers_target f (target.Pipe pipe) = refl
+refers_target f (target.Fifo file pipe) = refl
+
+-- what a description that goes takes from the holders of a file
+pub holders_gone : (ds : List (Option Description)) (n : ℕ) (d : Description) (f : ℕ) → slot ds n ≡ Some d →
+    holders (set ds n None) f + one (refers f (file_of_target d.target)) ≡ holders ds f
+holders_gone ds n d f is =
+    let was : one (holds f (slot ds n)) ≡ one (refers f (file_of_target d.target)) = ap (λ x. one (holds f x)) is ∙ ap one (sym (refers_target f d.target)) in
+    omega (arith, was, sum_by-set (λ x. one (holds f x)) ds n None None (there_below ds n (ap is_some is)))
+
+-- what a new description adds to the holders of a file
+pub holders_added : (ds : List (Option Description)) (d : Description) (f : ℕ) → holders (ds ++ Some d ∷ []) f ≡ holders ds f + one (refers f (file_of_target d.target))
+holders_added ds d f =
+    let same : one (holds f (Some d)) ≡ one (refers f (file_of_target d.target)) = ap one (sym (refers_target f d.target)) in
+    omega (arith, same, sum_by-append (λ x. one (holds f x)) ds (Some d ∷ []))
+
+-- an offset is no matter to the holders of a file
+pub holders_same : (ds : List (Option Description)) (n : ℕ) (d e : Description) (f : ℕ) → slot ds n ≡ Some d → e.target ≡ d.target → holders (set ds n (Some e)) f ≡ holders ds f
+holders_same ds n d e f is same =
+    let was : one (holds f (slot ds n)) ≡ one (holds f (Some e)) = ap (λ x. one (holds f x)) is ∙ ap (λ t. one (is_file f t)) (sym same) in
+    omega (arith, was, sum_by-set (λ x. one (holds f x)) ds n (Some e) None (there_below ds n (ap is_some is)))
+
+-- what a new name adds to the links of a file
+pub links_added : (name : List ℕ) (file f : ℕ) (es : Entries) → file_of name es ≡ None → links (with_name name file es) f ≡ links es f + one (file == f)
+links_added name file f [] new = refl
+links_added name file f (e ∷ es) new =
+    elim (slice_cmp nat_cmp name e.0) as (λ o. cond (is_eq o) (Some e.1) (file_of name es) ≡ None →
+    links (by_order o ((name, file) ∷ e ∷ es) ((e.0, file) ∷ es) (e ∷ with_name name file es)) f ≡ links (e ∷ es) f + one (file == f)) [
+      | Less ↦ λ _. omega (arith, sum_by-cons (λ x. one (x.1 == f)) (name, file) (e ∷ es))
+      | Equal ↦ λ there. cc
+      | Greater ↦ λ after. omega (arith, links_added name file f es after, sum_by-cons (λ x. one (x.1 == f)) e es, sum_by-cons (λ x. one (x.1 == f)) e (with_name name file es))
+    ] new
+
+-- a new name makes the names one longer
+pub names_longer : (name : List ℕ) (file : ℕ) (es : Entries) → file_of name es ≡ None → length (with_name name file es) ≡ length es + 1
+names_longer name file [] new = refl
+names_longer name file (e ∷ es) new =
+    elim (slice_cmp nat_cmp name e.0) as (λ o. cond (is_eq o) (Some e.1) (file_of name es) ≡ None →
+    length (by_order o ((name, file) ∷ e ∷ es) ((e.0, file) ∷ es) (e ∷ with_name name file es)) ≡ length (e ∷ es) + 1) [
+      | Less ↦ λ _. omega arith
+      | Equal ↦ λ there. cc
+      | Greater ↦ λ after. omega (arith, names_longer name file es after)
+    ] new
+
+-- how many are live after one is set, added or edited
+pub live_set : {T : Type 0} (xs : List (Option T)) (n : ℕ) (x : T) (y : Option T) → slot xs n ≡ Some x → live (set xs n y) + 1 ≡ live xs + one (is_some y)
+live_set {T} xs n x y is =
+    let was : one (is_some (slot xs n)) ≡ 1 = ap (λ x. one (is_some x)) is in
+    omega (arith, was, sum_by-set (λ (x : Option T). one (is_some x)) xs n y None (there_below xs n (ap is_some is)))
+
+pub live_added : {T : Type 0} (xs : List (Option T)) (x : T) → live (xs ++ Some x ∷ []) ≡ live xs + 1
+live_added {T} xs x = omega (arith, sum_by-append (λ (x : Option T). one (is_some x)) xs (Some x ∷ []))
+
+pub live_edited : {T : Type 0} (xs : List (Option T)) (n : ℕ) (f : T → T) → live (edited n f xs) ≡ live xs
+live_edited [] n f = refl
+live_edited {T} (None ∷ xs) zero f = refl
+live_edited {T} (Some x ∷ xs) zero f = omega (arith, sum_by-cons (λ (x : Option T). one (is_some x)) (Some x) xs, sum_by-cons (λ (x : Option T). one (is_some x)) (Some (f x)) xs)
+live_edited {T} (x ∷ xs) (suc n) f = omega (arith, live_edited xs n f, sum_by-cons (λ (x : Option T). one (is_some x)) x xs, sum_by-cons (λ (x : Option T). one (is_some x)) x (edited n f xs))

@@ -1,0 +1,318 @@
+use Rattle.std.proofs.Common.{◌≡◌, ℕ, ◌+◌, ◌≤◌, ◌<◌, ◌∙◌, true, false, cond, List, [], ◌∷◌, ◌++◌, Option, None, Some, length, length-set, set, refl, ap, sym, subst, arith, ltb, ◌⊎◌, inl, inr}
+use Rattle.std.specs.Prelude.{is_some, ◌==◌}
+use Rattle.std.specs.Option.{option_map}
+use Rattle.std.proofs.lemmas.Bool.{lt-ltb}
+use Rattle.call_types.specs.declared.limits.TheConstants.{OPEN_MAX, NAMES_MAX, DESCRIPTIONS_MAX, PROCESSES_MAX}
+use Rattle.posix_model.specs.Slots.{slot, live, edited}
+use Rattle.posix_model.specs.Names.{file_of, with_name}
+use Rattle.posix_model.specs.Counts.{links, refers, refs, holders}
+use Rattle.posix_model.specs.Sweep.{sweep, is_open, is_referred}
+use Rattle.posix_model.specs.Descriptors.{with_entry, with_descriptor, with_offset, table_of}
+use Rattle.posix_model.specs.Change.{with_description}
+use Rattle.posix_model.specs.Whole.{EachThere, is_fifo, TargetIsThere}
+use Rattle.posix_model.specs.Fits.{CanOpen, CanSet}
+use Rattle.posix_model.specs.Released.{IsSettled, IsItsFifo, StaysBut, SettledStays, SweepReleases, released, files_after, fifos_after, pipes_after}
+use Rattle.posix_model.specs.declared.world.World.{World}
+use Rattle.posix_model.specs.declared.world.File.{File}
+use Rattle.posix_model.specs.declared.world.File.TheVariants as file
+use Rattle.posix_model.specs.declared.world.Process.{Process}
+use Rattle.posix_model.specs.declared.opened.OpenDescriptor.{OpenDescriptor}
+use Rattle.posix_model.specs.declared.world.Description.{Description}
+use Rattle.posix_model.specs.declared.world.Target.{Target}
+use Rattle.posix_model.specs.declared.world.Target.TheVariants as target
+use Rattle.machine_state.specs.declared.numbered.used.Used.{Used}
+use Rattle.machine_state.specs.Uses.{uses_at, values_in, used_once, with_use, without_use, lost, with_value}
+use Rattle.machine_state.specs.Targets.{file_of_target, file_held, at_offset}
+use Rattle.machine_state.specs.Held.{file_slot, file_slots, Stored, world_in}
+use Rattle.machine_state.specs.Consistent.{IsConsistent}
+use Rattle.machine_state.proofs.SlotLaws.{one, other_number, slot_set}
+use Rattle.machine_state.proofs.UseLaws.{Counted, there_values, counted_as, counted_more, values_more, counted_added, values_added, length_values, counted_edited, values_edited, StaysUsed, Goes, LosesUse, loses_use}
+use Rattle.machine_state.proofs.FileLaws.{slot_files, some_regular, regular_stays, fifo_stays, file_slots_set, files_there}
+use Rattle.machine_state.proofs.CountLaws.{refs_entry, refs_most, holders_most, count_most, holders_gone, holders_added, holders_same, links_added, names_longer, live_set, live_added, live_edited}
+
+-- what holds of a machine, with each count told at its slot
+pub record Facts (s : Stored) : Type 0 where
+  pub references : Counted s.descriptions (λ n. refs s.processes n)
+  pub holders : Counted s.files (λ f. links s.names f + holders (values_in s.descriptions) f)
+  pub tables : EachThere (λ process. length process.table ≡ OPEN_MAX) s.processes
+  pub few_processes : live s.processes ≤ PROCESSES_MAX
+  pub few_descriptions : live (values_in s.descriptions) ≤ DESCRIPTIONS_MAX
+  pub few_names : length s.names ≤ NAMES_MAX
+
+pub facts_of : (s : Stored) → IsConsistent s → Facts s
+facts_of s all = record {
+  references = λ n. record { uses = all.references n; some = λ there. all.settled.descriptions n (there_values s.descriptions n ∙ there) };
+  holders = λ f. record { uses = all.holders f; some = λ there. all.settled.files f (files_there s.files f ∙ there) };
+  tables = all.tables;
+  few_processes = all.few_processes;
+  few_descriptions = all.few_descriptions;
+  few_names = all.few_names;
+}
+
+-- no file of a machine is a FIFO
+pub no_fifo : (s : Stored) (t : Target) → IsItsFifo (world_in s).files t
+no_fifo s t g x p is has here = absurd (regular (slot (values_in s.files) g) (sym (slot_files (values_in s.files) g) ∙ is))
+  where
+    regular : (b : Option (List ℕ × ℕ)) → file_slot b ≡ Some (file.Fifo x) → ⊥
+    regular None e = cc
+    regular (Some b) e = cc
+
+pub settled : (s : Stored) → Facts s → IsSettled (world_in s)
+settled s facts = record {
+  descriptions = λ n there. (facts.references n).some (sym (there_values s.descriptions n) ∙ there);
+  pipes = λ n there. cc;
+  fifos = λ n. rw (slot_files (values_in s.files) n) (regular_stays (values_in s.descriptions) (slot (values_in s.files) n));
+  files = λ n there. (facts.holders n).some (sym (files_there s.files n) ∙ there);
+}
+
+pub consistent_of : (s : Stored) → Facts s → IsConsistent s
+consistent_of s facts = record {
+  references = λ n. (facts.references n).uses;
+  holders = λ f. (facts.holders f).uses;
+  settled = settled s facts;
+  tables = facts.tables;
+  few_processes = facts.few_processes;
+  few_descriptions = facts.few_descriptions;
+  few_names = facts.few_names;
+}
+
+-- no count comes near the end of its numbers
+pub few_references : (s : Stored) → IsConsistent s → (n : ℕ) → uses_at (slot s.descriptions n) ≤ 2048
+few_references s all n =
+    let most : live s.processes ≤ 64 = all.few_processes in
+    omega (arith, most, all.references n, refs_most s.processes n all.tables)
+
+pub few_holders : (s : Stored) → IsConsistent s → (f : ℕ) → uses_at (slot s.files f) ≤ 2048
+few_holders s all f =
+    let most : live (values_in s.descriptions) ≤ 1024 = all.few_descriptions in
+    let names : length s.names ≤ 1024 = all.few_names in
+    omega (arith, most, names, all.holders f, holders_most (values_in s.descriptions) f, count_most (λ entry. entry.1 == f) s.names)
+
+module _ (s : Stored) (all : IsConsistent s) where
+  abbrev ds : List (Option Description)
+  ds = values_in s.descriptions
+
+  -- a file has other bytes
+  pub after_bytes : (n : ℕ) (f : List ℕ × ℕ → List ℕ × ℕ) → IsConsistent (record s { files = edited n (with_value f) s.files })
+  after_bytes n f =
+      let facts = facts_of s all in
+      consistent_of (record s { files = edited n (with_value f) s.files }) (record {
+        references = facts.references;
+        holders = counted_edited s.files (λ g. links s.names g + holders ds g) n f facts.holders;
+        tables = facts.tables;
+        few_processes = facts.few_processes;
+        few_descriptions = facts.few_descriptions;
+        few_names = facts.few_names;
+      })
+
+  -- an empty file has a new name
+  pub after_create : (name : List ℕ) (buffer : List ℕ × ℕ) → file_of name s.names ≡ None → length s.names < NAMES_MAX →
+      IsConsistent (record s { files = s.files ++ Some (used_once buffer) ∷ []; names = with_name name (length s.files) s.names })
+  after_create name buffer new few =
+      let facts = facts_of s all in
+      consistent_of (record s { files = s.files ++ Some (used_once buffer) ∷ []; names = with_name name (length s.files) s.names }) (record {
+        references = facts.references;
+        holders = counted_added s.files (λ g. links s.names g + holders ds g) (λ g. links (with_name name (length s.files) s.names) g + holders ds g) buffer facts.holders
+            (λ g. omega (arith, links_added name (length s.files) g s.names new));
+        tables = facts.tables;
+        few_processes = facts.few_processes;
+        few_descriptions = facts.few_descriptions;
+        few_names = omega (arith, few, names_longer name (length s.files) s.names new);
+      })
+
+  offset_values : (n offset : ℕ) (d : Description) → slot ds n ≡ Some d → values_in (edited n (with_value (at_offset offset)) s.descriptions) ≡ set ds n (Some (at_offset offset d))
+  offset_values n offset d is = values_edited s.descriptions n (at_offset offset) ∙ ap (λ x. set ds n (option_map (at_offset offset) x)) is
+
+  -- a description has another offset
+  pub after_offset : (n offset : ℕ) (d : Description) → slot ds n ≡ Some d → IsConsistent (record s { descriptions = edited n (with_value (at_offset offset)) s.descriptions })
+  after_offset n offset d is =
+      let facts = facts_of s all in
+      let t = record s { descriptions = edited n (with_value (at_offset offset)) s.descriptions } in
+      let values : values_in t.descriptions ≡ set ds n (Some (at_offset offset d)) = offset_values n offset d is in
+      consistent_of t (record {
+        references = counted_edited s.descriptions (λ m. refs s.processes m) n (at_offset offset) facts.references;
+        holders = counted_as s.files (λ f. links s.names f + holders ds f) (λ f. links s.names f + holders (values_in t.descriptions) f) facts.holders
+            (λ f. rw values (ap (λ k. links s.names f + k) (holders_same ds n d (at_offset offset d) f is refl)));
+        tables = facts.tables;
+        few_processes = facts.few_processes;
+        few_descriptions = rw values (omega (arith, facts.few_descriptions, live_set ds n d (Some (at_offset offset d)) is));
+        few_names = facts.few_names;
+      })
+
+  -- its world
+  pub offset_world : (o : OpenDescriptor) (offset : ℕ) → slot ds o.number ≡ Some o.description →
+      world_in (record s { descriptions = edited o.number (with_value (at_offset offset)) s.descriptions }) ≡ with_offset (world_in s) o offset
+  offset_world o offset is = ap (λ es. record (world_in s) { descriptions = es }) (offset_values o.number offset o.description is)
+
+  -- the processes after one has another entry
+  abbrev with_entries : ℕ → ℕ → Option ℕ → List (Option Process)
+  with_entries p fd entry = edited p (with_entry fd entry) s.processes
+
+  same_tables : (p fd : ℕ) (entry : Option ℕ) (process : Process) → slot s.processes p ≡ Some process → EachThere (λ process. length process.table ≡ OPEN_MAX) (with_entries p fd entry)
+  same_tables p fd entry process is n x there =
+      let written : with_entries p fd entry ≡ set s.processes p (Some (with_entry fd entry process)) = ap (λ y. set s.processes p (option_map (with_entry fd entry) y)) is in
+      let at_n : cond (p == n) (Some (with_entry fd entry process)) (slot s.processes n) ≡ Some x =
+      sym (ap (λ ps. slot ps n) written ∙ slot_set s.processes p process (Some (with_entry fd entry process)) n is) ∙ there in
+      elim (p == n) as (λ b. cond b (Some (with_entry fd entry process)) (slot s.processes n) ≡ Some x → length x.table ≡ OPEN_MAX) [
+        | true ↦ λ here. ap (λ y. length y.table) (sym (same_some (with_entry fd entry process) x here)) ∙ (length-set process.table fd entry ∙ all.tables p process is)
+        | false ↦ λ other. all.tables n x other
+      ] at_n
+    where
+      same_some : (a b : Process) → Some a ≡ Some b → a ≡ b
+      same_some a b e = cc
+
+  -- what is opened is there
+  target_there : (t : Target) → TargetIsThere (world_in s).files (world_in s).pipes t → (n : ℕ) → file_of_target t ≡ Some n → is_some (slot s.files n) ≡ true
+  target_there (target.Regular f) there n is = let P : ℕ → Type 0 = λ k. is_some (slot s.files k) ≡ true in subst P (same_number f n is) (sym (files_there s.files f) ∙ some_regular (slot (world_in s).files f) there)
+    where
+      same_number : (a b : ℕ) → Some a ≡ Some b → a ≡ b
+      same_number a b e = cc
+  target_there (target.Pipe p) there n is = cc
+  target_there (target.Fifo f p) there n is = let P : ℕ → Type 0 = λ k. is_some (slot s.files k) ≡ true in subst P (same_number f n is) (sym (files_there s.files f) ∙ some_fifo (slot (world_in s).files f) there.0)
+    where
+      same_number : (a b : ℕ) → Some a ≡ Some b → a ≡ b
+      same_number a b e = cc
+
+      some_fifo : (x : Option File) → is_fifo x ≡ true → is_some x ≡ true
+      some_fifo None h = cc
+      some_fifo (Some x) h = refl
+
+  -- a free descriptor refers to a new description
+  abbrev pub opened : ℕ → ℕ → Description → Stored
+  opened p fd d = record s {
+    files = with_use (file_of_target d.target) s.files;
+    descriptions = s.descriptions ++ Some (used_once d) ∷ [];
+    processes = edited p (with_entry fd (Some (length s.descriptions))) s.processes;
+  }
+
+  pub after_open : (p fd : ℕ) (d : Description) → CanOpen (world_in s) p fd d → live ds < DESCRIPTIONS_MAX → IsConsistent (opened p fd d)
+  after_open p fd d can few =
+      let facts = facts_of s all in
+      let free = can.free in
+      let within : fd < length (table_of (slot s.processes p)) = rw free.process_is free.within in
+      let nothing : (n : ℕ) → one (refers n (slot (table_of (slot s.processes p)) fd)) ≡ 0 = λ n. rw (free.process_is, free.free) refl in
+      let es = values_in (opened p fd d).descriptions in
+      let values : es ≡ ds ++ Some d ∷ [] = values_added s.descriptions d in
+      consistent_of (opened p fd d) (record {
+        references = counted_added s.descriptions (λ n. refs s.processes n) (λ n. refs (opened p fd d).processes n) d facts.references
+            (λ n. omega (arith, refs_entry s.processes p fd (Some (length s.descriptions)) n within, nothing n));
+        holders = counted_more s.files (λ f. links s.names f + holders ds f) (λ f. links s.names f + holders es f) (file_of_target d.target) facts.holders (target_there d.target can.there)
+            (λ f. rw values (omega (arith, holders_added ds d f)));
+        tables = same_tables p fd (Some (length s.descriptions)) free.process free.process_is;
+        few_processes = omega (arith, facts.few_processes, live_edited s.processes p (with_entry fd (Some (length s.descriptions))));
+        few_descriptions = rw values (omega (arith, few, live_added ds d));
+        few_names = facts.few_names;
+      })
+
+  pub opened_world : (p fd : ℕ) (d : Description) → world_in (opened p fd d) ≡ with_description (world_in s) p fd d
+  opened_world p fd d = rw (values_more s.files (file_of_target d.target), values_added s.descriptions d, length_values s.descriptions) refl
+
+  -- a file whose holder goes
+  released_as : (new : ℕ → ℕ) (f : ℕ) → StaysUsed s.files new (Some f) ⊎ Goes s.files new (Some f) →
+      cond (ltb 0 (new f)) (file_slots (values_in s.files)) (set (file_slots (values_in s.files)) f None) ≡ file_slots (values_in (without_use (Some f) s.files))
+  released_as new f (inl stays) =
+      let still : ltb 0 (new f) ≡ true = lt-ltb 0 (new f) (stays.used f refl) in
+      rw (still, stays.values) refl
+  released_as new f (inr goes) =
+      let same : goes.number ≡ f = same_number f goes.number goes.entry_is in
+      let gone : ltb 0 (new f) ≡ false = rw (← same, goes.none) refl in
+      rw (gone, goes.values, same) (sym (file_slots_set (values_in s.files) f None))
+    where
+      same_number : (a b : ℕ) → Some a ≡ Some b → b ≡ a
+      same_number a b e = cc
+
+  files_released : (es : List (Option Description)) (t : Target) → StaysUsed s.files (λ f. links s.names f + holders es f) (file_of_target t) ⊎ Goes s.files (λ f. links s.names f + holders es f) (file_of_target t) →
+      files_after s.names es (fifos_after es (world_in s).files t) t ≡ file_slots (values_in (without_use (file_of_target t) s.files))
+  files_released es (target.Regular f) either = released_as (λ f. links s.names f + holders es f) f either
+  files_released es (target.Pipe p) either = refl
+  files_released es (target.Fifo f p) either =
+      let same : fifos_after es (world_in s).files (target.Fifo f p) ≡ (world_in s).files = fifo_stays es (values_in s.files) f in
+      rw same (released_as (λ f. links s.names f + holders es f) f either)
+
+  pipes_released : (es : List (Option Description)) (t : Target) → pipes_after es (world_in s).pipes t ≡ []
+  pipes_released es (target.Regular f) = refl
+  pipes_released es (target.Pipe p) = elim (is_open es p) as (λ b. cond b (world_in s).pipes (set (world_in s).pipes p None) ≡ []) [ true ↦ refl | false ↦ refl ]
+  pipes_released es (target.Fifo f p) = elim (is_open es p) as (λ b. cond b (world_in s).pipes (set (world_in s).pipes p None) ≡ []) [ true ↦ refl | false ↦ refl ]
+
+  -- a descriptor refers to another description or is free, and what has lost its last use is gone
+  abbrev pub entry_set : ℕ → ℕ → Option ℕ → Option Description → Stored
+  entry_set p fd entry gone = record s {
+    files = without_use (file_held gone) s.files;
+    descriptions = without_use (slot (table_of (slot s.processes p)) fd) (with_use entry s.descriptions);
+    processes = edited p (with_entry fd entry) s.processes;
+  }
+
+  pub record IsSet (p fd : ℕ) (entry : Option ℕ) (t : Stored) : Type 0 where
+    pub consistent : IsConsistent t
+    pub world : world_in t ≡ sweep (with_descriptor (world_in s) p fd entry)
+
+  module _ (p fd : ℕ) (entry : Option ℕ) (can : CanSet (world_in s) p fd entry) (settled_stays : SettledStays) (releases : SweepReleases) where
+    abbrev qs : List (Option Process)
+    qs = edited p (with_entry fd entry) s.processes
+
+    abbrev old : Option ℕ
+    old = slot (table_of (slot s.processes p)) fd
+
+    abbrev more : List (Option (Used Description))
+    more = with_use entry s.descriptions
+
+    change : (n : ℕ) → refs qs n + one (refers n old) ≡ refs s.processes n + one (refers n entry)
+    change n = refs_entry s.processes p fd entry n (rw can.process_is can.within)
+
+    loses : LosesUse more (λ n. refs qs n) old
+    loses = loses_use more (λ n. refs s.processes n + one (refers n entry)) (λ n. refs qs n) old
+        (counted_more s.descriptions (λ n. refs s.processes n) (λ n. refs s.processes n + one (refers n entry)) entry (facts_of s all).references
+        (λ n is. sym (there_values s.descriptions n) ∙ can.there n is) (λ n. refl)) change
+
+    still : StaysUsed more (λ n. refs qs n) old → IsSet p fd entry (entry_set p fd entry None)
+    still stays =
+        let facts = facts_of s all in
+        let t = entry_set p fd entry None in
+        let values : values_in t.descriptions ≡ ds = stays.values ∙ values_more s.descriptions entry in
+        let now : Facts t = record {
+          references = loses.counted;
+          holders = rw values facts.holders;
+          tables = same_tables p fd entry can.process can.process_is;
+          few_processes = omega (arith, facts.few_processes, live_edited s.processes p (with_entry fd entry));
+          few_descriptions = rw values facts.few_descriptions;
+          few_names = facts.few_names;
+        } in
+        let v = with_descriptor (world_in s) p fd entry in
+        let same : world_in t ≡ v = rw values refl in
+        record { consistent = consistent_of t now; world = same ∙ sym (settled_stays v (subst IsSettled same (settled t now))) }
+
+    goes : (last : Goes more (λ n. refs qs n) old) → IsSet p fd entry (entry_set p fd entry (Some last.value))
+    goes last =
+        let facts = facts_of s all in
+        let t = entry_set p fd entry (Some last.value) in
+        let is : slot ds last.number ≡ Some last.value = ap (λ es. slot es last.number) (sym (values_more s.descriptions entry)) ∙ last.is in
+        let es = set ds last.number None in
+        let values : values_in t.descriptions ≡ es = last.values ∙ ap (λ xs. set xs last.number None) (values_more s.descriptions entry) in
+        let left = loses_use s.files (λ f. links s.names f + holders ds f) (λ f. links s.names f + holders es f) (file_of_target last.value.target) facts.holders
+        (λ f. omega (arith, holders_gone ds last.number last.value f is)) in
+        let now : Facts t = record {
+          references = loses.counted;
+          holders = rw values left.counted;
+          tables = same_tables p fd entry can.process can.process_is;
+          few_processes = omega (arith, facts.few_processes, live_edited s.processes p (with_entry fd entry));
+          few_descriptions = rw values (omega (arith, facts.few_descriptions, live_set ds last.number last.value None is));
+          few_names = facts.few_names;
+        } in
+        let gone : is_referred qs last.number ≡ false = rw last.none refl in
+        let others : StaysBut last.number s.processes qs = λ e apart some.
+        let none : one (refers e old) ≡ 0 = ap (λ x. one (refers e x)) last.entry_is ∙ ap one (other_number e last.number apart) in
+        omega (arith, change e, none, some) in
+        let law = releases (world_in s) qs last.number last.value all.settled is (no_fifo s last.value.target) others in
+        let result : released (record (world_in s) { processes = qs }) last.number last.value.target ≡ world_in t =
+        rw (gone, pipes_released es last.value.target, files_released es last.value.target left.either, values) refl in
+        record { consistent = consistent_of t now; world = sym (law ∙ result) }
+
+    pub is_set : IsSet p fd entry (entry_set p fd entry (lost old more))
+    is_set = elim loses.either as (λ _. IsSet p fd entry (entry_set p fd entry (lost old more))) [
+      | inl stays ↦ rw stays.lost (still stays)
+      | inr last ↦ rw last.lost (goes last)
+    ]
+
+-- a machine's world is its own sweep
+pub swept : SettledStays → (t : Stored) (v : World) → IsConsistent t → world_in t ≡ v → world_in t ≡ sweep v
+swept settled_stays t v all same = same ∙ sym (settled_stays v (subst IsSettled same all.settled))

@@ -1,0 +1,213 @@
+use Rattle.std.proofs.Common.{◌≡◌, ◌≢◌, ℕ, zero, suc, ◌+◌, ◌-◌, ◌<◌, ◌∙◌, true, false, List, [], ◌∷◌, ◌++◌, Option, None, Some, length, set, refl, ap, sym, subst, arith, ltb, ◌⊎◌, inl, inr}
+use Rattle.std.specs.Prelude.{is_some, ◌==◌}
+use Rattle.std.specs.Option.{option_map}
+use Rattle.std.proofs.lemmas.List.{map-set}
+use Rattle.std.proofs.Math.Seq.{map-set_same}
+use Rattle.std.proofs.lemmas.Bool.{lt-ltb, ltb-true}
+use Rattle.posix_model.specs.Slots.{slot, edited}
+use Rattle.posix_model.specs.Counts.{refers}
+use Rattle.machine_state.specs.declared.numbered.used.Used.{Used}
+use Rattle.machine_state.specs.Uses.{uses_at, value_at, values_in, used_once, one_more, one_less, last_value, with_use, without_use, lost, with_value}
+use Rattle.machine_state.proofs.SlotLaws.{one, same_or_not, is_itself, slot_set, slot_mapped, slot_past, slot_added, set_none}
+
+-- what one use less leaves at a slot, and what goes with it
+pub record IsLess {T : Type 0} (used : Used T) (left : Option (Used T)) (gone : Option T) : Type 0 where
+  pub slot : one_less (Some used) ≡ left
+  pub lost : last_value (Some used) ≡ gone
+
+pub more_left : {T : Type 0} (used : Used T) → 1 < used.uses → IsLess used (Some (record used { uses = used.uses - 1 })) None
+more_left used more =
+    let test : ltb 1 used.uses ≡ true = lt-ltb 1 used.uses more in
+    record { slot = rw test refl; lost = rw test refl }
+
+not_below : (k n : ℕ) → (k < n → ⊥) → ltb k n ≡ false
+not_below k n h = elim (ltb k n) as (λ b. ltb k n ≡ b → b ≡ false) [
+  | true ↦ λ e. absurd (h (ltb-true k n e))
+  | false ↦ λ _. refl
+] refl
+
+pub none_left : {T : Type 0} (used : Used T) → (1 < used.uses → ⊥) → IsLess used None (Some used.value)
+none_left used last =
+    let test : ltb 1 used.uses ≡ false = not_below 1 used.uses last in
+    record { slot = rw test refl; lost = rw test refl }
+
+-- a count is that of a total, and what is there is used
+pub record Tells {T : Type 0} (x : Option (Used T)) (total : ℕ) : Type 0 where
+  pub uses : uses_at x ≡ total
+  pub some : is_some x ≡ true → 0 < total
+
+abbrev pub Counted : {T : Type 0} → List (Option (Used T)) → (ℕ → ℕ) → Type 0
+Counted xs total = (n : ℕ) → Tells (slot xs n) (total n)
+
+module _ {T : Type 0} where
+  pub slot_values : (xs : List (Option (Used T))) (n : ℕ) → slot (values_in xs) n ≡ value_at (slot xs n)
+  slot_values xs n = slot_mapped value_at refl xs n
+
+  as_full : (x : Option (Used T)) → is_some (value_at x) ≡ is_some x
+  as_full None = refl
+  as_full (Some used) = refl
+
+  pub there_values : (xs : List (Option (Used T))) (n : ℕ) → is_some (slot (values_in xs) n) ≡ is_some (slot xs n)
+  there_values xs n = ap is_some (slot_values xs n) ∙ as_full (slot xs n)
+
+  -- what is used is there
+  pub positive : (x : Option (Used T)) → 0 < uses_at x → is_some x ≡ true
+  positive None h = absurd (omega (arith, h))
+  positive (Some used) h = refl
+
+  -- what is there has a value
+  pub full : (x : Option (Used T)) → is_some x ≡ true → (used : Used T) × (x ≡ Some used)
+  full None h = cc
+  full (Some used) h = (used, refl)
+
+  pub counted_as : (xs : List (Option (Used T))) (old new : ℕ → ℕ) → Counted xs old → ((n : ℕ) → new n ≡ old n) → Counted xs new
+  counted_as xs old new counted same n = rw (same n) (counted n)
+
+  -- one slot has another count
+  counted_set : (xs : List (Option (Used T))) (old new : ℕ → ℕ) (n : ℕ) (x : Used T) (y : Option (Used T)) → Counted xs old → slot xs n ≡ Some x →
+      Tells y (new n) → ((m : ℕ) → n ≢ m → new m ≡ old m) → Counted (set xs n y) new
+  counted_set xs old new n x y counted is here others m = elim (same_or_not n m) [
+    | inl same ↦ let P : ℕ → Type 0 = λ k. Tells y (new k) in rw (slot_set xs n x y m is, same.1) (subst P same.0 here)
+    | inr other ↦ rw (slot_set xs n x y m is, other.1, others m other.0) (counted m)
+  ]
+
+  -- something refers to what is there
+  pub counted_more : (xs : List (Option (Used T))) (old new : ℕ → ℕ) (entry : Option ℕ) → Counted xs old → ((n : ℕ) → entry ≡ Some n → is_some (slot xs n) ≡ true) →
+      ((n : ℕ) → new n ≡ old n + one (refers n entry)) → Counted (with_use entry xs) new
+  counted_more xs old new None counted there more = counted_as xs old new counted (λ n. omega (arith, more n))
+  counted_more xs old new (Some k) counted there more =
+      let x = full (slot xs k) (there k refl) in
+      let once : one (k == k) ≡ 1 = ap one (is_itself k) in
+      let was : x.0.uses ≡ old k = ap uses_at (sym x.1) ∙ (counted k).uses in
+      let here : Tells (Some (one_more x.0)) (new k) = record { uses = omega (arith, was, once, more k); some = λ _. omega (arith, once, more k) } in
+      rw x.1 (counted_set xs old new k x.0 (Some (one_more x.0)) counted x.1 here (λ m apart. elim (same_or_not k m) [
+        | inl same ↦ absurd (apart same.0)
+        | inr other ↦ let none : one (k == m) ≡ 0 = ap one other.1 in omega (arith, none, more m)
+      ]))
+
+  pub values_more : (xs : List (Option (Used T))) (entry : Option ℕ) → values_in (with_use entry xs) ≡ values_in xs
+  values_more xs None = refl
+  values_more xs (Some k) = map-set_same value_at xs k (option_map one_more (slot xs k)) None (alike (slot xs k))
+    where
+      alike : (x : Option (Used T)) → value_at (option_map one_more x) ≡ value_at x
+      alike None = refl
+      alike (Some used) = refl
+
+  -- a value is added, with one use
+  pub counted_added : (xs : List (Option (Used T))) (old new : ℕ → ℕ) (value : T) → Counted xs old → ((n : ℕ) → new n ≡ old n + one (length xs == n)) →
+      Counted (xs ++ Some (used_once value) ∷ []) new
+  counted_added xs old new value counted more n = elim (same_or_not (length xs) n) [
+    | inl same ↦
+        let once : one (length xs == n) ≡ 1 = ap one same.1 in
+        let none : uses_at (slot xs n) ≡ 0 = ap uses_at (slot_past xs n (omega (arith, same.0))) in
+        rw (slot_added xs (Some (used_once value)) n, same.1) (record { uses = omega (arith, once, none, (counted n).uses, more n); some = λ _. omega (arith, once, more n) })
+    | inr other ↦
+        let none : one (length xs == n) ≡ 0 = ap one other.1 in
+        let as_was : new n ≡ old n = omega (arith, none, more n) in
+        rw (slot_added xs (Some (used_once value)) n, other.1, as_was) (counted n)
+  ]
+
+  -- a value is edited
+  pub counted_edited : (xs : List (Option (Used T))) (total : ℕ → ℕ) (k : ℕ) (f : T → T) → Counted xs total → Counted (edited k (with_value f) xs) total
+  counted_edited xs total k f counted = by_slot (slot xs k) refl
+    where
+      by_slot : (x : Option (Used T)) → slot xs k ≡ x → Counted (edited k (with_value f) xs) total
+      by_slot None is = rw (is, set_none xs k is) counted
+      by_slot (Some used) is =
+          let was : used.uses ≡ total k = ap uses_at (sym is) ∙ (counted k).uses in
+          let some : 0 < total k = (counted k).some (ap is_some is) in
+          rw is (counted_set xs total total k used (Some (with_value f used)) counted is (record { uses = was; some = λ _. some }) (λ m _. refl))
+
+  pub values_edited : (xs : List (Option (Used T))) (k : ℕ) (f : T → T) → values_in (edited k (with_value f) xs) ≡ edited k f (values_in xs)
+  values_edited xs k f = map-set value_at xs k (option_map (with_value f) (slot xs k)) ∙ ap (λ y. set (values_in xs) k y) (alike (slot xs k) ∙ ap (option_map f) (sym (slot_values xs k)))
+    where
+      alike : (x : Option (Used T)) → value_at (option_map (with_value f) x) ≡ option_map f (value_at x)
+      alike None = refl
+      alike (Some used) = refl
+
+  -- what is referred to once less is used still
+  pub record StaysUsed (xs : List (Option (Used T))) (new : ℕ → ℕ) (entry : Option ℕ) : Type 0 where
+    pub used : (k : ℕ) → entry ≡ Some k → 0 < new k
+    pub values : values_in (without_use entry xs) ≡ values_in xs
+    pub lost : lost entry xs ≡ None
+
+  -- or its last use goes
+  pub record Goes (xs : List (Option (Used T))) (new : ℕ → ℕ) (entry : Option ℕ) : Type 0 where
+    pub number : ℕ
+    pub value : T
+    pub entry_is : entry ≡ Some number
+    pub is : slot (values_in xs) number ≡ Some value
+    pub none : new number ≡ 0
+    pub values : values_in (without_use entry xs) ≡ set (values_in xs) number None
+    pub lost : lost entry xs ≡ Some value
+
+  pub record LosesUse (xs : List (Option (Used T))) (new : ℕ → ℕ) (entry : Option ℕ) : Type 0 where
+    pub counted : Counted (without_use entry xs) new
+    pub either : StaysUsed xs new entry ⊎ Goes xs new entry
+
+  pub loses_use : (xs : List (Option (Used T))) (old new : ℕ → ℕ) (entry : Option ℕ) → Counted xs old → ((n : ℕ) → new n + one (refers n entry) ≡ old n) → LosesUse xs new entry
+  loses_use xs old new None counted less = record {
+    counted = counted_as xs old new counted (λ n. omega (arith, less n));
+    either = inl (record { used = λ k is. cc; values = refl; lost = refl });
+  }
+  loses_use xs old new (Some k) counted less =
+      let once : one (k == k) ≡ 1 = ap one (is_itself k) in
+      let x = full (slot xs k) (positive (slot xs k) (omega (arith, once, less k, (counted k).uses))) in
+      at x.0 x.1
+    where
+      others : (m : ℕ) → k ≢ m → new m ≡ old m
+      others m apart = elim (same_or_not k m) [
+        | inl same ↦ absurd (apart same.0)
+        | inr other ↦ let none : one (k == m) ≡ 0 = ap one other.1 in omega (arith, none, less m)
+      ]
+
+      same_some : (a b : ℕ) → Some a ≡ Some b → a ≡ b
+      same_some a b e = cc
+
+      at : (used : Used T) → slot xs k ≡ Some used → LosesUse xs new (Some k)
+      at used is =
+          let once : one (k == k) ≡ 1 = ap one (is_itself k) in
+          let was : used.uses ≡ new k + 1 = omega (arith, ap uses_at is, (counted k).uses, less k, once) in
+          elim (ltb 1 used.uses) as (λ b. ltb 1 used.uses ≡ b → LosesUse xs new (Some k)) [
+            | true ↦ λ e.
+                let many : 1 < used.uses = ltb-true 1 used.uses e in
+                let left = more_left used many in
+                let slot_is : one_less (slot xs k) ≡ Some (record used { uses = used.uses - 1 }) = ap one_less is ∙ left.slot in
+                record {
+                  counted = rw slot_is (counted_set xs old new k used (Some (record used { uses = used.uses - 1 })) counted is (record { uses = omega (arith, was); some = λ _. omega (arith, was, many) }) others);
+                  either = inl (record {
+                    used = λ n same. let P : ℕ → Type 0 = λ n. 0 < new n in subst P (same_some k n same) (omega (arith, was, many));
+                    values = rw slot_is (map-set_same value_at xs k (Some (record used { uses = used.uses - 1 })) None (ap value_at (sym is)));
+                    lost = rw is left.lost;
+                  });
+                }
+            | false ↦ λ e.
+                let last = none_left used (λ many. let bad : true ≡ false = sym (lt-ltb 1 used.uses many) ∙ e in cc) in
+                let few : used.uses ≡ 1 = single used.uses (new k) was e in
+                let slot_is : one_less (slot xs k) ≡ None = ap one_less is ∙ last.slot in
+                let zero_left : new k ≡ 0 = omega (arith, was, few) in
+                record {
+                  counted = rw slot_is (counted_set xs old new k used None counted is (record { uses = sym zero_left; some = λ h. cc }) others);
+                  either = inr (record {
+                    number = k;
+                    value = used.value;
+                    entry_is = refl;
+                    is = slot_values xs k ∙ ap value_at is;
+                    none = zero_left;
+                    values = rw slot_is (map-set value_at xs k None);
+                    lost = rw is last.lost;
+                  });
+                }
+          ] refl
+        where
+          single : (uses left : ℕ) → uses ≡ left + 1 → ltb 1 uses ≡ false → uses ≡ 1
+          single uses zero was e = omega (arith, was)
+          single uses (suc left) was e = let bad : true ≡ false = sym (lt-ltb 1 uses (omega (arith, was))) ∙ e in cc
+
+pub values_added : {T : Type 0} (xs : List (Option (Used T))) (value : T) → values_in (xs ++ Some (used_once value) ∷ []) ≡ values_in xs ++ Some value ∷ []
+values_added [] value = refl
+values_added (x ∷ xs) value = ap (λ ys. value_at x ∷ ys) (values_added xs value)
+
+pub length_values : {T : Type 0} (xs : List (Option (Used T))) → length (values_in xs) ≡ length xs
+length_values [] = refl
+length_values (x ∷ xs) = ap suc (length_values xs)

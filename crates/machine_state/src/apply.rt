@@ -1,0 +1,82 @@
+ghost use Rattle.std.specs.Prelude.{◌≡◌};
+ghost use Rattle.posix_model.specs.Change.{with_files, with_processes, with_table, changed};
+ghost use Rattle.posix_model.specs.Fits.{FilesFit, ProcessFits, TableFits, Fits, FilesProper, ProcessProper, TableProper, IsProper};
+ghost use Rattle.posix_model.specs.Sweep.{sweep};
+ghost use Rattle.machine_state.specs.Room.{HasFileRoom, HasProcessRoom, HasTableRoom, HasRoom, KeepsTableRoom};
+
+use crate::machine::Machine;
+use posix_model::change::{Change, FileEdit, ProcessEdit, TableEdit};
+use posix_model::laws::sweep_releases;
+
+impl Machine {
+    /// Makes an edit of files, with the bytes of the act.
+    fn apply_files(&mut self, bytes: &[u8], edit: FileEdit)
+        requires fits { FilesFit self.old.world edit }
+        requires proper { FilesProper self.old.world bytes.now edit }
+        requires room { HasFileRoom self.old.room edit }
+        ensures world { self.new.world ≡ with_files self.old.world bytes.now edit }
+        ensures tables { KeepsTableRoom self.old self.new }
+    {
+        match edit {
+            FileEdit::Nothing => {}
+            FileEdit::Bytes { file, start, count } => {
+                self.write_bytes(file, start, &bytes[..count]);
+            }
+            FileEdit::Resize { file, len } => self.set_len(file, len),
+            FileEdit::MakeFile { name } => self.create(name),
+        }
+    }
+
+    /// Makes an edit of processes.
+    fn apply_process(&mut self, edit: ProcessEdit)
+        requires fits { ProcessFits edit }
+        requires proper { ProcessProper self.old.world edit }
+        requires room { HasProcessRoom self.old.room.processes edit }
+        ensures world { self.new.world ≡ with_processes self.old.world edit }
+        ensures descriptions { self.new.room.descriptions ≡ self.old.room.descriptions }
+    {
+        match edit {
+            ProcessEdit::Nothing => {}
+            ProcessEdit::Add { process } => self.processes.push(process),
+        }
+    }
+
+    /// Makes an edit of descriptors and open file descriptions, and sweeps after it.
+    fn apply_table(&mut self, edit: TableEdit)
+        requires fits { TableFits self.old.world edit }
+        requires proper { TableProper self.old.world edit }
+        requires room { HasTableRoom self.old.room.descriptions edit }
+        ensures { self.new.world ≡ sweep (with_table self.old.world edit) }
+    {
+        sweep_releases();
+        // Without an edit nothing waits for a sweep: the fields hold that, so one is looked at.
+        let _closed = &self.closed;
+        match edit {
+            TableEdit::Nothing => {}
+            TableEdit::Offset { descriptor, offset } => self.set_offset(descriptor, offset),
+            TableEdit::Open {
+                process,
+                fd,
+                description,
+            } => self.open(process, fd, description),
+            TableEdit::Entry { process, fd, entry } => self.set_entry(process, fd, entry),
+        }
+    }
+
+    /// Makes a change, and sweeps after it. It takes no memory: its room stands reserved.
+    pub fn apply(&mut self, bytes: &[u8], change: Change)
+        requires fits { Fits self.old.world bytes.now change }
+        requires proper { IsProper self.old.world bytes.now change }
+        requires room { HasRoom self.old change }
+        ensures { self.new.world ≡ sweep (changed self.old.world bytes.now change) }
+    {
+        let Change {
+            files,
+            process,
+            table,
+        } = change;
+        self.apply_files(bytes, files);
+        self.apply_process(process);
+        self.apply_table(table);
+    }
+}

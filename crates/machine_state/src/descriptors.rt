@@ -1,0 +1,75 @@
+ghost use Rattle.std.specs.Prelude.{◌≡◌, ◌<◌, Some};
+ghost use Rattle.call_types.specs.declared.limits.TheConstants.{DESCRIPTIONS_MAX};
+ghost use Rattle.posix_model.specs.Slots.{slot, live};
+ghost use Rattle.posix_model.specs.Descriptors.{with_descriptor, with_offset};
+ghost use Rattle.posix_model.specs.Change.{with_description};
+ghost use Rattle.posix_model.specs.Fits.{CanOpen, CanSet};
+ghost use Rattle.posix_model.specs.Sweep.{sweep};
+ghost use Rattle.machine_state.specs.Targets.{file_of_target, file_held};
+
+use crate::machine::Machine;
+use crate::numbered::used::Used;
+use posix_model::laws::sweep_releases;
+use posix_model::opened::OpenDescriptor;
+use posix_model::world::{Description, Target};
+
+/// The file that a target holds, if it holds one.
+fn file_of_target(target: Target) -> Option<usize>
+    ensures { result ≡ file_of_target target }
+{
+    match target {
+        Target::Regular { file } | Target::Fifo { file, .. } => Some(file),
+        Target::Pipe { .. } => None,
+    }
+}
+
+/// The file that a description held, if one went and it held one.
+fn file_held(gone: Option<Description>) -> Option<usize>
+    ensures { result ≡ file_held gone }
+{
+    match gone {
+        Some(description) => file_of_target(description.target),
+        None => None,
+    }
+}
+
+impl Machine {
+    /// Gives the description of a descriptor another offset, in bytes.
+    pub(crate) fn set_offset(&mut self, descriptor: OpenDescriptor, offset: u64)
+        requires { slot self.old.world.descriptions descriptor.number ≡ Some descriptor.description }
+        ensures { self.new.world ≡ sweep (with_offset self.old.world descriptor offset) }
+    {
+        sweep_releases();
+        self.descriptions.set_offset(descriptor.number, offset);
+    }
+
+    /// Lets a free descriptor refer to a new description.
+    pub(crate) fn open(&mut self, process: usize, fd: usize, description: Description)
+        requires fits { CanOpen self.old.world process fd description }
+        requires few { live self.old.world.descriptions < DESCRIPTIONS_MAX }
+        requires room { 0 < self.old.room.descriptions }
+        ensures { self.new.world ≡ sweep (with_description self.old.world process fd description) }
+    {
+        sweep_releases();
+        let number = self.descriptions.next();
+        self.files.add_use(file_of_target(description.target));
+        self.descriptions.push(Used {
+            value: description,
+            uses: 1,
+        });
+        self.processes.replace_entry(process, fd, Some(number));
+    }
+
+    /// Lets a descriptor refer to a description that is there, or frees it. The description that it referred to before
+    /// goes with its last use, and so does the file of that one.
+    pub(crate) fn set_entry(&mut self, process: usize, fd: usize, entry: Option<usize>)
+        requires { CanSet self.old.world process fd entry }
+        ensures { self.new.world ≡ sweep (with_descriptor self.old.world process fd entry) }
+    {
+        sweep_releases();
+        self.descriptions.add_use(entry);
+        let old = self.processes.replace_entry(process, fd, entry);
+        let gone = self.descriptions.drop_use(old);
+        self.files.drop_use(file_held(gone));
+    }
+}

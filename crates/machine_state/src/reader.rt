@@ -1,0 +1,114 @@
+ghost use Rattle.std.specs.Prelude.{◌≡◌, length};
+ghost use Rattle.posix_model.specs.Counts.{links};
+
+use crate::machine::Machine;
+use call_types::bounded::{Content, Name};
+use posix_model::contents::bytes_at;
+use posix_model::names;
+use posix_model::opened::OpenDescriptor;
+use posix_model::reader::Reader;
+use posix_model::world::Parked;
+use std::alloc::{AllocError, Global};
+
+/// How many names a file has.
+fn links(names: &[(Name, usize)], file: usize) -> usize
+    ensures { result ≡ links names.now file }
+{
+    names.iter().filter(|entry| entry.1 == file).count()
+}
+
+impl Reader for Machine {
+    ghost world = { λ m. m.world };
+
+    fn opened(&self, process: usize, fd: i32) -> Option<OpenDescriptor> {
+        let fd = usize::try_from(fd).ok()?;
+        let number = *self.processes.get(process)?.table.get(fd)?;
+        let description = self.descriptions.get(number)?.value;
+        Some(OpenDescriptor {
+            fd,
+            number,
+            description,
+        })
+    }
+
+    fn lowest_free(&self, process: usize) -> Option<usize> {
+        match self.processes.get(process) {
+            Some(process) => process.table.lowest_free(),
+            None => None,
+        }
+    }
+
+    fn length_of(&self, file: usize) -> usize {
+        self.files.bytes_of(file).len()
+    }
+
+    fn read_at(
+        &self,
+        alloc: Global,
+        file: usize,
+        start: usize,
+        count: usize,
+    ) -> Result<Content, AllocError> {
+        Content::copied(alloc, bytes_at(self.files.bytes_of(file), start, count))
+    }
+
+    fn file_of(&self, name: &[u8]) -> Option<usize> {
+        names::file_of(self.names.as_slice(), name)
+    }
+
+    /// No file of a machine is a FIFO yet.
+    fn leads_to_fifo(&self, found: Option<usize>) -> bool {
+        let _files = &self.files;
+        let _found = found;
+        false
+    }
+
+    fn links_told(&self, file: usize) -> u32 {
+        links(self.names.as_slice(), file).min(u32::MAX as usize) as u32
+    }
+
+    /// No machine has a pipe yet.
+    fn held_in(&self, pipe: usize) -> usize {
+        let _files = &self.files;
+        let _pipe = pipe;
+        0
+    }
+
+    fn name_count(&self) -> usize {
+        self.names.len()
+    }
+
+    fn live_descriptions(&self) -> usize {
+        self.descriptions.live()
+    }
+
+    fn live_processes(&self) -> usize {
+        self.processes.live()
+    }
+
+    fn next_file(&self) -> usize {
+        self.files.next()
+    }
+
+    fn next_process(&self) -> usize {
+        self.processes.next()
+    }
+
+    fn is_here(&self, process: usize) -> bool {
+        match self.processes.get(process) {
+            Some(process) => process.attached,
+            None => false,
+        }
+    }
+
+    fn parked(&self, process: usize) -> Option<&Parked> {
+        match self.processes.get(process) {
+            Some(process) => process.parked.as_ref(),
+            None => None,
+        }
+    }
+
+    fn is_closed(&self) -> bool {
+        self.closed
+    }
+}

@@ -1,0 +1,166 @@
+-- What an open does.
+use Rattle.std.proofs.Common.{◌≡◌, ℕ, zero, suc, pos, ◌∙◌, Bool, true, false, cond, List, [], ◌∷◌, ◌++◌, Option, None, Some, length, set, refl, ap, sym, subst}
+use Rattle.std.proofs.lemmas.List.{get_or-set_other, get_or-set_same}
+use Rattle.std.proofs.lemmas.List.Quantifiers.{position-Some}
+use Rattle.std.proofs.lemmas.Cmp.{nat_list_cmp_total}
+use Rattle.std.specs.FinMap.Entries.{find-put}
+use Rattle.std.specs.Option.{is_none, is_some, unwrap_or}
+use Rattle.std.specs.Ordering.{nat_cmp, is_eq, eq_by_cmp, ordering_reverse}
+use Rattle.std.specs.declared.cmp.Ordering.{Ordering}
+use Rattle.std.specs.declared.cmp.Ordering.TheVariants.{Less, Equal, Greater}
+use Rattle.std.specs.Cmp.Lexicographic.{slice_cmp}
+use Rattle.call_types.specs.Flags.{has}
+use Rattle.call_types.specs.Flags as flag
+use Rattle.call_types.specs.declared.errno.Errno.{Errno}
+use Rattle.call_types.specs.declared.errno.Errno.TheVariants.{EMFILE}
+use Rattle.call_types.specs.declared.flags.OpenFlags.{OpenFlags}
+use Rattle.call_types.specs.declared.outcome.Outcome.TheVariants.{Reply as Replied}
+use Rattle.call_types.specs.declared.outcome.Reply.TheVariants.{Number}
+use Rattle.posix_model.specs.Slots.{slot, lowest, edited}
+use Rattle.posix_model.specs.Names.{Entries, file_of, with_name}
+use Rattle.posix_model.specs.Descriptors.{opened, opened_number, opened_description, table_of, with_entry, file_bytes}
+use Rattle.posix_model.specs.Change.{with_files, with_description, changed}
+use Rattle.posix_model.specs.Pages.{first_fault}
+use Rattle.posix_model.specs.Open.{flag_faults, name_faults, found_faults, room_faults, open_faults, new_description, free_descriptor, emptied, open_found, open_file}
+use Rattle.posix_model.specs.declared.world.World.{World}
+use Rattle.posix_model.specs.declared.world.Description.{Description}
+use Rattle.posix_model.specs.declared.world.File.{File}
+use Rattle.posix_model.specs.declared.world.File.TheVariants as file
+use Rattle.posix_model.specs.declared.world.Process.{Process}
+use Rattle.posix_model.specs.declared.change.FileEdit.TheVariants as on_files
+use Rattle.plain_world.specs.FileLaws.{Opens, OpenDescribes, ExclOpensNew, EmptiesFile, TruncOpenEmpties}
+use Rattle.plain_world.proofs.PageLemmas.{page_has, no_fault_after}
+use Rattle.plain_world.proofs.ChangeLemmas.{files_leave}
+use Rattle.plain_world.proofs.SlotLemmas.{slot_at_end, slot_set_there}
+
+-- a value is equal to itself in a total order
+ties : (name : List ℕ) → eq_by_cmp (slice_cmp nat_cmp) name name ≡ true
+ties name = at (slice_cmp nat_cmp name name) (nat_list_cmp_total.antisymm name name)
+  where
+    at : (o : Ordering) → o ≡ ordering_reverse o → is_eq o ≡ true
+    at Less h = cc
+    at Equal h = refl
+    at Greater h = cc
+
+-- a name leads to the file that it was given
+named_file : (name : List ℕ) (file : ℕ) (es : Entries) → file_of name (with_name name file es) ≡ Some file
+named_file name file es = find-put (slice_cmp nat_cmp) nat_list_cmp_total name name file es ∙ rw (ties name) refl
+
+-- what an open without a fault finds, and the room that there is for it
+later_clear : (w : World) (p : ℕ) (name : List ℕ) (flags : OpenFlags) (found : Option ℕ) → first_fault (open_faults w p name flags found) ≡ None →
+    first_fault (found_faults w flags found ++ room_faults w p found) ≡ None
+later_clear w p name flags found free =
+    let later = found_faults w flags found ++ room_faults w p found in
+    no_fault_after (name_faults name) later (no_fault_after (flag_faults flags) (name_faults name ++ later) free)
+
+there_is_one : (low : Option ℕ) (error : Errno) (rest : Option Errno) → cond (is_none low) (Some error) rest ≡ None → (k : ℕ) × (low ≡ Some k)
+there_is_one None error rest h = cc
+there_is_one (Some k) error rest h = (k, refl)
+
+-- so a descriptor is free
+has_free : (w : World) (p : ℕ) (name : List ℕ) (flags : OpenFlags) (found : Option ℕ) → first_fault (open_faults w p name flags found) ≡ None →
+    (k : ℕ) × (lowest (table_of (slot w.processes p)) ≡ Some k)
+has_free w p name flags found free =
+    let here = no_fault_after (found_faults w flags found) (room_faults w p found) (later_clear w p name flags found free) in
+    there_is_one (lowest (table_of (slot w.processes p))) EMFILE _ here
+
+-- the table of a process with one more entry has it
+entry_stands : (ps : List (Option Process)) (p k n : ℕ) (old : Option Process) → slot ps p ≡ old → lowest (table_of old) ≡ Some k →
+    slot (table_of (slot (edited p (with_entry k (Some n)) ps) p)) k ≡ Some n
+entry_stands ps p k n None stands low = cc
+entry_stands ps p k n (Some process) stands low =
+    let entry = Some (with_entry k (Some n) process) in
+    let written : slot (edited p (with_entry k (Some n)) ps) p ≡ entry = rw stands (slot_set_there ps p process entry stands) in
+    ap (λ x. slot (table_of x) k) written ∙ get_or-set_same process.table k (Some n) None (position-Some is_none process.table k None low).0
+
+-- the descriptor leads to the description that is opened
+opened_leads : (v : World) (p : ℕ) (d : Description) (k : ℕ) → lowest (table_of (slot v.processes p)) ≡ Some k →
+    opened (with_description v p k d) p (pos k) ≡ Some (record { fd = k; number = length v.descriptions; description = d })
+opened_leads v p d k low =
+    let n = length v.descriptions in
+    ap (opened_number (with_description v p k d) k) (entry_stands v.processes p k n (slot v.processes p) refl low) ∙ ap (opened_description k n) (slot_at_end v.descriptions (Some d))
+
+opens_with : (w v : World) (p : ℕ) (name : List ℕ) (flags : OpenFlags) (file k : ℕ) → (v.descriptions ≡ w.descriptions) × (v.processes ≡ w.processes) →
+    file_of name v.names ≡ Some file → lowest (table_of (slot w.processes p)) ≡ Some k → Opens w (with_description v p (free_descriptor w p) (new_description file flags)) p name flags k
+opens_with w v p name flags file k same named low =
+    let d = new_description file flags in
+    let free : free_descriptor w p ≡ k = ap (λ l. unwrap_or l 0) low in
+    subst (λ fd. Opens w (with_description v p fd d) p name flags k) (sym free) (record {
+      description = d;
+      file = file;
+      named = named;
+      target_is = refl;
+      at_start = refl;
+      mode_is = refl;
+      append_is = refl;
+      nonblock_is = refl;
+      appended = ap (λ ds. ds ++ Some d ∷ []) same.0;
+      leads =
+          opened_leads v p d k (ap (λ ps. lowest (table_of (slot ps p))) same.1 ∙ low) ∙
+          ap (λ ds. Some (record { fd = k; number = length ds; description = d })) same.0;
+    })
+
+emptied_names : (w : World) (n : ℕ) (flags : OpenFlags) → (with_files w [] (emptied n flags)).names ≡ w.names
+emptied_names w n flags = elim (has flags flag.trunc) as (λ b. (with_files w [] (cond b (on_files.Resize n 0) on_files.Nothing)).names ≡ w.names) [ true ↦ refl | false ↦ refl ]
+
+opens_found : (w : World) (p : ℕ) (name : List ℕ) (flags : OpenFlags) (found : Option ℕ) (k : ℕ) → file_of name w.names ≡ found → lowest (table_of (slot w.processes p)) ≡ Some k →
+    Opens w (changed w [] (open_found w p name flags found).change) p name flags k
+opens_found w p name flags None k is low =
+    let e = on_files.MakeFile name in
+    opens_with w (with_files w [] e) p name flags (length w.files) k (files_leave w [] e) (named_file name (length w.files) w.names) low
+opens_found w p name flags (Some n) k is low =
+    let e = emptied n flags in
+    opens_with w (with_files w [] e) p name flags n k (files_leave w [] e) (ap (file_of name) (emptied_names w n flags) ∙ is) low
+
+-- the number that an open tells
+told_found : (w : World) (p : ℕ) (name : List ℕ) (flags : OpenFlags) (found : Option ℕ) (k : ℕ) → lowest (table_of (slot w.processes p)) ≡ Some k →
+    (open_found w p name flags found).outcome ≡ Replied (Number k)
+told_found w p name flags None k low = ap (λ l. Replied (Number (unwrap_or l 0))) low
+told_found w p name flags (Some n) k low = ap (λ l. Replied (Number (unwrap_or l 0))) low
+
+pub open_describes : OpenDescribes
+open_describes bounds w p name flags fd told =
+    let found = file_of name w.names in
+    page_has (λ d. d.outcome ≡ Replied (Number fd) → Opens w (changed w [] d.change) p name flags fd) (open_file w p name flags) (λ error refused. cc)
+    (λ free opens.
+    let low = has_free w p name flags found free in
+    let tells : (open_found w p name flags found).outcome ≡ Replied (Number low.0) = told_found w p name flags found low.0 low.1 in
+    let same : low.0 ≡ fd = cc in
+    subst (λ k. Opens w (changed w [] (open_found w p name flags found).change) p name flags k) same (opens_found w p name flags found low.0 refl low.1)) told
+
+-- under excl and creat a name that is there is a fault
+excl_refuses : (w : World) (flags : OpenFlags) (n : ℕ) (rest : List (Bool × Errno)) → has flags flag.excl ≡ true → has flags flag.creat ≡ true →
+    is_some (first_fault (found_faults w flags (Some n) ++ rest)) ≡ true
+excl_refuses w flags n rest excl creat = rw (creat, excl) refl
+
+excl_found : (w : World) (p : ℕ) (flags : OpenFlags) (found : Option ℕ) → has flags flag.excl ≡ true → has flags flag.creat ≡ true →
+    first_fault (found_faults w flags found ++ room_faults w p found) ≡ None → found ≡ None
+excl_found w p flags None excl creat free = refl
+excl_found w p flags (Some n) excl creat free =
+    let fault = excl_refuses w flags n (room_faults w p (Some n)) excl creat in
+    let none : is_some (first_fault (found_faults w flags (Some n) ++ room_faults w p (Some n))) ≡ false = ap is_some free in
+    cc
+
+pub excl_opens_new : ExclOpensNew
+excl_opens_new bounds w p name flags fd excl creat told =
+    let found = file_of name w.names in
+    page_has (λ d. d.outcome ≡ Replied (Number fd) → found ≡ None) (open_file w p name flags) (λ error refused. cc)
+    (λ free _. excl_found w p flags found excl creat (later_clear w p name flags found free)) told
+
+emptied_bytes : (files : List (Option File)) (n : ℕ) → file_bytes (slot (set files n (Some (file.Regular []))) n) ≡ []
+emptied_bytes [] n = refl
+emptied_bytes (f ∷ files) zero = refl
+emptied_bytes (f ∷ files) (suc n) = emptied_bytes files n
+
+trunc_found : (w : World) (p : ℕ) (name : List ℕ) (flags : OpenFlags) (found : Option ℕ) (n : ℕ) → found ≡ Some n → has flags flag.trunc ≡ true →
+    EmptiesFile n w (changed w [] (open_found w p name flags found).change)
+trunc_found w p name flags found n is trunc =
+    subst (λ (x : Option ℕ). EmptiesFile n w (changed w [] (open_found w p name flags x).change)) (sym is) (rw trunc (record {
+      emptied = emptied_bytes w.files n;
+      others = λ m other. get_or-set_other w.files n m (Some (file.Regular [])) None other;
+    }))
+
+pub trunc_open_empties : TruncOpenEmpties
+trunc_open_empties bounds w p name flags fd n is trunc told =
+    page_has (λ d. d.outcome ≡ Replied (Number fd) → EmptiesFile n w (changed w [] d.change)) (open_file w p name flags) (λ error refused. cc)
+    (λ _ _. trunc_found w p name flags (file_of name w.names) n is trunc) told

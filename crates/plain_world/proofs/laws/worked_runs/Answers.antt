@@ -1,0 +1,13 @@
+-- each answer, and each sum of bytes, by computation
+use Rattle.std.proofs.Common.{refl}
+use Rattle.plain_world.proofs.laws.worked_runs.Goals as goal
+
+pub returns : goal.returns
+returns c = record {
+  path = record { is_legal = (refl, (refl, (refl, (refl, (refl, (refl, (refl, (refl, tt)))))))); takes = refl; gives = refl };
+  hole = record { is_legal = (refl, (refl, (refl, (refl, (refl, (refl, tt)))))); takes = refl; gives = refl };
+  greatest_offset = record { is_legal = (refl, (refl, (refl, (refl, (refl, (refl, (refl, (refl, tt)))))))); takes = refl; gives = refl };
+  size_limit = record { is_legal = (refl, (refl, (refl, (refl, (refl, (refl, (refl, tt))))))); takes = refl; gives = refl };
+  pwrite_under_append = record { is_legal = (refl, (refl, (refl, (refl, (refl, (refl, (refl, (refl, (refl, (refl, tt)))))))))); takes = refl; gives = refl };
+  opening = record { is_legal = (refl, (refl, (refl, (refl, (refl, (refl, (refl, (refl, (refl, (refl, (refl, (refl, (refl, (refl, (refl, tt))))))))))))))); takes = refl; gives = refl };
+}

@@ -1,0 +1,126 @@
+-- Worked runs: what each act answers, and the bytes that each run takes and gives.
+use Rattle.std.specs.Prelude.{◌≡◌, ℕ, pos, negsuc, List, [], ◌∷◌, codes}
+use Rattle.call_types.specs.declared.limits.Bounds.{Bounds}
+use Rattle.call_types.specs.declared.flags.OpenFlags.{OpenFlags}
+use Rattle.call_types.specs.declared.call.Call.{Call}
+use Rattle.call_types.specs.declared.call.Call.TheVariants.{Open, Close, Read, Write, Pread, Pwrite, Lseek, Ftruncate, Fstat}
+use Rattle.call_types.specs.declared.whence.Whence.TheVariants.{Set, Cur, End}
+use Rattle.call_types.specs.declared.act.Act.TheVariants as act
+use Rattle.call_types.specs.declared.act.Record.{Record}
+use Rattle.call_types.specs.declared.outcome.Outcome.TheVariants as outcome
+use Rattle.call_types.specs.declared.outcome.Reply.{Reply}
+use Rattle.call_types.specs.declared.outcome.Reply.TheVariants as reply
+use Rattle.call_types.specs.declared.errno.Errno.TheVariants.{EBADF, EINVAL, EFBIG, EOVERFLOW, ENOENT, EEXIST}
+use Rattle.call_types.specs.declared.outcome.Kind.TheVariants.{Regular}
+use Rattle.posix_model.specs.History.{legal}
+use Rattle.posix_model.specs.Turns.{bytes_in, bytes_out}
+
+-- the limits of this profile, in bytes
+abbrev pub standard : Bounds
+standard = record { file_size = 1048576; pipe_capacity = 1024 }
+
+-- files of 16 bytes at most
+abbrev pub small : Bounds
+small = record { file_size = 16; pipe_capacity = 1024 }
+
+-- the model answers so, and the run takes and gives so many bytes
+pub record Runs (bounds : Bounds) (h : List Record) (taken given : ℕ) : Type 0 where
+  pub is_legal : legal bounds h
+  pub takes : bytes_in bounds h ≡ taken
+  pub gives : bytes_out bounds h ≡ given
+
+-- the first process joins
+abbrev pub joins : Record
+joins = record { actor = 0; act = act.Join; outcome = outcome.Reply (reply.Number 0) }
+
+-- its call, and the answer
+abbrev pub answers : Call → Reply → Record
+answers c r = record { actor = 0; act = act.Call c; outcome = outcome.Reply r }
+
+-- flags by their bits: r 1, w 2, creat 4, excl 8, trunc 16, append 32
+abbrev pub bits : ℕ → OpenFlags
+bits n = record { 0 = n }
+
+-- a file is written, cannot be read through that descriptor, and is read through another
+abbrev pub path : List Record
+path =
+    joins
+    ∷ answers (Open (codes "a") (bits 6)) (reply.Number 0)
+    ∷ answers (Write (pos 0) (codes "hello")) (reply.Number 5)
+    ∷ answers (Read (pos 0) 5) (reply.Error EBADF)
+    ∷ answers (Write (pos 0) (codes "!")) (reply.Number 1)
+    ∷ answers (Open (codes "a") (bits 1)) (reply.Number 1)
+    ∷ answers (Read (pos 1) 10) (reply.Data (codes "hello!"))
+    ∷ answers (Close (pos 0)) reply.Done
+    ∷ []
+
+-- bytes past a gap: the gap reads as zeros
+abbrev pub hole : List Record
+hole =
+    joins
+    ∷ answers (Open (codes "h") (bits 7)) (reply.Number 0)
+    ∷ answers (Write (pos 0) (codes "abc")) (reply.Number 3)
+    ∷ answers (Lseek (pos 0) (pos 10) Set) (reply.Number 10)
+    ∷ answers (Write (pos 0) (codes "z")) (reply.Number 1)
+    ∷ answers (Pread (pos 0) (pos 0) 20) (reply.Data (97 ∷ 98 ∷ 99 ∷ 0 ∷ 0 ∷ 0 ∷ 0 ∷ 0 ∷ 0 ∷ 0 ∷ 122 ∷ []))
+    ∷ []
+
+-- the greatest offset, and one past it
+abbrev pub greatest_offset : List Record
+greatest_offset =
+    joins
+    ∷ answers (Open (codes "m") (bits 7)) (reply.Number 0)
+    ∷ answers (Lseek (pos 0) (pos 9223372036854775807) Set) (reply.Number 9223372036854775807)
+    ∷ answers (Lseek (pos 0) (pos 1) Cur) (reply.Error EOVERFLOW)
+    ∷ answers (Pread (pos 0) (pos 9223372036854775807) 1) (reply.Data [])
+    ∷ answers (Write (pos 0) (codes "a")) (reply.Error EFBIG)
+    ∷ answers (Lseek (pos 0) (negsuc 0) Set) (reply.Error EINVAL)
+    ∷ answers (Lseek (pos 0) (pos 0) End) (reply.Number 0)
+    ∷ []
+
+-- the size limit, of 16 bytes: what fits is written, then nothing, and a greater length is refused
+abbrev pub size_limit : List Record
+size_limit =
+    joins
+    ∷ answers (Open (codes "b") (bits 7)) (reply.Number 0)
+    ∷ answers (Lseek (pos 0) (pos 15) Set) (reply.Number 15)
+    ∷ answers (Write (pos 0) (codes "aaaaaaaaaa")) (reply.Number 1)
+    ∷ answers (Write (pos 0) (codes "aaaaaaaaaa")) (reply.Error EFBIG)
+    ∷ answers (Lseek (pos 0) (pos 0) Cur) (reply.Number 16)
+    ∷ answers (Ftruncate (pos 0) (pos 17)) (reply.Error EFBIG)
+    ∷ []
+
+-- pwrite leaves the offset, and under append writes at its position all the same
+abbrev pub pwrite_under_append : List Record
+pwrite_under_append =
+    joins
+    ∷ answers (Open (codes "c") (bits 6)) (reply.Number 0)
+    ∷ answers (Write (pos 0) (codes "abc")) (reply.Number 3)
+    ∷ answers (Close (pos 0)) reply.Done
+    ∷ answers (Open (codes "c") (bits 35)) (reply.Number 0)
+    ∷ answers (Pwrite (pos 0) (pos 0) (codes "X")) (reply.Number 1)
+    ∷ answers (Lseek (pos 0) (pos 0) Cur) (reply.Number 0)
+    ∷ answers (Write (pos 0) (codes "d")) (reply.Number 1)
+    ∷ answers (Lseek (pos 0) (pos 0) Cur) (reply.Number 4)
+    ∷ answers (Pread (pos 0) (pos 0) 9) (reply.Data (codes "Xbcd"))
+    ∷ []
+
+-- flags and names of open, each with its refusal
+abbrev pub opening : List Record
+opening =
+    joins
+    ∷ answers (Open (codes "n") (bits 13)) (reply.Number 0)
+    ∷ answers (Open (codes "n") (bits 13)) (reply.Error EEXIST)
+    ∷ answers (Open (codes "n") (bits 17)) (reply.Error EINVAL)
+    ∷ answers (Open (codes "n") (bits 9)) (reply.Error EINVAL)
+    ∷ answers (Open (codes "gone") (bits 1)) (reply.Error ENOENT)
+    ∷ answers (Open [] (bits 1)) (reply.Error ENOENT)
+    ∷ answers (Open (codes ".") (bits 1)) (reply.Error EINVAL)
+    ∷ answers (Open (codes "n") (bits 2)) (reply.Number 1)
+    ∷ answers (Write (pos 1) (codes "ab")) (reply.Number 2)
+    ∷ answers (Open (codes "n") (bits 18)) (reply.Number 2)
+    ∷ answers (Fstat (pos 0)) (reply.Stat (record { kind = Regular; size = 0; links = 1 }))
+    ∷ answers (Ftruncate (pos 2) (pos 3)) reply.Done
+    ∷ answers (Pread (pos 0) (pos 0) 5) (reply.Data (0 ∷ 0 ∷ 0 ∷ []))
+    ∷ answers (Ftruncate (pos 0) (pos 1)) (reply.Error EINVAL)
+    ∷ []

@@ -1,0 +1,306 @@
+-- Changes of a world that use no number again and leave nothing that refers to what is gone.
+use Rattle.std.proofs.Common.{◌≡◌, ◌∙◌, zero, suc, replicate, take, ℕ, true, false, List, [], ◌∷◌, ◌++◌, Option, None, Some, length, set, get_or, refl, ap, sym, subst}
+use Rattle.std.specs.Option.{option_map, is_some}
+use Rattle.std.specs.List.{All}
+use Rattle.std.proofs.lemmas.List.Elements.{All-cons, All-head, All-tail}
+use Rattle.std.specs.Ordering.{nat_cmp}
+use Rattle.std.specs.Cmp.Lexicographic.{slice_cmp}
+use Rattle.std.specs.FinMap.Entries.{by_order}
+use Rattle.std.specs.declared.cmp.Ordering.TheVariants.{Less, Equal, Greater}
+use Rattle.posix_model.specs.Whole.{IsThere, TargetIsThere, is_fifo, is_regular_file}
+use Rattle.posix_model.specs.Slots.{slot}
+use Rattle.posix_model.specs.Names.{Entries, with_name}
+use Rattle.posix_model.specs.Descriptors.{with_entry, with_descriptor, with_offset, bytes_of}
+use Rattle.posix_model.specs.Change.{with_files, with_processes, with_table, changed, with_bytes, created, new_process, with_description}
+use Rattle.posix_model.specs.Fits.{FilesFit, ProcessFits, TableFits, Fits}
+use Rattle.posix_model.specs.declared.change.FileEdit.{FileEdit}
+use Rattle.posix_model.specs.declared.change.TableEdit.{TableEdit}
+use Rattle.posix_model.specs.declared.change.FileEdit.TheVariants as on_files
+use Rattle.posix_model.specs.declared.change.ProcessEdit.{ProcessEdit}
+use Rattle.posix_model.specs.declared.change.ProcessEdit.TheVariants as on_process
+use Rattle.posix_model.specs.declared.change.TableEdit.TheVariants as on_table
+use Rattle.posix_model.specs.declared.change.Change.{Change}
+use Rattle.call_types.specs.declared.limits.TheConstants.{OPEN_MAX}
+use Rattle.posix_model.specs.Bytes.{splice, resized}
+use Rattle.posix_model.specs.Numbers.{NumbersRise, StaysSame}
+use Rattle.posix_model.specs.Whole.{EachThere, PipeIsThere, IsWhole}
+use Rattle.posix_model.specs.declared.world.World.{World}
+use Rattle.posix_model.specs.declared.world.Description.{Description}
+use Rattle.posix_model.specs.declared.world.File.{File}
+use Rattle.posix_model.specs.declared.world.File.TheVariants as file
+use Rattle.posix_model.specs.declared.world.Process.{Process}
+use Rattle.posix_model.specs.declared.world.Target.{Target}
+use Rattle.posix_model.specs.declared.world.Target.TheVariants as target
+use Rattle.posix_model.specs.declared.opened.OpenDescriptor.{OpenDescriptor}
+use Rattle.posix_model.proofs.SlotLaws.{test_set, slot_pushed, there_below, stays_as_is, stays_pushed, stays_set, stays_twice, Adds, adds_same, adds_set, adds_edited, adds_push, pushed_there, rises_twice, each_set, each_push, stands_there}
+
+-- a change that uses no number again and leaves nothing that refers to what is gone
+pub record Goes (w v : World) : Type 0 where
+  pub rises : NumbersRise w v
+  pub whole : IsWhole v
+
+same_rises : (w : World) → NumbersRise w w
+same_rises w = record {
+  files = (adds_same w.files).rises;
+  pipes = (adds_same w.pipes).rises;
+  descriptions = (adds_same w.descriptions).rises;
+  processes = (adds_same w.processes).rises;
+  kinds = stays_as_is (λ f. is_fifo (Some f)) w.files;
+  targets = stays_as_is (λ d. d.target) w.descriptions;
+  modes = stays_as_is (λ d. d.mode) w.descriptions;
+}
+
+pub goes_nowhere : (w : World) → IsWhole w → Goes w w
+goes_nowhere w whole = record { rises = same_rises w; whole = whole }
+
+pub rise_twice : (u v w : World) → NumbersRise u v → NumbersRise v w → NumbersRise u w
+rise_twice u v w r s = record {
+  files = rises_twice u.files v.files w.files r.files s.files;
+  pipes = rises_twice u.pipes v.pipes w.pipes r.pipes s.pipes;
+  descriptions = rises_twice u.descriptions v.descriptions w.descriptions r.descriptions s.descriptions;
+  processes = rises_twice u.processes v.processes w.processes r.processes s.processes;
+  kinds = stays_twice (λ f. is_fifo (Some f)) u.files v.files w.files r.files s.files r.kinds s.kinds;
+  targets = stays_twice (λ d. d.target) u.descriptions v.descriptions w.descriptions r.descriptions s.descriptions r.targets s.targets;
+  modes = stays_twice (λ d. d.mode) u.descriptions v.descriptions w.descriptions r.descriptions s.descriptions r.modes s.modes;
+}
+
+pub goes_twice : (u v w : World) → Goes u v → Goes v w → Goes u w
+goes_twice u v w g h = record { rises = rise_twice u v w g.rises h.rises; whole = h.whole }
+
+-- a regular file is there, and no FIFO
+pub regular_parts : (x : Option File) → is_regular_file x ≡ true → (is_some x ≡ true) × (is_fifo x ≡ false)
+regular_parts None h = cc
+regular_parts (Some (file.Regular bytes)) h = (refl, refl)
+regular_parts (Some (file.Fifo fifo)) h = cc
+
+pub fifo_there : (x : Option File) → is_fifo x ≡ true → is_some x ≡ true
+fifo_there None h = cc
+fifo_there (Some (file.Regular bytes)) h = cc
+fifo_there (Some (file.Fifo fifo)) h = refl
+
+-- no file went, and none is of another kind
+record FilesAdd (xs ys : List (Option File)) : Type 0 where
+  adds : Adds xs ys
+  regular : (n : ℕ) → is_regular_file (slot xs n) ≡ true → is_regular_file (slot ys n) ≡ true
+  fifo : (n : ℕ) → is_fifo (slot xs n) ≡ true → is_fifo (slot ys n) ≡ true
+  kinds : StaysSame (λ f. is_fifo (Some f)) xs ys
+
+files_set : (xs : List (Option File)) (m : ℕ) (y : Option File) → is_some y ≡ is_some (slot xs m) → is_regular_file y ≡ is_regular_file (slot xs m) →
+    is_fifo y ≡ is_fifo (slot xs m) → FilesAdd xs (set xs m y)
+files_set xs m y full regular fifo = record {
+  adds = adds_set xs m y full;
+  regular = λ n h. test_set is_regular_file xs m y n regular ∙ h;
+  fifo = λ n h. test_set is_fifo xs m y n fifo ∙ h;
+  kinds = stays_set (λ f. is_fifo (Some f)) xs m y (λ a b h k. ap is_fifo (sym k) ∙ (fifo ∙ ap is_fifo h));
+}
+
+files_push : (xs : List (Option File)) (y : File) → FilesAdd xs (xs ++ Some y ∷ [])
+files_push xs y = record {
+  adds = adds_push xs (Some y);
+  regular = λ n h. ap is_regular_file (slot_pushed xs (Some y) n (there_below xs n (regular_parts (slot xs n) h).0)) ∙ h;
+  fifo = λ n h. ap is_fifo (slot_pushed xs (Some y) n (there_below xs n (fifo_there (slot xs n) h))) ∙ h;
+  kinds = stays_pushed (λ f. is_fifo (Some f)) xs (Some y);
+}
+
+-- what is there stays so where files are added
+target_stays : (files more : List (Option File)) (pipes : List (Option (List ℕ))) → FilesAdd files more → (t : Target) →
+    TargetIsThere files pipes t → TargetIsThere more pipes t
+target_stays files more pipes a (target.Regular f) h = a.regular f h
+target_stays files more pipes a (target.Pipe p) h = h
+target_stays files more pipes a (target.Fifo f p) h = (a.fifo f h.0, h.1)
+
+-- the offset of an open descriptor is written
+pub offset_goes : (w : World) (o : OpenDescriptor) (k : ℕ) → IsWhole w → slot w.descriptions o.number ≡ Some o.description → Goes w (with_offset w o k)
+offset_goes w o k whole stands =
+    let moved : Description = record o.description { offset = k } in
+    let full : is_some (Some moved) ≡ is_some (slot w.descriptions o.number) = sym (stands_there w.descriptions o.number o.description stands) in
+    let adds = adds_set w.descriptions o.number (Some moved) full in
+    record {
+      rises = record {
+        files = (adds_same w.files).rises;
+        pipes = (adds_same w.pipes).rises;
+        descriptions = adds.rises;
+        processes = (adds_same w.processes).rises;
+        kinds = stays_as_is (λ f. is_fifo (Some f)) w.files;
+        targets = stays_set (λ d. d.target) w.descriptions o.number (Some moved) (λ x y h k.
+            let was : o.description ≡ x = cc in let is : moved ≡ y = cc in sym (ap (λ d. d.target) is) ∙ ap (λ d. d.target) was);
+        modes = stays_set (λ d. d.mode) w.descriptions o.number (Some moved) (λ x y h k.
+            let was : o.description ≡ x = cc in let is : moved ≡ y = cc in sym (ap (λ d. d.mode) is) ∙ ap (λ d. d.mode) was);
+      };
+      whole = record {
+        names = whole.names;
+        descriptions = each_set (λ d. TargetIsThere w.files w.pipes d.target) w.descriptions o.number (Some moved) whole.descriptions
+            (λ d h. let same : o.description.target ≡ d.target = let e : moved ≡ d = cc in ap (λ x. x.target) e in
+            subst (TargetIsThere w.files w.pipes) same (whole.descriptions o.number o.description stands));
+        fifos = whole.fifos;
+        processes = λ p process at n x h. adds.there x (whole.processes p process at n x h);
+      };
+    }
+
+-- the files of a world are others, of which none went
+files_go : (w : World) (files : List (Option File)) → IsWhole w → FilesAdd w.files files → EachThere (PipeIsThere w.pipes) files → Goes w (record w { files = files })
+files_go w files whole add fifos = record {
+  rises = record {
+    files = add.adds.rises;
+    pipes = (adds_same w.pipes).rises;
+    descriptions = (adds_same w.descriptions).rises;
+    processes = (adds_same w.processes).rises;
+    kinds = add.kinds;
+    targets = stays_as_is (λ d. d.target) w.descriptions;
+    modes = stays_as_is (λ d. d.mode) w.descriptions;
+  };
+  whole = record {
+    names = λ k d below. add.adds.there (get_or w.names k d).1 (whole.names k d below);
+    descriptions = λ n d h. target_stays w.files files w.pipes add d.target (whole.descriptions n d h);
+    fifos = fifos;
+    processes = whole.processes;
+  };
+}
+
+-- a file has other bytes
+pub bytes_go : (w : World) (f : ℕ) (bytes : List ℕ) → IsWhole w → is_regular_file (slot w.files f) ≡ true → Goes w (with_bytes w f bytes)
+bytes_go w f bytes whole there =
+    let parts = regular_parts (slot w.files f) there in
+    files_go w (set w.files f (Some (file.Regular bytes))) whole (files_set w.files f (Some (file.Regular bytes)) (sym parts.0) (sym there) (sym parts.1))
+    (each_set (PipeIsThere w.pipes) w.files f (Some (file.Regular bytes)) whole.fifos (λ x h. let e : file.Regular bytes ≡ x = cc in subst (PipeIsThere w.pipes) e tt))
+
+-- a name is put at a file that is there
+names_with : (files : List (Option File)) (name : List ℕ) (f : ℕ) (es : Entries) → IsThere files f →
+    All (λ entry. IsThere files entry.1) es → All (λ entry. IsThere files entry.1) (with_name name f es)
+names_with files name f [] there all = All-cons (λ entry. IsThere files entry.1) (name, f) [] there all
+names_with files name f (e ∷ es) there all =
+    let first = All-head (λ entry. IsThere files entry.1) e es all in
+    let rest = All-tail (λ entry. IsThere files entry.1) e es all in
+    elim (slice_cmp nat_cmp name e.0) as (λ o. All (λ entry. IsThere files entry.1) (by_order o ((name, f) ∷ e ∷ es) ((e.0, f) ∷ es) (e ∷ with_name name f es))) [
+      | Less ↦ All-cons (λ entry. IsThere files entry.1) (name, f) (e ∷ es) there all
+      | Equal ↦ All-cons (λ entry. IsThere files entry.1) (e.0, f) es there rest
+      | Greater ↦ All-cons (λ entry. IsThere files entry.1) e (with_name name f es) first (names_with files name f es there rest)
+    ]
+
+pub created_goes : (w : World) (name : List ℕ) → IsWhole w → Goes w (created w name)
+created_goes w name whole =
+    let files = w.files ++ Some (file.Regular []) ∷ [] in
+    let moved = files_go w files whole (files_push w.files (file.Regular [])) (each_push (PipeIsThere w.pipes) w.files (file.Regular []) whole.fifos tt) in
+    record {
+      rises = record { files = moved.rises.files; pipes = moved.rises.pipes; descriptions = moved.rises.descriptions; processes = moved.rises.processes; kinds = moved.rises.kinds; targets = moved.rises.targets; modes = moved.rises.modes };
+      whole = record {
+        names = names_with files name (length w.files) w.names (pushed_there w.files (file.Regular [])) moved.whole.names;
+        descriptions = moved.whole.descriptions;
+        fifos = moved.whole.fifos;
+        processes = moved.whole.processes;
+      };
+    }
+
+-- the descriptors of a process refer to what is there
+abbrev pub Refers : List (Option Description) → Process → Type 0
+Refers ds process = EachThere (IsThere ds) process.table
+
+entry_edited : (ds : List (Option Description)) (fd : ℕ) (entry : Option ℕ) (old : Option Process) (x : Process) →
+    ((n : ℕ) → entry ≡ Some n → IsThere ds n) → ((y : Process) → old ≡ Some y → Refers ds y) → option_map (with_entry fd entry) old ≡ Some x → Refers ds x
+entry_edited ds fd entry None x new all h = cc
+entry_edited ds fd entry (Some y) x new all h =
+    let e : with_entry fd entry y ≡ x = cc in
+    subst (Refers ds) e (each_set (IsThere ds) y.table fd entry (all y refl) new)
+
+-- a descriptor refers to what is there, or is free
+pub descriptor_goes : (w : World) (process fd : ℕ) (entry : Option ℕ) → IsWhole w → ((n : ℕ) → entry ≡ Some n → IsThere w.descriptions n) →
+    Goes w (with_descriptor w process fd entry)
+descriptor_goes w process fd entry whole new =
+    let edited = option_map (with_entry fd entry) (slot w.processes process) in
+    let adds = adds_edited w.processes process (with_entry fd entry) in
+    record {
+      rises = record {
+        files = (adds_same w.files).rises;
+        pipes = (adds_same w.pipes).rises;
+        descriptions = (adds_same w.descriptions).rises;
+        processes = adds.rises;
+        kinds = stays_as_is (λ f. is_fifo (Some f)) w.files;
+        targets = stays_as_is (λ d. d.target) w.descriptions;
+        modes = stays_as_is (λ d. d.mode) w.descriptions;
+      };
+      whole = record {
+        names = whole.names;
+        descriptions = whole.descriptions;
+        fifos = whole.fifos;
+        processes = each_set (Refers w.descriptions) w.processes process edited whole.processes
+            (λ x h. entry_edited w.descriptions fd entry (slot w.processes process) x new (whole.processes process) h);
+      };
+    }
+
+-- one more description, of what is there
+pub described_goes : (w : World) (d : Description) → IsWhole w → TargetIsThere w.files w.pipes d.target → Goes w (record w { descriptions = w.descriptions ++ Some d ∷ [] })
+described_goes w d whole there =
+    let adds = adds_push w.descriptions (Some d) in
+    record {
+      rises = record {
+        files = (adds_same w.files).rises;
+        pipes = (adds_same w.pipes).rises;
+        descriptions = adds.rises;
+        processes = (adds_same w.processes).rises;
+        kinds = stays_as_is (λ f. is_fifo (Some f)) w.files;
+        targets = stays_pushed (λ x. x.target) w.descriptions (Some d);
+        modes = stays_pushed (λ x. x.mode) w.descriptions (Some d);
+      };
+      whole = record {
+        names = whole.names;
+        descriptions = each_push (λ x. TargetIsThere w.files w.pipes x.target) w.descriptions d whole.descriptions there;
+        fifos = whole.fifos;
+        processes = λ p process at n x h. adds.there x (whole.processes p process at n x h);
+      };
+    }
+
+none_replicated : (m n x : ℕ) (P : Type 0) → slot (replicate m None) n ≡ Some x → P
+none_replicated zero n x P h = cc
+none_replicated (suc m) zero x P h = cc
+none_replicated (suc m) (suc n) x P h = none_replicated m n x P h
+
+added_goes : (w : World) (process : Process) → IsWhole w → process ≡ new_process → Goes w (with_processes w (on_process.Add process))
+added_goes w process whole new = rw new (record {
+  rises = record {
+    files = (adds_same w.files).rises;
+    pipes = (adds_same w.pipes).rises;
+    descriptions = (adds_same w.descriptions).rises;
+    processes = (adds_push w.processes (Some new_process)).rises;
+    kinds = stays_as_is (λ f. is_fifo (Some f)) w.files;
+    targets = stays_as_is (λ d. d.target) w.descriptions;
+    modes = stays_as_is (λ d. d.mode) w.descriptions;
+  };
+  whole = record {
+    names = whole.names;
+    descriptions = whole.descriptions;
+    fifos = whole.fifos;
+    processes = each_push (Refers w.descriptions) w.processes new_process whole.processes (λ n x h. none_replicated OPEN_MAX n x (IsThere w.descriptions x) h);
+  };
+})
+
+opened_goes : (w : World) (process fd : ℕ) (d : Description) → IsWhole w → TargetIsThere w.files w.pipes d.target → Goes w (with_description w process fd d)
+opened_goes w process fd d whole there =
+    let more : World = record w { descriptions = w.descriptions ++ Some d ∷ [] } in
+    let first = described_goes w d whole there in
+    let at_end : (n : ℕ) → Some (length w.descriptions) ≡ Some n → IsThere more.descriptions n = λ n h. let same : length w.descriptions ≡ n = cc in subst (IsThere more.descriptions) same (pushed_there w.descriptions d) in
+    goes_twice w more (with_description w process fd d) first (descriptor_goes more process fd (Some (length w.descriptions)) first.whole at_end)
+
+-- one case for each edit
+files_go_on : (w : World) (bytes : List ℕ) (e : FileEdit) → IsWhole w → FilesFit w e → Goes w (with_files w bytes e)
+files_go_on w bytes on_files.Nothing whole fits = goes_nowhere w whole
+files_go_on w bytes (on_files.Bytes f start count) whole fits = bytes_go w f (splice (bytes_of w f) start (take count bytes)) whole fits
+files_go_on w bytes (on_files.Resize f len) whole fits = bytes_go w f (resized (bytes_of w f) len) whole fits
+files_go_on w bytes (on_files.MakeFile name) whole fits = created_goes w name whole
+
+processes_go_on : (w : World) (e : ProcessEdit) → IsWhole w → ProcessFits e → Goes w (with_processes w e)
+processes_go_on w on_process.Nothing whole fits = goes_nowhere w whole
+processes_go_on w (on_process.Add process) whole fits = added_goes w process whole fits
+
+table_goes_on : (w : World) (e : TableEdit) → IsWhole w → TableFits w e → Goes w (with_table w e)
+table_goes_on w on_table.Nothing whole fits = goes_nowhere w whole
+table_goes_on w (on_table.Offset o offset) whole fits = offset_goes w o offset whole fits
+table_goes_on w (on_table.Open process fd d) whole fits = opened_goes w process fd d whole fits.there
+table_goes_on w (on_table.Entry process fd entry) whole fits = descriptor_goes w process fd entry whole fits.there
+
+pub change_goes : (w : World) (bytes : List ℕ) (c : Change) → IsWhole w → Fits w bytes c → Goes w (changed w bytes c)
+change_goes w bytes c whole fits =
+    let u = with_files w bytes c.files in
+    let v = with_processes u c.process in
+    let first = files_go_on w bytes c.files whole fits.files in
+    let second = processes_go_on u c.process first.whole fits.process in
+    goes_twice w u (changed w bytes c) first (goes_twice u v (changed w bytes c) second (table_goes_on v c.table second.whole fits.table))

@@ -1,0 +1,10 @@
+pub mod NameLemmas
+pub mod SlotLaws
+pub mod SweepLaws
+pub mod ChangeLaws
+pub mod SweepWhole
+pub mod ReleaseLaws
+pub mod PageLaws
+pub mod Sound
+pub mod ProcessLaws
+pub mod HistoryLaws

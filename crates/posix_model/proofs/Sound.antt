@@ -1,0 +1,477 @@
+-- What acts come to is sound: one lemma for each call.
+use Rattle.std.proofs.Common.{◌≡◌, ◌∙◌, ℕ, ℤ, pos, negsuc, nat_abs, ◌+◌, ◌-◌, ◌<◌, ◌≤◌, Bool, true, false, not, ◌&&◌, ◌||◌, cond, List, [], ◌∷◌, ◌++◌, Option, None, Some, length, refl, ap, sym, subst, arith, leb, ltb, eqb}
+use Rattle.std.specs.Prelude.{◌+ℤ◌}
+use Rattle.std.specs.Option.{option_map, is_some, is_none, unwrap_or}
+use Rattle.std.specs.List.{All}
+use Rattle.std.specs.Ordering.{nat_cmp, is_eq}
+use Rattle.std.specs.Cmp.Lexicographic.{slice_cmp}
+use Rattle.std.proofs.lemmas.Grind.{common_steps}
+use Rattle.std.proofs.lemmas.List.Elements.{All-head, All-tail}
+use Rattle.std.proofs.lemmas.Bool.Decides.{nat_tests}
+use Rattle.call_types.specs.CallTable.{payload_of}
+use Rattle.call_types.specs.Flags.{has}
+use Rattle.call_types.specs.Flags as flag
+use Rattle.call_types.specs.declared.limits.Bounds.{Bounds}
+use Rattle.call_types.specs.declared.limits.TheConstants.{OFFSET_MAX, NAMES_MAX, DESCRIPTIONS_MAX, PROCESSES_MAX}
+use Rattle.call_types.specs.declared.act.Act.TheVariants as act
+use Rattle.call_types.specs.declared.call.Call.{Call}
+use Rattle.call_types.specs.declared.call.Call.TheVariants as call
+use Rattle.call_types.specs.declared.errno.Errno.{Errno}
+use Rattle.call_types.specs.declared.errno.Errno.TheVariants.{EAGAIN}
+use Rattle.call_types.specs.declared.flags.OpenFlags.{OpenFlags}
+use Rattle.call_types.specs.declared.outcome.Reply.TheVariants.{Number, Data}
+use Rattle.call_types.specs.declared.whence.Whence.{Whence}
+use Rattle.posix_model.specs.Bytes.{bytes_at}
+use Rattle.posix_model.specs.Slots.{slot, lowest, live}
+use Rattle.posix_model.specs.Names.{Entries, file_of}
+use Rattle.posix_model.specs.Whole.{IsThere, TargetIsThere, is_fifo, is_regular_file, IsWhole}
+use Rattle.posix_model.specs.Descriptors.{opened, opened_number, opened_description, number_of, table_of, bytes_of}
+use Rattle.posix_model.specs.Positions.{bytes_before, regular_file, is_regular, file_at}
+use Rattle.posix_model.specs.Change.{with_bytes, created, new_process}
+use Rattle.posix_model.specs.Fits.{IsFree, Fits, IsProper}
+use Rattle.posix_model.specs.Pages.{first_fault, unless, refused, tells, does, acts, decided_by}
+use Rattle.posix_model.specs.Close.{close}
+use Rattle.posix_model.specs.Read.{read}
+use Rattle.posix_model.specs.Write.{is_past_limit, write_faults, write_from, write_start, write, fitting}
+use Rattle.posix_model.specs.Pread.{pread}
+use Rattle.posix_model.specs.Pwrite.{pwrite_faults, pwrite}
+use Rattle.posix_model.specs.Lseek.{lseek_faults, lseek_to, base_of, lseek}
+use Rattle.posix_model.specs.Ftruncate.{ftruncate_faults, ftruncate}
+use Rattle.posix_model.specs.Fstat.{fstat}
+use Rattle.posix_model.specs.Open.{flag_faults, name_faults, found_faults, room_faults, open_faults, open_found, opens, emptied, new_description, free_descriptor, open_file}
+use Rattle.posix_model.specs.Join.{join, is_full}
+use Rattle.posix_model.specs.Step.{given, decided, can_call}
+use Rattle.posix_model.specs.Turns.{took_in, new_turn}
+use Rattle.posix_model.specs.Sound.{Sound, ActsAreSound, FilesWithin}
+use Rattle.posix_model.specs.declared.world.World.{World}
+use Rattle.posix_model.specs.declared.world.Process.{Process}
+use Rattle.posix_model.specs.declared.world.Description.{Description}
+use Rattle.posix_model.specs.declared.world.Target.{Target}
+use Rattle.posix_model.specs.declared.world.Target.TheVariants as target
+use Rattle.posix_model.specs.declared.world.File.{File}
+use Rattle.posix_model.specs.declared.world.File.TheVariants as file
+use Rattle.posix_model.specs.declared.opened.OpenDescriptor.{OpenDescriptor}
+use Rattle.posix_model.specs.declared.change.FileEdit.TheVariants as on_files
+use Rattle.posix_model.specs.declared.change.ProcessEdit.TheVariants as on_process
+use Rattle.posix_model.specs.declared.change.TableEdit.TheVariants as on_table
+use Rattle.posix_model.specs.declared.change.Decided.{Decided}
+use Rattle.posix_model.proofs.PageLaws.{page_has, on_open_has, if_has, Clear, clear, none_in_both}
+use Rattle.posix_model.proofs.SlotLaws.{test_set, there_below, stands_there, lowest_is_least}
+
+-- what a call comes to is sound
+abbrev pub Answers : Bounds → World → ℕ → Call → Decided → Type 0
+Answers bounds w process c d = Sound bounds w process (act.Call c) d
+
+-- no bytes are taken where the total is 0
+none_taken : (c : Call) (most : ℕ) → took_in 0 (new_turn c) ≤ most
+none_taken c most = elim (is_some (payload_of c)) as (λ b. cond b (0 - 0) 0 ≤ most) [ true ↦ omega arith | false ↦ omega arith ]
+
+-- a refusal
+pub sound_refused : (bounds : Bounds) (w : World) (process : ℕ) (c : Call) (error : Errno) → Answers bounds w process c (refused error)
+sound_refused bounds w process c error = record {
+  refusal = λ _ _. refl;
+  told = refl;
+  planned = refl;
+  own = λ n h. cc;
+  few = none_taken c (length (given (act.Call c)));
+  proper = λ _. record { files = tt; process = tt; table = tt };
+  fits = λ _. record { files = tt; process = tt; table = tt };
+  within_files = tt;
+  within_table = λ _ _. tt;
+}
+
+-- an open descriptor of a process stands in its table, and its description under its number
+pub record IsOpenAt (w : World) (p : ℕ) (o : OpenDescriptor) : Type 0 where
+  pub process : Process
+  pub process_is : slot w.processes p ≡ Some process
+  pub within : o.fd < length process.table
+  pub description_is : slot w.descriptions o.number ≡ Some o.description
+
+open_description : (w : World) (p fd number : ℕ) (there : Option Description) (o : OpenDescriptor) (x : Process) → slot w.processes p ≡ Some x → slot x.table fd ≡ Some number →
+    slot w.descriptions number ≡ there → opened_description fd number there ≡ Some o → IsOpenAt w p o
+open_description w p fd number None o x here entry h k = cc
+open_description w p fd number (Some d) o x here entry h k =
+    let opens : OpenDescriptor = record { fd = fd; number = number; description = d } in
+    let same : opens ≡ o = cc in
+    let below = there_below x.table fd (stands_there x.table fd number entry) in
+    subst (λ (x : OpenDescriptor). IsOpenAt w p x) same (record { process = x; process_is = here; within = below; description_is = h })
+
+open_number : (w : World) (p fd : ℕ) (entry : Option ℕ) (o : OpenDescriptor) (x : Process) → slot w.processes p ≡ Some x → slot x.table fd ≡ entry → opened_number w fd entry ≡ Some o → IsOpenAt w p o
+open_number w p fd None o x here at h = cc
+open_number w p fd (Some number) o x here at h = open_description w p fd number (slot w.descriptions number) o x here at refl h
+
+open_in : (w : World) (p fd : ℕ) (there : Option Process) (o : OpenDescriptor) → slot w.processes p ≡ there → opened_number w fd (slot (table_of there) fd) ≡ Some o → IsOpenAt w p o
+open_in w p fd None o here h = cc
+open_in w p fd (Some x) o here h = open_number w p fd (slot x.table fd) o x here refl h
+
+pub opened_stands : (w : World) (p : ℕ) (fd : ℤ) (o : OpenDescriptor) → opened w p fd ≡ Some o → IsOpenAt w p o
+opened_stands w p (pos fd) o h = open_in w p fd (slot w.processes p) o refl h
+opened_stands w p (negsuc n) o h = cc
+
+-- the offset that a call on a descriptor moves is that of its own description
+own_offset : (w : World) (p : ℕ) (fd : ℤ) (o : OpenDescriptor) (n : ℕ) → opened w p fd ≡ Some o → Some o.number ≡ Some n → number_of w p fd ≡ Some n
+own_offset w p fd o n is h = ap (option_map (λ x. x.number)) is ∙ h
+
+-- the file of a descriptor that is open on a regular one is there
+regular_there : (files : List (Option File)) (pipes : List (Option (List ℕ))) (t : Target) → is_some (regular_file t) ≡ true → TargetIsThere files pipes t →
+    is_regular_file (slot files (unwrap_or (regular_file t) 0)) ≡ true
+regular_there files pipes (target.Regular f) regular there = there
+regular_there files pipes (target.Pipe pipe) regular there = cc
+regular_there files pipes (target.Fifo f pipe) regular there = cc
+
+not_false : (b : Bool) → not b ≡ false → b ≡ true
+not_false true h = refl
+not_false false h = cc
+
+file_there : (w : World) (p : ℕ) (o : OpenDescriptor) → IsOpenAt w p o → not (is_regular o) ≡ false → IsWhole w → is_regular_file (slot w.files (file_at o)) ≡ true
+file_there w p o at regular whole = regular_there w.files w.pipes o.description.target (not_false (is_regular o) regular) (whole.descriptions o.number o.description at.description_is)
+
+not_at_most : (a b : ℕ) → leb a b ≡ false → b < a
+not_at_most a b h = grind (arith, nat_tests)
+
+not_below : (a b : ℕ) → ltb a b ≡ false → b ≤ a
+not_below a b h = grind (arith, nat_tests)
+
+second_of_both : (a b : Bool) → (not a && b) ≡ false → a ≡ false → b ≡ false
+second_of_both a b h e = rw e at h
+
+second_of_either : (a b : Bool) → (a || b) ≡ false → b ≡ false
+second_of_either true b h = cc
+second_of_either false b h = h
+
+-- what is put below the limit ends at it at most
+put_below : (bounds : Bounds) (start : ℕ) (bytes : List ℕ) → is_past_limit bounds start bytes ≡ false → eqb (length bytes) 0 ≡ false →
+    (fitting bounds start bytes ≤ length bytes) × (start + fitting bounds start bytes ≤ bounds.file_size)
+put_below bounds start bytes clear some =
+    let below : start < bounds.file_size = not_at_most bounds.file_size start (second_of_both (eqb (length bytes) 0) (leb bounds.file_size start) clear some) in
+    (omega arith, omega (arith, below))
+
+sound_close : (bounds : Bounds) (w : World) (p : ℕ) (fd : ℤ) (o : OpenDescriptor) → IsOpenAt w p o → Answers bounds w p (call.Close fd) (close p o).effect
+sound_close bounds w p fd o at = record {
+  refusal = λ _ h. cc;
+  told = refl;
+  planned = refl;
+  own = λ n h. cc;
+  few = omega arith;
+  proper = λ _. record { files = tt; process = tt; table = tt };
+  fits = λ _. record { files = tt; process = tt; table = record { process = at.process; process_is = at.process_is; within = at.within; there = λ n h. cc } };
+  within_files = tt;
+  within_table = λ _ _. tt;
+}
+
+-- a read ends at the end of the file, or at the offset
+read_end : (there : List ℕ) (start count size most : ℕ) → length there ≤ size → size ≤ most → start ≤ most → start + length (bytes_at there start count) ≤ most
+read_end there start count size most h k l = grind (arith, common_steps)
+
+sound_read : (bounds : Bounds) (w : World) (p : ℕ) (fd : ℤ) (count : ℕ) (o : OpenDescriptor) → opened w p fd ≡ Some o → Answers bounds w p (call.Read fd count) (read w count o).effect
+sound_read bounds w p fd count o is =
+    let got = bytes_at (bytes_of w (file_at o)) o.description.offset count in
+    let at = opened_stands w p fd o is in
+    if_has (Answers bounds w p (call.Read fd count)) (eqb (length got) 0) (tells (Data got)) (does (Data got) on_files.Nothing (on_table.Offset o (o.description.offset + length got)))
+    (λ _. record {
+      refusal = λ _ h. cc;
+      told = refl;
+      planned = refl;
+      own = λ n h. cc;
+      few = omega arith;
+      proper = λ _. record { files = tt; process = tt; table = tt };
+      fits = λ _. record { files = tt; process = tt; table = tt };
+      within_files = tt;
+      within_table = λ _ _. tt;
+    })
+    (λ _. record {
+      refusal = λ _ h. cc;
+      told = refl;
+      planned = refl;
+      own = λ n h. own_offset w p fd o n is h;
+      few = omega arith;
+      proper = λ _. record { files = tt; process = tt; table = tt };
+      fits = λ _. record { files = tt; process = tt; table = at.description_is };
+      within_files = tt;
+      within_table = λ small limits. read_end (bytes_of w (file_at o)) o.description.offset count bounds.file_size OFFSET_MAX (limits.files (file_at o)) small (limits.offsets o.number o.description at.description_is);
+    })
+
+sound_write : (bounds : Bounds) (w : World) (p : ℕ) (fd : ℤ) (bytes : List ℕ) (start : ℕ) (o : OpenDescriptor) → opened w p fd ≡ Some o → first_fault (write_faults bounds start bytes o) ≡ None →
+    Answers bounds w p (call.Write fd bytes) (write_from bounds start bytes o).effect
+sound_write bounds w p fd bytes start o is free =
+    let at = opened_stands w p fd o is in
+    let allowed = clear (write_faults bounds start bytes o) free in
+    let regular = allowed.1.1.0 in
+    let below_limit = allowed.1.1.1.0 in
+    let n = fitting bounds start bytes in
+    if_has (Answers bounds w p (call.Write fd bytes)) (eqb (length bytes) 0) (tells (Number 0)) (does (Number n) (on_files.Bytes (file_at o) start n) (on_table.Offset o (start + n)))
+    (λ _. record {
+      refusal = λ _ h. cc;
+      told = refl;
+      planned = refl;
+      own = λ n h. cc;
+      few = omega arith;
+      proper = λ _. record { files = tt; process = tt; table = tt };
+      fits = λ _. record { files = tt; process = tt; table = tt };
+      within_files = tt;
+      within_table = λ _ _. tt;
+    })
+    (λ some. let put = put_below bounds start bytes below_limit some in record {
+      refusal = λ _ h. cc;
+      told = refl;
+      planned = refl;
+      own = λ n h. own_offset w p fd o n is h;
+      few = omega (arith, put.0);
+      proper = λ small. record { files = (put.0, omega (arith, put.1, small)); process = tt; table = tt };
+      fits = λ whole. record { files = file_there w p o at regular whole; process = tt; table = at.description_is };
+      within_files = put.1;
+      within_table = λ small _. omega (arith, put.1, small);
+    })
+
+sound_pwrite : (bounds : Bounds) (w : World) (p : ℕ) (fd start : ℤ) (bytes : List ℕ) (o : OpenDescriptor) → opened w p fd ≡ Some o → first_fault (pwrite_faults bounds start bytes o) ≡ None →
+    Answers bounds w p (call.Pwrite fd start bytes) (pwrite bounds start bytes o).effect
+sound_pwrite bounds w p fd start bytes o is free =
+    let at = opened_stands w p fd o is in
+    let allowed = clear (pwrite_faults bounds start bytes o) free in
+    let regular = allowed.1.0 in
+    let below_limit = allowed.1.1.1.1.0 in
+    let n = fitting bounds (bytes_before start) bytes in
+    if_has (Answers bounds w p (call.Pwrite fd start bytes)) (eqb (length bytes) 0) (tells (Number 0)) (does (Number n) (on_files.Bytes (file_at o) (bytes_before start) n) on_table.Nothing)
+    (λ _. record {
+      refusal = λ _ h. cc;
+      told = refl;
+      planned = refl;
+      own = λ n h. cc;
+      few = omega arith;
+      proper = λ _. record { files = tt; process = tt; table = tt };
+      fits = λ _. record { files = tt; process = tt; table = tt };
+      within_files = tt;
+      within_table = λ _ _. tt;
+    })
+    (λ some. let put = put_below bounds (bytes_before start) bytes below_limit some in record {
+      refusal = λ _ h. cc;
+      told = refl;
+      planned = refl;
+      own = λ n h. cc;
+      few = omega (arith, put.0);
+      proper = λ small. record { files = (put.0, omega (arith, put.1, small)); process = tt; table = tt };
+      fits = λ whole. record { files = file_there w p o at regular whole; process = tt; table = tt };
+      within_files = put.1;
+      within_table = λ _ _. tt;
+    })
+
+-- a place that is not before the start of a file, and not past the greatest offset
+sought_within : (to : ℤ) (o : OpenDescriptor) → first_fault (lseek_faults to o) ≡ None → nat_abs to ≤ OFFSET_MAX
+sought_within (pos n) o free = not_below OFFSET_MAX n (clear (lseek_faults (pos n) o) free).1.1.0
+sought_within (negsuc n) o free = let none : true ≡ false = (clear (lseek_faults (negsuc n) o) free).1.0 in cc
+
+sound_lseek : (bounds : Bounds) (w : World) (p : ℕ) (fd offset : ℤ) (from : Whence) (to : ℤ) (o : OpenDescriptor) → opened w p fd ≡ Some o → first_fault (lseek_faults to o) ≡ None →
+    Answers bounds w p (call.Lseek fd offset from) (lseek_to to o).effect
+sound_lseek bounds w p fd offset from to o is free = record {
+  refusal = λ _ h. cc;
+  told = refl;
+  planned = refl;
+  own = λ n h. own_offset w p fd o n is h;
+  few = omega arith;
+  proper = λ _. record { files = tt; process = tt; table = tt };
+  fits = λ _. record { files = tt; process = tt; table = (opened_stands w p fd o is).description_is };
+  within_files = tt;
+  within_table = λ _ _. sought_within to o free;
+}
+
+sound_ftruncate : (bounds : Bounds) (w : World) (p : ℕ) (fd len : ℤ) (o : OpenDescriptor) → IsOpenAt w p o → first_fault (ftruncate_faults bounds len o) ≡ None →
+    Answers bounds w p (call.Ftruncate fd len) (ftruncate bounds len o).effect
+sound_ftruncate bounds w p fd len o at free =
+    let allowed = clear (ftruncate_faults bounds len o) free in
+    let regular = allowed.1.0 in
+    let short : bytes_before len ≤ bounds.file_size = not_below bounds.file_size (bytes_before len) allowed.1.1.1.0 in
+    record {
+      refusal = λ _ h. cc;
+      told = refl;
+      planned = refl;
+      own = λ n h. cc;
+      few = omega arith;
+      proper = λ small. record { files = omega (arith, short, small); process = tt; table = tt };
+      fits = λ whole. record { files = file_there w p o at regular whole; process = tt; table = tt };
+      within_files = short;
+      within_table = λ _ _. tt;
+    }
+
+sound_pread : (bounds : Bounds) (w : World) (p : ℕ) (fd start : ℤ) (count : ℕ) (o : OpenDescriptor) → Answers bounds w p (call.Pread fd start count) (pread w start count o).effect
+sound_pread bounds w p fd start count o = record {
+  refusal = λ _ h. cc;
+  told = refl;
+  planned = refl;
+  own = λ n h. cc;
+  few = omega arith;
+  proper = λ _. record { files = tt; process = tt; table = tt };
+  fits = λ _. record { files = tt; process = tt; table = tt };
+  within_files = tt;
+  within_table = λ _ _. tt;
+}
+
+sound_fstat : (bounds : Bounds) (w : World) (p : ℕ) (fd : ℤ) (o : OpenDescriptor) → Answers bounds w p (call.Fstat fd) (fstat w o).effect
+sound_fstat bounds w p fd o = record {
+  refusal = λ _ h. cc;
+  told = refl;
+  planned = refl;
+  own = λ n h. cc;
+  few = omega arith;
+  proper = λ _. record { files = tt; process = tt; table = tt };
+  fits = λ _. record { files = tt; process = tt; table = tt };
+  within_files = tt;
+  within_table = λ _ _. tt;
+}
+
+-- a name that is found leads to a file that is there
+found_there : (P : ℕ → Type 0) (name : List ℕ) (es : Entries) (f : ℕ) → All (λ entry. P entry.1) es → file_of name es ≡ Some f → P f
+found_there P name [] f all h = cc
+found_there P name (e ∷ es) f all h =
+    elim (is_eq (slice_cmp nat_cmp name e.0)) as (λ b. cond b (Some e.1) (file_of name es) ≡ Some f → P f) [
+      | true ↦ λ k. let same : e.1 ≡ f = cc in subst P same (All-head (λ entry. P entry.1) e es all)
+      | false ↦ λ k. found_there P name es f (All-tail (λ entry. P entry.1) e es all) k
+    ] h
+
+-- an added regular file is one
+regular_pushed : (files : List (Option File)) → is_regular_file (slot (files ++ Some (file.Regular []) ∷ []) (length files)) ≡ true
+regular_pushed [] = refl
+regular_pushed (f ∷ files) = regular_pushed files
+
+-- what is there and no FIFO is a regular file
+no_fifo_regular : (x : Option File) → is_some x ≡ true → is_fifo x ≡ false → is_regular_file x ≡ true
+no_fifo_regular None there other = cc
+no_fifo_regular (Some (file.Regular bytes)) there other = refl
+no_fifo_regular (Some (file.Fifo fifo)) there other = cc
+
+-- the lowest free descriptor is free
+free_in : (w : World) (p fd : ℕ) (there : Option Process) → slot w.processes p ≡ there → lowest (table_of there) ≡ Some fd → IsFree w p fd
+free_in w p fd None here low = cc
+free_in w p fd (Some process) here low =
+    let least = lowest_is_least process.table fd low in
+    record { process = process; process_is = here; within = least.within; free = least.free }
+
+free_is : (w : World) (p : ℕ) (low : Option ℕ) → lowest (table_of (slot w.processes p)) ≡ low → is_none low ≡ false → IsFree w p (free_descriptor w p)
+free_is w p None e some = cc
+free_is w p (Some fd) e some = rw e (free_in w p fd (slot w.processes p) refl e)
+
+-- a free descriptor stays so where files change
+free_stays : (w v : World) (p fd : ℕ) → v.processes ≡ w.processes → IsFree w p fd → IsFree v p fd
+free_stays w v p fd same f = record { process = f.process; process_is = ap (λ ps. slot ps p) same ∙ f.process_is; within = f.within; free = f.free }
+
+-- an open without a fault: a descriptor and a description are free, and so is a name where it makes one; what is found is no FIFO
+record CanOpenFound (w : World) (p : ℕ) (found : Option ℕ) : Type 0 where
+  free : IsFree w p (free_descriptor w p)
+  descriptions : live w.descriptions < DESCRIPTIONS_MAX
+  name : found ≡ None → length w.names < NAMES_MAX
+  regular : (f : ℕ) → found ≡ Some f → is_fifo (slot w.files f) ≡ false
+
+can_open : (w : World) (p : ℕ) (name : List ℕ) (flags : OpenFlags) (found : Option ℕ) → first_fault (open_faults w p name flags found) ≡ None → CanOpenFound w p found
+can_open w p name flags found h =
+    let here = found_faults w flags found in
+    let room = room_faults w p found in
+    let later = none_in_both here room (none_in_both (name_faults name) (here ++ room) (none_in_both (flag_faults flags) (name_faults name ++ (here ++ room)) h).1).1 in
+    let what = clear here later.0 in
+    let roomy = clear room later.1 in
+    record {
+      free = free_is w p (lowest (table_of (slot w.processes p))) refl roomy.0;
+      descriptions = not_at_most DESCRIPTIONS_MAX (live w.descriptions) roomy.1.0;
+      name = λ e. not_at_most NAMES_MAX (length w.names) (let P : Option ℕ → Type 0 = λ x. (is_none x && leb NAMES_MAX (length w.names)) ≡ false in subst P e roomy.1.1.0);
+      regular = λ f e. let P : Option ℕ → Type 0 = λ x. Clear (found_faults w flags x) in (subst P e what).1.1.0;
+    }
+
+fits_emptied : (w : World) (p f : ℕ) (flags : OpenFlags) → IsFree w p (free_descriptor w p) → is_regular_file (slot w.files f) ≡ true → Fits w [] (opens w p (emptied f flags) (new_description f flags)).change
+fits_emptied w p f flags free there =
+    elim (has flags flag.trunc) as (λ b. Fits w [] (opens w p (cond b (on_files.Resize f 0) on_files.Nothing) (new_description f flags)).change) [
+      | true ↦ record { files = there; process = tt; table = record { free = free_stays w (with_bytes w f []) p (free_descriptor w p) refl free; there = test_set is_regular_file w.files f (Some (file.Regular [])) f (sym there) ∙ there } }
+      | false ↦ record { files = tt; process = tt; table = record { free = free; there = there } }
+    ]
+
+sound_open : (bounds : Bounds) (w : World) (p : ℕ) (name : List ℕ) (flags : OpenFlags) (found : Option ℕ) → file_of name w.names ≡ found → CanOpenFound w p found →
+    Answers bounds w p (call.Open name flags) (open_found w p name flags found)
+sound_open bounds w p name flags None is can = record {
+  refusal = λ _ h. cc;
+  told = refl;
+  planned = refl;
+  own = λ n h. cc;
+  few = omega arith;
+  proper = λ _. record { files = (is, can.name refl); process = tt; table = can.descriptions };
+  fits = λ _. record { files = tt; process = tt; table = record { free = free_stays w (created w name) p (free_descriptor w p) refl can.free; there = regular_pushed w.files } };
+  within_files = tt;
+  within_table = λ _ _. omega arith;
+}
+sound_open bounds w p name flags (Some f) is can = record {
+  refusal = λ _ h. cc;
+  told = refl;
+  planned = refl;
+  own = λ n h. cc;
+  few = omega arith;
+  proper = λ small. elim (has flags flag.trunc) as (λ b. IsProper w [] (opens w p (cond b (on_files.Resize f 0) on_files.Nothing) (new_description f flags)).change) [
+    | true ↦ record { files = omega arith; process = tt; table = can.descriptions }
+    | false ↦ record { files = tt; process = tt; table = can.descriptions }
+  ];
+  fits = λ whole. fits_emptied w p f flags can.free (no_fifo_regular (slot w.files f) (found_there (IsThere w.files) name w.names f whole.names is) (can.regular f refl));
+  within_files = elim (has flags flag.trunc) as (λ b. FilesWithin bounds (cond b (on_files.Resize f 0) on_files.Nothing)) [ true ↦ omega arith | false ↦ tt ];
+  within_table = λ _ _. omega arith;
+}
+
+-- one case for each call
+pub sound_call : (bounds : Bounds) (w : World) (p : ℕ) (c : Call) → Answers bounds w p c (decided bounds w p c)
+sound_call bounds w p (call.Open name flags) =
+    let found = file_of name w.names in
+    page_has (Answers bounds w p (call.Open name flags)) (open_file w p name flags) (sound_refused bounds w p (call.Open name flags))
+    (λ free. sound_open bounds w p name flags found refl (can_open w p name flags found free))
+sound_call bounds w p (call.Close fd) =
+    on_open_has (Answers bounds w p (call.Close fd)) (opened w p fd) (close p) (sound_refused bounds w p (call.Close fd)) (λ o is _. sound_close bounds w p fd o (opened_stands w p fd o is))
+sound_call bounds w p (call.Read fd count) =
+    on_open_has (Answers bounds w p (call.Read fd count)) (opened w p fd) (read w count) (sound_refused bounds w p (call.Read fd count)) (λ o is _. sound_read bounds w p fd count o is)
+sound_call bounds w p (call.Write fd bytes) =
+    on_open_has (Answers bounds w p (call.Write fd bytes)) (opened w p fd) (write bounds w bytes) (sound_refused bounds w p (call.Write fd bytes))
+    (λ o is free. sound_write bounds w p fd bytes (write_start o.description (length (bytes_of w (file_at o)))) o is free)
+sound_call bounds w p (call.Pread fd start count) =
+    on_open_has (Answers bounds w p (call.Pread fd start count)) (opened w p fd) (pread w start count) (sound_refused bounds w p (call.Pread fd start count)) (λ o is _. sound_pread bounds w p fd start count o)
+sound_call bounds w p (call.Pwrite fd start bytes) =
+    on_open_has (Answers bounds w p (call.Pwrite fd start bytes)) (opened w p fd) (pwrite bounds start bytes) (sound_refused bounds w p (call.Pwrite fd start bytes))
+    (λ o is free. sound_pwrite bounds w p fd start bytes o is free)
+sound_call bounds w p (call.Lseek fd offset from) =
+    on_open_has (Answers bounds w p (call.Lseek fd offset from)) (opened w p fd) (lseek w offset from) (sound_refused bounds w p (call.Lseek fd offset from))
+    (λ o is free. sound_lseek bounds w p fd offset from (pos (base_of w o from) +ℤ offset) o is free)
+sound_call bounds w p (call.Ftruncate fd len) =
+    on_open_has (Answers bounds w p (call.Ftruncate fd len)) (opened w p fd) (ftruncate bounds len) (sound_refused bounds w p (call.Ftruncate fd len))
+    (λ o is free. sound_ftruncate bounds w p fd len o (opened_stands w p fd o is) free)
+sound_call bounds w p (call.Fstat fd) =
+    on_open_has (Answers bounds w p (call.Fstat fd)) (opened w p fd) (fstat w) (sound_refused bounds w p (call.Fstat fd)) (λ o is _. sound_fstat bounds w p fd o)
+
+-- a join, refused or not
+sound_join : (bounds : Bounds) (w : World) (actor : ℕ) → Sound bounds w actor act.Join (decided_by (join w))
+sound_join bounds w actor = by_room (is_full w) refl
+  where
+    by_room : (b : Bool) → is_full w ≡ b → Sound bounds w actor act.Join (unless (cond b (Some EAGAIN) None) (acts (Number (length w.processes)) (on_process.Add new_process)))
+    by_room true e = record {
+      refusal = λ _ _. refl;
+      told = refl;
+      planned = rw e refl;
+      own = λ n h. cc;
+      few = omega arith;
+      proper = λ _. record { files = tt; process = tt; table = tt };
+      fits = λ _. record { files = tt; process = tt; table = tt };
+      within_files = tt;
+      within_table = λ _ _. tt;
+    }
+    by_room false e = record {
+      refusal = λ _ h. cc;
+      told = refl;
+      planned = rw e refl;
+      own = λ n h. cc;
+      few = omega arith;
+      proper = λ _. record { files = tt; process = not_at_most PROCESSES_MAX (live w.processes) (second_of_either w.closed (leb PROCESSES_MAX (live w.processes)) e); table = tt };
+      fits = λ _. record { files = tt; process = refl; table = tt };
+      within_files = tt;
+      within_table = λ _ _. tt;
+    }
+
+where_may : (Has : Decided → Type 0) (b : Bool) (x d : Decided) → Has x → cond b (Some x) None ≡ Some d → Has d
+where_may Has true x d has h = let is : x ≡ d = cc in subst Has is has
+where_may Has false x d has h = cc
+
+pub acts_are_sound : ActsAreSound
+acts_are_sound bounds w actor act.Join d h = where_may (Sound bounds w actor act.Join) (eqb actor (length w.processes)) (decided_by (join w)) d (sound_join bounds w actor) h
+acts_are_sound bounds w actor (act.Call c) d h = where_may (Answers bounds w actor c) (can_call (slot w.processes actor)) (decided bounds w actor c) d (sound_call bounds w actor c) h
+acts_are_sound bounds w actor act.Attach d h = cc
+acts_are_sound bounds w actor act.Resume d h = cc
+acts_are_sound bounds w actor act.Exit d h = cc
+acts_are_sound bounds w actor act.CloseRun d h = cc

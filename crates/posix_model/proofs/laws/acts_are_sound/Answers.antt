@@ -1,0 +1,5 @@
+use Rattle.posix_model.proofs.Sound.{acts_are_sound}
+use Rattle.posix_model.proofs.laws.acts_are_sound.Goals as goal
+
+pub returns : goal.returns
+returns c = acts_are_sound

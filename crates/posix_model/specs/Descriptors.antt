@@ -1,0 +1,71 @@
+-- Descriptors of a process, and the open file descriptions that they lead to.
+use Rattle.std.specs.Prelude.{ℕ, ℤ, pos, negsuc, List, [], Option, None, Some, slice_set, length}
+use Rattle.std.specs.Option.{option_map}
+use Rattle.posix_model.specs.Slots.{slot, edited}
+use Rattle.posix_model.specs.declared.world.World.{World}
+use Rattle.posix_model.specs.declared.world.Process.{Process}
+use Rattle.posix_model.specs.declared.world.Parked.{Parked}
+use Rattle.posix_model.specs.declared.world.Description.{Description}
+use Rattle.posix_model.specs.declared.world.File.{File}
+use Rattle.posix_model.specs.declared.world.File.TheVariants as file
+use Rattle.posix_model.specs.declared.opened.OpenDescriptor.{OpenDescriptor}
+
+-- the descriptors of a process, with what each refers to
+abbrev pub table_of : Option Process → List (Option ℕ)
+table_of None = []
+table_of (Some process) = process.table
+
+-- the call that a process waits in
+abbrev pub parked_of : Option Process → Option Parked
+parked_of None = None
+parked_of (Some process) = process.parked
+
+-- the description of this number, with the descriptor that refers to it
+abbrev pub opened_description : ℕ → ℕ → Option Description → Option OpenDescriptor
+opened_description fd number None = None
+opened_description fd number (Some description) = Some (record { fd = fd; number = number; description = description })
+
+-- what a descriptor refers to, if it is open
+abbrev pub opened_number : World → ℕ → Option ℕ → Option OpenDescriptor
+opened_number w fd None = None
+opened_number w fd (Some number) = opened_description fd number (slot w.descriptions number)
+
+-- a descriptor of a process, if it is open (EBADF is told of any other number)
+abbrev pub opened : World → ℕ → ℤ → Option OpenDescriptor
+opened w process (pos fd) = opened_number w fd (slot (table_of (slot w.processes process)) fd)
+opened w process (negsuc n) = None
+
+-- the number of the open file description that a descriptor leads to, if it is open (XBD 3, File Descriptor)
+abbrev pub number_of : World → ℕ → ℤ → Option ℕ
+number_of w process fd = option_map (λ o. o.number) (opened w process fd)
+
+-- a process whose descriptor refers to this, or is free
+abbrev pub with_entry : ℕ → Option ℕ → Process → Process
+with_entry fd entry process = record process { table = slice_set process.table fd entry }
+
+-- the world in which a descriptor of a process refers to this, or is free
+abbrev pub with_descriptor : World → ℕ → ℕ → Option ℕ → World
+with_descriptor w process fd entry = record w { processes = edited process (with_entry fd entry) w.processes }
+
+-- the world in which the description of a descriptor has this offset
+abbrev pub with_offset : World → OpenDescriptor → ℕ → World
+with_offset w o offset = record w { descriptions = slice_set w.descriptions o.number (Some (record o.description { offset = offset })) }
+
+-- the bytes of a regular file
+abbrev pub file_bytes : Option File → List ℕ
+file_bytes None = []
+file_bytes (Some (file.Regular bytes)) = bytes
+file_bytes (Some (file.Fifo fifo)) = []
+
+-- the bytes of the regular file of this number
+abbrev pub bytes_of : World → ℕ → List ℕ
+bytes_of w number = file_bytes (slot w.files number)
+
+-- the bytes of a pipe that is there
+abbrev pub pipe_bytes : Option (List ℕ) → List ℕ
+pipe_bytes None = []
+pipe_bytes (Some bytes) = bytes
+
+-- how many bytes a pipe holds now
+abbrev pub held_in : World → ℕ → ℕ
+held_in w pipe = length (pipe_bytes (slot w.pipes pipe))

@@ -1,0 +1,85 @@
+-- What a change asks of the world that it is made in.
+use Rattle.std.specs.Prelude.{◌≡◌, ℕ, ◌+◌, ◌≤◌, ◌<◌, true, List, Option, None, Some, length}
+use Rattle.call_types.specs.declared.limits.TheConstants.{OFFSET_MAX, NAMES_MAX, DESCRIPTIONS_MAX, PROCESSES_MAX}
+use Rattle.posix_model.specs.Slots.{slot, live}
+use Rattle.posix_model.specs.Names.{file_of}
+use Rattle.posix_model.specs.Whole.{IsThere, is_regular_file, TargetIsThere}
+use Rattle.posix_model.specs.Change.{with_files, with_processes, new_process}
+use Rattle.posix_model.specs.declared.world.World.{World}
+use Rattle.posix_model.specs.declared.world.Description.{Description}
+use Rattle.posix_model.specs.declared.world.Process.{Process}
+use Rattle.posix_model.specs.declared.change.FileEdit.{FileEdit}
+use Rattle.posix_model.specs.declared.change.FileEdit.TheVariants as on_files
+use Rattle.posix_model.specs.declared.change.ProcessEdit.{ProcessEdit}
+use Rattle.posix_model.specs.declared.change.ProcessEdit.TheVariants as on_process
+use Rattle.posix_model.specs.declared.change.TableEdit.{TableEdit}
+use Rattle.posix_model.specs.declared.change.TableEdit.TheVariants as on_table
+use Rattle.posix_model.specs.declared.change.Change.{Change}
+
+-- a process has this free descriptor
+pub record IsFree (w : World) (p fd : ℕ) : Type 0 where
+  pub process : Process
+  pub process_is : slot w.processes p ≡ Some process
+  pub within : fd < length process.table
+  pub free : slot process.table fd ≡ None
+
+-- what is opened is there, and so is the free descriptor
+pub record CanOpen (w : World) (p fd : ℕ) (description : Description) : Type 0 where
+  pub free : IsFree w p fd
+  pub there : TargetIsThere w.files w.pipes description.target
+
+-- a process has this descriptor, and what it is to refer to is there
+pub record CanSet (w : World) (p fd : ℕ) (entry : Option ℕ) : Type 0 where
+  pub process : Process
+  pub process_is : slot w.processes p ≡ Some process
+  pub within : fd < length process.table
+  pub there : (n : ℕ) → entry ≡ Some n → IsThere w.descriptions n
+
+-- what an edit of files asks to be there
+abbrev pub FilesFit : World → FileEdit → Type 0
+FilesFit w on_files.Nothing = Unit {0}
+FilesFit w (on_files.Bytes file start count) = is_regular_file (slot w.files file) ≡ true
+FilesFit w (on_files.Resize file len) = is_regular_file (slot w.files file) ≡ true
+FilesFit w (on_files.MakeFile name) = Unit {0}
+
+-- what an edit of processes asks
+abbrev pub ProcessFits : ProcessEdit → Type 0
+ProcessFits on_process.Nothing = Unit {0}
+ProcessFits (on_process.Add process) = process ≡ new_process
+
+-- what an edit of descriptors asks to be there
+abbrev pub TableFits : World → TableEdit → Type 0
+TableFits w on_table.Nothing = Unit {0}
+TableFits w (on_table.Offset o offset) = slot w.descriptions o.number ≡ Some o.description
+TableFits w (on_table.Open process fd description) = CanOpen w process fd description
+TableFits w (on_table.Entry process fd entry) = CanSet w process fd entry
+
+-- what a change asks to be there, each edit in the world after the one before it
+pub record Fits (w : World) (bytes : List ℕ) (c : Change) : Type 0 where
+  pub files : FilesFit w c.files
+  pub process : ProcessFits c.process
+  pub table : TableFits (with_processes (with_files w bytes c.files) c.process) c.table
+
+-- what an edit of files asks of its numbers: no more bytes than the act gives, no position past the greatest offset, and
+-- room for a name that is new
+abbrev pub FilesProper : World → List ℕ → FileEdit → Type 0
+FilesProper w bytes on_files.Nothing = Unit {0}
+FilesProper w bytes (on_files.Bytes file start count) = (count ≤ length bytes) × (start + count ≤ OFFSET_MAX)
+FilesProper w bytes (on_files.Resize file len) = len ≤ OFFSET_MAX
+FilesProper w bytes (on_files.MakeFile name) = (file_of name w.names ≡ None) × (length w.names < NAMES_MAX)
+
+-- what an edit of processes asks: room for one more
+abbrev pub ProcessProper : World → ProcessEdit → Type 0
+ProcessProper w on_process.Nothing = Unit {0}
+ProcessProper w (on_process.Add process) = live w.processes < PROCESSES_MAX
+
+-- what an edit of descriptors asks: room for one more description
+abbrev pub TableProper : World → TableEdit → Type 0
+TableProper w (on_table.Open process fd description) = live w.descriptions < DESCRIPTIONS_MAX
+TableProper w other = Unit {0}
+
+-- what a change asks of its numbers
+pub record IsProper (w : World) (bytes : List ℕ) (c : Change) : Type 0 where
+  pub files : FilesProper w bytes c.files
+  pub process : ProcessProper w c.process
+  pub table : TableProper w c.table

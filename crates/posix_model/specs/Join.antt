@@ -1,0 +1,18 @@
+-- A new process (own).
+use Rattle.std.specs.Prelude.{Bool, ◌||◌, nat_le, [], ◌∷◌, length}
+use Rattle.call_types.specs.declared.errno.Errno.TheVariants.{EAGAIN}
+use Rattle.call_types.specs.declared.outcome.Reply.TheVariants.{Number}
+use Rattle.call_types.specs.declared.limits.TheConstants.{PROCESSES_MAX}
+use Rattle.posix_model.specs.Slots.{live}
+use Rattle.posix_model.specs.Pages.{Page, acts}
+use Rattle.posix_model.specs.Change.{new_process}
+use Rattle.posix_model.specs.declared.change.ProcessEdit.TheVariants as on_process
+use Rattle.posix_model.specs.declared.world.World.{World}
+
+-- whether there may be no further process: there are too many, or the run is closed
+abbrev pub is_full : World → Bool
+is_full w = w.closed || nat_le PROCESSES_MAX (live w.processes)
+
+-- a join: a new process under the next number
+abbrev pub join : World → Page
+join w = record { faults = (is_full w, EAGAIN) ∷ []; effect = acts (Number (length w.processes)) (on_process.Add new_process) }

@@ -1,0 +1,98 @@
+-- What holds of all that acts come to: one record, which is proved by one lemma for each call.
+use Rattle.std.specs.Prelude.{◌≡◌, ℕ, ◌+◌, ◌≤◌, Option, None, Some, length, if◌then◌else◌}
+use Rattle.std.specs.Option.{option_map_or}
+use Rattle.call_types.specs.CallTable.{descriptor_of}
+use Rattle.call_types.specs.declared.limits.Bounds.{Bounds}
+use Rattle.call_types.specs.declared.limits.TheConstants.{OPEN_MAX, NAMES_MAX, DESCRIPTIONS_MAX, PROCESSES_MAX, OFFSET_MAX}
+use Rattle.call_types.specs.declared.act.Act.{Act}
+use Rattle.call_types.specs.declared.act.Act.TheVariants as act
+use Rattle.call_types.specs.declared.errno.Errno.{Errno}
+use Rattle.call_types.specs.declared.outcome.Outcome.{Outcome}
+use Rattle.call_types.specs.declared.outcome.Outcome.TheVariants.{Reply as Replied}
+use Rattle.call_types.specs.declared.outcome.Reply.TheVariants.{Error, Number}
+use Rattle.posix_model.specs.Slots.{live}
+use Rattle.posix_model.specs.Whole.{IsWhole, EachThere}
+use Rattle.posix_model.specs.Descriptors.{number_of, bytes_of}
+use Rattle.posix_model.specs.Pages.{no_change}
+use Rattle.posix_model.specs.Join.{is_full}
+use Rattle.posix_model.specs.Fits.{Fits, IsProper}
+use Rattle.posix_model.specs.Step.{given, comes_to}
+use Rattle.posix_model.specs.Turns.{took}
+use Rattle.posix_model.specs.declared.world.World.{World}
+use Rattle.posix_model.specs.declared.change.FileEdit.{FileEdit}
+use Rattle.posix_model.specs.declared.change.FileEdit.TheVariants as on_files
+use Rattle.posix_model.specs.declared.change.ProcessEdit.{ProcessEdit}
+use Rattle.posix_model.specs.declared.change.ProcessEdit.TheVariants as on_process
+use Rattle.posix_model.specs.declared.change.TableEdit.{TableEdit}
+use Rattle.posix_model.specs.declared.change.TableEdit.TheVariants as on_table
+use Rattle.posix_model.specs.declared.change.Decided.{Decided}
+
+-- how many processes an edit makes
+abbrev pub makes : ProcessEdit → ℕ
+makes on_process.Nothing = 0
+makes (on_process.Add process) = 1
+
+-- how many processes an act adds, by its outcome: a join that is not refused adds one
+abbrev pub added : Act → Outcome → ℕ
+added act.Join (Replied (Number n)) = 1
+added other outcome = 0
+
+-- how many processes an act ends
+abbrev pub ended : Act → ℕ
+ended act.Exit = 1
+ended other = 0
+
+-- how many processes an act is to add, before its outcome is known
+abbrev pub adds : World → Act → ℕ
+adds w act.Join = if is_full w then 0 else 1
+adds w other = 0
+
+-- the number of the description whose offset an edit moves
+abbrev pub moved_offset : TableEdit → Option ℕ
+moved_offset (on_table.Offset o offset) = Some o.number
+moved_offset other = None
+
+-- the number of the description that the descriptor of an act leads to (XBD 3, File Descriptor)
+abbrev pub number_at : World → ℕ → Act → Option ℕ
+number_at w actor (act.Call c) = option_map_or (number_of w actor) (descriptor_of c) None
+number_at w actor other = None
+
+-- no file is too long, no offset too great, each process has so many descriptors, and there are no more names, live
+-- descriptions and live processes than there may be (own)
+pub record WithinLimits (bounds : Bounds) (w : World) : Type 0 where
+  pub files : (file : ℕ) → length (bytes_of w file) ≤ bounds.file_size
+  pub offsets : EachThere (λ description. description.offset ≤ OFFSET_MAX) w.descriptions
+  pub tables : EachThere (λ process. length process.table ≡ OPEN_MAX) w.processes
+  pub names : length w.names ≤ NAMES_MAX
+  pub descriptions : live w.descriptions ≤ DESCRIPTIONS_MAX
+  pub processes : live w.processes ≤ PROCESSES_MAX
+
+-- an edit of files goes past no size limit
+abbrev pub FilesWithin : Bounds → FileEdit → Type 0
+FilesWithin bounds (on_files.Bytes file start count) = start + count ≤ bounds.file_size
+FilesWithin bounds (on_files.Resize file len) = len ≤ bounds.file_size
+FilesWithin bounds other = Unit {0}
+
+-- an edit of descriptors goes past no greatest offset
+abbrev pub TableWithin : TableEdit → Type 0
+TableWithin (on_table.Offset o offset) = offset ≤ OFFSET_MAX
+TableWithin (on_table.Open process fd description) = description.offset ≤ OFFSET_MAX
+TableWithin other = Unit {0}
+
+-- what an act comes to: a refusal changes nothing; it adds as many processes as it tells; it moves no offset but that of its
+-- own descriptor; it takes no more bytes than it gives; and its change can be made, within all limits. The limit of sizes
+-- is at most the greatest offset
+pub record Sound (bounds : Bounds) (w : World) (actor : ℕ) (act : Act) (d : Decided) : Type 0 where
+  pub refusal : (error : Errno) → d.outcome ≡ Replied (Error error) → d.change ≡ no_change
+  pub told : makes d.change.process ≡ added act d.outcome
+  pub planned : makes d.change.process ≡ adds w act
+  pub own : (n : ℕ) → moved_offset d.change.table ≡ Some n → number_at w actor act ≡ Some n
+  pub few : took w (record { actor = actor; act = act; outcome = d.outcome }) ≤ length (given act)
+  pub proper : bounds.file_size ≤ OFFSET_MAX → IsProper w (given act) d.change
+  pub fits : IsWhole w → Fits w (given act) d.change
+  pub within_files : FilesWithin bounds d.change.files
+  pub within_table : bounds.file_size ≤ OFFSET_MAX → WithinLimits bounds w → TableWithin d.change.table
+
+-- all that acts come to is sound
+abbrev pub ActsAreSound : Type 0
+ActsAreSound = (bounds : Bounds) (w : World) (actor : ℕ) (act : Act) (d : Decided) → comes_to bounds w actor act ≡ Some d → Sound bounds w actor act d

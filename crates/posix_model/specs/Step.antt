@@ -1,0 +1,82 @@
+-- One step of the model: an act of an actor in a world.
+use Rattle.std.specs.Prelude.{ℕ, List, [], Bool, false, ◌&&◌, ◌==◌, Option, None, Some, length, is_some, not, unwrap_or, if◌then◌else◌}
+use Rattle.std.specs.Option.{option_map}
+use Rattle.call_types.specs.CallTable.{payload_of}
+use Rattle.call_types.specs.declared.limits.Bounds.{Bounds}
+use Rattle.call_types.specs.declared.call.Call.{Call}
+use Rattle.call_types.specs.declared.call.Call.TheVariants as call
+use Rattle.call_types.specs.declared.act.Act.{Act}
+use Rattle.call_types.specs.declared.act.Act.TheVariants as act
+use Rattle.call_types.specs.declared.outcome.Outcome.{Outcome}
+use Rattle.posix_model.specs.Slots.{slot}
+use Rattle.posix_model.specs.Pages.{decided_by, on_open}
+use Rattle.posix_model.specs.Sweep.{sweep}
+use Rattle.posix_model.specs.Change.{changed}
+use Rattle.posix_model.specs.Descriptors.{opened}
+use Rattle.posix_model.specs.Join.{join}
+use Rattle.posix_model.specs.Open.{open_file}
+use Rattle.posix_model.specs.Close.{close}
+use Rattle.posix_model.specs.Read.{read}
+use Rattle.posix_model.specs.Write.{write}
+use Rattle.posix_model.specs.Pread.{pread}
+use Rattle.posix_model.specs.Pwrite.{pwrite}
+use Rattle.posix_model.specs.Lseek.{lseek}
+use Rattle.posix_model.specs.Ftruncate.{ftruncate}
+use Rattle.posix_model.specs.Fstat.{fstat}
+use Rattle.posix_model.specs.declared.change.Decided.{Decided}
+use Rattle.posix_model.specs.declared.world.World.{World}
+use Rattle.posix_model.specs.declared.world.Process.{Process}
+
+-- whether a process is live and attached
+abbrev pub is_here : Option Process → Bool
+is_here None = false
+is_here (Some process) = process.attached
+
+-- whether a process waits in a call
+abbrev pub is_parked : Option Process → Bool
+is_parked None = false
+is_parked (Some process) = is_some process.parked
+
+-- whether a process may make a call
+abbrev pub can_call : Option Process → Bool
+can_call process = is_here process && not (is_parked process)
+
+-- what a call comes to, by its page
+abbrev pub decided : Bounds → World → ℕ → Call → Decided
+decided bounds w process (call.Open name flags) = decided_by (open_file w process name flags)
+decided bounds w process (call.Close fd) = on_open (opened w process fd) (close process)
+decided bounds w process (call.Read fd count) = on_open (opened w process fd) (read w count)
+decided bounds w process (call.Write fd bytes) = on_open (opened w process fd) (write bounds w bytes)
+decided bounds w process (call.Pread fd start count) = on_open (opened w process fd) (pread w start count)
+decided bounds w process (call.Pwrite fd start bytes) = on_open (opened w process fd) (pwrite bounds start bytes)
+decided bounds w process (call.Lseek fd offset from) = on_open (opened w process fd) (lseek w offset from)
+decided bounds w process (call.Ftruncate fd len) = on_open (opened w process fd) (ftruncate bounds len)
+decided bounds w process (call.Fstat fd) = on_open (opened w process fd) (fstat w)
+
+-- what an act comes to, or nothing where the rules record none: a join under another number than the next, a call of a
+-- process that is not live and attached or that waits in one, and the acts that are not in this profile yet
+abbrev pub comes_to : Bounds → World → ℕ → Act → Option Decided
+comes_to bounds w actor act.Join = if actor == length w.processes then Some (decided_by (join w)) else None
+comes_to bounds w actor (act.Call c) = if can_call (slot w.processes actor) then Some (decided bounds w actor c) else None
+comes_to bounds w actor act.Attach = None
+comes_to bounds w actor act.Resume = None
+comes_to bounds w actor act.Exit = None
+comes_to bounds w actor act.CloseRun = None
+
+-- the bytes that an act gives: the data of a call that writes
+abbrev pub given : Act → List ℕ
+given (act.Call c) = unwrap_or (payload_of c) []
+given other = []
+
+-- the world after a step, and what is recorded of it
+pub record Stepped : Type 0 where
+  pub world : World
+  pub outcome : Outcome
+
+-- what was decided is made, and what nothing refers to any more goes
+abbrev pub stepped : World → List ℕ → Decided → Stepped
+stepped w bytes d = record { world = sweep (changed w bytes d.change); outcome = d.outcome }
+
+-- one step, or nothing where the rules record none
+abbrev pub step : Bounds → World → ℕ → Act → Option Stepped
+step bounds w actor act = option_map (stepped w (given act)) (comes_to bounds w actor act)

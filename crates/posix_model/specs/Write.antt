@@ -1,0 +1,53 @@
+-- The page of write.
+use Rattle.std.specs.Prelude.{ℕ, ◌+◌, ◌-◌, ◌==◌, ◌&&◌, min, Bool, not, nat_lt, nat_le, List, [], ◌∷◌, length, if◌then◌else◌}
+use Rattle.call_types.specs.declared.errno.Errno.{Errno}
+use Rattle.call_types.specs.declared.errno.Errno.TheVariants.{EBADF, EINVAL, EFBIG}
+use Rattle.call_types.specs.declared.outcome.Reply.TheVariants.{Number}
+use Rattle.call_types.specs.declared.limits.Bounds.{Bounds}
+use Rattle.call_types.specs.declared.limits.TheConstants.{TRANSFER_MAX}
+use Rattle.posix_model.specs.Counts.{can_write}
+use Rattle.posix_model.specs.Positions.{is_regular, file_at}
+use Rattle.posix_model.specs.Pages.{Page, does, tells}
+use Rattle.posix_model.specs.Descriptors.{bytes_of}
+use Rattle.posix_model.specs.declared.world.World.{World}
+use Rattle.posix_model.specs.declared.world.Description.{Description}
+use Rattle.posix_model.specs.declared.opened.OpenDescriptor.{OpenDescriptor}
+use Rattle.posix_model.specs.declared.change.Decided.{Decided}
+use Rattle.posix_model.specs.declared.change.FileEdit.TheVariants as on_files
+use Rattle.posix_model.specs.declared.change.TableEdit.{TableEdit}
+use Rattle.posix_model.specs.declared.change.TableEdit.TheVariants as on_table
+
+-- where a write begins: at the end under append, else at the offset
+abbrev pub write_start : Description → ℕ → ℕ
+write_start description len = if description.append then len else description.offset
+
+-- whether some bytes would begin at the size limit or past it
+abbrev pub is_past_limit : Bounds → ℕ → List ℕ → Bool
+is_past_limit bounds start bytes = not (length bytes == 0) && nat_le bounds.file_size start
+
+-- the refusals of an open descriptor (own: EINVAL of more than 65,536 bytes; and of a pipe or FIFO, which no act opens yet)
+abbrev pub write_faults : Bounds → ℕ → List ℕ → OpenDescriptor → List (Bool × Errno)
+write_faults bounds start bytes o =
+    (not (can_write o.description.mode), EBADF)
+    ∷ (nat_lt TRANSFER_MAX (length bytes), EINVAL)
+    ∷ (not (is_regular o), EINVAL)
+    ∷ (is_past_limit bounds start bytes, EFBIG)
+    ∷ []
+
+-- how many of the bytes fit below the size limit
+abbrev pub fitting : Bounds → ℕ → List ℕ → ℕ
+fitting bounds start bytes = min (length bytes) (bounds.file_size - start)
+
+-- so many bytes are put into a file, with an edit of the offset; no bytes are no change
+abbrev pub puts : List ℕ → ℕ → ℕ → ℕ → TableEdit → Decided
+puts bytes file start n moved = if length bytes == 0 then tells (Number 0) else does (Number n) (on_files.Bytes file start n) moved
+
+-- a write from a position on: what fits, and the offset goes past it
+abbrev pub write_from : Bounds → ℕ → List ℕ → OpenDescriptor → Page
+write_from bounds start bytes o =
+    let n = fitting bounds start bytes in
+    record { faults = write_faults bounds start bytes o; effect = puts bytes (file_at o) start n (on_table.Offset o (start + n)) }
+
+-- write(fd, bytes)
+abbrev pub write : Bounds → World → List ℕ → OpenDescriptor → Page
+write bounds w bytes o = write_from bounds (write_start o.description (length (bytes_of w (file_at o)))) bytes o

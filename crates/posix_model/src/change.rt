@@ -1,0 +1,120 @@
+ghost use Rattle.std.specs.Prelude.{◌≡◌};
+ghost use Rattle.posix_model.specs.Pages.{tells, does, acts, refused};
+
+use crate::opened::OpenDescriptor;
+use crate::world::{Description, Process};
+use call_types::bounded::Name;
+use call_types::errno::Errno;
+use call_types::outcome::{Outcome, Reply};
+
+/// What an act changes in files and pipes. All numbers are found already; positions and lengths are in bytes.
+#[derive(Drop)]
+pub enum FileEdit {
+    /// Nothing.
+    Nothing,
+    /// The first bytes of the act stand in a regular file from a position on.
+    Bytes {
+        file: usize,
+        start: usize,
+        count: usize,
+    },
+    /// A regular file has this length.
+    Resize {
+        file: usize,
+        len: usize,
+    },
+    /// An empty regular file has a new name.
+    MakeFile {
+        name: Name,
+    },
+}
+
+/// What an act changes in processes.
+#[derive(Drop)]
+pub enum ProcessEdit {
+    /// Nothing.
+    Nothing,
+    /// The next process is this one.
+    Add { process: Process },
+}
+
+/// What an act changes in descriptors and open file descriptions. All numbers are found already.
+#[derive(Drop)]
+pub enum TableEdit {
+    /// Nothing.
+    Nothing,
+    /// A description has another offset, in bytes.
+    Offset {
+        descriptor: OpenDescriptor,
+        offset: u64,
+    },
+    /// A free descriptor refers to a new description.
+    Open {
+        process: usize,
+        fd: usize,
+        description: Description,
+    },
+    /// A descriptor refers to this description, or is free.
+    Entry {
+        process: usize,
+        fd: usize,
+        entry: Option<usize>,
+    },
+}
+
+/// What an act changes, before the sweep: first files and pipes, then processes, then descriptors.
+#[derive(Drop)]
+pub struct Change {
+    pub files: FileEdit,
+    pub process: ProcessEdit,
+    pub table: TableEdit,
+}
+
+/// What an act comes to: its outcome, and what it changes.
+#[derive(Drop)]
+pub struct Decided {
+    pub outcome: Outcome,
+    pub change: Change,
+}
+
+/// A reply, with an edit of files and one of descriptors.
+pub fn does(reply: Reply, files: FileEdit, table: TableEdit) -> Decided
+    ensures { result ≡ does reply files table }
+{
+    Decided {
+        outcome: Outcome::Reply(reply),
+        change: Change {
+            files,
+            process: ProcessEdit::Nothing,
+            table,
+        },
+    }
+}
+
+/// A reply, with an edit of processes.
+pub fn acts(reply: Reply, process: ProcessEdit) -> Decided
+    ensures { result ≡ acts reply process }
+{
+    Decided {
+        outcome: Outcome::Reply(reply),
+        change: Change {
+            files: FileEdit::Nothing,
+            process,
+            table: TableEdit::Nothing,
+        },
+    }
+}
+
+/// A reply, and no change.
+pub fn tells(reply: Reply) -> Decided
+    ensures { result ≡ tells reply }
+{
+    does(reply, FileEdit::Nothing, TableEdit::Nothing)
+}
+
+/// A recorded error, which changes nothing.
+pub fn refused(error: Errno) -> Decided
+    ensures { result ≡ refused error }
+{
+    tells(Reply::Error(error))
+}

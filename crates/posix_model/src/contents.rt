@@ -1,0 +1,114 @@
+ghost use Rattle.std.specs.Prelude.{◌≡◌, ◌+◌, ◌≤◌, ◌<◌, ◌^◌, [], List, ℕ, length, vec_len, vec_capacity, OnOk, OnErr};
+ghost use Rattle.posix_model.specs.Bytes.{padded_to, overwritten, splice, bytes_at, resized};
+
+use std::alloc::{AllocError, Global};
+use std::marker::Model;
+
+/// At most `count` bytes from `start` on; none at the end or past it.
+pub fn bytes_at(bytes: &[u8], start: usize, count: usize) -> &[u8]
+    ensures { result.now ≡ bytes_at bytes.now start count }
+{
+    let from = start.min(bytes.len());
+    let behind = &bytes[from..];
+    &behind[..count.min(behind.len())]
+}
+
+/// Zeros up to `len`, where there are fewer bytes.
+pub fn pad(bytes: &mut Vec<u8>, len: usize)
+    requires { len ≤ vec_capacity bytes.old }
+    ensures items { bytes.new.items ≡ padded_to bytes.old.items len }
+    ensures capacity { vec_capacity bytes.old ≤ vec_capacity bytes.new }
+{
+    if bytes.len() < len {
+        bytes.resize(len, 0).unwrap();
+    }
+}
+
+/// Writes new bytes from `start` on, over what is there and after it.
+pub fn overwrite(bytes: &mut Vec<u8>, start: usize, new: &[u8])
+    requires within { start ≤ vec_len bytes.old }
+    requires room { start + length new.now ≤ vec_capacity bytes.old }
+    ensures items { bytes.new.items ≡ overwritten bytes.old.items start new.now }
+    ensures capacity { vec_capacity bytes.old ≤ vec_capacity bytes.new }
+{
+    let here = new.len().min(bytes.len() - start);
+    let (over, behind) = new.split_at(here);
+    let part = &mut bytes[start..start + here];
+    part.copy_from_slice(over);
+    bytes.extend_from_slice(behind).unwrap();
+}
+
+/// The bytes of a regular file. Contracts see their list.
+#[derive(Drop)]
+pub struct Contents {
+    bytes: Vec<u8>,
+}
+
+impl Model for Contents {
+    ghost Value = { List ℕ };
+
+    ghost view = { λ contents. contents.bytes.items };
+}
+
+impl Contents {
+    /// The contents of a new file.
+    pub fn new(alloc: Global) -> Self
+        ensures { result ≡ [] }
+    {
+        Contents {
+            bytes: Vec::new(alloc),
+        }
+    }
+
+    /// The length of the file, in bytes.
+    pub fn len(&self) -> usize
+        ensures { result ≡ length self.now }
+    {
+        self.bytes.len()
+    }
+
+    /// The bytes of the file.
+    pub fn as_slice(&self) -> &[u8]
+        ensures { result.now ≡ self.now }
+    {
+        self.bytes.as_slice()
+    }
+
+    /// Writes `new` from `start` on; a gap before it is filled with zeros.
+    pub fn write_at(&mut self, start: usize, new: &[u8]) -> Result<(), AllocError>
+        requires { start + length new.now < 2 ^ 63 }
+        ensures ok { OnOk result (self.new ≡ splice self.old start new.now) }
+        ensures err { OnErr result (self.new ≡ self.old) }
+    {
+        let end = start + new.len();
+        if self.bytes.len() < end {
+            self.bytes.reserve(end - self.bytes.len())?;
+        }
+        pad(&mut self.bytes, start);
+        overwrite(&mut self.bytes, start, new);
+        Ok(())
+    }
+
+    /// Sets the length to `len` bytes: what is past it goes, and zeros come where there were fewer.
+    pub fn set_len(&mut self, len: usize) -> Result<(), AllocError>
+        ensures ok { OnOk result (self.new ≡ resized self.old len) }
+        ensures err { OnErr result (self.new ≡ self.old) }
+    {
+        if self.bytes.len() < len {
+            self.bytes.reserve(len - self.bytes.len())?;
+        }
+        self.bytes.truncate(len);
+        pad(&mut self.bytes, len);
+        Ok(())
+    }
+}
+
+impl Clone for Contents {
+    ghost is_clone = { λ old new. new ≡ old };
+
+    fn clone(&self) -> Result<Self, AllocError> {
+        Ok(Contents {
+            bytes: self.bytes.clone()?,
+        })
+    }
+}

@@ -1,0 +1,44 @@
+//! Laws of every step and history, for the crates above. None of these functions does anything.
+
+ghost use Rattle.posix_model.specs.Sound.{ActsAreSound};
+ghost use Rattle.posix_model.specs.Released.{SettledIsSwept, SettledStays, SweepReleases};
+ghost use Rattle.posix_model.specs.Laws.{StepRaisesNumbers, StepKeepsWhole, HistoryIsWhole, HistoryRaisesNumbers, SweepSettles, StepSettles, HistorySettles, SweepLeaves, StepTellsProcesses, StepPlansProcesses};
+
+/// What each act comes to can be made, within all limits; a refusal changes nothing, and no act moves an offset but that
+/// of its own descriptor, or takes more bytes than it gives.
+pub fn acts_are_sound()
+    ensures { ActsAreSound }
+{}
+
+/// No number is used again, and nothing refers to what is gone.
+pub fn numbers_rise()
+    ensures step { StepRaisesNumbers }
+    ensures step_whole { StepKeepsWhole }
+    ensures history_whole { HistoryIsWhole }
+    ensures history { HistoryRaisesNumbers }
+{}
+
+/// The world after a step, and every world of a history, is its own sweep.
+pub fn sweep_settles()
+    ensures sweep { SweepSettles }
+    ensures step { StepSettles }
+    ensures history { HistorySettles }
+{}
+
+/// A sweep changes nothing but what it takes, and takes just what nothing refers to.
+pub fn sweep_leaves_wanted()
+    ensures { SweepLeaves }
+{}
+
+/// After a change of one description's references, the sweep takes it and what it alone held, or nothing.
+pub fn sweep_releases()
+    ensures settled { SettledIsSwept }
+    ensures stays { SettledStays }
+    ensures releases { SweepReleases }
+{}
+
+/// How many processes a step adds and ends, by its act and outcome, and as it is known before the step.
+pub fn processes_are_counted()
+    ensures told { StepTellsProcesses }
+    ensures planned { StepPlansProcesses }
+{}

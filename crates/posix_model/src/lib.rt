@@ -1,0 +1,12 @@
+//! The model: the world's types, the definitions of all calls and steps, and the laws that the crates above use.
+#![tactic(auto)]
+
+pub mod change;
+pub mod contents;
+pub mod laws;
+pub mod names;
+pub mod opened;
+pub mod plain_reader;
+pub mod reader;
+pub mod slots;
+pub mod world;

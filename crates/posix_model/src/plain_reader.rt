@@ -1,0 +1,154 @@
+//! The plain world can be read as itself.
+
+ghost use Rattle.std.specs.Prelude.{◌≡◌, ◌==◌};
+ghost use Rattle.posix_model.specs.Slots.{slot};
+ghost use Rattle.posix_model.specs.Counts.{links};
+ghost use Rattle.posix_model.specs.Descriptors.{opened_number, bytes_of, table_of};
+
+use crate::names::Names;
+use crate::opened::OpenDescriptor;
+use crate::reader::Reader;
+use crate::slots::Slots;
+use crate::world::{File, Parked, Process, World};
+use call_types::bounded::Content;
+use std::alloc::{AllocError, Global};
+
+/// The number of the description that a descriptor of a process refers to, if it is open.
+fn entry_of(processes: &Slots<Process>, process: usize, fd: usize) -> Option<usize>
+    ensures { result ≡ slot (table_of (slot processes.now process)) fd }
+{
+    match processes.get(process) {
+        Some(process) => process.table.get(fd).copied(),
+        None => None,
+    }
+}
+
+/// What a descriptor refers to, by the number of its description.
+fn opened_number(world: &World, fd: usize, number: Option<usize>) -> Option<OpenDescriptor>
+    ensures { result ≡ opened_number world.now fd number }
+{
+    let number = number?;
+    let description = *world.descriptions.get(number)?;
+    Some(OpenDescriptor {
+        fd,
+        number,
+        description,
+    })
+}
+
+/// The bytes of the regular file of a number; none where there is no such file.
+pub fn bytes_of(world: &World, number: usize) -> &[u8]
+    ensures { result.now ≡ bytes_of world.now number }
+{
+    match world.files.get(number) {
+        Some(File::Regular(contents)) => contents.as_slice(),
+        _ => &[],
+    }
+}
+
+/// How many names a file has (XBD 3, Link Count).
+fn links(names: &Names, file: usize) -> usize
+    ensures { result ≡ links names.now file }
+{
+    names
+        .entries()
+        .iter()
+        .filter(|entry| entry.1 == file)
+        .count()
+}
+
+impl Reader for World {
+    ghost world = { λ w. w };
+
+    fn opened(&self, process: usize, fd: i32) -> Option<OpenDescriptor> {
+        if fd < 0 {
+            return None;
+        }
+        let fd = fd as usize;
+        opened_number(self, fd, entry_of(&self.processes, process, fd))
+    }
+
+    fn lowest_free(&self, process: usize) -> Option<usize> {
+        match self.processes.get(process) {
+            Some(process) => process.table.lowest_free(),
+            None => None,
+        }
+    }
+
+    fn length_of(&self, file: usize) -> usize {
+        bytes_of(self, file).len()
+    }
+
+    fn read_at(
+        &self,
+        alloc: Global,
+        file: usize,
+        start: usize,
+        count: usize,
+    ) -> Result<Content, AllocError> {
+        Content::copied(
+            alloc,
+            crate::contents::bytes_at(bytes_of(self, file), start, count),
+        )
+    }
+
+    fn file_of(&self, name: &[u8]) -> Option<usize> {
+        self.names.file_of(name)
+    }
+
+    fn leads_to_fifo(&self, found: Option<usize>) -> bool {
+        match found {
+            Some(number) => matches!(self.files.get(number), Some(File::Fifo(_))),
+            None => false,
+        }
+    }
+
+    fn links_told(&self, file: usize) -> u32 {
+        links(&self.names, file).min(u32::MAX as usize) as u32
+    }
+
+    fn held_in(&self, pipe: usize) -> usize {
+        match self.pipes.get(pipe) {
+            Some(contents) => contents.len(),
+            None => 0,
+        }
+    }
+
+    fn name_count(&self) -> usize {
+        self.names.len()
+    }
+
+    fn live_descriptions(&self) -> usize {
+        self.descriptions.live()
+    }
+
+    fn live_processes(&self) -> usize {
+        self.processes.live()
+    }
+
+    fn next_file(&self) -> usize {
+        self.files.len()
+    }
+
+    fn next_process(&self) -> usize {
+        self.processes.len()
+    }
+
+    fn is_here(&self, process: usize) -> bool {
+        match self.processes.get(process) {
+            Some(process) => process.attached,
+            None => false,
+        }
+    }
+
+    fn parked(&self, process: usize) -> Option<&Parked> {
+        match self.processes.get(process) {
+            Some(process) => process.parked.as_ref(),
+            None => None,
+        }
+    }
+
+    fn is_closed(&self) -> bool {
+        self.closed
+    }
+}

@@ -1,0 +1,95 @@
+//! What can be read as a world of the model. Calls are decided of any such state, by one body for all of them.
+
+ghost use Rattle.std.specs.Prelude.{◌≡◌, ◌≤◌, length, IfOk};
+ghost use Rattle.std.specs.Option.{option_copied};
+ghost use Rattle.posix_model.specs.Slots.{slot, lowest, live};
+ghost use Rattle.posix_model.specs.Names.{file_of};
+ghost use Rattle.posix_model.specs.Bytes.{bytes_at};
+ghost use Rattle.posix_model.specs.Descriptors.{opened, bytes_of, table_of, parked_of, held_in};
+ghost use Rattle.posix_model.specs.Open.{leads_to_fifo};
+ghost use Rattle.posix_model.specs.Fstat.{links_told};
+ghost use Rattle.posix_model.specs.Step.{is_here};
+ghost use Rattle.posix_model.specs.declared.world.World.{World as Worlds};
+
+use crate::opened::OpenDescriptor;
+use crate::world::Parked;
+use call_types::bounded::Content;
+use call_types::limits::TRANSFER_MAX;
+use std::alloc::{AllocError, Global};
+
+/// A state that can be read as a world.
+pub trait Reader {
+    ghost world: { Self → Worlds };
+
+    /// What a descriptor of a process leads to, if it is open.
+    fn opened(&self, process: usize, fd: i32) -> Option<OpenDescriptor>
+        ensures { result ≡ opened (world self.now) process fd };
+
+    /// The lowest free descriptor of a process (XSH 2.14, File Descriptor Allocation).
+    fn lowest_free(&self, process: usize) -> Option<usize>
+        ensures { result ≡ lowest (table_of (slot (world self.now).processes process)) };
+
+    /// The length of a regular file, in bytes.
+    fn length_of(&self, file: usize) -> usize
+        ensures { result ≡ length (bytes_of (world self.now) file) };
+
+    /// At most `count` bytes of a regular file from a position on; none at its end or past it. An error says that
+    /// memory ran out.
+    fn read_at(
+        &self,
+        alloc: Global,
+        file: usize,
+        start: usize,
+        count: usize,
+    ) -> Result<Content, AllocError>
+        requires { count ≤ TRANSFER_MAX }
+        ensures { IfOk result (λ content. content ≡ bytes_at (bytes_of (world self.now) file) start count) };
+
+    /// The file of a name.
+    fn file_of(&self, name: &[u8]) -> Option<usize>
+        ensures { result ≡ file_of name.now (world self.now).names };
+
+    /// Whether a name that leads to this leads to a FIFO.
+    fn leads_to_fifo(&self, found: Option<usize>) -> bool
+        ensures { result ≡ leads_to_fifo (world self.now) found };
+
+    /// How many names a file has, as fstat tells them.
+    fn links_told(&self, file: usize) -> u32
+        ensures { result ≡ links_told (world self.now) file };
+
+    /// How many bytes a pipe holds now.
+    fn held_in(&self, pipe: usize) -> usize
+        ensures { result ≡ held_in (world self.now) pipe };
+
+    /// How many names there are.
+    fn name_count(&self) -> usize
+        ensures { result ≡ length (world self.now).names };
+
+    /// How many open file descriptions are live.
+    fn live_descriptions(&self) -> usize
+        ensures { result ≡ live (world self.now).descriptions };
+
+    /// How many processes are live.
+    fn live_processes(&self) -> usize
+        ensures { result ≡ live (world self.now).processes };
+
+    /// The number of the next file.
+    fn next_file(&self) -> usize
+        ensures { result ≡ length (world self.now).files };
+
+    /// The number of the next process.
+    fn next_process(&self) -> usize
+        ensures { result ≡ length (world self.now).processes };
+
+    /// Whether a process is live and attached.
+    fn is_here(&self, process: usize) -> bool
+        ensures { result ≡ is_here (slot (world self.now).processes process) };
+
+    /// The call that a process waits in.
+    fn parked(&self, process: usize) -> Option<&Parked>
+        ensures { option_copied result ≡ parked_of (slot (world self.now).processes process) };
+
+    /// Whether the run is closed.
+    fn is_closed(&self) -> bool
+        ensures { result ≡ (world self.now).closed };
+}

@@ -1,0 +1,30 @@
+-- What holds of each book.
+use Rattle.std.specs.Prelude.{◌≡◌, ◌+◌, ◌≤◌, ◌*◌, List, length, map, vec_capacity}
+use Rattle.std.specs.Arc.{arc_value}
+use Rattle.call_types.specs.declared.act.Record.{Record}
+use Rattle.call_types.specs.declared.limits.TheConstants.{GIVEN_BYTES_MAX}
+use Rattle.posix_model.specs.History.{legal, world_of}
+use Rattle.posix_model.specs.Turns.{bytes_in, bytes_out}
+use Rattle.record_book.specs.Book.{BookState, exits_left}
+use Rattle.record_book.specs.declared.book.Book.TheInside.{Inside}
+
+-- the records of a book, in the order of their places
+abbrev pub records_in : Inside → List Record
+records_in b = map arc_value b.history.items
+
+-- what contracts see of a book
+abbrev pub state_of : Inside → BookState
+state_of b = record { limits = b.limits; history = records_in b }
+
+-- the history is legal, the machine's world is the world after it, the exits and the closing have their records, and the
+-- counters are those of the history
+pub record IsBook (b : Inside) : Type 0 where
+  pub is_legal : legal b.limits.bounds (records_in b)
+  pub world : b.machine.world ≡ world_of b.limits.bounds (records_in b)
+  pub reserve : length (records_in b) + exits_left b.machine.world ≤ b.limits.records
+  pub room : b.limits.records ≤ vec_capacity b.history
+  pub taken : b.bytes_in ≡ bytes_in b.limits.bounds (records_in b)
+  pub given : b.bytes_out ≡ bytes_out b.limits.bounds (records_in b)
+  pub few_taken : b.bytes_in ≤ GIVEN_BYTES_MAX * length (records_in b)
+  pub few_given : b.bytes_out ≤ GIVEN_BYTES_MAX * length (records_in b)
+  pub few_processes : length b.machine.world.processes ≤ length (records_in b)

@@ -1,0 +1,90 @@
+ghost use Rattle.std.specs.Prelude.{◌≡◌, ◌≤◌, is_some, length, IfOk};
+ghost use Rattle.posix_model.specs.Slots.{slot};
+ghost use Rattle.posix_model.specs.Step.{can_call, decided, comes_to};
+ghost use Rattle.posix_model.specs.Sound.{adds};
+
+use crate::join::{decide_join, is_full};
+use call_types::act::Act;
+use call_types::call::Call;
+use call_types::limits::Bounds;
+use file_calls::close::decide_close;
+use file_calls::fstat::decide_fstat;
+use file_calls::ftruncate::decide_ftruncate;
+use file_calls::lseek::decide_lseek;
+use file_calls::open::decide_open;
+use file_calls::pread::decide_pread;
+use file_calls::pwrite::decide_pwrite;
+use file_calls::read::decide_read;
+use file_calls::write::decide_write;
+use posix_model::change::Decided;
+use posix_model::reader::Reader;
+use std::alloc::{AllocError, Global};
+
+/// Whether a process may make a call: it is live and attached, and waits in none.
+pub fn can_call<R: Reader>(state: &R, process: usize) -> bool
+    ensures { result ≡ can_call (slot (R.world state.now).processes process) }
+{
+    state.is_here(process) && state.parked(process).is_none()
+}
+
+/// What a call comes to, by its page. An error says that memory ran out.
+pub fn decide_call<R: Reader>(
+    state: &R,
+    alloc: Global,
+    bounds: Bounds,
+    process: usize,
+    call: &Call,
+) -> Result<Decided, AllocError>
+    ensures { IfOk result (λ d. d ≡ decided bounds (R.world state.now) process call.now) }
+{
+    match call {
+        Call::Open { name, flags } => decide_open(state, process, name, *flags),
+        Call::Close { fd } => Ok(decide_close(state, process, *fd)),
+        Call::Read { fd, count } => decide_read(state, alloc, process, *fd, *count as usize),
+        Call::Write { fd, bytes } => {
+            Ok(decide_write(state, bounds, process, *fd, bytes.as_slice()))
+        }
+        Call::Pread { fd, start, count } => {
+            decide_pread(state, alloc, process, *fd, *start, *count as usize)
+        }
+        Call::Pwrite { fd, start, bytes } => {
+            Ok(decide_pwrite(state, bounds, process, *fd, *start, bytes.as_slice()))
+        }
+        Call::Lseek { fd, offset, whence } => {
+            Ok(decide_lseek(state, process, *fd, *offset, *whence))
+        }
+        Call::Ftruncate { fd, len } => Ok(decide_ftruncate(state, bounds, process, *fd, *len)),
+        Call::Fstat { fd } => Ok(decide_fstat(state, process, *fd)),
+    }
+}
+
+/// What an act comes to, or nothing where the rules record none: a join under another number than the next, a call of a
+/// process that may make none, and the acts that are to come. An error says that memory ran out.
+pub fn decide<R: Reader>(
+    state: &R,
+    alloc: Global,
+    bounds: Bounds,
+    actor: usize,
+    act: &Act,
+) -> Result<Option<Decided>, AllocError>
+    ensures { IfOk result (λ d. d ≡ comes_to bounds (R.world state.now) actor act.now) }
+{
+    match act {
+        Act::Join if actor == state.next_process() => Ok(Some(decide_join(state, alloc)?)),
+        Act::Call(call) if can_call(state, actor) => {
+            Ok(Some(decide_call(state, alloc, bounds, actor, call)?))
+        }
+        _ => Ok(None),
+    }
+}
+
+/// How many processes an act is to add.
+pub fn adds<R: Reader>(state: &R, act: &Act) -> usize
+    ensures exact { result ≡ adds (R.world state.now) act.now }
+    ensures one_at_most { result ≤ 1 }
+{
+    match act {
+        Act::Join if !is_full(state) => 1,
+        _ => 0,
+    }
+}

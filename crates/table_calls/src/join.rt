@@ -1,0 +1,43 @@
+ghost use Rattle.std.specs.Prelude.{◌≡◌, IfOk};
+ghost use Rattle.posix_model.specs.Change.{new_process};
+ghost use Rattle.posix_model.specs.Pages.{decided_by};
+ghost use Rattle.posix_model.specs.Join.{is_full, join};
+
+use call_types::errno::Errno;
+use call_types::limits::{OPEN_MAX, PROCESSES_MAX};
+use call_types::outcome::Reply;
+use posix_model::change::{Decided, ProcessEdit, acts, refused};
+use posix_model::reader::Reader;
+use posix_model::slots::Slots;
+use posix_model::world::Process;
+use std::alloc::{AllocError, Global};
+
+/// Whether there may be no further process: there are too many, or the run is closed.
+pub fn is_full<R: Reader>(state: &R) -> bool
+    ensures { result ≡ is_full (R.world state.now) }
+{
+    state.is_closed() || state.live_processes() >= PROCESSES_MAX
+}
+
+/// A process without open descriptors, with its connection. An error says that memory ran out.
+fn new_process(alloc: Global) -> Result<Process, AllocError>
+    ensures { IfOk result (λ process. process ≡ new_process) }
+{
+    Ok(Process {
+        table: Slots::free(alloc, OPEN_MAX)?,
+        parked: None,
+        attached: true,
+    })
+}
+
+/// What a join comes to: EAGAIN, or a new process under the next number. An error says that memory ran out.
+pub fn decide_join<R: Reader>(state: &R, alloc: Global) -> Result<Decided, AllocError>
+    ensures { IfOk result (λ d. d ≡ decided_by (join (R.world state.now))) }
+{
+    if is_full(state) {
+        return Ok(refused(Errno::EAGAIN));
+    }
+    let number = state.next_process() as u64;
+    let process = new_process(alloc)?;
+    Ok(acts(Reply::Number(number), ProcessEdit::Add { process }))
+}

@@ -1,0 +1,5 @@
+//! What each act comes to, decided in one place, and the acts on processes.
+#![tactic(auto)]
+
+pub mod decide;
+pub mod join;
