@@ -66,6 +66,7 @@ pub fn decide_lseek<R: Reader>(
         return refused(error);
     }
     let offset = to.unsigned_abs() as u64;
-    let edit = TableEdit::Offset { descriptor, offset };
+    let number = descriptor.number;
+    let edit = TableEdit::Offset { number, offset };
     does(Reply::Number(offset), FileEdit::Nothing, edit)
 }

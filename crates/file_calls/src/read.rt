@@ -38,7 +38,8 @@ fn gives(descriptor: OpenDescriptor, got: Content) -> Decided
         return tells(Reply::Data(got));
     }
     let offset = descriptor.description.offset + got.len() as u64;
-    let edit = TableEdit::Offset { descriptor, offset };
+    let number = descriptor.number;
+    let edit = TableEdit::Offset { number, offset };
     does(Reply::Data(got), FileEdit::Nothing, edit)
 }
 

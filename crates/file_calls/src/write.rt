@@ -68,6 +68,7 @@ pub fn decide_write<R: Reader>(
     }
     let count = fitting(bounds, start, bytes);
     let offset = start + count as u64;
-    let moved = TableEdit::Offset { descriptor, offset };
+    let number = descriptor.number;
+    let moved = TableEdit::Offset { number, offset };
     puts(bytes, file_at(descriptor), start as usize, count, moved)
 }

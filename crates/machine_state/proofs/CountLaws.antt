@@ -10,12 +10,10 @@ use Rattle.call_types.specs.declared.limits.TheConstants.{OPEN_MAX}
 use Rattle.posix_model.specs.Slots.{slot, live, edited}
 use Rattle.posix_model.specs.Names.{Entries, file_of, with_name}
 use Rattle.posix_model.specs.Counts.{links, refers, refs, refs_of, holds, holders}
-use Rattle.posix_model.specs.Descriptors.{with_entry, table_of}
+use Rattle.posix_model.specs.Descriptors.{at_offset, with_entry, table_of}
 use Rattle.posix_model.specs.Whole.{EachThere}
-use Rattle.posix_model.specs.declared.world.Process.{Process}
-use Rattle.posix_model.specs.declared.world.Description.{Description}
+use Rattle.machine_state.specs.Types.{Process, Description, Target}
 use Rattle.machine_state.specs.Targets.{file_of_target}
-use Rattle.posix_model.specs.declared.world.Target.{Target}
 use Rattle.posix_model.specs.declared.world.Target.TheVariants as target
 use Rattle.posix_model.specs.Counts.{is_file}
 use Rattle.machine_state.proofs.SlotLaws.{one, there_below}
@@ -83,10 +81,11 @@ holders_added ds d f =
     omega (arith, same, sum_by-append (λ x. one (holds f x)) ds (Some d ∷ []))
 
 -- an offset is no matter to the holders of a file
-pub holders_same : (ds : List (Option Description)) (n : ℕ) (d e : Description) (f : ℕ) → slot ds n ≡ Some d → e.target ≡ d.target → holders (set ds n (Some e)) f ≡ holders ds f
-holders_same ds n d e f is same =
-    let was : one (holds f (slot ds n)) ≡ one (holds f (Some e)) = ap (λ x. one (holds f x)) is ∙ ap (λ t. one (is_file f t)) (sym same) in
-    omega (arith, was, sum_by-set (λ x. one (holds f x)) ds n (Some e) None (there_below ds n (ap is_some is)))
+pub holders_same : (ds : List (Option Description)) (n k f : ℕ) → holders (edited n (at_offset k) ds) f ≡ holders ds f
+holders_same [] n k f = refl
+holders_same (None ∷ ds) zero k f = refl
+holders_same (Some d ∷ ds) zero k f = omega (arith, sum_by-cons (λ x. one (holds f x)) (Some d) ds, sum_by-cons (λ x. one (holds f x)) (Some (at_offset k d)) ds)
+holders_same (x ∷ ds) (suc n) k f = omega (arith, holders_same ds n k f, sum_by-cons (λ x. one (holds f x)) x ds, sum_by-cons (λ x. one (holds f x)) x (edited n (at_offset k) ds))
 
 -- what a new name adds to the links of a file
 pub links_added : (name : List ℕ) (file f : ℕ) (es : Entries) → file_of name es ≡ None → links (with_name name file es) f ≡ links es f + one (file == f)

@@ -8,10 +8,8 @@ use Rattle.posix_model.specs.Descriptors.{file_bytes}
 use Rattle.posix_model.specs.Sweep.{without_gone_pipe}
 use Rattle.posix_model.specs.Whole.{is_regular_file, is_fifo}
 use Rattle.posix_model.specs.Open.{leads_to_fifo}
-use Rattle.posix_model.specs.declared.world.File.{File}
+use Rattle.machine_state.specs.Types.{Description, File, Used}
 use Rattle.posix_model.specs.declared.world.File.TheVariants as file
-use Rattle.posix_model.specs.declared.world.Description.{Description}
-use Rattle.machine_state.specs.declared.numbered.used.Used.{Used}
 use Rattle.machine_state.specs.Uses.{value_at, values_in, with_value}
 use Rattle.machine_state.specs.Held.{file_slot, file_slots, room_slot, room_slots, Stored, world_in}
 use Rattle.machine_state.proofs.SlotLaws.{slot_mapped, slot_set, is_itself}

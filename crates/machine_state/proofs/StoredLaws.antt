@@ -7,22 +7,16 @@ use Rattle.posix_model.specs.Slots.{slot, live, edited}
 use Rattle.posix_model.specs.Names.{file_of, with_name}
 use Rattle.posix_model.specs.Counts.{links, refers, refs, holders}
 use Rattle.posix_model.specs.Sweep.{sweep, is_open, is_referred}
-use Rattle.posix_model.specs.Descriptors.{with_entry, with_descriptor, with_offset, table_of}
+use Rattle.posix_model.specs.Descriptors.{at_offset, with_entry, with_descriptor, with_offset, table_of}
 use Rattle.posix_model.specs.Change.{with_description}
 use Rattle.posix_model.specs.Whole.{EachThere, is_fifo, TargetIsThere}
 use Rattle.posix_model.specs.Fits.{CanOpen, CanSet}
 use Rattle.posix_model.specs.Released.{IsSettled, IsItsFifo, StaysBut, SettledStays, SweepReleases, released, files_after, fifos_after, pipes_after}
-use Rattle.posix_model.specs.declared.world.World.{World}
-use Rattle.posix_model.specs.declared.world.File.{File}
+use Rattle.machine_state.specs.Types.{World, Process, Description, Target, File, Used}
 use Rattle.posix_model.specs.declared.world.File.TheVariants as file
-use Rattle.posix_model.specs.declared.world.Process.{Process}
-use Rattle.posix_model.specs.declared.opened.OpenDescriptor.{OpenDescriptor}
-use Rattle.posix_model.specs.declared.world.Description.{Description}
-use Rattle.posix_model.specs.declared.world.Target.{Target}
 use Rattle.posix_model.specs.declared.world.Target.TheVariants as target
-use Rattle.machine_state.specs.declared.numbered.used.Used.{Used}
 use Rattle.machine_state.specs.Uses.{uses_at, values_in, used_once, with_use, without_use, lost, with_value}
-use Rattle.machine_state.specs.Targets.{file_of_target, file_held, at_offset}
+use Rattle.machine_state.specs.Targets.{file_of_target, file_held}
 use Rattle.machine_state.specs.Held.{file_slot, file_slots, Stored, world_in}
 use Rattle.machine_state.specs.Consistent.{IsConsistent}
 use Rattle.machine_state.proofs.SlotLaws.{one, other_number, slot_set}
@@ -120,29 +114,25 @@ module _ (s : Stored) (all : IsConsistent s) where
         few_names = omega (arith, few, names_longer name (length s.files) s.names new);
       })
 
-  offset_values : (n offset : ℕ) (d : Description) → slot ds n ≡ Some d → values_in (edited n (with_value (at_offset offset)) s.descriptions) ≡ set ds n (Some (at_offset offset d))
-  offset_values n offset d is = values_edited s.descriptions n (at_offset offset) ∙ ap (λ x. set ds n (option_map (at_offset offset) x)) is
-
   -- a description has another offset
-  pub after_offset : (n offset : ℕ) (d : Description) → slot ds n ≡ Some d → IsConsistent (record s { descriptions = edited n (with_value (at_offset offset)) s.descriptions })
-  after_offset n offset d is =
+  pub after_offset : (n offset : ℕ) → IsConsistent (record s { descriptions = edited n (with_value (at_offset offset)) s.descriptions })
+  after_offset n offset =
       let facts = facts_of s all in
       let t = record s { descriptions = edited n (with_value (at_offset offset)) s.descriptions } in
-      let values : values_in t.descriptions ≡ set ds n (Some (at_offset offset d)) = offset_values n offset d is in
+      let values : values_in t.descriptions ≡ edited n (at_offset offset) ds = values_edited s.descriptions n (at_offset offset) in
       consistent_of t (record {
         references = counted_edited s.descriptions (λ m. refs s.processes m) n (at_offset offset) facts.references;
         holders = counted_as s.files (λ f. links s.names f + holders ds f) (λ f. links s.names f + holders (values_in t.descriptions) f) facts.holders
-            (λ f. rw values (ap (λ k. links s.names f + k) (holders_same ds n d (at_offset offset d) f is refl)));
+            (λ f. rw values (ap (λ k. links s.names f + k) (holders_same ds n offset f)));
         tables = facts.tables;
         few_processes = facts.few_processes;
-        few_descriptions = rw values (omega (arith, facts.few_descriptions, live_set ds n d (Some (at_offset offset d)) is));
+        few_descriptions = rw values (omega (arith, facts.few_descriptions, live_edited ds n (at_offset offset)));
         few_names = facts.few_names;
       })
 
   -- its world
-  pub offset_world : (o : OpenDescriptor) (offset : ℕ) → slot ds o.number ≡ Some o.description →
-      world_in (record s { descriptions = edited o.number (with_value (at_offset offset)) s.descriptions }) ≡ with_offset (world_in s) o offset
-  offset_world o offset is = ap (λ es. record (world_in s) { descriptions = es }) (offset_values o.number offset o.description is)
+  pub offset_world : (n offset : ℕ) → world_in (record s { descriptions = edited n (with_value (at_offset offset)) s.descriptions }) ≡ with_offset (world_in s) n offset
+  offset_world n offset = ap (λ es. record (world_in s) { descriptions = es }) (values_edited s.descriptions n (at_offset offset))
 
   -- the processes after one has another entry
   abbrev with_entries : ℕ → ℕ → Option ℕ → List (Option Process)

@@ -6,7 +6,7 @@ use Rattle.std.proofs.Math.Seq.{map-set_same}
 use Rattle.std.proofs.lemmas.Bool.{lt-ltb, ltb-true}
 use Rattle.posix_model.specs.Slots.{slot, edited}
 use Rattle.posix_model.specs.Counts.{refers}
-use Rattle.machine_state.specs.declared.numbered.used.Used.{Used}
+use Rattle.machine_state.specs.Types.{Used}
 use Rattle.machine_state.specs.Uses.{uses_at, value_at, values_in, used_once, one_more, one_less, last_value, with_use, without_use, lost, with_value}
 use Rattle.machine_state.proofs.SlotLaws.{one, same_or_not, is_itself, slot_set, slot_mapped, slot_past, slot_added, set_none}
 

@@ -1,13 +1,9 @@
 -- What contracts see of a machine: its world, and the room reserved.
 use Rattle.std.specs.Prelude.{ℕ, ◌-◌, Bool, List, [], Option, None, Some, map, vec_len, vec_capacity}
 use Rattle.posix_model.specs.Names.{Entries}
-use Rattle.posix_model.specs.declared.world.World.{World}
-use Rattle.posix_model.specs.declared.world.File.{File}
+use Rattle.machine_state.specs.Types.{World, Process, Description, File, Used}
 use Rattle.posix_model.specs.declared.world.File.TheVariants as file
-use Rattle.posix_model.specs.declared.world.Process.{Process}
-use Rattle.posix_model.specs.declared.world.Description.{Description}
 use Rattle.machine_state.specs.Uses.{values_in}
-use Rattle.machine_state.specs.declared.numbered.used.Used.{Used}
 use Rattle.machine_state.specs.declared.machine.Machine.TheInside.{Inside}
 
 -- for how many more files, descriptions, processes and names there is room, and for how many bytes in all in each file

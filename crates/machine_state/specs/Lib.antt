@@ -1,3 +1,4 @@
+pub mod Types
 pub mod Entries
 pub mod Uses
 pub mod Targets

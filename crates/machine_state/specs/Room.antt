@@ -1,12 +1,9 @@
 -- The room that changes take.
 use Rattle.std.specs.Prelude.{◌≡◌, ℕ, ◌+◌, ◌<◌, ◌≤◌, slice_index}
-use Rattle.posix_model.specs.declared.change.FileEdit.{FileEdit}
+use Rattle.machine_state.specs.Types.{FileEdit, ProcessEdit, TableEdit, Change}
 use Rattle.posix_model.specs.declared.change.FileEdit.TheVariants as on_files
-use Rattle.posix_model.specs.declared.change.ProcessEdit.{ProcessEdit}
 use Rattle.posix_model.specs.declared.change.ProcessEdit.TheVariants as on_process
-use Rattle.posix_model.specs.declared.change.TableEdit.{TableEdit}
 use Rattle.posix_model.specs.declared.change.TableEdit.TheVariants as on_table
-use Rattle.posix_model.specs.declared.change.Change.{Change}
 use Rattle.machine_state.specs.Held.{Room, Held}
 
 -- the room of an edit of files stands reserved
@@ -19,7 +16,7 @@ HasFileRoom room (on_files.MakeFile name) = (0 < room.files) × (0 < room.names)
 -- the room of an edit of processes stands reserved, where there is room for so many more
 abbrev pub HasProcessRoom : ℕ → ProcessEdit → Type 0
 HasProcessRoom processes on_process.Nothing = Unit {0}
-HasProcessRoom processes (on_process.Add process) = 0 < processes
+HasProcessRoom processes (on_process.Add table) = 0 < processes
 
 -- the room of an edit of descriptors stands reserved, where there is room for so many more descriptions
 abbrev pub HasTableRoom : ℕ → TableEdit → Type 0

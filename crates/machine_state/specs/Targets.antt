@@ -1,8 +1,7 @@
 -- The file that a description holds.
 use Rattle.std.specs.Prelude.{ℕ, Option, None, Some}
-use Rattle.posix_model.specs.declared.world.Target.{Target}
+use Rattle.machine_state.specs.Types.{Description, Target}
 use Rattle.posix_model.specs.declared.world.Target.TheVariants as target
-use Rattle.posix_model.specs.declared.world.Description.{Description}
 
 -- the file that a target holds, if it holds one
 abbrev pub file_of_target : Target → Option ℕ
@@ -14,7 +13,3 @@ file_of_target (target.Fifo file pipe) = Some file
 abbrev pub file_held : Option Description → Option ℕ
 file_held None = None
 file_held (Some description) = file_of_target description.target
-
--- a description with another offset
-abbrev pub at_offset : ℕ → Description → Description
-at_offset offset description = record description { offset = offset }

@@ -1,7 +1,7 @@
 -- Slots with a count of their uses, which are empty after the last use.
 use Rattle.std.specs.Prelude.{◌≡◌, ℕ, ◌+◌, ◌-◌, nat_lt, List, Option, None, Some, map, slice_set, if◌then◌else◌}
 use Rattle.posix_model.specs.Slots.{slot, edited}
-use Rattle.machine_state.specs.declared.numbered.used.Used.{Used}
+use Rattle.machine_state.specs.Types.{Used}
 
 -- the count at a slot
 abbrev pub uses_at : {T : Type 0} → Option (Used T) → ℕ

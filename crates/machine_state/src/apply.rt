@@ -7,6 +7,7 @@ ghost use Rattle.machine_state.specs.Room.{HasFileRoom, HasProcessRoom, HasTable
 use crate::machine::Machine;
 use posix_model::change::{Change, FileEdit, ProcessEdit, TableEdit};
 use posix_model::laws::sweep_releases;
+use posix_model::world::Process;
 
 impl Machine {
     /// Makes an edit of files, with the bytes of the act.
@@ -37,7 +38,11 @@ impl Machine {
     {
         match edit {
             ProcessEdit::Nothing => {}
-            ProcessEdit::Add { process } => self.processes.push(process),
+            ProcessEdit::Add { table } => self.processes.push(Process {
+                table,
+                parked: None,
+                attached: true,
+            }),
         }
     }
 
@@ -53,7 +58,7 @@ impl Machine {
         let _closed = &self.closed;
         match edit {
             TableEdit::Nothing => {}
-            TableEdit::Offset { descriptor, offset } => self.set_offset(descriptor, offset),
+            TableEdit::Offset { number, offset } => self.set_offset(number, offset),
             TableEdit::Open {
                 process,
                 fd,
@@ -64,6 +69,7 @@ impl Machine {
     }
 
     /// Makes a change, and sweeps after it. It takes no memory: its room stands reserved.
+    #[inline(always)]
     pub fn apply(&mut self, bytes: &[u8], change: Change)
         requires fits { Fits self.old.world bytes.now change }
         requires proper { IsProper self.old.world bytes.now change }

@@ -10,7 +10,6 @@ ghost use Rattle.machine_state.specs.Targets.{file_of_target, file_held};
 use crate::machine::Machine;
 use crate::numbered::used::Used;
 use posix_model::laws::sweep_releases;
-use posix_model::opened::OpenDescriptor;
 use posix_model::world::{Description, Target};
 
 /// The file that a target holds, if it holds one.
@@ -34,13 +33,12 @@ fn file_held(gone: Option<Description>) -> Option<usize>
 }
 
 impl Machine {
-    /// Gives the description of a descriptor another offset, in bytes.
-    pub(crate) fn set_offset(&mut self, descriptor: OpenDescriptor, offset: u64)
-        requires { slot self.old.world.descriptions descriptor.number ≡ Some descriptor.description }
-        ensures { self.new.world ≡ sweep (with_offset self.old.world descriptor offset) }
+    /// Gives a description another offset, in bytes.
+    pub(crate) fn set_offset(&mut self, number: usize, offset: u64)
+        ensures { self.new.world ≡ sweep (with_offset self.old.world number offset) }
     {
         sweep_releases();
-        self.descriptions.set_offset(descriptor.number, offset);
+        self.descriptions.set_offset(number, offset);
     }
 
     /// Lets a free descriptor refer to a new description.

@@ -1,36 +1,31 @@
 -- What calls on an open descriptor do.
 use Rattle.std.proofs.Common.{◌≡◌, ℕ, zero, suc, ◌+◌, ℤ, pos, negsuc, ◌∙◌, Bool, true, cond, List, [], ◌∷◌, ◌++◌, Option, None, Some, length, set, take, refl, ap, sym, subst, append-nil, eqb}
 use Rattle.std.specs.Option.{unwrap_or}
+use Rattle.call_types.specs.declared.act.Act.TheVariants as act
 use Rattle.call_types.specs.declared.call.Call.TheVariants as call
 use Rattle.call_types.specs.declared.outcome.Outcome.TheVariants.{Reply as Replied}
-use Rattle.call_types.specs.declared.outcome.Reply.TheVariants.{Number, Done, Data}
-use Rattle.posix_model.specs.Bytes.{bytes_at, splice, resized}
+use Rattle.call_types.specs.declared.outcome.Reply.TheVariants.{Number, Done}
+use Rattle.posix_model.specs.Bytes.{splice, resized}
 use Rattle.posix_model.specs.Slots.{slot}
 use Rattle.posix_model.specs.Positions.{bytes_before, regular_file, file_at}
 use Rattle.posix_model.specs.Descriptors.{opened, opened_number, opened_description, table_of, file_bytes, bytes_of}
 use Rattle.posix_model.specs.Change.{changed}
 use Rattle.posix_model.specs.Whole.{is_regular_file}
 use Rattle.posix_model.specs.Pages.{tells, does, on_open}
-use Rattle.posix_model.specs.Close.{close}
 use Rattle.posix_model.specs.Read.{read}
 use Rattle.posix_model.specs.Write.{fitting, puts, write_start, write}
 use Rattle.posix_model.specs.Pread.{pread}
 use Rattle.posix_model.specs.Pwrite.{pwrite}
-use Rattle.posix_model.specs.Lseek.{lseek}
 use Rattle.posix_model.specs.Ftruncate.{ftruncate}
-use Rattle.posix_model.specs.Fstat.{fstat}
-use Rattle.posix_model.specs.Step.{decided}
-use Rattle.posix_model.specs.declared.world.World.{World}
-use Rattle.posix_model.specs.declared.world.Description.{Description}
-use Rattle.posix_model.specs.declared.world.File.{File}
+use Rattle.posix_model.specs.Step.{given, decided}
+use Rattle.posix_model.specs.Sound.{CallsAreSound}
+use Rattle.plain_world.specs.Types.{World, Description, File, OpenDescriptor, Decided}
 use Rattle.posix_model.specs.declared.world.File.TheVariants as file
-use Rattle.posix_model.specs.declared.opened.OpenDescriptor.{OpenDescriptor}
 use Rattle.posix_model.specs.declared.change.FileEdit.TheVariants as on_files
 use Rattle.posix_model.specs.declared.change.TableEdit.TheVariants as on_table
-use Rattle.posix_model.specs.declared.change.Decided.{Decided}
-use Rattle.plain_world.specs.FileLaws.{WriteAppends, PreadKeepsWorld, NothingRead, NothingWritten, NothingPwritten, PwriteKeepsOffsets, with_append, with_appending, PwriteSameUnderAppend, SameContents, ContentsStay, FtruncateLeavesResized}
+use Rattle.plain_world.specs.FileLaws.{WriteAppends, PreadKeepsWorld, NothingRead, NothingWritten, NothingPwritten, PwriteKeepsOffsets, with_append, with_appending, PwriteSameUnderAppend, ContentsStay, FtruncateLeavesResized}
 use Rattle.plain_world.proofs.PageLemmas.{on_open_has, opened_has, if_has}
-use Rattle.plain_world.proofs.ChangeLemmas.{same_files}
+use Rattle.plain_world.proofs.ChangeLemmas.{same_files, contents_same}
 use Rattle.plain_world.proofs.BytesLaws.{added_at_end}
 use Rattle.plain_world.proofs.SlotLemmas.{slot_set_there}
 
@@ -53,30 +48,8 @@ pwrite_keeps_offsets bounds w process fd start bytes =
     on_open_has Same (opened w process fd) (pwrite bounds start bytes) (λ _. refl)
     (λ o. if_has Same (eqb (length bytes) 0) (tells (Number 0)) (does (Number n) (on_files.Bytes (file_at o) (bytes_before start) n) on_table.Nothing) refl refl)
 
-pub contents_stay : ContentsStay
-contents_stay bounds w process (call.Open name flags) other = cc
-contents_stay bounds w process (call.Write fd bytes) other = cc
-contents_stay bounds w process (call.Pwrite fd start bytes) other = cc
-contents_stay bounds w process (call.Ftruncate fd len) other = cc
-contents_stay bounds w process (call.Close fd) other =
-    on_open_has (λ d. SameContents w (changed w [] d.change)) (opened w process fd) (close process)
-    (λ _. record { files = refl; names = refl; pipes = refl }) (λ _. record { files = refl; names = refl; pipes = refl })
-contents_stay bounds w process (call.Read fd count) other =
-    let Same : Decided → Type 0 = λ d. SameContents w (changed w [] d.change) in
-    on_open_has Same (opened w process fd) (read w count) (λ _. record { files = refl; names = refl; pipes = refl })
-    (λ o.
-    let got = bytes_at (bytes_of w (file_at o)) o.description.offset count in
-    if_has Same (eqb (length got) 0) (tells (Data got)) (does (Data got) on_files.Nothing (on_table.Offset o (o.description.offset + length got)))
-    (record { files = refl; names = refl; pipes = refl }) (record { files = refl; names = refl; pipes = refl }))
-contents_stay bounds w process (call.Pread fd start count) other =
-    on_open_has (λ d. SameContents w (changed w [] d.change)) (opened w process fd) (pread w start count)
-    (λ _. record { files = refl; names = refl; pipes = refl }) (λ _. record { files = refl; names = refl; pipes = refl })
-contents_stay bounds w process (call.Lseek fd offset from) other =
-    on_open_has (λ d. SameContents w (changed w [] d.change)) (opened w process fd) (lseek w offset from)
-    (λ _. record { files = refl; names = refl; pipes = refl }) (λ _. record { files = refl; names = refl; pipes = refl })
-contents_stay bounds w process (call.Fstat fd) other =
-    on_open_has (λ d. SameContents w (changed w [] d.change)) (opened w process fd) (fstat w)
-    (λ _. record { files = refl; names = refl; pipes = refl }) (λ _. record { files = refl; names = refl; pipes = refl })
+pub contents_stay : CallsAreSound → ContentsStay
+contents_stay sound bounds w process c other = contents_same w (given (act.Call c)) (decided bounds w process c).change ((sound bounds w process c).contents other)
 
 -- the bytes of a regular file that is written
 bytes_set : (files : List (Option File)) (n : ℕ) (bytes : List ℕ) → is_regular_file (slot files n) ≡ true → file_bytes (slot (set files n (Some (file.Regular bytes))) n) ≡ bytes
@@ -90,10 +63,10 @@ Appends w bytes f n d = d.outcome ≡ Replied (Number n) → bytes_of (changed w
 
 -- bytes that are put at the end of a file
 puts_at_end : (w : World) (o : OpenDescriptor) (f count offset n : ℕ) (bytes : List ℕ) → is_regular_file (slot w.files f) ≡ true →
-    Appends w bytes f n (puts bytes f (length (bytes_of w f)) count (on_table.Offset o offset))
+    Appends w bytes f n (puts bytes f (length (bytes_of w f)) count (on_table.Offset o.number offset))
 puts_at_end w o f count offset n bytes there =
     let end = length (bytes_of w f) in
-    if_has (Appends w bytes f n) (eqb (length bytes) 0) (tells (Number 0)) (does (Number count) (on_files.Bytes f end count) (on_table.Offset o offset))
+    if_has (Appends w bytes f n) (eqb (length bytes) 0) (tells (Number 0)) (does (Number count) (on_files.Bytes f end count) (on_table.Offset o.number offset))
     (λ told. let none : n ≡ 0 = cc in rw none (sym (append-nil (bytes_of w f))))
     (λ told.
     let same : count ≡ n = cc in
@@ -102,7 +75,7 @@ puts_at_end w o f count offset n bytes there =
 
 pub write_appends : WriteAppends
 write_appends bounds w process fd bytes o f n is append told =
-    let Puts : ℕ → ℕ → Type 0 = λ g start. let count = fitting bounds start bytes in Appends w bytes f n (puts bytes g start count (on_table.Offset o (start + count))) in
+    let Puts : ℕ → ℕ → Type 0 = λ g start. let count = fitting bounds start bytes in Appends w bytes f n (puts bytes g start count (on_table.Offset o.number (start + count))) in
     let end = length (bytes_of w f) in
     let at : file_at o ≡ f = ap (λ t. unwrap_or (regular_file t) 0) is.target_is in
     let from : write_start o.description (length (bytes_of w (file_at o))) ≡ end =

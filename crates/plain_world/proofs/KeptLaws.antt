@@ -9,11 +9,7 @@ use Rattle.posix_model.specs.Whole.{IsThere, TargetIsThere, is_regular_file, is_
 use Rattle.posix_model.specs.Laws.{HistoryIsWhole, HistorySettles}
 use Rattle.posix_model.specs.Released.{IsSettled, SettledIsSwept}
 use Rattle.posix_model.specs.History.{world_of}
-use Rattle.posix_model.specs.declared.world.World.{World}
-use Rattle.posix_model.specs.declared.world.Description.{Description}
-use Rattle.posix_model.specs.declared.world.File.{File}
-use Rattle.posix_model.specs.declared.world.Process.{Process}
-use Rattle.posix_model.specs.declared.world.Target.{Target}
+use Rattle.plain_world.specs.Types.{World, Process, Description, Target, File}
 use Rattle.posix_model.specs.declared.world.Target.TheVariants as target
 use Rattle.plain_world.specs.Laws.{KeptExactly, HistoryKeepsExactly}
 

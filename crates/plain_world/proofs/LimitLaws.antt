@@ -1,6 +1,6 @@
 -- No step goes past a limit: one lemma for each edit, and one for the sweep.
-use Rattle.std.proofs.Common.{ℤ, pos, negsuc, eqb, ◌≡◌, ℕ, zero, suc, ◌+◌, ◌≤◌, ◌<◌, ◌∙◌, Bool, true, false, cond, List, [], ◌∷◌, ◌++◌, Option, None, Some, length, set, take, refl, ap, sym, subst, arith, length-set}
-use Rattle.std.specs.Option.{option_map_or, option_map, is_some}
+use Rattle.std.proofs.Common.{eqb, ◌≡◌, ℕ, zero, suc, ◌+◌, ◌≤◌, ◌<◌, ◌∙◌, Bool, true, false, cond, List, [], ◌∷◌, ◌++◌, Option, None, Some, length, set, take, refl, ap, sym, subst, arith, length-set}
+use Rattle.std.specs.Option.{option_map, is_some}
 use Rattle.std.proofs.lemmas.Grind.{common_steps}
 use Rattle.std.proofs.lemmas.List.{length-replicate}
 use Rattle.std.proofs.lemmas.List.Sums.{sum_by-cons, sum_by_push}
@@ -8,41 +8,27 @@ use Rattle.std.specs.Ordering.{nat_cmp}
 use Rattle.std.specs.Cmp.Lexicographic.{slice_cmp}
 use Rattle.std.specs.FinMap.Entries.{by_order}
 use Rattle.std.specs.declared.cmp.Ordering.TheVariants.{Less, Equal, Greater}
-use Rattle.call_types.specs.declared.limits.Bounds.{Bounds}
+use Rattle.plain_world.specs.Types.{Act, Record, Bounds, World, Process, Description, File, FileEdit, ProcessEdit, TableEdit, Change, Decided}
 use Rattle.call_types.specs.declared.limits.TheConstants.{OPEN_MAX, NAMES_MAX, DESCRIPTIONS_MAX, OFFSET_MAX}
-use Rattle.call_types.specs.CallTable.{descriptor_of}
-use Rattle.call_types.specs.declared.act.Act.{Act}
 use Rattle.call_types.specs.declared.act.Act.TheVariants as act
-use Rattle.call_types.specs.declared.act.Record.{Record}
 use Rattle.call_types.specs.declared.errno.Errno.TheVariants.{EAGAIN}
 use Rattle.posix_model.specs.Bytes.{splice, resized}
 use Rattle.posix_model.specs.Slots.{slot, live, kept_from}
 use Rattle.posix_model.specs.Names.{Entries, with_name}
-use Rattle.posix_model.specs.Whole.{IsThere}
-use Rattle.posix_model.specs.Descriptors.{opened_number, opened_description, number_of, table_of, with_entry, with_descriptor, with_offset, file_bytes, bytes_of}
-use Rattle.posix_model.specs.Change.{with_bytes, created, with_files, new_process, with_processes, with_table, changed}
+use Rattle.posix_model.specs.Descriptors.{at_offset, with_entry, with_descriptor, with_offset, file_bytes, bytes_of}
+use Rattle.posix_model.specs.Change.{with_bytes, created, with_files, free_table, process_with, with_processes, with_table, changed}
 use Rattle.posix_model.specs.Fits.{FilesProper, ProcessProper, ProcessFits, TableProper, IsProper}
 use Rattle.posix_model.specs.Sweep.{is_referred, is_wanted, without_gone_pipe, sweep}
 use Rattle.posix_model.specs.Step.{given, comes_to, step}
 use Rattle.posix_model.specs.Pages.{unless, decided_by}
 use Rattle.posix_model.specs.Join.{is_full, join}
-use Rattle.posix_model.specs.Sound.{Sound, makes, moved_offset, number_at, ActsAreSound, WithinLimits, FilesWithin, TableWithin}
+use Rattle.posix_model.specs.Sound.{Sound, makes, ActsAreSound, WithinLimits, FilesWithin, TableWithin}
 use Rattle.posix_model.specs.Laws.{SweepLeaves}
 use Rattle.posix_model.specs.History.{empty_world, after, world_from}
-use Rattle.posix_model.specs.declared.world.World.{World}
-use Rattle.posix_model.specs.declared.world.Description.{Description}
-use Rattle.posix_model.specs.declared.world.File.{File}
 use Rattle.posix_model.specs.declared.world.File.TheVariants as file
-use Rattle.posix_model.specs.declared.world.Process.{Process}
-use Rattle.posix_model.specs.declared.opened.OpenDescriptor.{OpenDescriptor}
-use Rattle.posix_model.specs.declared.change.FileEdit.{FileEdit}
 use Rattle.posix_model.specs.declared.change.FileEdit.TheVariants as on_files
-use Rattle.posix_model.specs.declared.change.ProcessEdit.{ProcessEdit}
 use Rattle.posix_model.specs.declared.change.ProcessEdit.TheVariants as on_process
-use Rattle.posix_model.specs.declared.change.TableEdit.{TableEdit}
 use Rattle.posix_model.specs.declared.change.TableEdit.TheVariants as on_table
-use Rattle.posix_model.specs.declared.change.Change.{Change}
-use Rattle.posix_model.specs.declared.change.Decided.{Decided}
 use Rattle.plain_world.specs.Laws.{StepKeepsLimits, LimitsHold}
 use Rattle.plain_world.proofs.PageLemmas.{where_may, step_parts, stepped_or_not}
 use Rattle.plain_world.proofs.ChangeLemmas.{files_leave, same_descriptions}
@@ -123,34 +109,37 @@ files_within bounds w bytes (on_files.Bytes f start count) h proper within =
 files_within bounds w bytes (on_files.Resize f len) h proper within = bytes_within bounds w f (resized (bytes_of w f) len) h (resized_fits (bytes_of w f) len bounds.file_size within)
 files_within bounds w bytes (on_files.MakeFile name) h proper within = created_within bounds w name h proper.1
 
-new_table : (p : Process) → p ≡ new_process → length p.table ≡ OPEN_MAX
-new_table p new = ap (λ x. length x.table) new ∙ (let free : Option ℕ = None in length-replicate OPEN_MAX free)
+new_table : (table : List (Option ℕ)) → table ≡ free_table → length table ≡ OPEN_MAX
+new_table table new = ap (λ (t : List (Option ℕ)). length t) new ∙ (let free : Option ℕ = None in length-replicate OPEN_MAX free)
 
 processes_within : (bounds : Bounds) (w : World) (e : ProcessEdit) → WithinLimits bounds w → ProcessProper w e → ProcessFits e → WithinLimits bounds (with_processes w e)
 processes_within bounds w on_process.Nothing h proper fits = h
-processes_within bounds w (on_process.Add p) h proper fits = record {
+processes_within bounds w (on_process.Add table) h proper fits = let p = process_with table in record {
   files = h.files;
   offsets = h.offsets;
   tables = λ n. at_push (λ o. (x : Process) → o ≡ Some x → length x.table ≡ OPEN_MAX) w.processes (Some p) n h.tables
-      (λ x e. let same : p ≡ x = cc in subst (λ (x : Process). length x.table ≡ OPEN_MAX) same (new_table p fits));
+      (λ x e. let same : p ≡ x = cc in subst (λ (x : Process). length x.table ≡ OPEN_MAX) same (new_table table fits));
   names = h.names;
   descriptions = h.descriptions;
   processes = let more = live_push w.processes p in omega (arith, more, proper);
 }
 
--- the offset of a description that is there is written
-offset_within : (bounds : Bounds) (w : World) (o : OpenDescriptor) (k : ℕ) → WithinLimits bounds w → IsThere w.descriptions o.number → k ≤ OFFSET_MAX → WithinLimits bounds (with_offset w o k)
-offset_within bounds w o k h there small =
-    let moved : Description = record o.description { offset = k } in
+-- the offset of a description is written
+offset_within : (bounds : Bounds) (w : World) (n k : ℕ) → WithinLimits bounds w → k ≤ OFFSET_MAX → WithinLimits bounds (with_offset w n k)
+offset_within bounds w n k h small =
+    let moved = option_map (at_offset k) (slot w.descriptions n) in
     record {
       files = h.files;
-      offsets = λ n. at_set (λ o. (x : Description) → o ≡ Some x → x.offset ≤ OFFSET_MAX) w.descriptions o.number (Some moved) n h.offsets
-          (λ d e. let same : moved ≡ d = cc in subst (λ (x : Description). x.offset ≤ OFFSET_MAX) same small);
+      offsets = λ m. at_set (λ o. (x : Description) → o ≡ Some x → x.offset ≤ OFFSET_MAX) w.descriptions n moved m h.offsets (λ d e. as_small (slot w.descriptions n) d e);
       tables = h.tables;
       names = h.names;
-      descriptions = rw (live_set w.descriptions o.number (Some moved) (sym there)) h.descriptions;
+      descriptions = rw (live_set w.descriptions n moved (some_mapped (at_offset k) (slot w.descriptions n))) h.descriptions;
       processes = h.processes;
     }
+  where
+    as_small : (old : Option Description) (d : Description) → option_map (at_offset k) old ≡ Some d → d.offset ≤ OFFSET_MAX
+    as_small None d e = cc
+    as_small (Some x) d e = let same : at_offset k x ≡ d = cc in subst (λ (y : Description). y.offset ≤ OFFSET_MAX) same small
 
 descriptor_within : (bounds : Bounds) (w : World) (p fd : ℕ) (entry : Option ℕ) → WithinLimits bounds w → WithinLimits bounds (with_descriptor w p fd entry)
 descriptor_within bounds w p fd entry h =
@@ -183,42 +172,38 @@ described_within bounds w d h small room = record {
   processes = h.processes;
 }
 
--- what an edit moves the offset of is there
-abbrev MovesThere : World → TableEdit → Type 0
-MovesThere w e = (n : ℕ) → moved_offset e ≡ Some n → IsThere w.descriptions n
-
-table_within : (bounds : Bounds) (w : World) (e : TableEdit) → WithinLimits bounds w → TableProper w e → MovesThere w e → TableWithin e → WithinLimits bounds (with_table w e)
-table_within bounds w on_table.Nothing h proper there within = h
-table_within bounds w (on_table.Offset o k) h proper there within = offset_within bounds w o k h (there o.number refl) within
-table_within bounds w (on_table.Open p fd d) h proper there within =
+table_within : (bounds : Bounds) (w : World) (e : TableEdit) → WithinLimits bounds w → TableProper w e → TableWithin e → WithinLimits bounds (with_table w e)
+table_within bounds w on_table.Nothing h proper within = h
+table_within bounds w (on_table.Offset n k) h proper within = offset_within bounds w n k h within
+table_within bounds w (on_table.Open p fd d) h proper within =
     descriptor_within bounds (record w { descriptions = w.descriptions ++ Some d ∷ [] }) p fd (Some (length w.descriptions)) (described_within bounds w d h within proper)
-table_within bounds w (on_table.Entry p fd entry) h proper there within = descriptor_within bounds w p fd entry h
+table_within bounds w (on_table.Entry p fd entry) h proper within = descriptor_within bounds w p fd entry h
 
 -- room stays where the parts that it is in stay
 process_room : (w v : World) (e : ProcessEdit) → v.processes ≡ w.processes → ProcessProper w e → ProcessProper v e
 process_room w v on_process.Nothing same proper = tt
-process_room w v (on_process.Add p) same proper = rw same proper
+process_room w v (on_process.Add table) same proper = rw same proper
 
 table_room : (w v : World) (e : TableEdit) → v.descriptions ≡ w.descriptions → TableProper w e → TableProper v e
 table_room w v on_table.Nothing same proper = tt
-table_room w v (on_table.Offset o k) same proper = tt
+table_room w v (on_table.Offset n k) same proper = tt
 table_room w v (on_table.Open p fd d) same proper = rw same proper
 table_room w v (on_table.Entry p fd entry) same proper = tt
 
-change_within : (bounds : Bounds) (w : World) (bytes : List ℕ) (c : Change) → WithinLimits bounds w → IsProper w bytes c → ProcessFits c.process → MovesThere w c.table →
+change_within : (bounds : Bounds) (w : World) (bytes : List ℕ) (c : Change) → WithinLimits bounds w → IsProper w bytes c → ProcessFits c.process →
     FilesWithin bounds c.files → TableWithin c.table → WithinLimits bounds (changed w bytes c)
-change_within bounds w bytes c h proper new there files table =
+change_within bounds w bytes c h proper new files table =
     let u = with_files w bytes c.files in
     let v = with_processes u c.process in
     let same = same_descriptions w bytes c in
     let first = files_within bounds w bytes c.files h proper.files files in
     let second = processes_within bounds u c.process first (process_room w u c.process (files_leave w bytes c.files).1 proper.process) new in
-    table_within bounds v c.table second (table_room w v c.table same proper.table) (λ n moved. rw same (there n moved)) table
+    table_within bounds v c.table second (table_room w v c.table same proper.table) table
 
 -- a process that is added is a new one
 none_made : (e : ProcessEdit) → makes e ≡ 0 → ProcessFits e
 none_made on_process.Nothing none = tt
-none_made (on_process.Add p) none = cc
+none_made (on_process.Add table) none = cc
 
 joined_new : (w : World) (full : Bool) → ProcessFits (unless (cond full (Some EAGAIN) None) (join w).effect).change.process
 joined_new w true = tt
@@ -228,25 +213,6 @@ adds_new : (bounds : Bounds) (w : World) (actor : ℕ) (act : Act) (d : Decided)
 adds_new bounds w actor act.Join d sound is = subst (λ (x : Decided). ProcessFits x.change.process) (where_may (eqb actor (length w.processes)) (decided_by (join w)) d is) (joined_new w (is_full w))
 adds_new bounds w actor (act.Call c) d sound is = none_made d.change.process sound.planned
 adds_new bounds w actor other d sound is = none_made d.change.process sound.planned
-
--- the description that a descriptor leads to is there
-description_there : (w : World) (fd number n : ℕ) (there : Option Description) → slot w.descriptions number ≡ there → option_map (λ o. o.number) (opened_description fd number there) ≡ Some n →
-    IsThere w.descriptions n
-description_there w fd number n None stands h = cc
-description_there w fd number n (Some d) stands h = let same : number ≡ n = cc in subst (IsThere w.descriptions) same (ap is_some stands)
-
-entry_there : (w : World) (fd n : ℕ) (entry : Option ℕ) → option_map (λ o. o.number) (opened_number w fd entry) ≡ Some n → IsThere w.descriptions n
-entry_there w fd n None h = cc
-entry_there w fd n (Some number) h = description_there w fd number n (slot w.descriptions number) refl h
-
-opened_there : (w : World) (p : ℕ) (fd : Option ℤ) (n : ℕ) → option_map_or (number_of w p) fd None ≡ Some n → IsThere w.descriptions n
-opened_there w p None n h = cc
-opened_there w p (Some (pos fd)) n h = entry_there w fd n (slot (table_of (slot w.processes p)) fd) h
-opened_there w p (Some (negsuc k)) n h = cc
-
-own_there : (w : World) (actor : ℕ) (act : Act) (n : ℕ) → number_at w actor act ≡ Some n → IsThere w.descriptions n
-own_there w actor (act.Call c) n h = opened_there w actor (descriptor_of c) n h
-own_there w actor other n h = cc
 
 -- what a sweep leaves of a file is no longer
 left_of_file : (ds : List (Option Description)) (b : Bool) (x : Option File) (most : ℕ) → length (file_bytes x) ≤ most → length (file_bytes (cond b (without_gone_pipe ds x) None)) ≤ most
@@ -276,7 +242,7 @@ step_keeps_limits sound leaves bounds w actor act s small within h =
     let x = sound bounds w actor act d is in
     let v = changed w (given act) d.change in
     sweep_within leaves bounds v
-    (change_within bounds w (given act) d.change within (x.proper small) (adds_new bounds w actor act d x is) (λ n moved. own_there w actor act n (x.own n moved)) x.within_files (x.within_table small within))) h
+    (change_within bounds w (given act) d.change within (x.proper small) (adds_new bounds w actor act d x is) x.within_files (x.within_table small within))) h
 
 empty_within : (bounds : Bounds) → WithinLimits bounds empty_world
 empty_within bounds = record {

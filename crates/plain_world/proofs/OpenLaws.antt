@@ -11,9 +11,8 @@ use Rattle.std.specs.declared.cmp.Ordering.TheVariants.{Less, Equal, Greater}
 use Rattle.std.specs.Cmp.Lexicographic.{slice_cmp}
 use Rattle.call_types.specs.Flags.{has}
 use Rattle.call_types.specs.Flags as flag
-use Rattle.call_types.specs.declared.errno.Errno.{Errno}
+use Rattle.plain_world.specs.Types.{Errno, OpenFlags, World, Process, Description, File}
 use Rattle.call_types.specs.declared.errno.Errno.TheVariants.{EMFILE}
-use Rattle.call_types.specs.declared.flags.OpenFlags.{OpenFlags}
 use Rattle.call_types.specs.declared.outcome.Outcome.TheVariants.{Reply as Replied}
 use Rattle.call_types.specs.declared.outcome.Reply.TheVariants.{Number}
 use Rattle.posix_model.specs.Slots.{slot, lowest, edited}
@@ -22,11 +21,7 @@ use Rattle.posix_model.specs.Descriptors.{opened, opened_number, opened_descript
 use Rattle.posix_model.specs.Change.{with_files, with_description, changed}
 use Rattle.posix_model.specs.Pages.{first_fault}
 use Rattle.posix_model.specs.Open.{flag_faults, name_faults, found_faults, room_faults, open_faults, new_description, free_descriptor, emptied, open_found, open_file}
-use Rattle.posix_model.specs.declared.world.World.{World}
-use Rattle.posix_model.specs.declared.world.Description.{Description}
-use Rattle.posix_model.specs.declared.world.File.{File}
 use Rattle.posix_model.specs.declared.world.File.TheVariants as file
-use Rattle.posix_model.specs.declared.world.Process.{Process}
 use Rattle.posix_model.specs.declared.change.FileEdit.TheVariants as on_files
 use Rattle.plain_world.specs.FileLaws.{Opens, OpenDescribes, ExclOpensNew, EmptiesFile, TruncOpenEmpties}
 use Rattle.plain_world.proofs.PageLemmas.{page_has, no_fault_after}

@@ -2,15 +2,10 @@
 -- holds of steps.
 use Rattle.std.proofs.Common.{◌≡◌, ℕ, Bool, true, false, cond, List, [], ◌∷◌, ◌++◌, Option, None, Some, refl, subst}
 use Rattle.std.specs.Option.{option_map, option_map_or}
-use Rattle.call_types.specs.declared.limits.Bounds.{Bounds}
-use Rattle.call_types.specs.declared.act.Act.{Act}
-use Rattle.call_types.specs.declared.errno.Errno.{Errno}
+use Rattle.plain_world.specs.Types.{Act, Errno, Bounds, World, OpenDescriptor, Decided}
 use Rattle.call_types.specs.declared.errno.Errno.TheVariants.{EBADF}
 use Rattle.posix_model.specs.Pages.{Page, first_fault, unless, refused, decided_by, on_open}
 use Rattle.posix_model.specs.Step.{given, comes_to, Stepped, stepped, step}
-use Rattle.posix_model.specs.declared.world.World.{World}
-use Rattle.posix_model.specs.declared.opened.OpenDescriptor.{OpenDescriptor}
-use Rattle.posix_model.specs.declared.change.Decided.{Decided}
 
 pub unless_has : (Has : Decided → Type 0) (fault : Option Errno) (effect : Decided) → ((error : Errno) → Has (refused error)) → (fault ≡ None → Has effect) → Has (unless fault effect)
 unless_has Has None effect refuses all = all refl

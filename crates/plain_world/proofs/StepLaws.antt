@@ -5,9 +5,8 @@ use Rattle.std.proofs.lemmas.Grind.{common_steps}
 use Rattle.std.proofs.lemmas.List.Quantifiers.{position-Some}
 use Rattle.std.proofs.lemmas.List.Sums.{fails_before_first}
 use Rattle.std.specs.List.{position_or_len}
-use Rattle.call_types.specs.declared.limits.Bounds.{Bounds}
+use Rattle.plain_world.specs.Types.{Record, Bounds, World, Decided}
 use Rattle.call_types.specs.declared.act.Act.TheVariants as act
-use Rattle.call_types.specs.declared.act.Record.{Record}
 use Rattle.call_types.specs.declared.errno.Errno.TheVariants.{EAGAIN}
 use Rattle.call_types.specs.declared.outcome.Outcome.TheVariants.{Reply as Replied}
 use Rattle.call_types.specs.declared.outcome.Reply.TheVariants.{Error}
@@ -21,8 +20,6 @@ use Rattle.posix_model.specs.Sound.{ActsAreSound}
 use Rattle.posix_model.specs.Laws.{HistorySettles, SweepLeaves}
 use Rattle.posix_model.specs.History.{empty_world, after, world_of, world_from, legal_from}
 use Rattle.posix_model.specs.Turns.{took}
-use Rattle.posix_model.specs.declared.world.World.{World}
-use Rattle.posix_model.specs.declared.change.Decided.{Decided}
 use Rattle.plain_world.specs.Laws.{RefusedStepKeepsWorld, RefusedNextKeepsWorld, Joins, JoinAdds, FullJoinRefused, LowestIsLeast, NoLowestIsFull, OffsetsAreApart, OffsetsStayApart, TakesFew, LegalIsAnswered, AnsweredIsLegal}
 use Rattle.plain_world.proofs.PageLemmas.{where_may, step_parts}
 use Rattle.plain_world.proofs.ChangeLemmas.{offset_stays}

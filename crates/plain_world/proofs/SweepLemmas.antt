@@ -6,8 +6,7 @@ use Rattle.std.proofs.lemmas.Bool.Decides.{nat_tests}
 use Rattle.posix_model.specs.Slots.{kept, kept_from}
 use Rattle.posix_model.specs.Counts.{reads, writes, is_pipe, can_read, can_write}
 use Rattle.posix_model.specs.Sweep.{is_open}
-use Rattle.posix_model.specs.declared.world.Description.{Description}
-use Rattle.posix_model.specs.declared.world.Mode.{Mode}
+use Rattle.plain_world.specs.Types.{Description, Mode}
 use Rattle.posix_model.specs.declared.world.Mode.TheVariants as mode
 use Rattle.plain_world.specs.Ends.{is_end}
 

@@ -1,12 +1,9 @@
 -- A call by itself, before the sweep.
 use Rattle.std.specs.Prelude.{ℕ}
-use Rattle.call_types.specs.declared.limits.Bounds.{Bounds}
-use Rattle.call_types.specs.declared.call.Call.{Call}
+use Rattle.plain_world.specs.Types.{Call, Outcome, Bounds, World}
 use Rattle.call_types.specs.declared.act.Act.TheVariants as act
-use Rattle.call_types.specs.declared.outcome.Outcome.{Outcome}
 use Rattle.posix_model.specs.Change.{changed}
 use Rattle.posix_model.specs.Step.{given, decided}
-use Rattle.posix_model.specs.declared.world.World.{World}
 
 -- what is recorded of a call
 abbrev pub outcome_of : Bounds → World → ℕ → Call → Outcome

@@ -2,10 +2,9 @@
 use Rattle.std.specs.Prelude.{◌≡◌, ◌≢◌, ℕ, ℤ, pos, ◌+◌, ◌-◌, ◌≤◌, ◌<◌, Bool, true, false, max, List, [], ◌∷◌, ◌++◌, None, Some, length, take, slice_index, slice_set}
 use Rattle.call_types.specs.Flags.{has}
 use Rattle.call_types.specs.Flags as flag
-use Rattle.call_types.specs.declared.limits.Bounds.{Bounds}
-use Rattle.call_types.specs.declared.call.Call.{Call}
+use Rattle.plain_world.specs.Types.{Call, OpenFlags, Bounds, World, Description, OpenDescriptor}
+use Rattle.call_types.specs.declared.act.Act.TheVariants as act
 use Rattle.call_types.specs.declared.call.Call.TheVariants as call
-use Rattle.call_types.specs.declared.flags.OpenFlags.{OpenFlags}
 use Rattle.call_types.specs.declared.outcome.Outcome.TheVariants.{Reply as Replied}
 use Rattle.call_types.specs.declared.outcome.Reply.TheVariants.{Number, Done}
 use Rattle.posix_model.specs.Bytes.{splice, resized}
@@ -15,10 +14,8 @@ use Rattle.posix_model.specs.Positions.{bytes_before}
 use Rattle.posix_model.specs.Descriptors.{opened, bytes_of}
 use Rattle.posix_model.specs.Whole.{is_regular_file}
 use Rattle.posix_model.specs.Open.{mode_of}
-use Rattle.posix_model.specs.declared.world.World.{World}
-use Rattle.posix_model.specs.declared.world.Description.{Description}
+use Rattle.posix_model.specs.Sound.{may_change_contents}
 use Rattle.posix_model.specs.declared.world.Target.TheVariants as target
-use Rattle.posix_model.specs.declared.opened.OpenDescriptor.{OpenDescriptor}
 use Rattle.plain_world.specs.Calls.{outcome_of, before_sweep}
 
 -- the bytes after a write: the new ones where they were put, else those that were there, else zeros (page of write)
@@ -106,17 +103,10 @@ pub record SameContents (w v : World) : Type 0 where
   pub names : v.names ≡ w.names
   pub pipes : v.pipes ≡ w.pipes
 
--- whether a call may change a file, a name or a pipe
-abbrev pub may_change_contents : Call → Bool
-may_change_contents (call.Open name flags) = true
-may_change_contents (call.Write fd bytes) = true
-may_change_contents (call.Pwrite fd start bytes) = true
-may_change_contents (call.Ftruncate fd len) = true
-may_change_contents other = false
-
--- every other call leaves all of them: a seek past the end neither makes a file longer nor changes a byte (their pages)
+-- an open, a write, a pwrite and an ftruncate may change them; every other call leaves all of them: a seek past the end neither
+-- makes a file longer nor changes a byte (their pages)
 abbrev pub ContentsStay : Type 0
-ContentsStay = (bounds : Bounds) (w : World) (process : ℕ) (c : Call) → may_change_contents c ≡ false → SameContents w (before_sweep bounds w process c)
+ContentsStay = (bounds : Bounds) (w : World) (process : ℕ) (c : Call) → may_change_contents (act.Call c) ≡ false → SameContents w (before_sweep bounds w process c)
 
 -- one more open file description, at the start of the file that the name leads to, for what the flags ask; the others are as
 -- they were, and the descriptor leads to it

@@ -1,12 +1,9 @@
 -- What holds of steps, and so of histories.
 use Rattle.std.specs.Prelude.{◌≡◌, ◌≢◌, ℕ, ◌+◌, ◌≤◌, ◌<◌, ◌↔◌, Bool, true, false, List, [], ◌∷◌, ◌++◌, Option, None, Some, length, is_some}
 use Rattle.std.specs.Option.{option_map}
-use Rattle.call_types.specs.declared.limits.Bounds.{Bounds}
+use Rattle.plain_world.specs.Types.{Act, Record, Errno, Bounds, World, Description, Decided}
 use Rattle.call_types.specs.declared.limits.TheConstants.{OFFSET_MAX}
-use Rattle.call_types.specs.declared.act.Act.{Act}
 use Rattle.call_types.specs.declared.act.Act.TheVariants as act
-use Rattle.call_types.specs.declared.act.Record.{Record}
-use Rattle.call_types.specs.declared.errno.Errno.{Errno}
 use Rattle.call_types.specs.declared.errno.Errno.TheVariants.{EAGAIN}
 use Rattle.call_types.specs.declared.outcome.Outcome.TheVariants.{Reply as Replied}
 use Rattle.call_types.specs.declared.outcome.Reply.TheVariants.{Number, Error}
@@ -21,9 +18,6 @@ use Rattle.posix_model.specs.Step.{given, comes_to, Stepped, step}
 use Rattle.posix_model.specs.Sound.{number_at, WithinLimits}
 use Rattle.posix_model.specs.Turns.{took}
 use Rattle.posix_model.specs.History.{world_of, legal}
-use Rattle.posix_model.specs.declared.world.World.{World}
-use Rattle.posix_model.specs.declared.world.Description.{Description}
-use Rattle.posix_model.specs.declared.change.Decided.{Decided}
 
 -- whether an act takes up a call that waits, which may have moved bytes before (own)
 abbrev pub is_resume : Act → Bool

@@ -1,3 +1,4 @@
+pub mod Types
 pub mod Ends
 pub mod Rows
 pub mod Calls

@@ -1,14 +1,10 @@
 -- Worked runs: what each act answers, and the bytes that each run takes and gives.
 use Rattle.std.specs.Prelude.{◌≡◌, ℕ, pos, negsuc, List, [], ◌∷◌, codes}
-use Rattle.call_types.specs.declared.limits.Bounds.{Bounds}
-use Rattle.call_types.specs.declared.flags.OpenFlags.{OpenFlags}
-use Rattle.call_types.specs.declared.call.Call.{Call}
+use Rattle.plain_world.specs.Types.{Call, Record, Reply, OpenFlags, Bounds}
 use Rattle.call_types.specs.declared.call.Call.TheVariants.{Open, Close, Read, Write, Pread, Pwrite, Lseek, Ftruncate, Fstat}
 use Rattle.call_types.specs.declared.whence.Whence.TheVariants.{Set, Cur, End}
 use Rattle.call_types.specs.declared.act.Act.TheVariants as act
-use Rattle.call_types.specs.declared.act.Record.{Record}
 use Rattle.call_types.specs.declared.outcome.Outcome.TheVariants as outcome
-use Rattle.call_types.specs.declared.outcome.Reply.{Reply}
 use Rattle.call_types.specs.declared.outcome.Reply.TheVariants as reply
 use Rattle.call_types.specs.declared.errno.Errno.TheVariants.{EBADF, EINVAL, EFBIG, EOVERFLOW, ENOENT, EEXIST}
 use Rattle.call_types.specs.declared.outcome.Kind.TheVariants.{Regular}

@@ -2,6 +2,8 @@
 
 ghost use Rattle.plain_world.specs.FileLaws.{WriteSplices, WriteAppends, PreadKeepsWorld, NothingRead, NothingWritten, NothingPwritten, PwriteKeepsOffsets, PwriteSameUnderAppend, ContentsStay, FtruncateResizes, FtruncateLeavesResized, OpenDescribes, ExclOpensNew, TruncOpenEmpties};
 
+use posix_model::laws::calls_are_sound;
+
 /// A write puts its bytes where they belong, leaves the others, and fills a gap with zeros (page of write).
 pub fn write_splices()
     ensures { WriteSplices }
@@ -38,7 +40,9 @@ pub fn pwrite_ignores_append()
 /// past its end (pages of the other calls).
 pub fn contents_stay()
     ensures { ContentsStay }
-{}
+{
+    calls_are_sound();
+}
 
 /// An ftruncate cuts a file or extends it by zeros, and leaves the bytes before the new end (page of ftruncate).
 pub fn ftruncate_resizes()

@@ -9,5 +9,3 @@ pub mod laws;
 mod make;
 pub mod step;
 mod sweep;
-#[cfg(test)]
-mod tests;

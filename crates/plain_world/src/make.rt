@@ -4,14 +4,13 @@ ghost use Rattle.std.specs.Prelude.{◌≡◌, ◌+◌, ◌<◌, ◌^◌, None, 
 ghost use Rattle.posix_model.specs.Bytes.{splice, resized};
 ghost use Rattle.posix_model.specs.Slots.{slot, edited};
 ghost use Rattle.posix_model.specs.Names.{file_of};
-ghost use Rattle.posix_model.specs.Descriptors.{file_bytes, with_entry, with_offset};
+ghost use Rattle.posix_model.specs.Descriptors.{file_bytes, at_offset, with_entry};
 ghost use Rattle.posix_model.specs.Change.{created, with_files, with_processes, with_description, with_table, changed};
 ghost use Rattle.posix_model.specs.Fits.{FilesProper, IsProper};
 
 use call_types::bounded::Name;
 use posix_model::change::{Change, FileEdit, ProcessEdit, TableEdit};
 use posix_model::contents::Contents;
-use posix_model::opened::OpenDescriptor;
 use posix_model::slots::Slots;
 use posix_model::world::{Description, File, Process, World};
 use std::alloc::{AllocError, Global};
@@ -92,7 +91,11 @@ fn make_processes(world: &mut World, edit: ProcessEdit) -> Result<(), AllocError
 {
     match edit {
         ProcessEdit::Nothing => Ok(()),
-        ProcessEdit::Add { process } => world.processes.push(process),
+        ProcessEdit::Add { table } => world.processes.push(Process {
+            table,
+            parked: None,
+            attached: true,
+        }),
     }
 }
 
@@ -107,15 +110,15 @@ fn set_descriptor(processes: &mut Slots<Process>, number: usize, fd: usize, entr
     }
 }
 
-/// Moves the offset of the description that a descriptor leads to.
-fn set_offset(world: &mut World, descriptor: OpenDescriptor, offset: u64)
-    ensures { world.new ≡ with_offset world.old descriptor offset }
+#[tactic(auto, using(crate::proofs::SlotLemmas::set_twice))]
+/// Gives a description another offset, in bytes.
+fn set_offset(descriptions: &mut Slots<Description>, number: usize, offset: u64)
+    ensures { descriptions.new ≡ edited number (at_offset offset) descriptions.old }
 {
-    let moved = Description {
-        offset,
-        ..descriptor.description
-    };
-    world.descriptions.put(descriptor.number, Some(moved));
+    if let Some(mut description) = descriptions.take(number) {
+        description.offset = offset;
+        descriptions.put(number, Some(description));
+    }
 }
 
 /// Lets a descriptor of a process refer to a new description.
@@ -139,7 +142,9 @@ fn make_table(world: &mut World, edit: TableEdit) -> Result<(), AllocError>
 {
     match edit {
         TableEdit::Nothing => {}
-        TableEdit::Offset { descriptor, offset } => set_offset(world, descriptor, offset),
+        TableEdit::Offset { number, offset } => {
+            set_offset(&mut world.descriptions, number, offset);
+        }
         TableEdit::Open {
             process,
             fd,

@@ -13,6 +13,7 @@ use posix_model::laws::acts_are_sound;
 use posix_model::world::World;
 use std::alloc::{AllocError, Global};
 use table_calls::decide::{can_call, decide};
+use table_calls::given::given;
 
 /// Why there was no step. The world is as it was.
 #[derive(Clone, Copy, Debug, PartialEq, Eq)]
@@ -32,19 +33,6 @@ impl From<AllocError> for StepFault {
 
     fn from(_error: AllocError) -> Self {
         StepFault::NoMemory
-    }
-}
-
-/// The bytes that an act gives: the data of a call that writes.
-fn given(act: &Act) -> &[u8]
-    ensures { result.now ≡ given act.now }
-{
-    match act {
-        Act::Call(call) => match call.payload() {
-            Some(bytes) => bytes.as_slice(),
-            None => &[],
-        },
-        _ => &[],
     }
 }
 

@@ -10,29 +10,20 @@ use Rattle.std.specs.declared.cmp.Ordering.TheVariants.{Less, Equal, Greater}
 use Rattle.posix_model.specs.Whole.{IsThere, TargetIsThere, is_fifo, is_regular_file}
 use Rattle.posix_model.specs.Slots.{slot}
 use Rattle.posix_model.specs.Names.{Entries, with_name}
-use Rattle.posix_model.specs.Descriptors.{with_entry, with_descriptor, with_offset, bytes_of}
-use Rattle.posix_model.specs.Change.{with_files, with_processes, with_table, changed, with_bytes, created, new_process, with_description}
+use Rattle.posix_model.specs.Descriptors.{at_offset, with_entry, with_descriptor, with_offset, bytes_of}
+use Rattle.posix_model.specs.Change.{with_files, with_processes, with_table, changed, with_bytes, created, free_table, process_with, with_description}
 use Rattle.posix_model.specs.Fits.{FilesFit, ProcessFits, TableFits, Fits}
-use Rattle.posix_model.specs.declared.change.FileEdit.{FileEdit}
-use Rattle.posix_model.specs.declared.change.TableEdit.{TableEdit}
+use Rattle.posix_model.specs.Types.{World, Process, Description, Target, File, FileEdit, ProcessEdit, TableEdit, Change}
 use Rattle.posix_model.specs.declared.change.FileEdit.TheVariants as on_files
-use Rattle.posix_model.specs.declared.change.ProcessEdit.{ProcessEdit}
 use Rattle.posix_model.specs.declared.change.ProcessEdit.TheVariants as on_process
 use Rattle.posix_model.specs.declared.change.TableEdit.TheVariants as on_table
-use Rattle.posix_model.specs.declared.change.Change.{Change}
 use Rattle.call_types.specs.declared.limits.TheConstants.{OPEN_MAX}
 use Rattle.posix_model.specs.Bytes.{splice, resized}
 use Rattle.posix_model.specs.Numbers.{NumbersRise, StaysSame}
 use Rattle.posix_model.specs.Whole.{EachThere, PipeIsThere, IsWhole}
-use Rattle.posix_model.specs.declared.world.World.{World}
-use Rattle.posix_model.specs.declared.world.Description.{Description}
-use Rattle.posix_model.specs.declared.world.File.{File}
 use Rattle.posix_model.specs.declared.world.File.TheVariants as file
-use Rattle.posix_model.specs.declared.world.Process.{Process}
-use Rattle.posix_model.specs.declared.world.Target.{Target}
 use Rattle.posix_model.specs.declared.world.Target.TheVariants as target
-use Rattle.posix_model.specs.declared.opened.OpenDescriptor.{OpenDescriptor}
-use Rattle.posix_model.proofs.SlotLaws.{test_set, slot_pushed, there_below, stays_as_is, stays_pushed, stays_set, stays_twice, Adds, adds_same, adds_set, adds_edited, adds_push, pushed_there, rises_twice, each_set, each_push, stands_there}
+use Rattle.posix_model.proofs.SlotLaws.{test_set, slot_pushed, there_below, stays_as_is, stays_pushed, stays_set, stays_twice, Adds, adds_same, adds_set, adds_edited, adds_push, pushed_there, rises_twice, each_set, each_push}
 
 -- a change that uses no number again and leaves nothing that refers to what is gone
 pub record Goes (w v : World) : Type 0 where
@@ -109,12 +100,18 @@ target_stays files more pipes a (target.Regular f) h = a.regular f h
 target_stays files more pipes a (target.Pipe p) h = h
 target_stays files more pipes a (target.Fifo f p) h = (a.fifo f h.0, h.1)
 
--- the offset of an open descriptor is written
-pub offset_goes : (w : World) (o : OpenDescriptor) (k : ℕ) → IsWhole w → slot w.descriptions o.number ≡ Some o.description → Goes w (with_offset w o k)
-offset_goes w o k whole stands =
-    let moved : Description = record o.description { offset = k } in
-    let full : is_some (Some moved) ≡ is_some (slot w.descriptions o.number) = sym (stands_there w.descriptions o.number o.description stands) in
-    let adds = adds_set w.descriptions o.number (Some moved) full in
+offset_edited : (P : Target → Type 0) (k : ℕ) (old : Option Description) (d : Description) → ((x : Description) → old ≡ Some x → P x.target) → option_map (at_offset k) old ≡ Some d → P d.target
+offset_edited P k None d all h = cc
+offset_edited P k (Some x) d all h = let e : at_offset k x ≡ d = cc in subst (λ (y : Description). P y.target) e (all x refl)
+
+-- a description has another offset
+pub offset_goes : (w : World) (n k : ℕ) → IsWhole w → Goes w (with_offset w n k)
+offset_goes w n k whole =
+    let ds = w.descriptions in
+    let moved = option_map (at_offset k) (slot ds n) in
+    let adds = adds_edited ds n (at_offset k) in
+    let same : (x y : Description) → slot ds n ≡ Some x → moved ≡ Some y → at_offset k x ≡ y =
+    λ x y h e. let is : option_map (at_offset k) (Some x) ≡ Some y = ap (option_map (at_offset k)) (sym h) ∙ e in cc in
     record {
       rises = record {
         files = (adds_same w.files).rises;
@@ -122,18 +119,15 @@ offset_goes w o k whole stands =
         descriptions = adds.rises;
         processes = (adds_same w.processes).rises;
         kinds = stays_as_is (λ f. is_fifo (Some f)) w.files;
-        targets = stays_set (λ d. d.target) w.descriptions o.number (Some moved) (λ x y h k.
-            let was : o.description ≡ x = cc in let is : moved ≡ y = cc in sym (ap (λ d. d.target) is) ∙ ap (λ d. d.target) was);
-        modes = stays_set (λ d. d.mode) w.descriptions o.number (Some moved) (λ x y h k.
-            let was : o.description ≡ x = cc in let is : moved ≡ y = cc in sym (ap (λ d. d.mode) is) ∙ ap (λ d. d.mode) was);
+        targets = stays_set (λ d. d.target) ds n moved (λ x y h e. sym (ap (λ (d : Description). d.target) (same x y h e)));
+        modes = stays_set (λ d. d.mode) ds n moved (λ x y h e. sym (ap (λ (d : Description). d.mode) (same x y h e)));
       };
       whole = record {
         names = whole.names;
-        descriptions = each_set (λ d. TargetIsThere w.files w.pipes d.target) w.descriptions o.number (Some moved) whole.descriptions
-            (λ d h. let same : o.description.target ≡ d.target = let e : moved ≡ d = cc in ap (λ x. x.target) e in
-            subst (TargetIsThere w.files w.pipes) same (whole.descriptions o.number o.description stands));
+        descriptions = each_set (λ d. TargetIsThere w.files w.pipes d.target) ds n moved whole.descriptions
+            (λ d h. offset_edited (TargetIsThere w.files w.pipes) k (slot ds n) d (whole.descriptions n) h);
         fifos = whole.fifos;
-        processes = λ p process at n x h. adds.there x (whole.processes p process at n x h);
+        processes = λ p process at m x h. adds.there x (whole.processes p process at m x h);
       };
     }
 
@@ -254,13 +248,13 @@ none_replicated zero n x P h = cc
 none_replicated (suc m) zero x P h = cc
 none_replicated (suc m) (suc n) x P h = none_replicated m n x P h
 
-added_goes : (w : World) (process : Process) → IsWhole w → process ≡ new_process → Goes w (with_processes w (on_process.Add process))
-added_goes w process whole new = rw new (record {
+added_goes : (w : World) (table : List (Option ℕ)) → IsWhole w → table ≡ free_table → Goes w (with_processes w (on_process.Add table))
+added_goes w table whole new = rw new (record {
   rises = record {
     files = (adds_same w.files).rises;
     pipes = (adds_same w.pipes).rises;
     descriptions = (adds_same w.descriptions).rises;
-    processes = (adds_push w.processes (Some new_process)).rises;
+    processes = (adds_push w.processes (Some (process_with free_table))).rises;
     kinds = stays_as_is (λ f. is_fifo (Some f)) w.files;
     targets = stays_as_is (λ d. d.target) w.descriptions;
     modes = stays_as_is (λ d. d.mode) w.descriptions;
@@ -269,7 +263,7 @@ added_goes w process whole new = rw new (record {
     names = whole.names;
     descriptions = whole.descriptions;
     fifos = whole.fifos;
-    processes = each_push (Refers w.descriptions) w.processes new_process whole.processes (λ n x h. none_replicated OPEN_MAX n x (IsThere w.descriptions x) h);
+    processes = each_push (Refers w.descriptions) w.processes (process_with free_table) whole.processes (λ n x h. none_replicated OPEN_MAX n x (IsThere w.descriptions x) h);
   };
 })
 
@@ -289,11 +283,11 @@ files_go_on w bytes (on_files.MakeFile name) whole fits = created_goes w name wh
 
 processes_go_on : (w : World) (e : ProcessEdit) → IsWhole w → ProcessFits e → Goes w (with_processes w e)
 processes_go_on w on_process.Nothing whole fits = goes_nowhere w whole
-processes_go_on w (on_process.Add process) whole fits = added_goes w process whole fits
+processes_go_on w (on_process.Add table) whole fits = added_goes w table whole fits
 
 table_goes_on : (w : World) (e : TableEdit) → IsWhole w → TableFits w e → Goes w (with_table w e)
 table_goes_on w on_table.Nothing whole fits = goes_nowhere w whole
-table_goes_on w (on_table.Offset o offset) whole fits = offset_goes w o offset whole fits
+table_goes_on w (on_table.Offset number offset) whole fits = offset_goes w number offset whole
 table_goes_on w (on_table.Open process fd d) whole fits = opened_goes w process fd d whole fits.there
 table_goes_on w (on_table.Entry process fd entry) whole fits = descriptor_goes w process fd entry whole fits.there
 

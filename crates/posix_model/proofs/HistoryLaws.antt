@@ -2,9 +2,7 @@
 use Rattle.std.proofs.Common.{◌≡◌, ℕ, List, [], ◌∷◌, ◌++◌, Option, None, Some, refl, sym, subst}
 use Rattle.std.specs.Option.{option_map_or}
 use Rattle.std.proofs.lemmas.List.Elements.{All-nil}
-use Rattle.call_types.specs.declared.limits.Bounds.{Bounds}
-use Rattle.call_types.specs.declared.act.Act.{Act}
-use Rattle.call_types.specs.declared.act.Record.{Record}
+use Rattle.posix_model.specs.Types.{Act, Record, Bounds, World}
 use Rattle.posix_model.specs.Whole.{IsThere, IsWhole}
 use Rattle.posix_model.specs.Numbers.{NumbersRise}
 use Rattle.posix_model.specs.Sweep.{sweep}
@@ -12,7 +10,6 @@ use Rattle.posix_model.specs.Change.{changed}
 use Rattle.posix_model.specs.Step.{Stepped, given, step}
 use Rattle.posix_model.specs.History.{empty_world, after, world_from, world_of}
 use Rattle.posix_model.specs.Laws.{HistorySettles, StepRaisesNumbers, StepKeepsWhole, HistoryIsWhole, HistoryRaisesNumbers}
-use Rattle.posix_model.specs.declared.world.World.{World}
 use Rattle.posix_model.proofs.ChangeLaws.{Goes, goes_nowhere, goes_twice, change_goes}
 use Rattle.posix_model.proofs.SweepLaws.{step_parts, step_settles}
 use Rattle.posix_model.proofs.SweepWhole.{sweep_goes}

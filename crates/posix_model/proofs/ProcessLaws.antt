@@ -2,25 +2,18 @@
 use Rattle.std.proofs.Common.{◌≡◌, ◌∙◌, ℕ, zero, suc, ◌+◌, cond, List, [], ◌∷◌, ◌++◌, Option, None, Some, length, set, refl, ap, arith, length-set, length-append}
 use Rattle.std.specs.Option.{option_map, is_some}
 use Rattle.std.proofs.lemmas.List.Sums.{sum_by-cons, sum_by_push}
-use Rattle.call_types.specs.declared.limits.Bounds.{Bounds}
-use Rattle.call_types.specs.declared.act.Act.{Act}
+use Rattle.posix_model.specs.Types.{Act, Bounds, World, FileEdit, ProcessEdit, TableEdit, Change, Decided}
 use Rattle.call_types.specs.declared.act.Act.TheVariants as act
 use Rattle.posix_model.specs.Slots.{slot, live}
 use Rattle.posix_model.specs.Descriptors.{with_entry, with_descriptor}
-use Rattle.posix_model.specs.Change.{with_files, with_processes, with_table, changed}
+use Rattle.posix_model.specs.Change.{with_files, process_with, with_processes, with_table, changed}
 use Rattle.posix_model.specs.Step.{given, comes_to, stepped}
 use Rattle.posix_model.specs.Sweep.{sweep}
 use Rattle.posix_model.specs.Sound.{makes, added, adds, ended}
 use Rattle.posix_model.specs.Laws.{Counts, StepTellsProcesses, StepPlansProcesses}
-use Rattle.posix_model.specs.declared.world.World.{World}
-use Rattle.posix_model.specs.declared.change.FileEdit.{FileEdit}
 use Rattle.posix_model.specs.declared.change.FileEdit.TheVariants as on_files
-use Rattle.posix_model.specs.declared.change.ProcessEdit.{ProcessEdit}
 use Rattle.posix_model.specs.declared.change.ProcessEdit.TheVariants as on_process
-use Rattle.posix_model.specs.declared.change.TableEdit.{TableEdit}
 use Rattle.posix_model.specs.declared.change.TableEdit.TheVariants as on_table
-use Rattle.posix_model.specs.declared.change.Change.{Change}
-use Rattle.posix_model.specs.declared.change.Decided.{Decided}
 use Rattle.posix_model.proofs.SweepLaws.{step_parts}
 use Rattle.posix_model.proofs.Sound.{acts_are_sound}
 
@@ -54,7 +47,7 @@ files_keep w bytes (on_files.MakeFile name) = (refl, refl)
 
 table_keeps : (w : World) (e : TableEdit) → SameRun w (with_table w e)
 table_keeps w on_table.Nothing = record { all = refl; living = refl; closed = refl }
-table_keeps w (on_table.Offset o offset) = record { all = refl; living = refl; closed = refl }
+table_keeps w (on_table.Offset number offset) = record { all = refl; living = refl; closed = refl }
 table_keeps w (on_table.Open process fd d) =
     let same = descriptor_keeps (record w { descriptions = w.descriptions ++ Some d ∷ [] }) process fd (Some (length w.descriptions)) in
     record { all = same.all; living = same.living; closed = same.closed }
@@ -62,9 +55,9 @@ table_keeps w (on_table.Entry process fd entry) = descriptor_keeps w process fd 
 
 processes_count : (w : World) (e : ProcessEdit) → Counts w (with_processes w e) (makes e) 0
 processes_count w on_process.Nothing = record { all = omega arith; living = omega arith; closed = refl }
-processes_count w (on_process.Add process) = record {
-  all = length-append w.processes (Some process ∷ []);
-  living = let more = sum_by_push (λ p. cond (is_some p) 1 0) w.processes (Some process) in omega (arith, more);
+processes_count w (on_process.Add table) = record {
+  all = length-append w.processes (Some (process_with table) ∷ []);
+  living = let more = sum_by_push (λ p. cond (is_some p) 1 0) w.processes (Some (process_with table)) in omega (arith, more);
   closed = refl;
 }
 

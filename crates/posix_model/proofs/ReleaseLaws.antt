@@ -7,12 +7,8 @@ use Rattle.posix_model.specs.Slots.{slot, kept}
 use Rattle.posix_model.specs.Names.{Entries}
 use Rattle.posix_model.specs.Counts.{links, refs, holds, holders, reads, readers, writes, writers, is_file, is_pipe}
 use Rattle.posix_model.specs.Sweep.{is_referred, is_open, is_wanted, open_pipe, without_gone_pipe}
-use Rattle.posix_model.specs.declared.world.World.{World}
-use Rattle.posix_model.specs.declared.world.Description.{Description}
-use Rattle.posix_model.specs.declared.world.Target.{Target}
+use Rattle.posix_model.specs.Types.{World, Description, Target, File, Fifo}
 use Rattle.posix_model.specs.declared.world.Target.TheVariants as target
-use Rattle.posix_model.specs.declared.world.Fifo.{Fifo}
-use Rattle.posix_model.specs.declared.world.File.{File}
 use Rattle.posix_model.specs.declared.world.File.TheVariants as file
 use Rattle.posix_model.proofs.SweepLaws.{LeavesThere, sweep_leaves, sweep_leaves_there, slot_mapped}
 use Rattle.posix_model.specs.Released.{released_descriptions, pipes_after, fifos_after, files_after, IsItsFifo, SettledIsSwept, SweepReleases, SettledStays}

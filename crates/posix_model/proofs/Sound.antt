@@ -11,23 +11,20 @@ use Rattle.std.proofs.lemmas.Bool.Decides.{nat_tests}
 use Rattle.call_types.specs.CallTable.{payload_of}
 use Rattle.call_types.specs.Flags.{has}
 use Rattle.call_types.specs.Flags as flag
-use Rattle.call_types.specs.declared.limits.Bounds.{Bounds}
+use Rattle.posix_model.specs.Types.{Call, Reply, Errno, OpenFlags, Whence, Bounds, World, Process, Description, Target, File, OpenDescriptor, Decided}
 use Rattle.call_types.specs.declared.limits.TheConstants.{OFFSET_MAX, NAMES_MAX, DESCRIPTIONS_MAX, PROCESSES_MAX}
 use Rattle.call_types.specs.declared.act.Act.TheVariants as act
-use Rattle.call_types.specs.declared.call.Call.{Call}
 use Rattle.call_types.specs.declared.call.Call.TheVariants as call
-use Rattle.call_types.specs.declared.errno.Errno.{Errno}
 use Rattle.call_types.specs.declared.errno.Errno.TheVariants.{EAGAIN}
-use Rattle.call_types.specs.declared.flags.OpenFlags.{OpenFlags}
-use Rattle.call_types.specs.declared.outcome.Reply.TheVariants.{Number, Data}
-use Rattle.call_types.specs.declared.whence.Whence.{Whence}
+use Rattle.call_types.specs.declared.outcome.Outcome.TheVariants.{Reply as Replied}
+use Rattle.call_types.specs.declared.outcome.Reply.TheVariants.{Number, Data, Error, Stat as Told}
 use Rattle.posix_model.specs.Bytes.{bytes_at}
 use Rattle.posix_model.specs.Slots.{slot, lowest, live}
 use Rattle.posix_model.specs.Names.{Entries, file_of}
 use Rattle.posix_model.specs.Whole.{IsThere, TargetIsThere, is_fifo, is_regular_file, IsWhole}
 use Rattle.posix_model.specs.Descriptors.{opened, opened_number, opened_description, number_of, table_of, bytes_of}
 use Rattle.posix_model.specs.Positions.{bytes_before, regular_file, is_regular, file_at}
-use Rattle.posix_model.specs.Change.{with_bytes, created, new_process}
+use Rattle.posix_model.specs.Change.{with_bytes, created, free_table}
 use Rattle.posix_model.specs.Fits.{IsFree, Fits, IsProper}
 use Rattle.posix_model.specs.Pages.{first_fault, unless, refused, tells, does, acts, decided_by}
 use Rattle.posix_model.specs.Close.{close}
@@ -37,24 +34,17 @@ use Rattle.posix_model.specs.Pread.{pread}
 use Rattle.posix_model.specs.Pwrite.{pwrite_faults, pwrite}
 use Rattle.posix_model.specs.Lseek.{lseek_faults, lseek_to, base_of, lseek}
 use Rattle.posix_model.specs.Ftruncate.{ftruncate_faults, ftruncate}
-use Rattle.posix_model.specs.Fstat.{fstat}
+use Rattle.posix_model.specs.Fstat.{fstat, stat_of}
 use Rattle.posix_model.specs.Open.{flag_faults, name_faults, found_faults, room_faults, open_faults, open_found, opens, emptied, new_description, free_descriptor, open_file}
 use Rattle.posix_model.specs.Join.{join, is_full}
 use Rattle.posix_model.specs.Step.{given, decided, can_call}
-use Rattle.posix_model.specs.Turns.{took_in, new_turn}
-use Rattle.posix_model.specs.Sound.{Sound, ActsAreSound, FilesWithin}
-use Rattle.posix_model.specs.declared.world.World.{World}
-use Rattle.posix_model.specs.declared.world.Process.{Process}
-use Rattle.posix_model.specs.declared.world.Description.{Description}
-use Rattle.posix_model.specs.declared.world.Target.{Target}
+use Rattle.posix_model.specs.Turns.{total, took_in, new_turn}
+use Rattle.posix_model.specs.Sound.{Sound, CallsAreSound, ActsAreSound, FilesWithin}
 use Rattle.posix_model.specs.declared.world.Target.TheVariants as target
-use Rattle.posix_model.specs.declared.world.File.{File}
 use Rattle.posix_model.specs.declared.world.File.TheVariants as file
-use Rattle.posix_model.specs.declared.opened.OpenDescriptor.{OpenDescriptor}
 use Rattle.posix_model.specs.declared.change.FileEdit.TheVariants as on_files
 use Rattle.posix_model.specs.declared.change.ProcessEdit.TheVariants as on_process
 use Rattle.posix_model.specs.declared.change.TableEdit.TheVariants as on_table
-use Rattle.posix_model.specs.declared.change.Decided.{Decided}
 use Rattle.posix_model.proofs.PageLaws.{page_has, on_open_has, if_has, Clear, clear, none_in_both}
 use Rattle.posix_model.proofs.SlotLaws.{test_set, there_below, stands_there, lowest_is_least}
 
@@ -66,19 +56,24 @@ Answers bounds w process c d = Sound bounds w process (act.Call c) d
 none_taken : (c : Call) (most : ℕ) → took_in 0 (new_turn c) ≤ most
 none_taken c most = elim (is_some (payload_of c)) as (λ b. cond b (0 - 0) 0 ≤ most) [ true ↦ omega arith | false ↦ omega arith ]
 
--- a refusal
-pub sound_refused : (bounds : Bounds) (w : World) (process : ℕ) (c : Call) (error : Errno) → Answers bounds w process c (refused error)
-sound_refused bounds w process c error = record {
+-- what only tells, and no bytes taken
+sound_tells : (bounds : Bounds) (w : World) (process : ℕ) (c : Call) (reply : Reply) → total (Replied reply) ≡ 0 → Answers bounds w process c (tells reply)
+sound_tells bounds w process c reply none = record {
   refusal = λ _ _. refl;
   told = refl;
   planned = refl;
   own = λ n h. cc;
-  few = none_taken c (length (given (act.Call c)));
+  contents = λ _. refl;
+  few = subst (λ n. took_in n (new_turn c) ≤ length (given (act.Call c))) (sym none) (none_taken c (length (given (act.Call c))));
   proper = λ _. record { files = tt; process = tt; table = tt };
   fits = λ _. record { files = tt; process = tt; table = tt };
   within_files = tt;
   within_table = λ _ _. tt;
 }
+
+-- a refusal
+pub sound_refused : (bounds : Bounds) (w : World) (process : ℕ) (c : Call) (error : Errno) → Answers bounds w process c (refused error)
+sound_refused bounds w process c error = sound_tells bounds w process c (Error error) refl
 
 -- an open descriptor of a process stands in its table, and its description under its number
 pub record IsOpenAt (w : World) (p : ℕ) (o : OpenDescriptor) : Type 0 where
@@ -152,6 +147,7 @@ sound_close bounds w p fd o at = record {
   told = refl;
   planned = refl;
   own = λ n h. cc;
+  contents = λ _. refl;
   few = omega arith;
   proper = λ _. record { files = tt; process = tt; table = tt };
   fits = λ _. record { files = tt; process = tt; table = record { process = at.process; process_is = at.process_is; within = at.within; there = λ n h. cc } };
@@ -167,26 +163,17 @@ sound_read : (bounds : Bounds) (w : World) (p : ℕ) (fd : ℤ) (count : ℕ) (o
 sound_read bounds w p fd count o is =
     let got = bytes_at (bytes_of w (file_at o)) o.description.offset count in
     let at = opened_stands w p fd o is in
-    if_has (Answers bounds w p (call.Read fd count)) (eqb (length got) 0) (tells (Data got)) (does (Data got) on_files.Nothing (on_table.Offset o (o.description.offset + length got)))
-    (λ _. record {
-      refusal = λ _ h. cc;
-      told = refl;
-      planned = refl;
-      own = λ n h. cc;
-      few = omega arith;
-      proper = λ _. record { files = tt; process = tt; table = tt };
-      fits = λ _. record { files = tt; process = tt; table = tt };
-      within_files = tt;
-      within_table = λ _ _. tt;
-    })
+    if_has (Answers bounds w p (call.Read fd count)) (eqb (length got) 0) (tells (Data got)) (does (Data got) on_files.Nothing (on_table.Offset o.number (o.description.offset + length got)))
+    (λ _. sound_tells bounds w p (call.Read fd count) (Data got) refl)
     (λ _. record {
       refusal = λ _ h. cc;
       told = refl;
       planned = refl;
       own = λ n h. own_offset w p fd o n is h;
+      contents = λ _. refl;
       few = omega arith;
       proper = λ _. record { files = tt; process = tt; table = tt };
-      fits = λ _. record { files = tt; process = tt; table = at.description_is };
+      fits = λ _. record { files = tt; process = tt; table = tt };
       within_files = tt;
       within_table = λ small limits. read_end (bytes_of w (file_at o)) o.description.offset count bounds.file_size OFFSET_MAX (limits.files (file_at o)) small (limits.offsets o.number o.description at.description_is);
     })
@@ -199,26 +186,17 @@ sound_write bounds w p fd bytes start o is free =
     let regular = allowed.1.1.0 in
     let below_limit = allowed.1.1.1.0 in
     let n = fitting bounds start bytes in
-    if_has (Answers bounds w p (call.Write fd bytes)) (eqb (length bytes) 0) (tells (Number 0)) (does (Number n) (on_files.Bytes (file_at o) start n) (on_table.Offset o (start + n)))
-    (λ _. record {
-      refusal = λ _ h. cc;
-      told = refl;
-      planned = refl;
-      own = λ n h. cc;
-      few = omega arith;
-      proper = λ _. record { files = tt; process = tt; table = tt };
-      fits = λ _. record { files = tt; process = tt; table = tt };
-      within_files = tt;
-      within_table = λ _ _. tt;
-    })
+    if_has (Answers bounds w p (call.Write fd bytes)) (eqb (length bytes) 0) (tells (Number 0)) (does (Number n) (on_files.Bytes (file_at o) start n) (on_table.Offset o.number (start + n)))
+    (λ _. sound_tells bounds w p (call.Write fd bytes) (Number 0) refl)
     (λ some. let put = put_below bounds start bytes below_limit some in record {
       refusal = λ _ h. cc;
       told = refl;
       planned = refl;
       own = λ n h. own_offset w p fd o n is h;
+      contents = λ h. cc;
       few = omega (arith, put.0);
       proper = λ small. record { files = (put.0, omega (arith, put.1, small)); process = tt; table = tt };
-      fits = λ whole. record { files = file_there w p o at regular whole; process = tt; table = at.description_is };
+      fits = λ whole. record { files = file_there w p o at regular whole; process = tt; table = tt };
       within_files = put.1;
       within_table = λ small _. omega (arith, put.1, small);
     })
@@ -232,22 +210,13 @@ sound_pwrite bounds w p fd start bytes o is free =
     let below_limit = allowed.1.1.1.1.0 in
     let n = fitting bounds (bytes_before start) bytes in
     if_has (Answers bounds w p (call.Pwrite fd start bytes)) (eqb (length bytes) 0) (tells (Number 0)) (does (Number n) (on_files.Bytes (file_at o) (bytes_before start) n) on_table.Nothing)
-    (λ _. record {
-      refusal = λ _ h. cc;
-      told = refl;
-      planned = refl;
-      own = λ n h. cc;
-      few = omega arith;
-      proper = λ _. record { files = tt; process = tt; table = tt };
-      fits = λ _. record { files = tt; process = tt; table = tt };
-      within_files = tt;
-      within_table = λ _ _. tt;
-    })
+    (λ _. sound_tells bounds w p (call.Pwrite fd start bytes) (Number 0) refl)
     (λ some. let put = put_below bounds (bytes_before start) bytes below_limit some in record {
       refusal = λ _ h. cc;
       told = refl;
       planned = refl;
       own = λ n h. cc;
+      contents = λ h. cc;
       few = omega (arith, put.0);
       proper = λ small. record { files = (put.0, omega (arith, put.1, small)); process = tt; table = tt };
       fits = λ whole. record { files = file_there w p o at regular whole; process = tt; table = tt };
@@ -267,9 +236,10 @@ sound_lseek bounds w p fd offset from to o is free = record {
   told = refl;
   planned = refl;
   own = λ n h. own_offset w p fd o n is h;
+  contents = λ _. refl;
   few = omega arith;
   proper = λ _. record { files = tt; process = tt; table = tt };
-  fits = λ _. record { files = tt; process = tt; table = (opened_stands w p fd o is).description_is };
+  fits = λ _. record { files = tt; process = tt; table = tt };
   within_files = tt;
   within_table = λ _ _. sought_within to o free;
 }
@@ -285,38 +255,13 @@ sound_ftruncate bounds w p fd len o at free =
       told = refl;
       planned = refl;
       own = λ n h. cc;
+      contents = λ h. cc;
       few = omega arith;
       proper = λ small. record { files = omega (arith, short, small); process = tt; table = tt };
       fits = λ whole. record { files = file_there w p o at regular whole; process = tt; table = tt };
       within_files = short;
       within_table = λ _ _. tt;
     }
-
-sound_pread : (bounds : Bounds) (w : World) (p : ℕ) (fd start : ℤ) (count : ℕ) (o : OpenDescriptor) → Answers bounds w p (call.Pread fd start count) (pread w start count o).effect
-sound_pread bounds w p fd start count o = record {
-  refusal = λ _ h. cc;
-  told = refl;
-  planned = refl;
-  own = λ n h. cc;
-  few = omega arith;
-  proper = λ _. record { files = tt; process = tt; table = tt };
-  fits = λ _. record { files = tt; process = tt; table = tt };
-  within_files = tt;
-  within_table = λ _ _. tt;
-}
-
-sound_fstat : (bounds : Bounds) (w : World) (p : ℕ) (fd : ℤ) (o : OpenDescriptor) → Answers bounds w p (call.Fstat fd) (fstat w o).effect
-sound_fstat bounds w p fd o = record {
-  refusal = λ _ h. cc;
-  told = refl;
-  planned = refl;
-  own = λ n h. cc;
-  few = omega arith;
-  proper = λ _. record { files = tt; process = tt; table = tt };
-  fits = λ _. record { files = tt; process = tt; table = tt };
-  within_files = tt;
-  within_table = λ _ _. tt;
-}
 
 -- a name that is found leads to a file that is there
 found_there : (P : ℕ → Type 0) (name : List ℕ) (es : Entries) (f : ℕ) → All (λ entry. P entry.1) es → file_of name es ≡ Some f → P f
@@ -388,6 +333,7 @@ sound_open bounds w p name flags None is can = record {
   told = refl;
   planned = refl;
   own = λ n h. cc;
+  contents = λ h. cc;
   few = omega arith;
   proper = λ _. record { files = (is, can.name refl); process = tt; table = can.descriptions };
   fits = λ _. record { files = tt; process = tt; table = record { free = free_stays w (created w name) p (free_descriptor w p) refl can.free; there = regular_pushed w.files } };
@@ -399,6 +345,7 @@ sound_open bounds w p name flags (Some f) is can = record {
   told = refl;
   planned = refl;
   own = λ n h. cc;
+  contents = λ h. cc;
   few = omega arith;
   proper = λ small. elim (has flags flag.trunc) as (λ b. IsProper w [] (opens w p (cond b (on_files.Resize f 0) on_files.Nothing) (new_description f flags)).change) [
     | true ↦ record { files = omega arith; process = tt; table = can.descriptions }
@@ -410,42 +357,45 @@ sound_open bounds w p name flags (Some f) is can = record {
 }
 
 -- one case for each call
-pub sound_call : (bounds : Bounds) (w : World) (p : ℕ) (c : Call) → Answers bounds w p c (decided bounds w p c)
-sound_call bounds w p (call.Open name flags) =
+pub calls_are_sound : CallsAreSound
+calls_are_sound bounds w p (call.Open name flags) =
     let found = file_of name w.names in
     page_has (Answers bounds w p (call.Open name flags)) (open_file w p name flags) (sound_refused bounds w p (call.Open name flags))
     (λ free. sound_open bounds w p name flags found refl (can_open w p name flags found free))
-sound_call bounds w p (call.Close fd) =
+calls_are_sound bounds w p (call.Close fd) =
     on_open_has (Answers bounds w p (call.Close fd)) (opened w p fd) (close p) (sound_refused bounds w p (call.Close fd)) (λ o is _. sound_close bounds w p fd o (opened_stands w p fd o is))
-sound_call bounds w p (call.Read fd count) =
+calls_are_sound bounds w p (call.Read fd count) =
     on_open_has (Answers bounds w p (call.Read fd count)) (opened w p fd) (read w count) (sound_refused bounds w p (call.Read fd count)) (λ o is _. sound_read bounds w p fd count o is)
-sound_call bounds w p (call.Write fd bytes) =
+calls_are_sound bounds w p (call.Write fd bytes) =
     on_open_has (Answers bounds w p (call.Write fd bytes)) (opened w p fd) (write bounds w bytes) (sound_refused bounds w p (call.Write fd bytes))
     (λ o is free. sound_write bounds w p fd bytes (write_start o.description (length (bytes_of w (file_at o)))) o is free)
-sound_call bounds w p (call.Pread fd start count) =
-    on_open_has (Answers bounds w p (call.Pread fd start count)) (opened w p fd) (pread w start count) (sound_refused bounds w p (call.Pread fd start count)) (λ o is _. sound_pread bounds w p fd start count o)
-sound_call bounds w p (call.Pwrite fd start bytes) =
+calls_are_sound bounds w p (call.Pread fd start count) =
+    on_open_has (Answers bounds w p (call.Pread fd start count)) (opened w p fd) (pread w start count) (sound_refused bounds w p (call.Pread fd start count))
+    (λ o is _. sound_tells bounds w p (call.Pread fd start count) (Data (bytes_at (bytes_of w (file_at o)) (bytes_before start) count)) refl)
+calls_are_sound bounds w p (call.Pwrite fd start bytes) =
     on_open_has (Answers bounds w p (call.Pwrite fd start bytes)) (opened w p fd) (pwrite bounds start bytes) (sound_refused bounds w p (call.Pwrite fd start bytes))
     (λ o is free. sound_pwrite bounds w p fd start bytes o is free)
-sound_call bounds w p (call.Lseek fd offset from) =
+calls_are_sound bounds w p (call.Lseek fd offset from) =
     on_open_has (Answers bounds w p (call.Lseek fd offset from)) (opened w p fd) (lseek w offset from) (sound_refused bounds w p (call.Lseek fd offset from))
     (λ o is free. sound_lseek bounds w p fd offset from (pos (base_of w o from) +ℤ offset) o is free)
-sound_call bounds w p (call.Ftruncate fd len) =
+calls_are_sound bounds w p (call.Ftruncate fd len) =
     on_open_has (Answers bounds w p (call.Ftruncate fd len)) (opened w p fd) (ftruncate bounds len) (sound_refused bounds w p (call.Ftruncate fd len))
     (λ o is free. sound_ftruncate bounds w p fd len o (opened_stands w p fd o is) free)
-sound_call bounds w p (call.Fstat fd) =
-    on_open_has (Answers bounds w p (call.Fstat fd)) (opened w p fd) (fstat w) (sound_refused bounds w p (call.Fstat fd)) (λ o is _. sound_fstat bounds w p fd o)
+calls_are_sound bounds w p (call.Fstat fd) =
+    on_open_has (Answers bounds w p (call.Fstat fd)) (opened w p fd) (fstat w) (sound_refused bounds w p (call.Fstat fd))
+    (λ o is _. sound_tells bounds w p (call.Fstat fd) (Told (stat_of w o.description.target)) refl)
 
 -- a join, refused or not
 sound_join : (bounds : Bounds) (w : World) (actor : ℕ) → Sound bounds w actor act.Join (decided_by (join w))
 sound_join bounds w actor = by_room (is_full w) refl
   where
-    by_room : (b : Bool) → is_full w ≡ b → Sound bounds w actor act.Join (unless (cond b (Some EAGAIN) None) (acts (Number (length w.processes)) (on_process.Add new_process)))
+    by_room : (b : Bool) → is_full w ≡ b → Sound bounds w actor act.Join (unless (cond b (Some EAGAIN) None) (acts (Number (length w.processes)) (on_process.Add free_table)))
     by_room true e = record {
       refusal = λ _ _. refl;
       told = refl;
       planned = rw e refl;
       own = λ n h. cc;
+      contents = λ _. refl;
       few = omega arith;
       proper = λ _. record { files = tt; process = tt; table = tt };
       fits = λ _. record { files = tt; process = tt; table = tt };
@@ -457,6 +407,7 @@ sound_join bounds w actor = by_room (is_full w) refl
       told = refl;
       planned = rw e refl;
       own = λ n h. cc;
+      contents = λ _. refl;
       few = omega arith;
       proper = λ _. record { files = tt; process = not_at_most PROCESSES_MAX (live w.processes) (second_of_either w.closed (leb PROCESSES_MAX (live w.processes)) e); table = tt };
       fits = λ _. record { files = tt; process = refl; table = tt };
@@ -470,7 +421,7 @@ where_may Has false x d has h = cc
 
 pub acts_are_sound : ActsAreSound
 acts_are_sound bounds w actor act.Join d h = where_may (Sound bounds w actor act.Join) (eqb actor (length w.processes)) (decided_by (join w)) d (sound_join bounds w actor) h
-acts_are_sound bounds w actor (act.Call c) d h = where_may (Answers bounds w actor c) (can_call (slot w.processes actor)) (decided bounds w actor c) d (sound_call bounds w actor c) h
+acts_are_sound bounds w actor (act.Call c) d h = where_may (Answers bounds w actor c) (can_call (slot w.processes actor)) (decided bounds w actor c) d (calls_are_sound bounds w actor c) h
 acts_are_sound bounds w actor act.Attach d h = cc
 acts_are_sound bounds w actor act.Resume d h = cc
 acts_are_sound bounds w actor act.Exit d h = cc

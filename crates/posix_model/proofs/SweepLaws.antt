@@ -3,15 +3,10 @@ use Rattle.std.proofs.Common.{◌≡◌, ℕ, zero, suc, ◌+◌, ◌∙◌, Boo
 use Rattle.std.specs.Option.{is_some, option_map}
 use Rattle.posix_model.specs.Slots.{slot, kept, kept_from}
 use Rattle.posix_model.specs.Laws.{SweepSettles, StepSettles, SweepLeaves}
-use Rattle.call_types.specs.declared.limits.Bounds.{Bounds}
-use Rattle.call_types.specs.declared.act.Act.{Act}
+use Rattle.posix_model.specs.Types.{Act, Bounds, World, Description, File, Decided}
 use Rattle.posix_model.specs.Step.{Stepped, stepped, comes_to, given, step}
 use Rattle.posix_model.specs.Change.{changed}
-use Rattle.posix_model.specs.declared.change.Decided.{Decided}
 use Rattle.posix_model.specs.Sweep.{is_referred, is_open, is_wanted, open_pipe, without_gone_pipe, sweep}
-use Rattle.posix_model.specs.declared.world.World.{World}
-use Rattle.posix_model.specs.declared.world.Description.{Description}
-use Rattle.posix_model.specs.declared.world.File.{File}
 use Rattle.posix_model.specs.declared.world.File.TheVariants as file
 use Rattle.posix_model.proofs.SlotLaws.{length_kept}
 

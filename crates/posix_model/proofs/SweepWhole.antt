@@ -10,15 +10,9 @@ use Rattle.posix_model.specs.Counts.{links, refs, refs_of, refers, holders, hold
 use Rattle.posix_model.specs.Sweep.{is_referred, is_open, is_wanted, open_pipe, without_gone_pipe, sweep}
 use Rattle.posix_model.specs.Whole.{is_fifo, is_regular_file, TargetIsThere, PipeIsThere, IsWhole}
 use Rattle.posix_model.specs.Numbers.{StaysSame, Rises, NumbersRise}
-use Rattle.posix_model.specs.declared.world.World.{World}
-use Rattle.posix_model.specs.declared.world.Description.{Description}
-use Rattle.posix_model.specs.declared.world.Fifo.{Fifo}
-use Rattle.posix_model.specs.declared.world.File.{File}
+use Rattle.posix_model.specs.Types.{World, Process, Description, Target, Mode, File, Fifo}
 use Rattle.posix_model.specs.declared.world.File.TheVariants as file
-use Rattle.posix_model.specs.declared.world.Mode.{Mode}
 use Rattle.posix_model.specs.declared.world.Mode.TheVariants as mode
-use Rattle.posix_model.specs.declared.world.Process.{Process}
-use Rattle.posix_model.specs.declared.world.Target.{Target}
 use Rattle.posix_model.specs.declared.world.Target.TheVariants as target
 use Rattle.posix_model.proofs.SlotLaws.{kept_as_is, stays_thinned, there_below, stands_there, not_there, kept_stood, length_kept, counted}
 use Rattle.posix_model.proofs.ChangeLaws.{Goes}

@@ -1,21 +1,15 @@
 -- What an act changes in a world, as data: one edit at most of files and pipes, of processes, and of descriptors and
 -- open file descriptions.
-use Rattle.std.specs.Prelude.{ℕ, true, List, [], ◌∷◌, ◌++◌, None, Some, length, take, slice_set, replicate}
+use Rattle.std.specs.Prelude.{ℕ, true, Option, List, [], ◌∷◌, ◌++◌, None, Some, length, take, slice_set, replicate}
 use Rattle.call_types.specs.declared.limits.TheConstants.{OPEN_MAX}
 use Rattle.posix_model.specs.Bytes.{splice, resized}
 use Rattle.posix_model.specs.Names.{with_name}
 use Rattle.posix_model.specs.Descriptors.{with_descriptor, with_offset, bytes_of}
-use Rattle.posix_model.specs.declared.world.World.{World}
+use Rattle.posix_model.specs.Types.{World, Process, Description, FileEdit, ProcessEdit, TableEdit, Change}
 use Rattle.posix_model.specs.declared.world.File.TheVariants as file
-use Rattle.posix_model.specs.declared.world.Description.{Description}
-use Rattle.posix_model.specs.declared.world.Process.{Process}
-use Rattle.posix_model.specs.declared.change.FileEdit.{FileEdit}
 use Rattle.posix_model.specs.declared.change.FileEdit.TheVariants as on_files
-use Rattle.posix_model.specs.declared.change.ProcessEdit.{ProcessEdit}
 use Rattle.posix_model.specs.declared.change.ProcessEdit.TheVariants as on_process
-use Rattle.posix_model.specs.declared.change.TableEdit.{TableEdit}
 use Rattle.posix_model.specs.declared.change.TableEdit.TheVariants as on_table
-use Rattle.posix_model.specs.declared.change.Change.{Change}
 
 -- the world in which a regular file has these bytes
 abbrev pub with_bytes : World → ℕ → List ℕ → World
@@ -32,14 +26,22 @@ with_files w bytes (on_files.Bytes file start count) = with_bytes w file (splice
 with_files w bytes (on_files.Resize file len) = with_bytes w file (resized (bytes_of w file) len)
 with_files w bytes (on_files.MakeFile name) = created w name
 
+-- a table of which no descriptor is open
+abbrev pub free_table : List (Option ℕ)
+free_table = replicate OPEN_MAX None
+
+-- a process with this table and its connection, that waits in no call
+abbrev pub process_with : List (Option ℕ) → Process
+process_with table = record { table = table; parked = None; attached = true }
+
 -- a process without open descriptors, with its connection
 abbrev pub new_process : Process
-new_process = record { table = replicate OPEN_MAX None; parked = None; attached = true }
+new_process = process_with free_table
 
 -- the world after an edit of processes
 abbrev pub with_processes : World → ProcessEdit → World
 with_processes w on_process.Nothing = w
-with_processes w (on_process.Add process) = record w { processes = w.processes ++ Some process ∷ [] }
+with_processes w (on_process.Add table) = record w { processes = w.processes ++ Some (process_with table) ∷ [] }
 
 -- the world in which a descriptor refers to a new description
 abbrev pub with_description : World → ℕ → ℕ → Description → World
@@ -49,7 +51,7 @@ with_description w process fd description =
 -- the world after an edit of descriptors and open file descriptions
 abbrev pub with_table : World → TableEdit → World
 with_table w on_table.Nothing = w
-with_table w (on_table.Offset o offset) = with_offset w o offset
+with_table w (on_table.Offset number offset) = with_offset w number offset
 with_table w (on_table.Open process fd description) = with_description w process fd description
 with_table w (on_table.Entry process fd entry) = with_descriptor w process fd entry
 

@@ -1,12 +1,9 @@
 -- The counts of a world, each counted afresh.
 use Rattle.std.specs.Prelude.{ℕ, Bool, true, false, ◌&&◌, ◌==◌, List, Option, None, Some, count_by, sum_by}
 use Rattle.posix_model.specs.Names.{Entries}
-use Rattle.posix_model.specs.declared.world.Target.{Target}
+use Rattle.posix_model.specs.Types.{Process, Description, Target, Mode}
 use Rattle.posix_model.specs.declared.world.Target.TheVariants as target
-use Rattle.posix_model.specs.declared.world.Mode.{Mode}
 use Rattle.posix_model.specs.declared.world.Mode.TheVariants as mode
-use Rattle.posix_model.specs.declared.world.Description.{Description}
-use Rattle.posix_model.specs.declared.world.Process.{Process}
 
 -- the number of names that a file has (XBD 3, Link Count)
 abbrev pub links : Entries → ℕ → ℕ

@@ -2,13 +2,8 @@
 use Rattle.std.specs.Prelude.{ℕ, ℤ, pos, negsuc, List, [], Option, None, Some, slice_set, length}
 use Rattle.std.specs.Option.{option_map}
 use Rattle.posix_model.specs.Slots.{slot, edited}
-use Rattle.posix_model.specs.declared.world.World.{World}
-use Rattle.posix_model.specs.declared.world.Process.{Process}
-use Rattle.posix_model.specs.declared.world.Parked.{Parked}
-use Rattle.posix_model.specs.declared.world.Description.{Description}
-use Rattle.posix_model.specs.declared.world.File.{File}
+use Rattle.posix_model.specs.Types.{World, Process, Parked, Description, File, OpenDescriptor}
 use Rattle.posix_model.specs.declared.world.File.TheVariants as file
-use Rattle.posix_model.specs.declared.opened.OpenDescriptor.{OpenDescriptor}
 
 -- the descriptors of a process, with what each refers to
 abbrev pub table_of : Option Process → List (Option ℕ)
@@ -47,9 +42,13 @@ with_entry fd entry process = record process { table = slice_set process.table f
 abbrev pub with_descriptor : World → ℕ → ℕ → Option ℕ → World
 with_descriptor w process fd entry = record w { processes = edited process (with_entry fd entry) w.processes }
 
--- the world in which the description of a descriptor has this offset
-abbrev pub with_offset : World → OpenDescriptor → ℕ → World
-with_offset w o offset = record w { descriptions = slice_set w.descriptions o.number (Some (record o.description { offset = offset })) }
+-- a description with this offset
+abbrev pub at_offset : ℕ → Description → Description
+at_offset offset description = record description { offset = offset }
+
+-- the world in which the description of this number has this offset
+abbrev pub with_offset : World → ℕ → ℕ → World
+with_offset w number offset = record w { descriptions = edited number (at_offset offset) w.descriptions }
 
 -- the bytes of a regular file
 abbrev pub file_bytes : Option File → List ℕ

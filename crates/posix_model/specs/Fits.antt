@@ -4,17 +4,11 @@ use Rattle.call_types.specs.declared.limits.TheConstants.{OFFSET_MAX, NAMES_MAX,
 use Rattle.posix_model.specs.Slots.{slot, live}
 use Rattle.posix_model.specs.Names.{file_of}
 use Rattle.posix_model.specs.Whole.{IsThere, is_regular_file, TargetIsThere}
-use Rattle.posix_model.specs.Change.{with_files, with_processes, new_process}
-use Rattle.posix_model.specs.declared.world.World.{World}
-use Rattle.posix_model.specs.declared.world.Description.{Description}
-use Rattle.posix_model.specs.declared.world.Process.{Process}
-use Rattle.posix_model.specs.declared.change.FileEdit.{FileEdit}
+use Rattle.posix_model.specs.Change.{with_files, with_processes, free_table}
+use Rattle.posix_model.specs.Types.{World, Process, Description, FileEdit, ProcessEdit, TableEdit, Change}
 use Rattle.posix_model.specs.declared.change.FileEdit.TheVariants as on_files
-use Rattle.posix_model.specs.declared.change.ProcessEdit.{ProcessEdit}
 use Rattle.posix_model.specs.declared.change.ProcessEdit.TheVariants as on_process
-use Rattle.posix_model.specs.declared.change.TableEdit.{TableEdit}
 use Rattle.posix_model.specs.declared.change.TableEdit.TheVariants as on_table
-use Rattle.posix_model.specs.declared.change.Change.{Change}
 
 -- a process has this free descriptor
 pub record IsFree (w : World) (p fd : ℕ) : Type 0 where
@@ -45,12 +39,12 @@ FilesFit w (on_files.MakeFile name) = Unit {0}
 -- what an edit of processes asks
 abbrev pub ProcessFits : ProcessEdit → Type 0
 ProcessFits on_process.Nothing = Unit {0}
-ProcessFits (on_process.Add process) = process ≡ new_process
+ProcessFits (on_process.Add table) = table ≡ free_table
 
 -- what an edit of descriptors asks to be there
 abbrev pub TableFits : World → TableEdit → Type 0
 TableFits w on_table.Nothing = Unit {0}
-TableFits w (on_table.Offset o offset) = slot w.descriptions o.number ≡ Some o.description
+TableFits w (on_table.Offset number offset) = Unit {0}
 TableFits w (on_table.Open process fd description) = CanOpen w process fd description
 TableFits w (on_table.Entry process fd entry) = CanSet w process fd entry
 
@@ -71,7 +65,7 @@ FilesProper w bytes (on_files.MakeFile name) = (file_of name w.names ≡ None) �
 -- what an edit of processes asks: room for one more
 abbrev pub ProcessProper : World → ProcessEdit → Type 0
 ProcessProper w on_process.Nothing = Unit {0}
-ProcessProper w (on_process.Add process) = live w.processes < PROCESSES_MAX
+ProcessProper w (on_process.Add table) = live w.processes < PROCESSES_MAX
 
 -- what an edit of descriptors asks: room for one more description
 abbrev pub TableProper : World → TableEdit → Type 0

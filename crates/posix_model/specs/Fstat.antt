@@ -1,19 +1,20 @@
 -- The page of fstat: kind, size and links.
 use Rattle.std.specs.Prelude.{ℕ, min, [], length}
 use Rattle.call_types.specs.declared.outcome.Reply.TheVariants.{Stat as Told}
-use Rattle.call_types.specs.declared.outcome.Stat.{Stat}
+use Rattle.posix_model.specs.Types.{Stat, World, Target, OpenDescriptor}
 use Rattle.call_types.specs.declared.outcome.Kind.TheVariants as kind
 use Rattle.posix_model.specs.Counts.{links}
 use Rattle.posix_model.specs.Pages.{Page, tells}
 use Rattle.posix_model.specs.Descriptors.{bytes_of, held_in}
-use Rattle.posix_model.specs.declared.world.World.{World}
-use Rattle.posix_model.specs.declared.world.Target.{Target}
 use Rattle.posix_model.specs.declared.world.Target.TheVariants as target
-use Rattle.posix_model.specs.declared.opened.OpenDescriptor.{OpenDescriptor}
 
--- the links of a file as a reply tells them, in 32 bits (own: a greater number, which no run reaches, is told as the greatest)
+-- the greatest number of links that a reply tells, in 32 bits (own)
+abbrev pub LINKS_TOLD_MAX : ℕ
+LINKS_TOLD_MAX = 4294967295
+
+-- the links of a file as a reply tells them (own: a greater number, which no run reaches, is told as the greatest)
 abbrev pub links_told : World → ℕ → ℕ
-links_told w file = min (links w.names file) 4294967295
+links_told w file = min (links w.names file) LINKS_TOLD_MAX
 
 -- what a descriptor refers to (own: a pipe or FIFO has the bytes that it holds now, and a pipe no links)
 abbrev pub stat_of : World → Target → Stat

@@ -1,13 +1,11 @@
 -- The page of ftruncate.
 use Rattle.std.specs.Prelude.{ℤ, Bool, not, nat_lt, List, [], ◌∷◌}
-use Rattle.call_types.specs.declared.errno.Errno.{Errno}
+use Rattle.posix_model.specs.Types.{Errno, Bounds, OpenDescriptor}
 use Rattle.call_types.specs.declared.errno.Errno.TheVariants.{EINVAL, EFBIG}
 use Rattle.call_types.specs.declared.outcome.Reply.TheVariants.{Done}
-use Rattle.call_types.specs.declared.limits.Bounds.{Bounds}
 use Rattle.posix_model.specs.Counts.{can_write}
 use Rattle.posix_model.specs.Positions.{is_before, bytes_before, is_regular, file_at}
 use Rattle.posix_model.specs.Pages.{Page, does}
-use Rattle.posix_model.specs.declared.opened.OpenDescriptor.{OpenDescriptor}
 use Rattle.posix_model.specs.declared.change.FileEdit.TheVariants as on_files
 use Rattle.posix_model.specs.declared.change.TableEdit.TheVariants as on_table
 

@@ -1,11 +1,8 @@
 -- Histories: lists of records, from the empty world on.
 use Rattle.std.specs.Prelude.{◌≡◌, ℕ, false, List, [], ◌∷◌, Some}
 use Rattle.std.specs.Option.{option_map, option_map_or}
-use Rattle.call_types.specs.declared.limits.Bounds.{Bounds}
-use Rattle.call_types.specs.declared.act.Act.{Act}
-use Rattle.call_types.specs.declared.act.Record.{Record}
+use Rattle.posix_model.specs.Types.{Act, Record, Bounds, World}
 use Rattle.posix_model.specs.Step.{step}
-use Rattle.posix_model.specs.declared.world.World.{World}
 
 -- the world in which a run begins: there is nothing
 abbrev pub empty_world : World

@@ -5,9 +5,9 @@ use Rattle.call_types.specs.declared.outcome.Reply.TheVariants.{Number}
 use Rattle.call_types.specs.declared.limits.TheConstants.{PROCESSES_MAX}
 use Rattle.posix_model.specs.Slots.{live}
 use Rattle.posix_model.specs.Pages.{Page, acts}
-use Rattle.posix_model.specs.Change.{new_process}
+use Rattle.posix_model.specs.Change.{free_table}
 use Rattle.posix_model.specs.declared.change.ProcessEdit.TheVariants as on_process
-use Rattle.posix_model.specs.declared.world.World.{World}
+use Rattle.posix_model.specs.Types.{World}
 
 -- whether there may be no further process: there are too many, or the run is closed
 abbrev pub is_full : World → Bool
@@ -15,4 +15,4 @@ is_full w = w.closed || nat_le PROCESSES_MAX (live w.processes)
 
 -- a join: a new process under the next number
 abbrev pub join : World → Page
-join w = record { faults = (is_full w, EAGAIN) ∷ []; effect = acts (Number (length w.processes)) (on_process.Add new_process) }
+join w = record { faults = (is_full w, EAGAIN) ∷ []; effect = acts (Number (length w.processes)) (on_process.Add free_table) }

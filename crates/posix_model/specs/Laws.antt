@@ -1,8 +1,6 @@
 -- What holds of every step and history.
 use Rattle.std.specs.Prelude.{◌≡◌, ℕ, ◌+◌, List, ◌++◌, None, Some, length, if◌then◌else◌}
-use Rattle.call_types.specs.declared.limits.Bounds.{Bounds}
-use Rattle.call_types.specs.declared.act.Act.{Act}
-use Rattle.call_types.specs.declared.act.Record.{Record}
+use Rattle.posix_model.specs.Types.{Act, Record, Bounds, World}
 use Rattle.posix_model.specs.Slots.{slot, live}
 use Rattle.posix_model.specs.Whole.{IsWhole}
 use Rattle.posix_model.specs.Numbers.{NumbersRise}
@@ -10,7 +8,6 @@ use Rattle.posix_model.specs.Sweep.{is_referred, is_open, is_wanted, without_gon
 use Rattle.posix_model.specs.Step.{Stepped, step}
 use Rattle.posix_model.specs.Sound.{added, ended, adds}
 use Rattle.posix_model.specs.History.{world_of}
-use Rattle.posix_model.specs.declared.world.World.{World}
 
 -- from a world in which nothing refers to what is gone, a step uses no number again (own)
 abbrev pub StepRaisesNumbers : Type 0

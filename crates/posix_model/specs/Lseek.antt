@@ -1,16 +1,13 @@
 -- The page of lseek.
 use Rattle.std.specs.Prelude.{ℕ, ℤ, pos, nat_abs, ◌+ℤ◌, int_lt, Bool, not, List, [], ◌∷◌, length}
-use Rattle.call_types.specs.declared.errno.Errno.{Errno}
+use Rattle.posix_model.specs.Types.{Errno, Whence, World, OpenDescriptor}
 use Rattle.call_types.specs.declared.errno.Errno.TheVariants.{EINVAL, ESPIPE, EOVERFLOW}
 use Rattle.call_types.specs.declared.outcome.Reply.TheVariants.{Number}
 use Rattle.call_types.specs.declared.limits.TheConstants.{OFFSET_MAX}
-use Rattle.call_types.specs.declared.whence.Whence.{Whence}
 use Rattle.call_types.specs.declared.whence.Whence.TheVariants as whence
 use Rattle.posix_model.specs.Positions.{is_before, is_regular, file_at}
 use Rattle.posix_model.specs.Pages.{Page, does}
 use Rattle.posix_model.specs.Descriptors.{bytes_of}
-use Rattle.posix_model.specs.declared.world.World.{World}
-use Rattle.posix_model.specs.declared.opened.OpenDescriptor.{OpenDescriptor}
 use Rattle.posix_model.specs.declared.change.FileEdit.TheVariants as on_files
 use Rattle.posix_model.specs.declared.change.TableEdit.TheVariants as on_table
 
@@ -30,7 +27,7 @@ lseek_faults to o =
 
 -- the offset becomes a place in the file, and is told
 abbrev pub lseek_to : ℤ → OpenDescriptor → Page
-lseek_to to o = record { faults = lseek_faults to o; effect = does (Number (nat_abs to)) on_files.Nothing (on_table.Offset o (nat_abs to)) }
+lseek_to to o = record { faults = lseek_faults to o; effect = does (Number (nat_abs to)) on_files.Nothing (on_table.Offset o.number (nat_abs to)) }
 
 -- lseek(fd, offset, whence)
 abbrev pub lseek : World → ℤ → Whence → OpenDescriptor → Page

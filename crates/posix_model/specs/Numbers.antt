@@ -2,7 +2,7 @@
 use Rattle.std.specs.Prelude.{◌≡◌, ℕ, ◌≤◌, ◌<◌, true, List, Option, None, Some, length, is_some}
 use Rattle.posix_model.specs.Slots.{slot}
 use Rattle.posix_model.specs.Whole.{is_fifo}
-use Rattle.posix_model.specs.declared.world.World.{World}
+use Rattle.posix_model.specs.Types.{World}
 
 -- no number of a list is lost, and one whose slot is gone is not used again (own)
 pub record Rises {T : Type 0} (before after : List (Option T)) : Type 0 where

@@ -5,9 +5,8 @@ use Rattle.std.specs.List.{list_all, list_any}
 use Rattle.std.specs.Str.{bytes_eq}
 use Rattle.call_types.specs.Flags.{has}
 use Rattle.call_types.specs.Flags as flag
-use Rattle.call_types.specs.declared.errno.Errno.{Errno}
+use Rattle.posix_model.specs.Types.{Errno, OpenFlags, World, Description, Mode, FileEdit, Decided}
 use Rattle.call_types.specs.declared.errno.Errno.TheVariants.{EINVAL, ENOENT, EEXIST, EMFILE, ENFILE, ENOSPC, ENAMETOOLONG}
-use Rattle.call_types.specs.declared.flags.OpenFlags.{OpenFlags}
 use Rattle.call_types.specs.declared.outcome.Reply.TheVariants.{Number}
 use Rattle.call_types.specs.declared.limits.TheConstants.{NAME_MAX, NAMES_MAX, DESCRIPTIONS_MAX}
 use Rattle.posix_model.specs.Slots.{slot, lowest, live}
@@ -15,15 +14,10 @@ use Rattle.posix_model.specs.Names.{file_of}
 use Rattle.posix_model.specs.Whole.{is_fifo}
 use Rattle.posix_model.specs.Pages.{Page, does}
 use Rattle.posix_model.specs.Descriptors.{table_of}
-use Rattle.posix_model.specs.declared.world.World.{World}
-use Rattle.posix_model.specs.declared.world.Mode.{Mode}
 use Rattle.posix_model.specs.declared.world.Mode.TheVariants as mode
 use Rattle.posix_model.specs.declared.world.Target.TheVariants as target
-use Rattle.posix_model.specs.declared.world.Description.{Description}
-use Rattle.posix_model.specs.declared.change.FileEdit.{FileEdit}
 use Rattle.posix_model.specs.declared.change.FileEdit.TheVariants as on_files
 use Rattle.posix_model.specs.declared.change.TableEdit.TheVariants as on_table
-use Rattle.posix_model.specs.declared.change.Decided.{Decided}
 
 -- whether a byte may stand in a name: a letter, a digit, or one of . _ - (XBD 3, Portable Filename Character Set)
 abbrev pub is_name_byte : ℕ → Bool

@@ -1,6 +1,6 @@
 -- The page of read, pread: as read, from a position that the call gives; the offset stays.
 use Rattle.std.specs.Prelude.{ℕ, ℤ, Bool, not, nat_lt, List, [], ◌∷◌}
-use Rattle.call_types.specs.declared.errno.Errno.{Errno}
+use Rattle.posix_model.specs.Types.{Errno, World, OpenDescriptor}
 use Rattle.call_types.specs.declared.errno.Errno.TheVariants.{EBADF, EINVAL, ESPIPE}
 use Rattle.call_types.specs.declared.outcome.Reply.TheVariants.{Data}
 use Rattle.call_types.specs.declared.limits.TheConstants.{TRANSFER_MAX}
@@ -9,8 +9,6 @@ use Rattle.posix_model.specs.Counts.{can_read}
 use Rattle.posix_model.specs.Positions.{is_before, bytes_before, is_regular, file_at}
 use Rattle.posix_model.specs.Pages.{Page, tells}
 use Rattle.posix_model.specs.Descriptors.{bytes_of}
-use Rattle.posix_model.specs.declared.world.World.{World}
-use Rattle.posix_model.specs.declared.opened.OpenDescriptor.{OpenDescriptor}
 
 -- the refusals of an open descriptor (own: EINVAL of more than 65,536 bytes)
 abbrev pub pread_faults : ℤ → ℕ → OpenDescriptor → List (Bool × Errno)

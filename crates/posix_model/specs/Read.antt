@@ -1,6 +1,6 @@
 -- The page of read.
 use Rattle.std.specs.Prelude.{ℕ, ◌+◌, ◌==◌, Bool, not, nat_lt, List, [], ◌∷◌, length, if◌then◌else◌}
-use Rattle.call_types.specs.declared.errno.Errno.{Errno}
+use Rattle.posix_model.specs.Types.{Errno, World, OpenDescriptor, Decided}
 use Rattle.call_types.specs.declared.errno.Errno.TheVariants.{EBADF, EINVAL}
 use Rattle.call_types.specs.declared.outcome.Reply.TheVariants.{Data}
 use Rattle.call_types.specs.declared.limits.TheConstants.{TRANSFER_MAX}
@@ -9,9 +9,6 @@ use Rattle.posix_model.specs.Counts.{can_read}
 use Rattle.posix_model.specs.Positions.{is_regular, file_at}
 use Rattle.posix_model.specs.Pages.{Page, does, tells}
 use Rattle.posix_model.specs.Descriptors.{bytes_of}
-use Rattle.posix_model.specs.declared.world.World.{World}
-use Rattle.posix_model.specs.declared.opened.OpenDescriptor.{OpenDescriptor}
-use Rattle.posix_model.specs.declared.change.Decided.{Decided}
 use Rattle.posix_model.specs.declared.change.FileEdit.TheVariants as on_files
 use Rattle.posix_model.specs.declared.change.TableEdit.TheVariants as on_table
 
@@ -25,7 +22,7 @@ read_faults count o =
 
 -- the bytes are told, and the offset goes past them; none are no change
 abbrev pub gives : OpenDescriptor → List ℕ → Decided
-gives o got = if length got == 0 then tells (Data got) else does (Data got) on_files.Nothing (on_table.Offset o (o.description.offset + length got))
+gives o got = if length got == 0 then tells (Data got) else does (Data got) on_files.Nothing (on_table.Offset o.number (o.description.offset + length got))
 
 -- read(fd, count): at most so many bytes from the offset on
 abbrev pub read : World → ℕ → OpenDescriptor → Page

@@ -4,13 +4,8 @@ use Rattle.posix_model.specs.Slots.{slot}
 use Rattle.posix_model.specs.Names.{Entries}
 use Rattle.posix_model.specs.Counts.{links, refs, holders, readers, writers, is_pipe, is_file}
 use Rattle.posix_model.specs.Sweep.{is_referred, is_open, is_wanted, without_gone_pipe, sweep}
-use Rattle.posix_model.specs.declared.world.World.{World}
-use Rattle.posix_model.specs.declared.world.Fifo.{Fifo}
-use Rattle.posix_model.specs.declared.world.File.{File}
+use Rattle.posix_model.specs.Types.{World, Process, Description, Target, File, Fifo}
 use Rattle.posix_model.specs.declared.world.File.TheVariants as file
-use Rattle.posix_model.specs.declared.world.Process.{Process}
-use Rattle.posix_model.specs.declared.world.Description.{Description}
-use Rattle.posix_model.specs.declared.world.Target.{Target}
 use Rattle.posix_model.specs.declared.world.Target.TheVariants as target
 
 -- a description goes where nothing refers to it

@@ -1,13 +1,11 @@
 -- What holds of all that acts come to: one record, which is proved by one lemma for each call.
-use Rattle.std.specs.Prelude.{◌≡◌, ℕ, ◌+◌, ◌≤◌, Option, None, Some, length, if◌then◌else◌}
+use Rattle.std.specs.Prelude.{◌≡◌, ℕ, ◌+◌, ◌≤◌, Bool, true, false, Option, None, Some, length, if◌then◌else◌}
 use Rattle.std.specs.Option.{option_map_or}
 use Rattle.call_types.specs.CallTable.{descriptor_of}
-use Rattle.call_types.specs.declared.limits.Bounds.{Bounds}
+use Rattle.posix_model.specs.Types.{Call, Act, Outcome, Errno, Bounds, World, FileEdit, ProcessEdit, TableEdit, Decided}
 use Rattle.call_types.specs.declared.limits.TheConstants.{OPEN_MAX, NAMES_MAX, DESCRIPTIONS_MAX, PROCESSES_MAX, OFFSET_MAX}
-use Rattle.call_types.specs.declared.act.Act.{Act}
 use Rattle.call_types.specs.declared.act.Act.TheVariants as act
-use Rattle.call_types.specs.declared.errno.Errno.{Errno}
-use Rattle.call_types.specs.declared.outcome.Outcome.{Outcome}
+use Rattle.call_types.specs.declared.call.Call.TheVariants as call
 use Rattle.call_types.specs.declared.outcome.Outcome.TheVariants.{Reply as Replied}
 use Rattle.call_types.specs.declared.outcome.Reply.TheVariants.{Error, Number}
 use Rattle.posix_model.specs.Slots.{live}
@@ -16,21 +14,16 @@ use Rattle.posix_model.specs.Descriptors.{number_of, bytes_of}
 use Rattle.posix_model.specs.Pages.{no_change}
 use Rattle.posix_model.specs.Join.{is_full}
 use Rattle.posix_model.specs.Fits.{Fits, IsProper}
-use Rattle.posix_model.specs.Step.{given, comes_to}
+use Rattle.posix_model.specs.Step.{given, decided, comes_to}
 use Rattle.posix_model.specs.Turns.{took}
-use Rattle.posix_model.specs.declared.world.World.{World}
-use Rattle.posix_model.specs.declared.change.FileEdit.{FileEdit}
 use Rattle.posix_model.specs.declared.change.FileEdit.TheVariants as on_files
-use Rattle.posix_model.specs.declared.change.ProcessEdit.{ProcessEdit}
 use Rattle.posix_model.specs.declared.change.ProcessEdit.TheVariants as on_process
-use Rattle.posix_model.specs.declared.change.TableEdit.{TableEdit}
 use Rattle.posix_model.specs.declared.change.TableEdit.TheVariants as on_table
-use Rattle.posix_model.specs.declared.change.Decided.{Decided}
 
 -- how many processes an edit makes
 abbrev pub makes : ProcessEdit → ℕ
 makes on_process.Nothing = 0
-makes (on_process.Add process) = 1
+makes (on_process.Add table) = 1
 
 -- how many processes an act adds, by its outcome: a join that is not refused adds one
 abbrev pub added : Act → Outcome → ℕ
@@ -49,13 +42,21 @@ adds w other = 0
 
 -- the number of the description whose offset an edit moves
 abbrev pub moved_offset : TableEdit → Option ℕ
-moved_offset (on_table.Offset o offset) = Some o.number
+moved_offset (on_table.Offset number offset) = Some number
 moved_offset other = None
 
 -- the number of the description that the descriptor of an act leads to (XBD 3, File Descriptor)
 abbrev pub number_at : World → ℕ → Act → Option ℕ
 number_at w actor (act.Call c) = option_map_or (number_of w actor) (descriptor_of c) None
 number_at w actor other = None
+
+-- whether an act may change a file, a name or a pipe, but for what a sweep takes
+abbrev pub may_change_contents : Act → Bool
+may_change_contents (act.Call (call.Open name flags)) = true
+may_change_contents (act.Call (call.Write fd bytes)) = true
+may_change_contents (act.Call (call.Pwrite fd start bytes)) = true
+may_change_contents (act.Call (call.Ftruncate fd len)) = true
+may_change_contents other = false
 
 -- no file is too long, no offset too great, each process has so many descriptors, and there are no more names, live
 -- descriptions and live processes than there may be (own)
@@ -75,23 +76,28 @@ FilesWithin bounds other = Unit {0}
 
 -- an edit of descriptors goes past no greatest offset
 abbrev pub TableWithin : TableEdit → Type 0
-TableWithin (on_table.Offset o offset) = offset ≤ OFFSET_MAX
+TableWithin (on_table.Offset number offset) = offset ≤ OFFSET_MAX
 TableWithin (on_table.Open process fd description) = description.offset ≤ OFFSET_MAX
 TableWithin other = Unit {0}
 
 -- what an act comes to: a refusal changes nothing; it adds as many processes as it tells; it moves no offset but that of its
--- own descriptor; it takes no more bytes than it gives; and its change can be made, within all limits. The limit of sizes
--- is at most the greatest offset
+-- own descriptor; it changes no file, name or pipe where it may not; it takes no more bytes than it gives; and its change can
+-- be made, within all limits. The limit of sizes is at most the greatest offset
 pub record Sound (bounds : Bounds) (w : World) (actor : ℕ) (act : Act) (d : Decided) : Type 0 where
   pub refusal : (error : Errno) → d.outcome ≡ Replied (Error error) → d.change ≡ no_change
   pub told : makes d.change.process ≡ added act d.outcome
   pub planned : makes d.change.process ≡ adds w act
   pub own : (n : ℕ) → moved_offset d.change.table ≡ Some n → number_at w actor act ≡ Some n
+  pub contents : may_change_contents act ≡ false → d.change.files ≡ on_files.Nothing
   pub few : took w (record { actor = actor; act = act; outcome = d.outcome }) ≤ length (given act)
   pub proper : bounds.file_size ≤ OFFSET_MAX → IsProper w (given act) d.change
   pub fits : IsWhole w → Fits w (given act) d.change
   pub within_files : FilesWithin bounds d.change.files
   pub within_table : bounds.file_size ≤ OFFSET_MAX → WithinLimits bounds w → TableWithin d.change.table
+
+-- what every call comes to is sound, also where its process is not there
+abbrev pub CallsAreSound : Type 0
+CallsAreSound = (bounds : Bounds) (w : World) (process : ℕ) (c : Call) → Sound bounds w process (act.Call c) (decided bounds w process c)
 
 -- all that acts come to is sound
 abbrev pub ActsAreSound : Type 0

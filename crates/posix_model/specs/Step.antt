@@ -2,12 +2,9 @@
 use Rattle.std.specs.Prelude.{ℕ, List, [], Bool, false, ◌&&◌, ◌==◌, Option, None, Some, length, is_some, not, unwrap_or, if◌then◌else◌}
 use Rattle.std.specs.Option.{option_map}
 use Rattle.call_types.specs.CallTable.{payload_of}
-use Rattle.call_types.specs.declared.limits.Bounds.{Bounds}
-use Rattle.call_types.specs.declared.call.Call.{Call}
+use Rattle.posix_model.specs.Types.{Call, Act, Outcome, Bounds, World, Process, Decided}
 use Rattle.call_types.specs.declared.call.Call.TheVariants as call
-use Rattle.call_types.specs.declared.act.Act.{Act}
 use Rattle.call_types.specs.declared.act.Act.TheVariants as act
-use Rattle.call_types.specs.declared.outcome.Outcome.{Outcome}
 use Rattle.posix_model.specs.Slots.{slot}
 use Rattle.posix_model.specs.Pages.{decided_by, on_open}
 use Rattle.posix_model.specs.Sweep.{sweep}
@@ -23,9 +20,6 @@ use Rattle.posix_model.specs.Pwrite.{pwrite}
 use Rattle.posix_model.specs.Lseek.{lseek}
 use Rattle.posix_model.specs.Ftruncate.{ftruncate}
 use Rattle.posix_model.specs.Fstat.{fstat}
-use Rattle.posix_model.specs.declared.change.Decided.{Decided}
-use Rattle.posix_model.specs.declared.world.World.{World}
-use Rattle.posix_model.specs.declared.world.Process.{Process}
 
 -- whether a process is live and attached
 abbrev pub is_here : Option Process → Bool

@@ -3,10 +3,7 @@ use Rattle.std.specs.Prelude.{ℕ, ◌+◌, Bool, nat_lt, List, Option, None, So
 use Rattle.posix_model.specs.Slots.{kept}
 use Rattle.posix_model.specs.Names.{Entries}
 use Rattle.posix_model.specs.Counts.{links, refs, holders, readers, writers}
-use Rattle.posix_model.specs.declared.world.World.{World}
-use Rattle.posix_model.specs.declared.world.Process.{Process}
-use Rattle.posix_model.specs.declared.world.Description.{Description}
-use Rattle.posix_model.specs.declared.world.File.{File}
+use Rattle.posix_model.specs.Types.{World, Process, Description, File}
 use Rattle.posix_model.specs.declared.world.File.TheVariants as file
 
 -- an open file description stays while a descriptor refers to it

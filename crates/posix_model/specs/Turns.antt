@@ -2,19 +2,13 @@
 use Rattle.std.specs.Prelude.{ℕ, ◌+◌, ◌-◌, List, [], ◌∷◌, Option, None, Some, length, is_some, if◌then◌else◌}
 use Rattle.std.specs.Option.{option_map, option_map_or}
 use Rattle.call_types.specs.CallTable.{payload_of}
-use Rattle.call_types.specs.declared.limits.Bounds.{Bounds}
-use Rattle.call_types.specs.declared.call.Call.{Call}
-use Rattle.call_types.specs.declared.act.Act.{Act}
+use Rattle.posix_model.specs.Types.{Call, Act, Record, Outcome, Bounds, World, Parked}
 use Rattle.call_types.specs.declared.act.Act.TheVariants as act
-use Rattle.call_types.specs.declared.act.Record.{Record}
-use Rattle.call_types.specs.declared.outcome.Outcome.{Outcome}
 use Rattle.call_types.specs.declared.outcome.Outcome.TheVariants as outcome
 use Rattle.call_types.specs.declared.outcome.Reply.TheVariants as reply
 use Rattle.posix_model.specs.Slots.{slot}
 use Rattle.posix_model.specs.Descriptors.{parked_of}
 use Rattle.posix_model.specs.History.{empty_world, after}
-use Rattle.posix_model.specs.declared.world.World.{World}
-use Rattle.posix_model.specs.declared.world.Parked.{Parked}
 
 -- the call that an act is about, and how many bytes it moved before: a new call, or the one that its process waits in
 pub record Turn : Type 0 where

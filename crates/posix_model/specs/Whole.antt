@@ -1,10 +1,8 @@
 -- What is there: nothing refers to what is gone.
 use Rattle.std.specs.Prelude.{◌≡◌, ℕ, Bool, true, false, All, List, Option, None, Some, is_some}
 use Rattle.posix_model.specs.Slots.{slot}
-use Rattle.posix_model.specs.declared.world.World.{World}
-use Rattle.posix_model.specs.declared.world.Target.{Target}
+use Rattle.posix_model.specs.Types.{World, Target, File}
 use Rattle.posix_model.specs.declared.world.Target.TheVariants as target
-use Rattle.posix_model.specs.declared.world.File.{File}
 use Rattle.posix_model.specs.declared.world.File.TheVariants as file
 
 -- something stands at this number, and is not gone (own)

@@ -1,20 +1,14 @@
 -- The page of write.
 use Rattle.std.specs.Prelude.{ℕ, ◌+◌, ◌-◌, ◌==◌, ◌&&◌, min, Bool, not, nat_lt, nat_le, List, [], ◌∷◌, length, if◌then◌else◌}
-use Rattle.call_types.specs.declared.errno.Errno.{Errno}
+use Rattle.posix_model.specs.Types.{Errno, Bounds, World, Description, OpenDescriptor, TableEdit, Decided}
 use Rattle.call_types.specs.declared.errno.Errno.TheVariants.{EBADF, EINVAL, EFBIG}
 use Rattle.call_types.specs.declared.outcome.Reply.TheVariants.{Number}
-use Rattle.call_types.specs.declared.limits.Bounds.{Bounds}
 use Rattle.call_types.specs.declared.limits.TheConstants.{TRANSFER_MAX}
 use Rattle.posix_model.specs.Counts.{can_write}
 use Rattle.posix_model.specs.Positions.{is_regular, file_at}
 use Rattle.posix_model.specs.Pages.{Page, does, tells}
 use Rattle.posix_model.specs.Descriptors.{bytes_of}
-use Rattle.posix_model.specs.declared.world.World.{World}
-use Rattle.posix_model.specs.declared.world.Description.{Description}
-use Rattle.posix_model.specs.declared.opened.OpenDescriptor.{OpenDescriptor}
-use Rattle.posix_model.specs.declared.change.Decided.{Decided}
 use Rattle.posix_model.specs.declared.change.FileEdit.TheVariants as on_files
-use Rattle.posix_model.specs.declared.change.TableEdit.{TableEdit}
 use Rattle.posix_model.specs.declared.change.TableEdit.TheVariants as on_table
 
 -- where a write begins: at the end under append, else at the offset
@@ -46,7 +40,7 @@ puts bytes file start n moved = if length bytes == 0 then tells (Number 0) else 
 abbrev pub write_from : Bounds → ℕ → List ℕ → OpenDescriptor → Page
 write_from bounds start bytes o =
     let n = fitting bounds start bytes in
-    record { faults = write_faults bounds start bytes o; effect = puts bytes (file_at o) start n (on_table.Offset o (start + n)) }
+    record { faults = write_faults bounds start bytes o; effect = puts bytes (file_at o) start n (on_table.Offset o.number (start + n)) }
 
 -- write(fd, bytes)
 abbrev pub write : Bounds → World → List ℕ → OpenDescriptor → Page

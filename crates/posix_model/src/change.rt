@@ -1,8 +1,8 @@
 ghost use Rattle.std.specs.Prelude.{◌≡◌};
 ghost use Rattle.posix_model.specs.Pages.{tells, does, acts, refused};
 
-use crate::opened::OpenDescriptor;
-use crate::world::{Description, Process};
+use crate::slots::Slots;
+use crate::world::Description;
 use call_types::bounded::Name;
 use call_types::errno::Errno;
 use call_types::outcome::{Outcome, Reply};
@@ -34,8 +34,8 @@ pub enum FileEdit {
 pub enum ProcessEdit {
     /// Nothing.
     Nothing,
-    /// The next process is this one.
-    Add { process: Process },
+    /// The next process has this table and its connection, and waits in no call.
+    Add { table: Slots<usize> },
 }
 
 /// What an act changes in descriptors and open file descriptions. All numbers are found already.
@@ -45,7 +45,7 @@ pub enum TableEdit {
     Nothing,
     /// A description has another offset, in bytes.
     Offset {
-        descriptor: OpenDescriptor,
+        number: usize,
         offset: u64,
     },
     /// A free descriptor refers to a new description.

@@ -1,13 +1,18 @@
 //! Laws of every step and history, for the crates above. None of these functions does anything.
 
-ghost use Rattle.posix_model.specs.Sound.{ActsAreSound};
+ghost use Rattle.posix_model.specs.Sound.{CallsAreSound, ActsAreSound};
 ghost use Rattle.posix_model.specs.Released.{SettledIsSwept, SettledStays, SweepReleases};
 ghost use Rattle.posix_model.specs.Laws.{StepRaisesNumbers, StepKeepsWhole, HistoryIsWhole, HistoryRaisesNumbers, SweepSettles, StepSettles, HistorySettles, SweepLeaves, StepTellsProcesses, StepPlansProcesses};
 
 /// What each act comes to can be made, within all limits; a refusal changes nothing, and no act moves an offset but that
-/// of its own descriptor, or takes more bytes than it gives.
+/// of its own descriptor, changes a file, a name or a pipe where it may not, or takes more bytes than it gives.
 pub fn acts_are_sound()
     ensures { ActsAreSound }
+{}
+
+/// And so is what each call comes to, also where its process is not there.
+pub fn calls_are_sound()
+    ensures { CallsAreSound }
 {}
 
 /// No number is used again, and nothing refers to what is gone.

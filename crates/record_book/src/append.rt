@@ -1,6 +1,4 @@
-ghost use Rattle.std.specs.Prelude.{◌≡◌, ◌≤◌, [], length, unwrap_or, IfOk, OnErr};
-ghost use Rattle.std.specs.Option.{option_copied};
-ghost use Rattle.posix_model.specs.Step.{given};
+ghost use Rattle.std.specs.Prelude.{◌≡◌, IfOk, OnErr};
 ghost use Rattle.record_book.specs.Book.{BookState, Appends, Receives};
 ghost use Rattle.record_book.specs.Planned.{IsPlanned};
 
@@ -8,37 +6,15 @@ use crate::book::Book;
 use crate::moved::{gave, took};
 use crate::seat::{Receipt, Seat};
 use call_types::act::{Act, Record};
-use call_types::bounded::Payload;
-use call_types::limits::GIVEN_BYTES_MAX;
 use posix_model::change::Decided;
 use std::alloc::{AllocError, Global};
 use std::sync::Arc;
-
-/// The bytes of some data, or none.
-fn bytes_in(payload: Option<&Payload>) -> &[u8]
-    ensures bytes { result.now ≡ unwrap_or (option_copied payload.entry) [] }
-    ensures few { length result.now ≤ GIVEN_BYTES_MAX }
-{
-    match payload {
-        Some(payload) => payload.as_slice(),
-        None => &[],
-    }
-}
-
-/// The bytes that an act gives to write.
-fn given(act: &Act) -> &[u8]
-    ensures bytes { result.now ≡ given act.now }
-    ensures few { length result.now ≤ GIVEN_BYTES_MAX }
-{
-    match act {
-        Act::Call(call) => bytes_in(call.payload()),
-        Act::Join | Act::Attach | Act::Resume | Act::Exit | Act::CloseRun => &[],
-    }
-}
+use table_calls::given::given;
 
 impl Book {
     /// Appends the record of a planned act, makes its change, and gives its receipt to the seat too. On an error all is
     /// as it was.
+    #[inline(always)]
     pub(crate) fn append(
         &mut self,
         alloc: Global,

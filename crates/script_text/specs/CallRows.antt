@@ -1,5 +1,6 @@
 -- Each call as a line says it, with every field of its own value: what the table of calls says once, said again (own).
-use Rattle.std.specs.Prelude.{◌≡◌, ℕ, List, codes, bit_or, Ok, pos, negsuc}
+use Rattle.std.specs.Prelude.{◌≡◌, ℕ, List, [], ◌∷◌, map, codes, bit_or, Ok, pos, negsuc}
+use Rattle.call_types.specs.CallTable.{parts}
 use Rattle.call_types.specs.declared.call.Call.{Call}
 use Rattle.call_types.specs.declared.call.Call.TheVariants as calls
 use Rattle.call_types.specs.declared.whence.Whence.TheVariants as whences
@@ -7,18 +8,26 @@ use Rattle.call_types.specs.declared.act.ScriptAct.TheVariants as acts
 use Rattle.call_types.specs.Flags.{writing, creat}
 use Rattle.script_text.specs.ReadingCalls.{reading}
 
--- a line is the call of process 7
-abbrev pub ReadsAs : List ℕ → Call → Type 0
-ReadsAs line call = reading line ≡ Ok (acts.Call 7 call)
+-- a line of process 7, the byte of its call in a request, and the call
+pub record Row : Type 0 where
+  pub line : List ℕ
+  pub byte : ℕ
+  pub call : Call
 
 -- a row for each call
+abbrev pub call_rows : List Row
+call_rows =
+    record { line = codes "p7 open a%20b w,creat"; byte = 16; call = calls.Open (codes "a b") (record { 0 = bit_or writing creat }) } ∷
+    record { line = codes "p7 close 3"; byte = 17; call = calls.Close (pos 3) } ∷
+    record { line = codes "p7 read 3 5"; byte = 18; call = calls.Read (pos 3) 5 } ∷
+    record { line = codes "p7 write 3 x6869"; byte = 19; call = calls.Write (pos 3) (codes "hi") } ∷
+    record { line = codes "p7 pread 3 4 5"; byte = 20; call = calls.Pread (pos 3) (pos 4) 5 } ∷
+    record { line = codes "p7 pwrite 3 4 x6869"; byte = 21; call = calls.Pwrite (pos 3) (pos 4) (codes "hi") } ∷
+    record { line = codes "p7 lseek 3 -1 cur"; byte = 22; call = calls.Lseek (pos 3) (negsuc 0) whences.Cur } ∷
+    record { line = codes "p7 ftruncate 3 4"; byte = 23; call = calls.Ftruncate (pos 3) (pos 4) } ∷
+    record { line = codes "p7 fstat 3"; byte = 30; call = calls.Fstat (pos 3) } ∷ []
+
+-- each line is read as its call, and each call has its byte
 pub record CallRows : Type 0 where
-  pub open_row : ReadsAs (codes "p7 open a%20b w,creat") (calls.Open (codes "a b") (record { 0 = bit_or writing creat }))
-  pub close_row : ReadsAs (codes "p7 close 3") (calls.Close (pos 3))
-  pub read_row : ReadsAs (codes "p7 read 3 5") (calls.Read (pos 3) 5)
-  pub write_row : ReadsAs (codes "p7 write 3 x6869") (calls.Write (pos 3) (codes "hi"))
-  pub pread_row : ReadsAs (codes "p7 pread 3 4 5") (calls.Pread (pos 3) (pos 4) 5)
-  pub pwrite_row : ReadsAs (codes "p7 pwrite 3 4 x6869") (calls.Pwrite (pos 3) (pos 4) (codes "hi"))
-  pub lseek_row : ReadsAs (codes "p7 lseek 3 -1 cur") (calls.Lseek (pos 3) (negsuc 0) whences.Cur)
-  pub ftruncate_row : ReadsAs (codes "p7 ftruncate 3 4") (calls.Ftruncate (pos 3) (pos 4))
-  pub fstat_row : ReadsAs (codes "p7 fstat 3") (calls.Fstat (pos 3))
+  pub lines : map (λ (row : Row). reading row.line) call_rows ≡ map (λ (row : Row). Ok (acts.Call 7 row.call)) call_rows
+  pub bytes : map (λ (row : Row). (parts row.call).entry.byte) call_rows ≡ map (λ (row : Row). row.byte) call_rows

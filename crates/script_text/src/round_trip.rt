@@ -22,8 +22,8 @@ pub fn spelled_scripts_are_read()
     ensures { (acts : List ScriptAct) (text : List ℕ) → SpellsScript acts text → script text ≡ Ok acts }
 {}
 
-/// The words of the calls, the order of their fields and the greatest length of a script, each said once more: what is
-/// read and what is written both go by the one table of calls and the one constant.
+/// The words of the calls, their request bytes, the order of their fields and the greatest length of a script, each said
+/// once more: what is read and what is written both go by the one table of calls and the one constant.
 pub fn calls_as_read()
     ensures calls { CallRows }
     ensures script_max { SCRIPT_MAX ≡ 2 ^ 24 }

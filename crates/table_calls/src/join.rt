@@ -1,5 +1,4 @@
 ghost use Rattle.std.specs.Prelude.{◌≡◌, IfOk};
-ghost use Rattle.posix_model.specs.Change.{new_process};
 ghost use Rattle.posix_model.specs.Pages.{decided_by};
 ghost use Rattle.posix_model.specs.Join.{is_full, join};
 
@@ -9,7 +8,6 @@ use call_types::outcome::Reply;
 use posix_model::change::{Decided, ProcessEdit, acts, refused};
 use posix_model::reader::Reader;
 use posix_model::slots::Slots;
-use posix_model::world::Process;
 use std::alloc::{AllocError, Global};
 
 /// Whether there may be no further process: there are too many, or the run is closed.
@@ -17,17 +15,6 @@ pub fn is_full<R: Reader>(state: &R) -> bool
     ensures { result ≡ is_full (R.world state.now) }
 {
     state.is_closed() || state.live_processes() >= PROCESSES_MAX
-}
-
-/// A process without open descriptors, with its connection. An error says that memory ran out.
-fn new_process(alloc: Global) -> Result<Process, AllocError>
-    ensures { IfOk result (λ process. process ≡ new_process) }
-{
-    Ok(Process {
-        table: Slots::free(alloc, OPEN_MAX)?,
-        parked: None,
-        attached: true,
-    })
 }
 
 /// What a join comes to: EAGAIN, or a new process under the next number. An error says that memory ran out.
@@ -38,6 +25,8 @@ pub fn decide_join<R: Reader>(state: &R, alloc: Global) -> Result<Decided, Alloc
         return Ok(refused(Errno::EAGAIN));
     }
     let number = state.next_process() as u64;
-    let process = new_process(alloc)?;
-    Ok(acts(Reply::Number(number), ProcessEdit::Add { process }))
+    let edit = ProcessEdit::Add {
+        table: Slots::free(alloc, OPEN_MAX)?,
+    };
+    Ok(acts(Reply::Number(number), edit))
 }

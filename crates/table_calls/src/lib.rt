@@ -2,4 +2,5 @@
 #![tactic(auto)]
 
 pub mod decide;
+pub mod given;
 pub mod join;

@@ -1,7 +1,7 @@
 ghost use Rattle.std.specs.Prelude.{◌≡◌};
 ghost use Rattle.posix_model.specs.Slots.{edited};
+ghost use Rattle.posix_model.specs.Descriptors.{at_offset};
 ghost use Rattle.machine_state.specs.Uses.{with_value};
-ghost use Rattle.machine_state.specs.Targets.{at_offset};
 
 use super::used::Used;
 use super::{Numbered, index_of};

@@ -1,18 +1,14 @@
-use Rattle.machine_state.specs.Held.{stored_in}
+use Rattle.machine_state.specs.Held.{stored_in, world_in}
 use Rattle.posix_model.specs.Descriptors.{with_offset}
-use Rattle.machine_state.specs.Held.{world_in}
 use Rattle.machine_state.proofs.StoredLaws.{after_offset, offset_world, swept}
 use Rattle.machine_state.proofs.machine.Machine.set_offset.Goals as goal
 
 pub invariant_of-self : goal.invariant_of-self
-invariant_of-self c =
-    let is = rw (← c.self.view_is) at c.requires in
-    rw c.set_offset.ensures (after_offset (stored_in c.self.inside) c.self.invariant c.args.descriptor.number c.args.offset c.args.descriptor.description is)
+invariant_of-self c = rw c.set_offset.ensures (after_offset (stored_in c.self.inside) c.self.invariant c.args.number c.args.offset)
 
 pub returns : goal.returns
 returns c =
     let s = stored_in c.self.inside in
-    let is = rw (← c.self.view_is) at c.requires in
     rw (← c.self.view_is, c.set_offset.ensures)
-    (swept c.sweep_releases.ensures.stays _ (with_offset (world_in s) c.args.descriptor c.args.offset) (after_offset s c.self.invariant c.args.descriptor.number c.args.offset c.args.descriptor.description is)
-    (offset_world s c.self.invariant c.args.descriptor c.args.offset is))
+    (swept c.sweep_releases.ensures.stays _ (with_offset (world_in s) c.args.number c.args.offset) (after_offset s c.self.invariant c.args.number c.args.offset)
+    (offset_world s c.self.invariant c.args.number c.args.offset))

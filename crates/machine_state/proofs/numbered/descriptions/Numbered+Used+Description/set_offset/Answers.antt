@@ -1,7 +1,7 @@
 use Rattle.std.proofs.Common.{refl}
 use Rattle.std.specs.Option.{option_map}
 use Rattle.machine_state.specs.Uses.{with_value}
-use Rattle.machine_state.specs.Targets.{at_offset}
+use Rattle.posix_model.specs.Descriptors.{at_offset}
 use Rattle.machine_state.proofs.EntryLaws.{rises_edited, slots_edited, slots_same}
 use Rattle.machine_state.proofs.numbered.descriptions.Numbered+Used+Description.set_offset.Goals as goal
 

@@ -1,5 +1,4 @@
-use crate::history::empty_world;
-use crate::step::{StepFault, plain_step, step_in_place};
+//! The plain program, which nothing else of the program calls.
 use call_types::act::Act;
 use call_types::bounded::{Name, Payload};
 use call_types::call::Call;
@@ -7,6 +6,8 @@ use call_types::errno::Errno;
 use call_types::flags::OpenFlags;
 use call_types::limits::Limits;
 use call_types::outcome::{Outcome, Reply};
+use plain_world::history::empty_world;
+use plain_world::step::{StepFault, plain_step, step_in_place};
 use posix_model::world::World;
 use std::alloc::Global;
 use std::test::Fail;

@@ -1,0 +1,25 @@
+-- The types that definitions and proofs name, in one place.
+pub use Rattle.call_types.specs.declared.call.Call.{Call}
+pub use Rattle.call_types.specs.declared.act.Act.{Act}
+pub use Rattle.call_types.specs.declared.act.Record.{Record}
+pub use Rattle.call_types.specs.declared.outcome.Outcome.{Outcome}
+pub use Rattle.call_types.specs.declared.outcome.Reply.{Reply}
+pub use Rattle.call_types.specs.declared.outcome.Stat.{Stat}
+pub use Rattle.call_types.specs.declared.errno.Errno.{Errno}
+pub use Rattle.call_types.specs.declared.flags.OpenFlags.{OpenFlags}
+pub use Rattle.call_types.specs.declared.whence.Whence.{Whence}
+pub use Rattle.call_types.specs.declared.limits.Bounds.{Bounds}
+pub use Rattle.posix_model.specs.declared.world.World.{World}
+pub use Rattle.posix_model.specs.declared.world.Process.{Process}
+pub use Rattle.posix_model.specs.declared.world.Parked.{Parked}
+pub use Rattle.posix_model.specs.declared.world.Description.{Description}
+pub use Rattle.posix_model.specs.declared.world.Target.{Target}
+pub use Rattle.posix_model.specs.declared.world.Mode.{Mode}
+pub use Rattle.posix_model.specs.declared.world.File.{File}
+pub use Rattle.posix_model.specs.declared.world.Fifo.{Fifo}
+pub use Rattle.posix_model.specs.declared.opened.OpenDescriptor.{OpenDescriptor}
+pub use Rattle.posix_model.specs.declared.change.FileEdit.{FileEdit}
+pub use Rattle.posix_model.specs.declared.change.ProcessEdit.{ProcessEdit}
+pub use Rattle.posix_model.specs.declared.change.TableEdit.{TableEdit}
+pub use Rattle.posix_model.specs.declared.change.Change.{Change}
+pub use Rattle.posix_model.specs.declared.change.Decided.{Decided}
