@@ -2,9 +2,9 @@
 use Rattle.std.proofs.Common.{◌≡◌, ℕ, zero, suc, ◌+◌, ◌-◌, ◌<◌, List, [], ◌∷◌, ◌++◌, Option, Result, Ok, Err, length, take, drop, refl, sym, ◌∙◌, ap, arith, get_or, length-take-le, take-append-drop}
 use Rattle.std.specs.Prelude.{OnErr}
 use Rattle.std.proofs.lemmas.List.{append_assoc, append-nil, take_more, take_rest}
+use Rattle.std.proofs.lemmas.Grind.{flat_map-append}
 use Rattle.std.proofs.KnownBytes.{Appends-nil, Appends-trans, Appends-kept}
 use Rattle.std.specs.Io.KnownBytes.{Appends, Keeps}
-use Rattle.call_types.specs.declared.act.ScriptAct.{ScriptAct}
 use Rattle.record_book.specs.declared.run.Told.{Told}
 use Rattle.fdref.specs.Output.{AppendsFront, Puts, told_line, told_lines}
 
@@ -104,54 +104,23 @@ puts_last_front a b c o p x y empty first f =
 
 -- ---- the lines
 
--- the lines of one more act
-pub told_lines-more : (acts : List ScriptAct) (tolds : List Told) (a : ScriptAct) (t : Told) → length tolds ≡ length acts
-    → told_lines (acts ++ a ∷ []) (tolds ++ t ∷ []) ≡ told_lines acts tolds ++ told_line a t
-told_lines-more [] [] a t same = append-nil (told_line a t)
-told_lines-more [] (y ∷ tolds) a t same = absurd (omega arith)
-told_lines-more (x ∷ acts) [] a t same = absurd (omega arith)
-told_lines-more (x ∷ acts) (y ∷ tolds) a t same =
-    ap (λ l. told_line x y ++ l) (told_lines-more acts tolds a t (omega arith)) ∙ sym (append_assoc (told_line x y) (told_lines acts tolds) (told_line a t))
+-- the lines of what is told first and next, and of the rest
+told_lines-next : (told : List Told) (i : ℕ) (t : Told) → i < length told → t ≡ get_or told i t → told_lines (take (i + 1) told) ≡ told_lines (take i told) ++ told_line t
+told_lines-next told i t within is =
+    rw (take_more told i t within, ← is) (flat_map-append told_line (take i told) (t ∷ []) ∙ ap (λ l. told_lines (take i told) ++ l) (append-nil (told_line t)))
 
--- the lines of the first acts and the next one
-pub told_lines-next : (acts : List ScriptAct) (tolds : List Told) (i : ℕ) (x : ScriptAct) (t : Told) → length tolds ≡ length acts → i < length acts
-    → x ≡ get_or acts i x → t ≡ get_or tolds i t
-    → told_lines (take (i + 1) acts) (take (i + 1) tolds) ≡ told_lines (take i acts) (take i tolds) ++ told_line x t
-told_lines-next acts tolds i x t same within x_is t_is =
-    rw (take_more acts i x within, take_more tolds i t (omega (arith, same)), ← x_is, ← t_is)
-    (told_lines-more (take i acts) (take i tolds) x t (omega (arith, length-take-le i acts (omega arith), length-take-le i tolds (omega (arith, same)))))
+-- one more line behind those so far
+pub puts_more : (a b c : Option (List ℕ)) (o p q : List ℕ) (told : List Told) (i : ℕ) (t : Told) → i < length told → t ≡ get_or told i t
+    → Puts a b o p (told_lines (take i told)) → Puts b c p q (told_line t) → Puts a c o q (told_lines (take (i + 1) told))
+puts_more a b c o p q told i t within is first second =
+    rw (told_lines-next told i t within is) (puts_then a b c o p q (told_lines (take i told)) (told_line t) first second)
 
-told_lines-untold : (acts : List ScriptAct) → told_lines acts [] ≡ []
-told_lines-untold [] = refl
-told_lines-untold (x ∷ acts) = refl
-
--- the lines of the first acts stand before those of the others
-pub told_lines-parted : (acts : List ScriptAct) (tolds : List Told) (i : ℕ)
-    → told_lines acts tolds ≡ told_lines (take i acts) (take i tolds) ++ told_lines (drop i acts) (drop i tolds)
-told_lines-parted acts tolds zero = refl
-told_lines-parted [] tolds (suc i) = refl
-told_lines-parted (x ∷ acts) [] (suc i) = sym (told_lines-untold (drop i acts))
-told_lines-parted (x ∷ acts) (y ∷ tolds) (suc i) =
-    ap (λ l. told_line x y ++ l) (told_lines-parted acts tolds i)
-    ∙ sym (append_assoc (told_line x y) (told_lines (take i acts) (take i tolds)) (told_lines (drop i acts) (drop i tolds)))
-
--- one more act behind those so far
-pub puts_more : (a b c : Option (List ℕ)) (o p q : List ℕ) (acts : List ScriptAct) (tolds : List Told) (i : ℕ) (x : ScriptAct) (t : Told)
-    → length tolds ≡ length acts → i < length acts → x ≡ get_or acts i x → t ≡ get_or tolds i t
-    → Puts a b o p (told_lines (take i acts) (take i tolds)) → Puts b c p q (told_line x t)
-    → Puts a c o q (told_lines (take (i + 1) acts) (take (i + 1) tolds))
-puts_more a b c o p q acts tolds i x t same within x_is t_is first second =
-    rw (told_lines-next acts tolds i x t same within x_is t_is) (puts_then a b c o p q (told_lines (take i acts) (take i tolds)) (told_line x t) first second)
-
--- a front of one more act's line, as a front of all lines
-pub front_more : (a b c : Option (List ℕ)) (o p : List ℕ) (acts : List ScriptAct) (tolds : List Told) (i : ℕ) (x : ScriptAct) (t : Told)
-    → length tolds ≡ length acts → i < length acts → x ≡ get_or acts i x → t ≡ get_or tolds i t
-    → Puts a b o p (told_lines (take i acts) (take i tolds)) → AppendsFront b c (p ++ told_line x t)
-    → AppendsFront a c (o ++ told_lines acts tolds)
-front_more a b c o p acts tolds i x t same within x_is t_is first f =
-    let so_far = told_lines (take i acts) (take i tolds) in
-    let next = told_lines (take (i + 1) acts) (take (i + 1) tolds) in
-    let others = told_lines (drop (i + 1) acts) (drop (i + 1) tolds) in
-    let here : AppendsFront a c (o ++ next) = rw (told_lines-next acts tolds i x t same within x_is t_is) (puts_front a b c o p so_far (told_line x t) first f) in
-    front_same a c ((o ++ next) ++ others) (o ++ told_lines acts tolds)
-    (append_assoc o next others ∙ ap (λ l. o ++ l) (sym (told_lines-parted acts tolds (i + 1)))) (front_longer a c (o ++ next) others here)
+-- a front of one more line, as a front of all lines
+pub front_more : (a b c : Option (List ℕ)) (o p : List ℕ) (told : List Told) (i : ℕ) (t : Told) → i < length told → t ≡ get_or told i t
+    → Puts a b o p (told_lines (take i told)) → AppendsFront b c (p ++ told_line t) → AppendsFront a c (o ++ told_lines told)
+front_more a b c o p told i t within is first f =
+    let next = told_lines (take (i + 1) told) in
+    let others = told_lines (drop (i + 1) told) in
+    let here : AppendsFront a c (o ++ next) = rw (told_lines-next told i t within is) (puts_front a b c o p (told_lines (take i told)) (told_line t) first f) in
+    front_same a c ((o ++ next) ++ others) (o ++ told_lines told)
+    (append_assoc o next others ∙ ap (λ l. o ++ l) (sym (flat_map-append told_line (take (i + 1) told) (drop (i + 1) told)) ∙ ap told_lines (take-append-drop (i + 1) told))) (front_longer a c (o ++ next) others here)

@@ -12,8 +12,9 @@ use Rattle.call_types.specs.declared.limits.Limits.{Limits}
 use Rattle.posix_model.specs.History.{legal}
 use Rattle.posix_model.specs.Slots.{slot}
 use Rattle.record_book.specs.Book.{BookState}
-use Rattle.record_book.specs.Seat.{SeatState}
-use Rattle.record_book.specs.Runs.{RunTells, Seats, Tells, TellsCall}
+use Rattle.record_book.specs.Seat.{Receipted, SeatState}
+use Rattle.call_types.specs.declared.refusal.Refusal.{Refusal}
+use Rattle.record_book.specs.Runs.{RunTells, Seats, Tells, Runs, CallRuns}
 use Rattle.record_book.specs.declared.run.Told.{Told}
 use Rattle.record_book.specs.declared.run.Told.TheVariants.{Recorded, Refused}
 use Rattle.call_types.specs.declared.call.Call.{Call}
@@ -50,31 +51,37 @@ read_whole (Some input) most old text limit empty is = λ short.
 
 -- ---- a run's limits stay
 
-call_keeps_limits : (old new : BookState) (seats after : Seats) (process : ℕ) (c : Call) (t : Told) (s : Option SeatState)
-    → TellsCall old new seats after process c t s → new.limits ≡ old.limits
-call_keeps_limits old new seats after process c (Recorded receipt) (Some s) h = h.appends.limits
-call_keeps_limits old new seats after process c (Refused actor refusal) (Some s) h = ap (λ b. b.limits) h.2.book
-call_keeps_limits old new seats after process c t None h = ap (λ b. b.limits) h.1.book
+call_keeps_limits : (old new : BookState) (seats after : Seats) (process : ℕ) (c : Call) (r : Result Receipted Refusal) (s : Option SeatState)
+    → CallRuns old new seats after process c r s → new.limits ≡ old.limits
+call_keeps_limits old new seats after process c (Ok receipt) (Some s) h = h.appends.limits
+call_keeps_limits old new seats after process c (Err refusal) (Some s) h = ap (λ b. b.limits) h.1.book
+call_keeps_limits old new seats after process c (Ok receipt) None h = absurd h
+call_keeps_limits old new seats after process c (Err refusal) None h = ap (λ b. b.limits) h.1.book
 
-act_keeps_limits : (old new : BookState) (seats after : Seats) (a : ScriptAct) (t : Told) → Tells old new seats after a t → new.limits ≡ old.limits
-act_keeps_limits old new seats after script_act.Join (Recorded receipt) h = h.appends.limits
-act_keeps_limits old new seats after script_act.Join (Refused actor refusal) h = ap (λ b. b.limits) h.2.book
-act_keeps_limits old new seats after (script_act.Call process c) t h = call_keeps_limits old new seats after process c t (slot seats process) h
+act_keeps_limits : (old new : BookState) (seats after : Seats) (a : ScriptAct) (r : Result Receipted Refusal) → Runs old new seats after a r → new.limits ≡ old.limits
+act_keeps_limits old new seats after script_act.Join (Ok receipt) h = h.appends.limits
+act_keeps_limits old new seats after script_act.Join (Err refusal) h = ap (λ b. b.limits) h.1.book
+act_keeps_limits old new seats after (script_act.Call process c) r h = call_keeps_limits old new seats after process c r (slot seats process) h
 
-run_keeps_limits : (old new : BookState) (seats after : Seats) (acts : List ScriptAct) (tolds : List Told) → RunTells old new seats after acts tolds
+told_keeps_limits : (old new : BookState) (seats after : Seats) (a : ScriptAct) (told : List Told) → Tells old new seats after a told → new.limits ≡ old.limits
+told_keeps_limits old new seats after a (Recorded receipt ∷ []) h = act_keeps_limits old new seats after a (Ok receipt) h
+told_keeps_limits old new seats after a (Refused actor act refusal ∷ []) h = act_keeps_limits old new seats after a (Err refusal) h.2
+told_keeps_limits old new seats after a [] h = absurd h
+told_keeps_limits old new seats after a (Recorded receipt ∷ u ∷ more) h = absurd h
+told_keeps_limits old new seats after a (Refused actor act refusal ∷ u ∷ more) h = absurd h
+
+run_keeps_limits : (old new : BookState) (seats after : Seats) (acts : List ScriptAct) (told : List Told) → RunTells old new seats after acts told
     → new.limits ≡ old.limits
-run_keeps_limits old new seats after [] [] h = ap (λ b. b.limits) h.book
-run_keeps_limits old new seats after (a ∷ acts) (t ∷ tolds) h =
-    run_keeps_limits h.0 new h.1 after acts tolds h.3 ∙ act_keeps_limits old h.0 seats h.1 a t h.2
-run_keeps_limits old new seats after [] (t ∷ tolds) h = absurd h
-run_keeps_limits old new seats after (a ∷ acts) [] h = absurd h
+run_keeps_limits old new seats after [] told h = ap (λ b. b.limits) h.1.book
+run_keeps_limits old new seats after (a ∷ acts) told h =
+    run_keeps_limits h.0 new h.1 after acts h.3 h.6 ∙ told_keeps_limits old h.0 seats h.1 a h.2 h.5
 
 -- ---- what a replay says
 
 -- the lines of what is told of the acts in a new book are an output
 pub output_of_run : (limits : Limits) (acts : List ScriptAct) (start book : BookState) (tolds : List Told)
     → start ≡ record { limits = limits; history = [] } → (seats : Seats) × RunTells start book [] seats acts tolds
-    → legal book.limits.bounds book.history → IsOutput limits acts (told_lines acts tolds ++ closing_line book)
+    → legal book.limits.bounds book.history → IsOutput limits acts (told_lines tolds ++ closing_line book)
 output_of_run limits acts start book tolds new run sound =
     let same : book.limits ≡ limits = run_keeps_limits start book [] run.0 acts tolds run.1 ∙ ap (λ b. b.limits) new in
     record {

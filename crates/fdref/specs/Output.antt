@@ -1,7 +1,7 @@
 -- The lines of a run, and what it says that they are written (own).
 use Rattle.std.specs.Prelude.{◌≡◌, ℕ, List, [], ◌∷◌, ◌++◌, Option, length}
+use Rattle.std.specs.List.{flat_map}
 use Rattle.std.specs.Io.KnownBytes.{Appends}
-use Rattle.call_types.specs.declared.act.ScriptAct.{ScriptAct}
 use Rattle.posix_model.specs.Turns.{bytes_in, bytes_out}
 use Rattle.script_text.specs.Lines.{record_line, refused_line, totals_line}
 use Rattle.record_book.specs.Book.{BookState}
@@ -9,15 +9,13 @@ use Rattle.record_book.specs.declared.run.Told.{Told}
 use Rattle.record_book.specs.declared.run.Told.TheVariants.{Recorded, Refused}
 
 -- the line of what is told of an act
-abbrev pub told_line : ScriptAct → Told → List ℕ
-told_line act (Recorded receipt) = record_line receipt.place receipt.record_is
-told_line act (Refused actor refusal) = refused_line actor act refusal
+abbrev pub told_line : Told → List ℕ
+told_line (Recorded receipt) = record_line receipt.place receipt.record_is
+told_line (Refused actor act refusal) = refused_line actor act.now refusal
 
--- the lines of what is told of each act
-abbrev pub told_lines : List ScriptAct → List Told → List ℕ
-told_lines [] tolds = []
-told_lines (act ∷ acts) [] = []
-told_lines (act ∷ acts) (told ∷ tolds) = told_line act told ++ told_lines acts tolds
+-- the lines of all that is told
+abbrev pub told_lines : List Told → List ℕ
+told_lines told = flat_map told_line told
 
 -- the closing line of a book
 abbrev pub closing_line : BookState → List ℕ

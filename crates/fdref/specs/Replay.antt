@@ -23,7 +23,7 @@ pub record IsOutput (limits : Limits) (acts : List ScriptAct) (output : List ℕ
   pub seats : Seats
   pub runs : RunTells (record { limits = limits; history = [] }) book [] seats acts told
   pub is_legal : legal limits.bounds book.history
-  pub output_is : output ≡ told_lines acts told ++ closing_line book
+  pub output_is : output ≡ told_lines told ++ closing_line book
 
 -- such an output was written, and nothing else
 abbrev pub RunsActs : Limits → List ScriptAct → Option (List ℕ) → Option (List ℕ) → Type 0

@@ -5,7 +5,6 @@ ghost use Rattle.script_text.specs.Lines.{totals_line};
 ghost use Rattle.fdref.specs.Output.{AppendsFront, Puts, told_line, told_lines};
 
 use crate::ended::Ended;
-use call_types::act::ScriptAct;
 use record_book::book::Counts;
 use record_book::run::Told;
 use script_text::lines::{write_record, write_refused, write_totals};
@@ -51,12 +50,16 @@ fn write_whole<W: Write>(writer: &mut W, text: &[u8]) -> Result<(), Ended>
 }
 
 /// Gathers the line of what is told of an act.
-fn put_line(out: &mut Vec<u8>, act: &ScriptAct, told: &Told) -> Result<(), AllocError>
-    ensures { OnOk result (out.new.items ≡ out.old.items ++ told_line act.now told.now) }
+fn put_line(out: &mut Vec<u8>, told: &Told<'_>) -> Result<(), AllocError>
+    ensures { OnOk result (out.new.items ≡ out.old.items ++ told_line told.now) }
 {
     match told {
         Told::Recorded(receipt) => write_record(out, receipt.place(), receipt.record()),
-        Told::Refused { actor, refusal } => write_refused(out, *actor, act, *refusal),
+        Told::Refused {
+            actor,
+            act,
+            refusal,
+        } => write_refused(out, *actor, act, *refusal),
     }
 }
 
@@ -72,17 +75,12 @@ fn write_out<W: Write>(writer: &mut W, out: &mut Vec<u8>) -> Result<(), Ended>
 }
 
 /// Gathers a line, and writes what is gathered once that is much.
-fn put_told<W: Write>(
-    writer: &mut W,
-    out: &mut Vec<u8>,
-    act: &ScriptAct,
-    told: &Told,
-) -> Result<(), Ended>
-    ensures text { OnOk result (Puts (W.contents writer.old) (W.contents writer.new) out.old.items out.new.items (told_line act.now told.now)) }
-    ensures front { OnErr result (AppendsFront (W.contents writer.old) (W.contents writer.new) (out.old.items ++ told_line act.now told.now)) }
+fn put_told<W: Write>(writer: &mut W, out: &mut Vec<u8>, told: &Told<'_>) -> Result<(), Ended>
+    ensures text { OnOk result (Puts (W.contents writer.old) (W.contents writer.new) out.old.items out.new.items (told_line told.now)) }
+    ensures front { OnErr result (AppendsFront (W.contents writer.old) (W.contents writer.new) (out.old.items ++ told_line told.now)) }
     ensures fault { IfErr result (λ ended. (ended ≡ Ended.CannotWrite) ⊎ (ended ≡ Ended.NoMemory)) }
 {
-    put_line(out, act, told)?;
+    put_line(out, told)?;
     if out.len() >= BUFFER_SIZE {
         write_out(writer, out)?;
     }
@@ -90,19 +88,13 @@ fn put_told<W: Write>(
 }
 
 /// Writes the lines of what is told of each act, but for what stays gathered.
-fn put_all<W: Write>(
-    writer: &mut W,
-    out: &mut Vec<u8>,
-    acts: &[ScriptAct],
-    told: &[Told],
-) -> Result<(), Ended>
-    requires { length told.now ≡ length acts.now }
-    ensures text { OnOk result (Puts (W.contents writer.old) (W.contents writer.new) out.old.items out.new.items (told_lines acts.now told.now)) }
-    ensures front { OnErr result (AppendsFront (W.contents writer.old) (W.contents writer.new) (out.old.items ++ told_lines acts.now told.now)) }
+fn put_all<W: Write>(writer: &mut W, out: &mut Vec<u8>, told: &[Told<'_>]) -> Result<(), Ended>
+    ensures text { OnOk result (Puts (W.contents writer.old) (W.contents writer.new) out.old.items out.new.items (told_lines told.now)) }
+    ensures front { OnErr result (AppendsFront (W.contents writer.old) (W.contents writer.new) (out.old.items ++ told_lines told.now)) }
     ensures fault { IfErr result (λ ended. (ended ≡ Ended.CannotWrite) ⊎ (ended ≡ Ended.NoMemory)) }
 {
-    for i in 0..told.len() {
-        put_told(writer, out, &acts[i], &told[i])?;
+    for one in told {
+        put_told(writer, out, one)?;
     }
     Ok(())
 }
@@ -126,17 +118,15 @@ fn write_last<W: Write>(writer: &mut W, out: &mut Vec<u8>, counts: Counts) -> Re
 pub fn write_lines<W: Write>(
     alloc: Global,
     writer: &mut W,
-    acts: &[ScriptAct],
-    told: &[Told],
+    told: &[Told<'_>],
     counts: Counts,
 ) -> Result<(), Ended>
-    requires { length told.now ≡ length acts.now }
-    ensures output { OnOk result (Appends (W.contents writer.old) (W.contents writer.new) (told_lines acts.now told.now ++ totals_line counts.records counts.bytes_in counts.bytes_out)) }
-    ensures front { OnErr result (AppendsFront (W.contents writer.old) (W.contents writer.new) (told_lines acts.now told.now ++ totals_line counts.records counts.bytes_in counts.bytes_out)) }
+    ensures output { OnOk result (Appends (W.contents writer.old) (W.contents writer.new) (told_lines told.now ++ totals_line counts.records counts.bytes_in counts.bytes_out)) }
+    ensures front { OnErr result (AppendsFront (W.contents writer.old) (W.contents writer.new) (told_lines told.now ++ totals_line counts.records counts.bytes_in counts.bytes_out)) }
     ensures fault { IfErr result (λ ended. (ended ≡ Ended.CannotWrite) ⊎ (ended ≡ Ended.NoMemory)) }
 {
     let mut out = Vec::with_capacity(alloc, 2 * BUFFER_SIZE)?;
-    put_all(writer, &mut out, acts, told)?;
+    put_all(writer, &mut out, told)?;
     write_last(writer, &mut out, counts)?;
     Ok(())
 }

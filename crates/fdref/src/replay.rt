@@ -44,7 +44,7 @@ fn run_acts<W: Write>(
     let mut book = Book::new(alloc, limits)?;
     let told = book.run_acts(alloc, acts)?;
     let counts = book.counts();
-    write_lines(alloc, writer, acts, told.as_slice(), counts)
+    write_lines(alloc, writer, told.as_slice(), counts)
 }
 
 /// Reads a script, runs its acts in their order in a new book, and writes a line for each record and each act that is

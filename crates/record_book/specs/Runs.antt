@@ -1,9 +1,10 @@
 -- What is told of the acts of a script, one after another (own).
-use Rattle.std.specs.Prelude.{◌≡◌, ℕ, ◌-◌, nat_lt, Bool, true, false, List, [], ◌∷◌, ◌++◌, Option, None, Some, length, replicate, slice_set, if◌then◌else◌}
+use Rattle.std.specs.Prelude.{◌≡◌, ℕ, ◌-◌, nat_lt, Bool, true, false, List, [], ◌∷◌, ◌++◌, Option, None, Some, Result, Ok, Err, length, replicate, slice_set, if◌then◌else◌}
 use Rattle.call_types.specs.declared.act.Act.TheVariants as act
 use Rattle.call_types.specs.declared.act.ScriptAct.{ScriptAct}
 use Rattle.call_types.specs.declared.act.ScriptAct.TheVariants as script
 use Rattle.call_types.specs.declared.call.Call.{Call}
+use Rattle.call_types.specs.declared.refusal.Refusal.{Refusal}
 use Rattle.call_types.specs.declared.refusal.Refusal.TheVariants.{NotHere}
 use Rattle.posix_model.specs.Slots.{slot}
 use Rattle.posix_model.specs.Join.{is_full}
@@ -40,10 +41,10 @@ pub record Unchanged (old new : BookState) (seats after : Seats) : Type 0 where
   pub book : new ≡ old
   pub seats_are : after ≡ seats
 
--- what is told of a join
-abbrev pub TellsJoin : BookState → BookState → Seats → Seats → Told → Type 0
-TellsJoin old new seats after (Recorded receipt) = JoinRecorded old new seats after receipt
-TellsJoin old new seats after (Refused actor refusal) = (actor ≡ next_pid old) × IsDue (join_refusal old) refusal × Unchanged old new seats after
+-- how a join of a script goes: recorded, or refused with nothing changed
+abbrev pub JoinRuns : BookState → BookState → Seats → Seats → Result Receipted Refusal → Type 0
+JoinRuns old new seats after (Ok receipt) = JoinRecorded old new seats after receipt
+JoinRuns old new seats after (Err refusal) = IsDue (join_refusal old) refusal × Unchanged old new seats after
 
 -- a call of a seat's process is recorded, and the seat has its receipt
 pub record CallRecorded (old new : BookState) (seats after : Seats) (process : ℕ) (s : SeatState) (c : Call) (receipt : Receipted) : Type 0 where
@@ -53,21 +54,32 @@ pub record CallRecorded (old new : BookState) (seats after : Seats) (process : �
   pub receives : Receives s seat receipt
   pub seats_are : after ≡ slice_set seats process (Some seat)
 
--- what is told of a call of a process with this seat: NotHere where the script opened no such process
-abbrev pub TellsCall : BookState → BookState → Seats → Seats → ℕ → Call → Told → Option SeatState → Type 0
-TellsCall old new seats after process c (Recorded receipt) (Some s) = CallRecorded old new seats after process s c receipt
-TellsCall old new seats after process c (Refused actor refusal) (Some s) = (actor ≡ process) × IsDue (start_refusal old s c) refusal × Unchanged old new seats after
-TellsCall old new seats after process c told None = (told ≡ Refused process NotHere) × Unchanged old new seats after
+-- how a call of a process with this seat goes: NotHere where the script opened no such process
+abbrev pub CallRuns : BookState → BookState → Seats → Seats → ℕ → Call → Result Receipted Refusal → Option SeatState → Type 0
+CallRuns old new seats after process c (Ok receipt) (Some s) = CallRecorded old new seats after process s c receipt
+CallRuns old new seats after process c (Err refusal) (Some s) = IsDue (start_refusal old s c) refusal × Unchanged old new seats after
+CallRuns old new seats after process c (Ok receipt) None = ⊥
+CallRuns old new seats after process c (Err refusal) None = (refusal ≡ NotHere) × Unchanged old new seats after
 
--- what is told of an act
-abbrev pub Tells : BookState → BookState → Seats → Seats → ScriptAct → Told → Type 0
-Tells old new seats after script.Join told = TellsJoin old new seats after told
-Tells old new seats after (script.Call process c) told = TellsCall old new seats after process c told (slot seats process)
+-- how an act goes
+abbrev pub Runs : BookState → BookState → Seats → Seats → ScriptAct → Result Receipted Refusal → Type 0
+Runs old new seats after script.Join ran = JoinRuns old new seats after ran
+Runs old new seats after (script.Call process c) ran = CallRuns old new seats after process c ran (slot seats process)
+
+-- the process whose act it is, or would be
+abbrev pub actor_of : BookState → ScriptAct → ℕ
+actor_of b script.Join = next_pid b
+actor_of b (script.Call process c) = process
+
+-- what is told of an act: one thing, of each that there is now
+abbrev pub Tells : BookState → BookState → Seats → Seats → ScriptAct → List Told → Type 0
+Tells old new seats after a (Recorded receipt ∷ []) = Runs old new seats after a (Ok receipt)
+Tells old new seats after a (Refused actor refused refusal ∷ []) = (actor ≡ actor_of old a) × (refused.now ≡ a) × Runs old new seats after a (Err refusal)
+Tells old new seats after a other = ⊥
 
 -- what is told of acts one after another, from a book and seats on
 abbrev pub RunTells : BookState → BookState → Seats → Seats → List ScriptAct → List Told → Type 0
-RunTells old new seats after [] [] = Unchanged old new seats after
-RunTells old new seats after (a ∷ acts) (t ∷ tolds) =
-    (mid : BookState) × (between : Seats) × Tells old mid seats between a t × RunTells mid new between after acts tolds
-RunTells old new seats after [] (t ∷ tolds) = ⊥
-RunTells old new seats after (a ∷ acts) [] = ⊥
+RunTells old new seats after [] told = (told ≡ []) × Unchanged old new seats after
+RunTells old new seats after (a ∷ acts) told =
+    (mid : BookState) × (between : Seats) × (first : List Told) × (more : List Told) ×
+    (told ≡ first ++ more) × Tells old mid seats between a first × RunTells mid new between after acts more

@@ -1,4 +1,4 @@
-ghost use Rattle.std.specs.Prelude.{◌≡◌, None, [], List, Option, length, vec_len, IfOk, IfErr, OnOk, OnErr};
+ghost use Rattle.std.specs.Prelude.{◌≡◌, None, [], ◌∷◌, List, Option, length, vec_len, IfOk, IfErr, OnOk, OnErr};
 ghost use Rattle.record_book.specs.Seat.{SeatState};
 ghost use Rattle.record_book.specs.Book.{BookState, Appends, Receives};
 ghost use Rattle.record_book.specs.Refusals.{start_refusal, IsDue};
@@ -12,12 +12,16 @@ use call_types::call::Call;
 use call_types::refusal::Refusal;
 use std::alloc::{AllocError, Global};
 
-/// What is told of one act of a script: its receipt, or why nothing was recorded, with the process whose act it was or
-/// would have been.
+/// One thing that is told of an act of a script: a record, or that the act is not recorded, with the process whose act it
+/// was or would have been, and why.
 #[derive(Drop)]
-pub enum Told {
+pub enum Told<'a> {
     Recorded(Receipt),
-    Refused { actor: u32, refusal: Refusal },
+    Refused {
+        actor: u32,
+        act: &'a ScriptAct,
+        refusal: Refusal,
+    },
 }
 
 impl Book {
@@ -41,77 +45,74 @@ impl Book {
     }
 
     ghost use Rattle.posix_model.specs.Slots.{slot};
-    ghost use Rattle.record_book.specs.Runs.{TellsJoin, TellsCall, Tells, RunTells};
+    ghost use Rattle.record_book.specs.Runs.{JoinRuns, CallRuns, Tells, RunTells};
 
     /// Runs a join of a script; where it makes a process, its seat is put among the others.
-    fn run_join(&mut self, alloc: Global, seats: &mut Seats) -> Told
-        ensures { TellsJoin self.old self.new seats.old.0 seats.new.0 result }
+    fn run_join(&mut self, alloc: Global, seats: &mut Seats) -> Result<Receipt, Refusal>
+        ensures { JoinRuns self.old self.new seats.old.0 seats.new.0 result }
     {
         let actor = self.next_pid();
         if self.join_overfills() {
-            return Told::Refused {
-                actor,
-                refusal: Refusal::RunFull,
-            };
+            return Err(Refusal::RunFull);
         }
-        if seats.reserve(actor as usize).is_err() {
-            return Told::Refused {
-                actor,
-                refusal: Refusal::NoMemory,
-            };
+        seats.reserve(actor as usize)?;
+        let (opened, receipt) = self.join_told(alloc)?;
+        if let Opened::Seated(seat) = opened {
+            seats.put(actor as usize, seat);
         }
-        match self.join_told(alloc) {
-            Ok((opened, receipt)) => {
-                if let Opened::Seated(seat) = opened {
-                    seats.put(actor as usize, seat);
-                }
-                Told::Recorded(receipt)
-            }
-            Err(refusal) => Told::Refused { actor, refusal },
-        }
+        Ok(receipt)
     }
 
     /// Runs a call of a script.
-    fn run_call(&mut self, alloc: Global, seats: &mut Seats, process: u32, call: &Call) -> Told
-        ensures { TellsCall self.old self.new seats.old.0 seats.new.0 process call.now result (slot seats.old.0 process) }
+    fn run_call(
+        &mut self,
+        alloc: Global,
+        seats: &mut Seats,
+        process: u32,
+        call: &Call,
+    ) -> Result<Receipt, Refusal>
+        ensures { CallRuns self.old self.new seats.old.0 seats.new.0 process call.now result (slot seats.old.0 process) }
     {
         let number = process as usize;
         if number >= seats.slots.len() {
-            return Told::Refused {
-                actor: process,
-                refusal: Refusal::NotHere,
-            };
+            return Err(Refusal::NotHere);
         }
-        if let Some(seat) = &mut seats.slots[number] {
-            return match self.start_copy(alloc, seat, call) {
-                Ok(receipt) => Told::Recorded(receipt),
-                Err(refusal) => Told::Refused {
-                    actor: process,
-                    refusal,
-                },
-            };
-        }
-        Told::Refused {
-            actor: process,
-            refusal: Refusal::NotHere,
+        match &mut seats.slots[number] {
+            Some(seat) => self.start_copy(alloc, seat, call),
+            None => Err(Refusal::NotHere),
         }
     }
 
-    /// Runs one act of a script.
-    fn run_act(&mut self, alloc: Global, seats: &mut Seats, act: &ScriptAct) -> Told
-        ensures { Tells self.old self.new seats.old.0 seats.new.0 act.now result }
+    /// Runs one act of a script, and tells of it.
+    fn run_act<'a>(&mut self, alloc: Global, seats: &mut Seats, act: &'a ScriptAct) -> Told<'a>
+        ensures { Tells self.old self.new seats.old.0 seats.new.0 act.now (result ∷ []) }
     {
-        match act {
+        let actor = match act {
+            ScriptAct::Join => self.next_pid(),
+            ScriptAct::Call { process, .. } => *process,
+        };
+        let ran = match act {
             ScriptAct::Join => self.run_join(alloc, seats),
             ScriptAct::Call { process, call } => self.run_call(alloc, seats, *process, call),
+        };
+        match ran {
+            Ok(receipt) => Told::Recorded(receipt),
+            Err(refusal) => Told::Refused {
+                actor,
+                act,
+                refusal,
+            },
         }
     }
 
     /// Runs the acts of a script in their order, and tells of each. Only the room for what is told can be wanting as a
     /// whole, and then nothing was run.
-    pub fn run_acts(&mut self, alloc: Global, acts: &[ScriptAct]) -> Result<Vec<Told>, AllocError>
+    pub fn run_acts<'a>(
+        &mut self,
+        alloc: Global,
+        acts: &'a [ScriptAct],
+    ) -> Result<Vec<Told<'a>>, AllocError>
         ensures told { IfOk result (λ told. (seats : List (Option SeatState)) × RunTells self.old self.new [] seats acts.now told.items) }
-        ensures each { IfOk result (λ told. vec_len told ≡ length acts.now) }
         ensures err { OnErr result (self.new ≡ self.old) }
     {
         let mut told = Vec::with_capacity(alloc, acts.len())?;
