@@ -1,8 +1,9 @@
 -- The calls: each has a word in lines, a byte in request frames, and its fields. One table for both (own).
-use Rattle.std.specs.Prelude.{◌≡◌, ℕ, ℤ, List, [], ◌∷◌, Option, None, Some, codes}
+use Rattle.std.specs.Prelude.{◌≡◌, ℕ, ◌+◌, ◌≤◌, ℤ, List, [], ◌∷◌, Option, None, Some, length, codes}
 use Rattle.call_types.specs.declared.call.Call.{Call}
 use Rattle.call_types.specs.declared.call.Call.TheVariants as calls
 use Rattle.call_types.specs.declared.whence.Whence.{Whence}
+use Rattle.call_types.specs.declared.limits.TheConstants.{GIVEN_NAME_MAX, GIVEN_BYTES_MAX}
 
 -- the kinds of fields
 pub data FieldKind : Type 0 where
@@ -132,3 +133,31 @@ payload_in (k ∷ ks) vs = payload_or k vs.0 (payload_in ks vs.1)
 -- the data that a call gives to write, if it is one that writes
 abbrev pub payload_of : Call → Option (List ℕ)
 payload_of call = payload_in (parts call).entry.fields (parts call).values
+
+-- the bytes of a field in a request (own: numbers are of fixed width, and names and data have their length before them)
+abbrev pub field_length : (k : FieldKind) → Value k → ℕ
+field_length a_descriptor fd = 4
+field_length a_position start = 8
+field_length a_count n = 4
+field_length a_name name = 1 + length name
+field_length a_payload bytes = 4 + length bytes
+field_length k value = 1
+
+-- the most bytes of a field, with names and data as long as a call may give them
+abbrev pub field_most : FieldKind → ℕ
+field_most a_descriptor = 4
+field_most a_position = 8
+field_most a_count = 4
+field_most a_name = 1 + GIVEN_NAME_MAX
+field_most a_payload = 4 + GIVEN_BYTES_MAX
+field_most k = 1
+
+-- the bytes of fields in a row
+abbrev pub fields_length : (ks : List FieldKind) → Values ks → ℕ
+fields_length [] vs = 0
+fields_length (k ∷ ks) vs = field_length k vs.0 + fields_length ks vs.1
+
+-- none of the fields is longer than a call may give it
+abbrev pub FieldsShort : (ks : List FieldKind) → Values ks → Type 0
+FieldsShort [] vs = Unit {0}
+FieldsShort (k ∷ ks) vs = (field_length k vs.0 ≤ field_most k) × FieldsShort ks vs.1

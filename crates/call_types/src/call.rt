@@ -68,4 +68,24 @@ impl Call {
             _ => None,
         }
     }
+
+    ghost use Rattle.call_types.specs.CallTable.{parts, FieldsShort};
+
+    /// No field is longer than a call may give it: names and data are as long as their types let them be. It does nothing.
+    pub fn fields_are_short(&self)
+        ensures { FieldsShort (parts self.now).entry.fields (parts self.now).values }
+    {
+        match self {
+            Call::Open { name, .. } => {
+                let _bytes = name.as_slice();
+            }
+            Call::Write { bytes, .. } => {
+                let _bytes = bytes.as_slice();
+            }
+            Call::Pwrite { bytes, .. } => {
+                let _bytes = bytes.as_slice();
+            }
+            _ => {}
+        }
+    }
 }

@@ -36,6 +36,9 @@ pub const FILE_SIZE_MAX: u64 = 1_048_576;
 /// Bytes that a pipe holds.
 pub const PIPE_CAPACITY: u64 = 1024;
 
+/// Bytes of a record where it is sent.
+pub const RECORD_LENGTH_MAX: usize = 66_048;
+
 /// Records of one run, at most.
 pub const RECORDS_MAX: u64 = 1_000_000;
 
@@ -53,6 +56,7 @@ pub fn numbers_of_the_profile()
     ensures offset_max { OFFSET_MAX ≡ 2 ^ 63 - 1 }
     ensures file_size_max { FILE_SIZE_MAX ≡ 1048576 }
     ensures pipe_capacity { PIPE_CAPACITY ≡ 1024 }
+    ensures record_length_max { RECORD_LENGTH_MAX ≡ 66048 }
     ensures records_max { RECORDS_MAX ≡ 1000000 }
     ensures house { HOUSE ≡ 4294967295 }
 {}

@@ -1,9 +1,9 @@
 -- What was written so far, and the fronts of a text.
-use Rattle.std.proofs.Common.{◌≡◌, ℕ, zero, suc, ◌+◌, ◌-◌, ◌<◌, List, [], ◌∷◌, ◌++◌, Option, Result, Ok, Err, length, take, drop, refl, sym, ◌∙◌, ap, arith, get_or, length-take-le, take-append-drop}
+use Rattle.std.proofs.Common.{◌≡◌, ℕ, ◌+◌, ◌-◌, ◌<◌, List, [], ◌∷◌, ◌++◌, Option, Result, Ok, Err, length, take, drop, sym, ◌∙◌, ap, get_or, take-append-drop}
 use Rattle.std.specs.Prelude.{OnErr}
 use Rattle.std.proofs.lemmas.List.{append_assoc, append-nil, take_more, take_rest}
 use Rattle.std.proofs.lemmas.Grind.{flat_map-append}
-use Rattle.std.proofs.KnownBytes.{Appends-nil, Appends-trans, Appends-kept}
+use Rattle.std.proofs.KnownBytes.{Appends-trans, Appends-kept}
 use Rattle.std.specs.Io.KnownBytes.{Appends, Keeps}
 use Rattle.record_book.specs.declared.run.Told.{Told}
 use Rattle.fdref.specs.Output.{AppendsFront, Puts, told_line, told_lines}
@@ -14,10 +14,6 @@ use Rattle.fdref.specs.Output.{AppendsFront, Puts, told_line, told_lines}
 pub of_error : {T E : Type 0} (r : Result T E) {P : Type 0} → P → OnErr r P
 of_error (Ok x) p = tt
 of_error (Err e) p = p
-
--- nothing was written yet
-pub front_nothing : (a : Option (List ℕ)) (text : List ℕ) → AppendsFront a a text
-front_nothing a text = record { front = []; rest = text; is = refl; appends = Appends-nil a }
 
 -- all was written
 pub front_whole : (a b : Option (List ℕ)) (text : List ℕ) → Appends a b text → AppendsFront a b text
@@ -50,10 +46,6 @@ pub front_so_far : (a b c : Option (List ℕ)) (text rest : List ℕ) → ((done
     → AppendsFront a c text
 front_so_far a b c text rest so_far kept = record { front = so_far.0; rest = rest; is = so_far.1; appends = Appends-kept a b c so_far.0 so_far.2 kept }
 
--- some of a text was written
-pub front_ended : (a b : Option (List ℕ)) (text rest : List ℕ) → ((done : List ℕ) × (text ≡ done ++ rest) × Appends a b done) → AppendsFront a b text
-front_ended a b text rest so_far = record { front = so_far.0; rest = rest; is = so_far.1; appends = so_far.2 }
-
 -- one more front of the rest was written
 pub wrote_more : (a b c : Option (List ℕ)) (text rest : List ℕ) (n : ℕ) → ((done : List ℕ) × (text ≡ done ++ rest) × Appends a b done)
     → Appends b c (take n rest) → (done : List ℕ) × (text ≡ done ++ take (length rest - n) (drop n rest)) × Appends a c done
@@ -79,10 +71,6 @@ puts_then a b c o p q x y first second = record {
       append_assoc first.added second.added q ∙ ap (λ l. first.added ++ l) second.is ∙ sym (append_assoc first.added p y)
       ∙ ap (λ l. l ++ y) first.is ∙ append_assoc o x y;
 }
-
--- nothing was put yet
-pub puts_nothing : (a : Option (List ℕ)) (o : List ℕ) → Puts a a o o []
-puts_nothing a o = record { added = []; appends = Appends-nil a; is = sym (append-nil o) }
 
 -- a front of what stands in the buffer and of a text to come, behind what was put
 pub puts_front : (a b c : Option (List ℕ)) (o p : List ℕ) (x y : List ℕ) → Puts a b o p x → AppendsFront b c (p ++ y) → AppendsFront a c (o ++ (x ++ y))

@@ -37,10 +37,7 @@ WritesFront limits acts old new = (output : List ℕ) × IsOutput limits acts ou
 abbrev pub StopsShort : Limits → List ScriptAct → Option (List ℕ) → Option (List ℕ) → Ended → Type 0
 StopsShort limits acts old new ended.CannotWrite = WritesFront limits acts old new
 StopsShort limits acts old new ended.NoMemory = (new ≡ old) ⊎ WritesFront limits acts old new
-StopsShort limits acts old new ended.Done = ⊥
-StopsShort limits acts old new (ended.BadLine line column) = ⊥
-StopsShort limits acts old new ended.TooLong = ⊥
-StopsShort limits acts old new ended.CannotRead = ⊥
+StopsShort limits acts old new other = ⊥
 
 -- the text is a script, and the output of its acts was written, and nothing else
 abbrev pub WritesReplay : Limits → Option (List ℕ) → Option (List ℕ) → List ℕ → Type 0

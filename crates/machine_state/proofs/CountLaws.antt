@@ -64,8 +64,7 @@ holders_most (x ∷ ds) f = omega (arith, holders_most ds f, sum_by-cons (λ x. 
 -- a target is the file that it holds
 pub refers_target : (f : ℕ) (t : Target) → refers f (file_of_target t) ≡ is_file f t
 refers_target f (target.Regular file) = refl
-refers_target f (target.Pipe pipe) = refl
-refers_target f (target.Fifo file pipe) = refl
+refers_target f other = refl
 
 -- what a description that goes takes from the holders of a file
 pub holders_gone : (ds : List (Option Description)) (n : ℕ) (d : Description) (f : ℕ) → slot ds n ≡ Some d →

@@ -3,8 +3,6 @@ use Rattle.std.proofs.Common.{◌≡◌, ℕ, zero, suc, ◌+◌, ℤ, pos, negs
 use Rattle.std.specs.Option.{unwrap_or}
 use Rattle.call_types.specs.declared.act.Act.TheVariants as act
 use Rattle.call_types.specs.declared.call.Call.TheVariants as call
-use Rattle.call_types.specs.declared.outcome.Outcome.TheVariants.{Reply as Replied}
-use Rattle.call_types.specs.declared.outcome.Reply.TheVariants.{Number, Done}
 use Rattle.posix_model.specs.Bytes.{splice, resized}
 use Rattle.posix_model.specs.Slots.{slot}
 use Rattle.posix_model.specs.Positions.{bytes_before, regular_file, file_at}
@@ -19,7 +17,7 @@ use Rattle.posix_model.specs.Pwrite.{pwrite}
 use Rattle.posix_model.specs.Ftruncate.{ftruncate}
 use Rattle.posix_model.specs.Step.{given, decided}
 use Rattle.posix_model.specs.Sound.{CallsAreSound}
-use Rattle.plain_world.specs.Types.{World, Description, File, OpenDescriptor, Decided}
+use Rattle.plain_world.specs.Types.{World, Description, File, OpenDescriptor, Decided, Replied, Number, Done}
 use Rattle.posix_model.specs.declared.world.File.TheVariants as file
 use Rattle.posix_model.specs.declared.change.FileEdit.TheVariants as on_files
 use Rattle.posix_model.specs.declared.change.TableEdit.TheVariants as on_table

@@ -18,25 +18,21 @@ use Rattle.plain_world.proofs.SlotLemmas.{slot_pushed}
 -- an edit of files leaves descriptions and processes
 pub files_leave : (w : World) (bytes : List ℕ) (e : FileEdit) → ((with_files w bytes e).descriptions ≡ w.descriptions) × ((with_files w bytes e).processes ≡ w.processes)
 files_leave w bytes on_files.Nothing = (refl, refl)
-files_leave w bytes (on_files.Bytes f start count) = (refl, refl)
-files_leave w bytes (on_files.Resize f len) = (refl, refl)
-files_leave w bytes (on_files.MakeFile name) = (refl, refl)
+files_leave w bytes other = (refl, refl)
 
 -- an edit of processes leaves descriptions
 processes_leave : (w : World) (e : ProcessEdit) → (with_processes w e).descriptions ≡ w.descriptions
 processes_leave w on_process.Nothing = refl
-processes_leave w (on_process.Add table) = refl
+processes_leave w other = refl
 
 -- and neither it nor an edit of descriptors changes a file, a name or a pipe
 same_after_process : (w : World) (e : ProcessEdit) → SameContents w (with_processes w e)
 same_after_process w on_process.Nothing = record { files = refl; names = refl; pipes = refl }
-same_after_process w (on_process.Add table) = record { files = refl; names = refl; pipes = refl }
+same_after_process w other = record { files = refl; names = refl; pipes = refl }
 
 same_after_table : (w : World) (e : TableEdit) → SameContents w (with_table w e)
 same_after_table w on_table.Nothing = record { files = refl; names = refl; pipes = refl }
-same_after_table w (on_table.Offset number offset) = record { files = refl; names = refl; pipes = refl }
-same_after_table w (on_table.Open process fd d) = record { files = refl; names = refl; pipes = refl }
-same_after_table w (on_table.Entry process fd entry) = record { files = refl; names = refl; pipes = refl }
+same_after_table w other = record { files = refl; names = refl; pipes = refl }
 
 -- so a change has the contents that its edit of files leaves
 same_after_files : (w : World) (bytes : List ℕ) (c : Change) → SameContents (with_files w bytes c.files) (changed w bytes c)

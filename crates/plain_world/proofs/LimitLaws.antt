@@ -8,10 +8,8 @@ use Rattle.std.specs.Ordering.{nat_cmp}
 use Rattle.std.specs.Cmp.Lexicographic.{slice_cmp}
 use Rattle.std.specs.FinMap.Entries.{by_order}
 use Rattle.std.specs.declared.cmp.Ordering.TheVariants.{Less, Equal, Greater}
-use Rattle.plain_world.specs.Types.{Act, Record, Bounds, World, Process, Description, File, FileEdit, ProcessEdit, TableEdit, Change, Decided}
-use Rattle.call_types.specs.declared.limits.TheConstants.{OPEN_MAX, NAMES_MAX, DESCRIPTIONS_MAX, OFFSET_MAX}
+use Rattle.plain_world.specs.Types.{Act, Record, Bounds, World, Process, Description, File, FileEdit, ProcessEdit, TableEdit, Change, Decided, OPEN_MAX, NAMES_MAX, DESCRIPTIONS_MAX, OFFSET_MAX, EAGAIN}
 use Rattle.call_types.specs.declared.act.Act.TheVariants as act
-use Rattle.call_types.specs.declared.errno.Errno.TheVariants.{EAGAIN}
 use Rattle.posix_model.specs.Bytes.{splice, resized}
 use Rattle.posix_model.specs.Slots.{slot, live, kept_from}
 use Rattle.posix_model.specs.Names.{Entries, with_name}
@@ -211,7 +209,6 @@ joined_new w false = refl
 
 adds_new : (bounds : Bounds) (w : World) (actor : ℕ) (act : Act) (d : Decided) → Sound bounds w actor act d → comes_to bounds w actor act ≡ Some d → ProcessFits d.change.process
 adds_new bounds w actor act.Join d sound is = subst (λ (x : Decided). ProcessFits x.change.process) (where_may (eqb actor (length w.processes)) (decided_by (join w)) d is) (joined_new w (is_full w))
-adds_new bounds w actor (act.Call c) d sound is = none_made d.change.process sound.planned
 adds_new bounds w actor other d sound is = none_made d.change.process sound.planned
 
 -- what a sweep leaves of a file is no longer

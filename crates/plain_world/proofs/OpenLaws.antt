@@ -11,10 +11,7 @@ use Rattle.std.specs.declared.cmp.Ordering.TheVariants.{Less, Equal, Greater}
 use Rattle.std.specs.Cmp.Lexicographic.{slice_cmp}
 use Rattle.call_types.specs.Flags.{has}
 use Rattle.call_types.specs.Flags as flag
-use Rattle.plain_world.specs.Types.{Errno, OpenFlags, World, Process, Description, File}
-use Rattle.call_types.specs.declared.errno.Errno.TheVariants.{EMFILE}
-use Rattle.call_types.specs.declared.outcome.Outcome.TheVariants.{Reply as Replied}
-use Rattle.call_types.specs.declared.outcome.Reply.TheVariants.{Number}
+use Rattle.plain_world.specs.Types.{Errno, OpenFlags, World, Process, Description, File, EMFILE, Replied, Number}
 use Rattle.posix_model.specs.Slots.{slot, lowest, edited}
 use Rattle.posix_model.specs.Names.{Entries, file_of, with_name}
 use Rattle.posix_model.specs.Descriptors.{opened, opened_number, opened_description, table_of, with_entry, file_bytes}

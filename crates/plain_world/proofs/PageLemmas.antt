@@ -2,8 +2,7 @@
 -- holds of steps.
 use Rattle.std.proofs.Common.{◌≡◌, ℕ, Bool, true, false, cond, List, [], ◌∷◌, ◌++◌, Option, None, Some, refl, subst}
 use Rattle.std.specs.Option.{option_map, option_map_or}
-use Rattle.plain_world.specs.Types.{Act, Errno, Bounds, World, OpenDescriptor, Decided}
-use Rattle.call_types.specs.declared.errno.Errno.TheVariants.{EBADF}
+use Rattle.plain_world.specs.Types.{Act, Errno, Bounds, World, OpenDescriptor, Decided, EBADF}
 use Rattle.posix_model.specs.Pages.{Page, first_fault, unless, refused, decided_by, on_open}
 use Rattle.posix_model.specs.Step.{given, comes_to, Stepped, stepped, step}
 

@@ -5,11 +5,8 @@ use Rattle.std.proofs.lemmas.Grind.{common_steps}
 use Rattle.std.proofs.lemmas.List.Quantifiers.{position-Some}
 use Rattle.std.proofs.lemmas.List.Sums.{fails_before_first}
 use Rattle.std.specs.List.{position_or_len}
-use Rattle.plain_world.specs.Types.{Record, Bounds, World, Decided}
+use Rattle.plain_world.specs.Types.{Record, Bounds, World, Decided, EAGAIN, Replied, Error}
 use Rattle.call_types.specs.declared.act.Act.TheVariants as act
-use Rattle.call_types.specs.declared.errno.Errno.TheVariants.{EAGAIN}
-use Rattle.call_types.specs.declared.outcome.Outcome.TheVariants.{Reply as Replied}
-use Rattle.call_types.specs.declared.outcome.Reply.TheVariants.{Error}
 use Rattle.posix_model.specs.Slots.{slot}
 use Rattle.posix_model.specs.Change.{changed}
 use Rattle.posix_model.specs.Pages.{decided_by}

@@ -71,8 +71,7 @@ end_counts p (Some d) = by_mode (is_pipe p d.target) d.mode
   where
     by_mode : (b : Bool) (m : Mode) → ltb 0 (cond b 1 0) ≡ ltb 0 (cond (b && can_read m) 1 0 + cond (b && can_write m) 1 0)
     by_mode true mode.Read = refl
-    by_mode true mode.Write = refl
-    by_mode true mode.ReadWrite = refl
+    by_mode true other = refl
     by_mode false m = refl
 
 either_counts : (e es r w rs ws : ℕ) → ltb 0 e ≡ ltb 0 (r + w) → ltb 0 es ≡ ltb 0 (rs + ws) → ltb 0 (e + es) ≡ ltb 0 ((r + rs) + (w + ws))

@@ -2,11 +2,9 @@
 use Rattle.std.specs.Prelude.{◌≡◌, ◌≢◌, ℕ, ℤ, pos, ◌+◌, ◌-◌, ◌≤◌, ◌<◌, Bool, true, false, max, List, [], ◌∷◌, ◌++◌, None, Some, length, take, slice_index, slice_set}
 use Rattle.call_types.specs.Flags.{has}
 use Rattle.call_types.specs.Flags as flag
-use Rattle.plain_world.specs.Types.{Call, OpenFlags, Bounds, World, Description, OpenDescriptor}
+use Rattle.plain_world.specs.Types.{Call, OpenFlags, Bounds, World, Description, OpenDescriptor, Replied, Number, Done}
 use Rattle.call_types.specs.declared.act.Act.TheVariants as act
 use Rattle.call_types.specs.declared.call.Call.TheVariants as call
-use Rattle.call_types.specs.declared.outcome.Outcome.TheVariants.{Reply as Replied}
-use Rattle.call_types.specs.declared.outcome.Reply.TheVariants.{Number, Done}
 use Rattle.posix_model.specs.Bytes.{splice, resized}
 use Rattle.posix_model.specs.Names.{file_of}
 use Rattle.posix_model.specs.Slots.{slot}

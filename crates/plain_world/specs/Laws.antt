@@ -1,12 +1,8 @@
 -- What holds of steps, and so of histories.
 use Rattle.std.specs.Prelude.{◌≡◌, ◌≢◌, ℕ, ◌+◌, ◌≤◌, ◌<◌, ◌↔◌, Bool, true, false, List, [], ◌∷◌, ◌++◌, Option, None, Some, length, is_some}
 use Rattle.std.specs.Option.{option_map}
-use Rattle.plain_world.specs.Types.{Act, Record, Errno, Bounds, World, Description, Decided}
-use Rattle.call_types.specs.declared.limits.TheConstants.{OFFSET_MAX}
+use Rattle.plain_world.specs.Types.{Act, Record, Errno, Bounds, World, Description, Decided, OFFSET_MAX, EAGAIN, Replied, Number, Error}
 use Rattle.call_types.specs.declared.act.Act.TheVariants as act
-use Rattle.call_types.specs.declared.errno.Errno.TheVariants.{EAGAIN}
-use Rattle.call_types.specs.declared.outcome.Outcome.TheVariants.{Reply as Replied}
-use Rattle.call_types.specs.declared.outcome.Reply.TheVariants.{Number, Error}
 use Rattle.posix_model.specs.Slots.{slot, lowest}
 use Rattle.posix_model.specs.Whole.{IsThere}
 use Rattle.posix_model.specs.Numbers.{IsLowest}

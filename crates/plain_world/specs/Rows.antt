@@ -1,12 +1,11 @@
 -- Worked runs: what each act answers, and the bytes that each run takes and gives.
 use Rattle.std.specs.Prelude.{◌≡◌, ℕ, pos, negsuc, List, [], ◌∷◌, codes}
-use Rattle.plain_world.specs.Types.{Call, Record, Reply, OpenFlags, Bounds}
+use Rattle.plain_world.specs.Types.{Call, Record, Reply, OpenFlags, Bounds, EBADF, EINVAL, EFBIG, EOVERFLOW, ENOENT, EEXIST}
 use Rattle.call_types.specs.declared.call.Call.TheVariants.{Open, Close, Read, Write, Pread, Pwrite, Lseek, Ftruncate, Fstat}
 use Rattle.call_types.specs.declared.whence.Whence.TheVariants.{Set, Cur, End}
 use Rattle.call_types.specs.declared.act.Act.TheVariants as act
 use Rattle.call_types.specs.declared.outcome.Outcome.TheVariants as outcome
 use Rattle.call_types.specs.declared.outcome.Reply.TheVariants as reply
-use Rattle.call_types.specs.declared.errno.Errno.TheVariants.{EBADF, EINVAL, EFBIG, EOVERFLOW, ENOENT, EEXIST}
 use Rattle.call_types.specs.declared.outcome.Kind.TheVariants.{Regular}
 use Rattle.posix_model.specs.History.{legal}
 use Rattle.posix_model.specs.Turns.{bytes_in, bytes_out}

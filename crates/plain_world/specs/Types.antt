@@ -1,4 +1,4 @@
--- The types that definitions and proofs name, in one place.
+-- The types that definitions and proofs name, with errors, replies and limits, in one place.
 pub use Rattle.call_types.specs.declared.call.Call.{Call}
 pub use Rattle.call_types.specs.declared.act.Act.{Act}
 pub use Rattle.call_types.specs.declared.act.Record.{Record}
@@ -19,3 +19,7 @@ pub use Rattle.posix_model.specs.declared.change.ProcessEdit.{ProcessEdit}
 pub use Rattle.posix_model.specs.declared.change.TableEdit.{TableEdit}
 pub use Rattle.posix_model.specs.declared.change.Change.{Change}
 pub use Rattle.posix_model.specs.declared.change.Decided.{Decided}
+pub use Rattle.call_types.specs.declared.errno.Errno.TheVariants.{EAGAIN, EBADF, EEXIST, EFBIG, EINVAL, EMFILE, ENOENT, EOVERFLOW}
+pub use Rattle.call_types.specs.declared.limits.TheConstants.{DESCRIPTIONS_MAX, NAMES_MAX, OFFSET_MAX, OPEN_MAX}
+pub use Rattle.call_types.specs.declared.outcome.Outcome.TheVariants.{Reply as Replied}
+pub use Rattle.call_types.specs.declared.outcome.Reply.TheVariants.{Done, Error, Number}

@@ -13,11 +13,10 @@ use Rattle.posix_model.specs.Names.{Entries, with_name}
 use Rattle.posix_model.specs.Descriptors.{at_offset, with_entry, with_descriptor, with_offset, bytes_of}
 use Rattle.posix_model.specs.Change.{with_files, with_processes, with_table, changed, with_bytes, created, free_table, process_with, with_description}
 use Rattle.posix_model.specs.Fits.{FilesFit, ProcessFits, TableFits, Fits}
-use Rattle.posix_model.specs.Types.{World, Process, Description, Target, File, FileEdit, ProcessEdit, TableEdit, Change}
+use Rattle.posix_model.specs.Types.{World, Process, Description, Target, File, FileEdit, ProcessEdit, TableEdit, Change, OPEN_MAX}
 use Rattle.posix_model.specs.declared.change.FileEdit.TheVariants as on_files
 use Rattle.posix_model.specs.declared.change.ProcessEdit.TheVariants as on_process
 use Rattle.posix_model.specs.declared.change.TableEdit.TheVariants as on_table
-use Rattle.call_types.specs.declared.limits.TheConstants.{OPEN_MAX}
 use Rattle.posix_model.specs.Bytes.{splice, resized}
 use Rattle.posix_model.specs.Numbers.{NumbersRise, StaysSame}
 use Rattle.posix_model.specs.Whole.{EachThere, PipeIsThere, IsWhole}

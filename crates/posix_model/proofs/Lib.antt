@@ -7,4 +7,5 @@ pub mod ReleaseLaws
 pub mod PageLaws
 pub mod Sound
 pub mod ProcessLaws
+pub mod LengthLaws
 pub mod HistoryLaws

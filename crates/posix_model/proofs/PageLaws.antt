@@ -1,8 +1,7 @@
 -- What holds of each refusal, and of the effect where there is no fault, holds of a page.
 use Rattle.std.proofs.Common.{◌≡◌, ◌∙◌, Bool, true, false, cond, List, [], ◌∷◌, ◌++◌, Option, None, Some, refl, sym}
 use Rattle.std.specs.Option.{option_or}
-use Rattle.posix_model.specs.Types.{Errno, OpenDescriptor, Decided}
-use Rattle.call_types.specs.declared.errno.Errno.TheVariants.{EBADF}
+use Rattle.posix_model.specs.Types.{Errno, OpenDescriptor, Decided, EBADF}
 use Rattle.posix_model.specs.Pages.{Page, first_fault, unless, refused, decided_by, on_open}
 
 unless_has : (Has : Decided → Type 0) (fault : Option Errno) (effect : Decided) → ((error : Errno) → Has (refused error)) → (fault ≡ None → Has effect) → Has (unless fault effect)

@@ -41,9 +41,7 @@ descriptor_keeps w process fd entry = record {
 
 files_keep : (w : World) (bytes : List ℕ) (e : FileEdit) → ((with_files w bytes e).processes ≡ w.processes) × ((with_files w bytes e).closed ≡ w.closed)
 files_keep w bytes on_files.Nothing = (refl, refl)
-files_keep w bytes (on_files.Bytes f start count) = (refl, refl)
-files_keep w bytes (on_files.Resize f len) = (refl, refl)
-files_keep w bytes (on_files.MakeFile name) = (refl, refl)
+files_keep w bytes other = (refl, refl)
 
 table_keeps : (w : World) (e : TableEdit) → SameRun w (with_table w e)
 table_keeps w on_table.Nothing = record { all = refl; living = refl; closed = refl }
@@ -76,11 +74,7 @@ change_counts w bytes c =
 -- no act that comes to something ends a process yet
 ends_none : (bounds : Bounds) (w : World) (actor : ℕ) (act : Act) (d : Decided) → comes_to bounds w actor act ≡ Some d → ended act ≡ 0
 ends_none bounds w actor act.Exit d h = cc
-ends_none bounds w actor act.Join d h = refl
-ends_none bounds w actor (act.Call c) d h = refl
-ends_none bounds w actor act.Attach d h = refl
-ends_none bounds w actor act.Resume d h = refl
-ends_none bounds w actor act.CloseRun d h = refl
+ends_none bounds w actor other d h = refl
 
 counted_as : (w v : World) (m n ends : ℕ) → m ≡ n → ends ≡ 0 → Counts w v m 0 → Counts w v n ends
 counted_as w v m n ends same none c = record { all = rw (← same) c.all; living = rw (← same, none) c.living; closed = c.closed }

@@ -10,7 +10,7 @@ use Rattle.posix_model.specs.Sweep.{is_referred, is_open, is_wanted, open_pipe, 
 use Rattle.posix_model.specs.Types.{World, Description, Target, File, Fifo}
 use Rattle.posix_model.specs.declared.world.Target.TheVariants as target
 use Rattle.posix_model.specs.declared.world.File.TheVariants as file
-use Rattle.posix_model.proofs.SweepLaws.{LeavesThere, sweep_leaves, sweep_leaves_there, slot_mapped}
+use Rattle.posix_model.proofs.SweepLaws.{LeavesThere, sweep_leaves, sweep_leaves_there, slot_mapped, still_there}
 use Rattle.posix_model.specs.Released.{released_descriptions, pipes_after, fifos_after, files_after, IsItsFifo, SettledIsSwept, SweepReleases, SettledStays}
 use Rattle.posix_model.proofs.SlotLaws.{kept_all, kept_at, map_all, map_at}
 
@@ -112,11 +112,6 @@ files_swept ns ds es files (target.Regular f) stay full = kept_at (is_wanted ns 
 files_swept ns ds es files (target.Pipe p) stay full = kept_all (is_wanted ns es) files (λ m there. lt-ltb 0 (links ns m + holders es m) (omega (arith, stay.holders m refl, full m there)))
 files_swept ns ds es files (target.Fifo f p) stay full = kept_at (is_wanted ns es) files f (λ m other there. lt-ltb 0 (links ns m + holders es m) (omega (arith, stay.holders m (other_number m f other), full m there)))
 
-file_there : (ds : List (Option Description)) (x : Option File) → is_some (without_gone_pipe ds x) ≡ is_some x
-file_there ds None = refl
-file_there ds (Some (file.Regular bytes)) = refl
-file_there ds (Some (file.Fifo fifo)) = refl
-
 pub sweep_releases : SweepReleases
 sweep_releases w ps n d settled is its stays =
     let t = d.target in
@@ -125,7 +120,7 @@ sweep_releases w ps n d settled is its stays =
     let descriptions : kept (is_referred ps) w.descriptions ≡ es = kept_at (is_referred ps) w.descriptions n (λ m other there. lt-ltb 0 (refs ps m) (stays m other (settled.descriptions m there))) in
     let pipes : kept (is_open es) w.pipes ≡ pipes_after es w.pipes t = pipes_swept w.descriptions es w.pipes t stay settled.pipes in
     let fifos : map (without_gone_pipe es) w.files ≡ fifos_after es w.files t = fifos_swept w.descriptions es w.files t stay its settled.fifos in
-    let still = λ (m : ℕ). ap is_some (slot_mapped (without_gone_pipe es) refl w.files m) ∙ file_there es (slot w.files m) in
+    let still = λ (m : ℕ). ap is_some (slot_mapped (without_gone_pipe es) refl w.files m) ∙ still_there es (slot w.files m) in
     let files : kept (is_wanted w.names es) (map (without_gone_pipe es) w.files) ≡ files_after w.names es (map (without_gone_pipe es) w.files) t =
     files_swept w.names w.descriptions es (map (without_gone_pipe es) w.files) t stay (λ m there. settled.files m (sym (still m) ∙ there)) in
     rw (descriptions, pipes, files, fifos) refl

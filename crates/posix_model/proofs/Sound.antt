@@ -11,13 +11,9 @@ use Rattle.std.proofs.lemmas.Bool.Decides.{nat_tests}
 use Rattle.call_types.specs.CallTable.{payload_of}
 use Rattle.call_types.specs.Flags.{has}
 use Rattle.call_types.specs.Flags as flag
-use Rattle.posix_model.specs.Types.{Call, Reply, Errno, OpenFlags, Whence, Bounds, World, Process, Description, Target, File, OpenDescriptor, Decided}
-use Rattle.call_types.specs.declared.limits.TheConstants.{OFFSET_MAX, NAMES_MAX, DESCRIPTIONS_MAX, PROCESSES_MAX}
+use Rattle.posix_model.specs.Types.{Call, Reply, Errno, OpenFlags, Whence, Bounds, World, Process, Description, Target, File, OpenDescriptor, Decided, OFFSET_MAX, NAMES_MAX, DESCRIPTIONS_MAX, PROCESSES_MAX, TRANSFER_MAX, EAGAIN, Replied, Number, Data, Error, Told}
 use Rattle.call_types.specs.declared.act.Act.TheVariants as act
 use Rattle.call_types.specs.declared.call.Call.TheVariants as call
-use Rattle.call_types.specs.declared.errno.Errno.TheVariants.{EAGAIN}
-use Rattle.call_types.specs.declared.outcome.Outcome.TheVariants.{Reply as Replied}
-use Rattle.call_types.specs.declared.outcome.Reply.TheVariants.{Number, Data, Error, Stat as Told}
 use Rattle.posix_model.specs.Bytes.{bytes_at}
 use Rattle.posix_model.specs.Slots.{slot, lowest, live}
 use Rattle.posix_model.specs.Names.{Entries, file_of}
@@ -28,9 +24,9 @@ use Rattle.posix_model.specs.Change.{with_bytes, created, free_table}
 use Rattle.posix_model.specs.Fits.{IsFree, Fits, IsProper}
 use Rattle.posix_model.specs.Pages.{first_fault, unless, refused, tells, does, acts, decided_by}
 use Rattle.posix_model.specs.Close.{close}
-use Rattle.posix_model.specs.Read.{read}
+use Rattle.posix_model.specs.Read.{read_faults, read}
 use Rattle.posix_model.specs.Write.{is_past_limit, write_faults, write_from, write_start, write, fitting}
-use Rattle.posix_model.specs.Pread.{pread}
+use Rattle.posix_model.specs.Pread.{pread_faults, pread}
 use Rattle.posix_model.specs.Pwrite.{pwrite_faults, pwrite}
 use Rattle.posix_model.specs.Lseek.{lseek_faults, lseek_to, base_of, lseek}
 use Rattle.posix_model.specs.Ftruncate.{ftruncate_faults, ftruncate}
@@ -38,8 +34,8 @@ use Rattle.posix_model.specs.Fstat.{fstat, stat_of}
 use Rattle.posix_model.specs.Open.{flag_faults, name_faults, found_faults, room_faults, open_faults, open_found, opens, emptied, new_description, free_descriptor, open_file}
 use Rattle.posix_model.specs.Join.{join, is_full}
 use Rattle.posix_model.specs.Step.{given, decided, can_call}
-use Rattle.posix_model.specs.Turns.{total, took_in, new_turn}
-use Rattle.posix_model.specs.Sound.{Sound, CallsAreSound, ActsAreSound, FilesWithin}
+use Rattle.posix_model.specs.Turns.{total, took_in, new_turn, data_in}
+use Rattle.posix_model.specs.Sound.{Sound, data_most, CallsAreSound, ActsAreSound, FilesWithin}
 use Rattle.posix_model.specs.declared.world.Target.TheVariants as target
 use Rattle.posix_model.specs.declared.world.File.TheVariants as file
 use Rattle.posix_model.specs.declared.change.FileEdit.TheVariants as on_files
@@ -57,13 +53,15 @@ none_taken : (c : Call) (most : ℕ) → took_in 0 (new_turn c) ≤ most
 none_taken c most = elim (is_some (payload_of c)) as (λ b. cond b (0 - 0) 0 ≤ most) [ true ↦ omega arith | false ↦ omega arith ]
 
 -- what only tells, and no bytes taken
-sound_tells : (bounds : Bounds) (w : World) (process : ℕ) (c : Call) (reply : Reply) → total (Replied reply) ≡ 0 → Answers bounds w process c (tells reply)
-sound_tells bounds w process c reply none = record {
+sound_tells : (bounds : Bounds) (w : World) (process : ℕ) (c : Call) (reply : Reply) → total (Replied reply) ≡ 0 → length (data_in (Replied reply)) ≤ data_most (act.Call c) →
+    Answers bounds w process c (tells reply)
+sound_tells bounds w process c reply none brief = record {
   refusal = λ _ _. refl;
   told = refl;
   planned = refl;
   own = λ n h. cc;
   contents = λ _. refl;
+  brief = brief;
   few = subst (λ n. took_in n (new_turn c) ≤ length (given (act.Call c))) (sym none) (none_taken c (length (given (act.Call c))));
   proper = λ _. record { files = tt; process = tt; table = tt };
   fits = λ _. record { files = tt; process = tt; table = tt };
@@ -73,7 +71,7 @@ sound_tells bounds w process c reply none = record {
 
 -- a refusal
 pub sound_refused : (bounds : Bounds) (w : World) (process : ℕ) (c : Call) (error : Errno) → Answers bounds w process c (refused error)
-sound_refused bounds w process c error = sound_tells bounds w process c (Error error) refl
+sound_refused bounds w process c error = sound_tells bounds w process c (Error error) refl (omega arith)
 
 -- an open descriptor of a process stands in its table, and its description under its number
 pub record IsOpenAt (w : World) (p : ℕ) (o : OpenDescriptor) : Type 0 where
@@ -148,6 +146,7 @@ sound_close bounds w p fd o at = record {
   planned = refl;
   own = λ n h. cc;
   contents = λ _. refl;
+  brief = omega arith;
   few = omega arith;
   proper = λ _. record { files = tt; process = tt; table = tt };
   fits = λ _. record { files = tt; process = tt; table = record { process = at.process; process_is = at.process_is; within = at.within; there = λ n h. cc } };
@@ -159,18 +158,26 @@ sound_close bounds w p fd o at = record {
 read_end : (there : List ℕ) (start count size most : ℕ) → length there ≤ size → size ≤ most → start ≤ most → start + length (bytes_at there start count) ≤ most
 read_end there start count size most h k l = grind (arith, common_steps)
 
-sound_read : (bounds : Bounds) (w : World) (p : ℕ) (fd : ℤ) (count : ℕ) (o : OpenDescriptor) → opened w p fd ≡ Some o → Answers bounds w p (call.Read fd count) (read w count o).effect
-sound_read bounds w p fd count o is =
+-- what is read is no more than was asked
+read_few : (there : List ℕ) (start count most : ℕ) → count ≤ most → length (bytes_at there start count) ≤ most
+read_few there start count most h = grind (arith, common_steps)
+
+sound_read : (bounds : Bounds) (w : World) (p : ℕ) (fd : ℤ) (count : ℕ) (o : OpenDescriptor) → opened w p fd ≡ Some o → first_fault (read_faults count o) ≡ None →
+    Answers bounds w p (call.Read fd count) (read w count o).effect
+sound_read bounds w p fd count o is free =
+    let asked = not_below TRANSFER_MAX count (clear (read_faults count o) free).1.0 in
+    let brief = read_few (bytes_of w (file_at o)) o.description.offset count TRANSFER_MAX asked in
     let got = bytes_at (bytes_of w (file_at o)) o.description.offset count in
     let at = opened_stands w p fd o is in
     if_has (Answers bounds w p (call.Read fd count)) (eqb (length got) 0) (tells (Data got)) (does (Data got) on_files.Nothing (on_table.Offset o.number (o.description.offset + length got)))
-    (λ _. sound_tells bounds w p (call.Read fd count) (Data got) refl)
+    (λ _. sound_tells bounds w p (call.Read fd count) (Data got) refl brief)
     (λ _. record {
       refusal = λ _ h. cc;
       told = refl;
       planned = refl;
       own = λ n h. own_offset w p fd o n is h;
       contents = λ _. refl;
+      brief = brief;
       few = omega arith;
       proper = λ _. record { files = tt; process = tt; table = tt };
       fits = λ _. record { files = tt; process = tt; table = tt };
@@ -187,13 +194,14 @@ sound_write bounds w p fd bytes start o is free =
     let below_limit = allowed.1.1.1.0 in
     let n = fitting bounds start bytes in
     if_has (Answers bounds w p (call.Write fd bytes)) (eqb (length bytes) 0) (tells (Number 0)) (does (Number n) (on_files.Bytes (file_at o) start n) (on_table.Offset o.number (start + n)))
-    (λ _. sound_tells bounds w p (call.Write fd bytes) (Number 0) refl)
+    (λ _. sound_tells bounds w p (call.Write fd bytes) (Number 0) refl (omega arith))
     (λ some. let put = put_below bounds start bytes below_limit some in record {
       refusal = λ _ h. cc;
       told = refl;
       planned = refl;
       own = λ n h. own_offset w p fd o n is h;
       contents = λ h. cc;
+      brief = omega arith;
       few = omega (arith, put.0);
       proper = λ small. record { files = (put.0, omega (arith, put.1, small)); process = tt; table = tt };
       fits = λ whole. record { files = file_there w p o at regular whole; process = tt; table = tt };
@@ -210,13 +218,14 @@ sound_pwrite bounds w p fd start bytes o is free =
     let below_limit = allowed.1.1.1.1.0 in
     let n = fitting bounds (bytes_before start) bytes in
     if_has (Answers bounds w p (call.Pwrite fd start bytes)) (eqb (length bytes) 0) (tells (Number 0)) (does (Number n) (on_files.Bytes (file_at o) (bytes_before start) n) on_table.Nothing)
-    (λ _. sound_tells bounds w p (call.Pwrite fd start bytes) (Number 0) refl)
+    (λ _. sound_tells bounds w p (call.Pwrite fd start bytes) (Number 0) refl (omega arith))
     (λ some. let put = put_below bounds (bytes_before start) bytes below_limit some in record {
       refusal = λ _ h. cc;
       told = refl;
       planned = refl;
       own = λ n h. cc;
       contents = λ h. cc;
+      brief = omega arith;
       few = omega (arith, put.0);
       proper = λ small. record { files = (put.0, omega (arith, put.1, small)); process = tt; table = tt };
       fits = λ whole. record { files = file_there w p o at regular whole; process = tt; table = tt };
@@ -237,6 +246,7 @@ sound_lseek bounds w p fd offset from to o is free = record {
   planned = refl;
   own = λ n h. own_offset w p fd o n is h;
   contents = λ _. refl;
+  brief = omega arith;
   few = omega arith;
   proper = λ _. record { files = tt; process = tt; table = tt };
   fits = λ _. record { files = tt; process = tt; table = tt };
@@ -256,6 +266,7 @@ sound_ftruncate bounds w p fd len o at free =
       planned = refl;
       own = λ n h. cc;
       contents = λ h. cc;
+      brief = omega arith;
       few = omega arith;
       proper = λ small. record { files = omega (arith, short, small); process = tt; table = tt };
       fits = λ whole. record { files = file_there w p o at regular whole; process = tt; table = tt };
@@ -334,6 +345,7 @@ sound_open bounds w p name flags None is can = record {
   planned = refl;
   own = λ n h. cc;
   contents = λ h. cc;
+  brief = omega arith;
   few = omega arith;
   proper = λ _. record { files = (is, can.name refl); process = tt; table = can.descriptions };
   fits = λ _. record { files = tt; process = tt; table = record { free = free_stays w (created w name) p (free_descriptor w p) refl can.free; there = regular_pushed w.files } };
@@ -346,6 +358,7 @@ sound_open bounds w p name flags (Some f) is can = record {
   planned = refl;
   own = λ n h. cc;
   contents = λ h. cc;
+  brief = omega arith;
   few = omega arith;
   proper = λ small. elim (has flags flag.trunc) as (λ b. IsProper w [] (opens w p (cond b (on_files.Resize f 0) on_files.Nothing) (new_description f flags)).change) [
     | true ↦ record { files = omega arith; process = tt; table = can.descriptions }
@@ -365,13 +378,16 @@ calls_are_sound bounds w p (call.Open name flags) =
 calls_are_sound bounds w p (call.Close fd) =
     on_open_has (Answers bounds w p (call.Close fd)) (opened w p fd) (close p) (sound_refused bounds w p (call.Close fd)) (λ o is _. sound_close bounds w p fd o (opened_stands w p fd o is))
 calls_are_sound bounds w p (call.Read fd count) =
-    on_open_has (Answers bounds w p (call.Read fd count)) (opened w p fd) (read w count) (sound_refused bounds w p (call.Read fd count)) (λ o is _. sound_read bounds w p fd count o is)
+    on_open_has (Answers bounds w p (call.Read fd count)) (opened w p fd) (read w count) (sound_refused bounds w p (call.Read fd count)) (λ o is free. sound_read bounds w p fd count o is free)
 calls_are_sound bounds w p (call.Write fd bytes) =
     on_open_has (Answers bounds w p (call.Write fd bytes)) (opened w p fd) (write bounds w bytes) (sound_refused bounds w p (call.Write fd bytes))
     (λ o is free. sound_write bounds w p fd bytes (write_start o.description (length (bytes_of w (file_at o)))) o is free)
 calls_are_sound bounds w p (call.Pread fd start count) =
     on_open_has (Answers bounds w p (call.Pread fd start count)) (opened w p fd) (pread w start count) (sound_refused bounds w p (call.Pread fd start count))
-    (λ o is _. sound_tells bounds w p (call.Pread fd start count) (Data (bytes_at (bytes_of w (file_at o)) (bytes_before start) count)) refl)
+    (λ o is free.
+    let asked = not_below TRANSFER_MAX count (clear (pread_faults start count o) free).1.1.1.0 in
+    let there = bytes_of w (file_at o) in
+    sound_tells bounds w p (call.Pread fd start count) (Data (bytes_at there (bytes_before start) count)) refl (read_few there (bytes_before start) count TRANSFER_MAX asked))
 calls_are_sound bounds w p (call.Pwrite fd start bytes) =
     on_open_has (Answers bounds w p (call.Pwrite fd start bytes)) (opened w p fd) (pwrite bounds start bytes) (sound_refused bounds w p (call.Pwrite fd start bytes))
     (λ o is free. sound_pwrite bounds w p fd start bytes o is free)
@@ -383,7 +399,7 @@ calls_are_sound bounds w p (call.Ftruncate fd len) =
     (λ o is free. sound_ftruncate bounds w p fd len o (opened_stands w p fd o is) free)
 calls_are_sound bounds w p (call.Fstat fd) =
     on_open_has (Answers bounds w p (call.Fstat fd)) (opened w p fd) (fstat w) (sound_refused bounds w p (call.Fstat fd))
-    (λ o is _. sound_tells bounds w p (call.Fstat fd) (Told (stat_of w o.description.target)) refl)
+    (λ o is _. sound_tells bounds w p (call.Fstat fd) (Told (stat_of w o.description.target)) refl (omega arith))
 
 -- a join, refused or not
 sound_join : (bounds : Bounds) (w : World) (actor : ℕ) → Sound bounds w actor act.Join (decided_by (join w))
@@ -396,6 +412,7 @@ sound_join bounds w actor = by_room (is_full w) refl
       planned = rw e refl;
       own = λ n h. cc;
       contents = λ _. refl;
+      brief = omega arith;
       few = omega arith;
       proper = λ _. record { files = tt; process = tt; table = tt };
       fits = λ _. record { files = tt; process = tt; table = tt };
@@ -408,6 +425,7 @@ sound_join bounds w actor = by_room (is_full w) refl
       planned = rw e refl;
       own = λ n h. cc;
       contents = λ _. refl;
+      brief = omega arith;
       few = omega arith;
       proper = λ _. record { files = tt; process = not_at_most PROCESSES_MAX (live w.processes) (second_of_either w.closed (leb PROCESSES_MAX (live w.processes)) e); table = tt };
       fits = λ _. record { files = tt; process = refl; table = tt };
@@ -422,7 +440,4 @@ where_may Has false x d has h = cc
 pub acts_are_sound : ActsAreSound
 acts_are_sound bounds w actor act.Join d h = where_may (Sound bounds w actor act.Join) (eqb actor (length w.processes)) (decided_by (join w)) d (sound_join bounds w actor) h
 acts_are_sound bounds w actor (act.Call c) d h = where_may (Answers bounds w actor c) (can_call (slot w.processes actor)) (decided bounds w actor c) d (calls_are_sound bounds w actor c) h
-acts_are_sound bounds w actor act.Attach d h = cc
-acts_are_sound bounds w actor act.Resume d h = cc
-acts_are_sound bounds w actor act.Exit d h = cc
-acts_are_sound bounds w actor act.CloseRun d h = cc
+acts_are_sound bounds w actor other d h = cc

@@ -111,7 +111,7 @@ kept_there None false = refl
 kept_there (Some x) true = refl
 kept_there (Some x) false = refl
 
-still_there : (ds : List (Option Description)) (x : Option File) → is_some (without_gone_pipe ds x) ≡ is_some x
+pub still_there : (ds : List (Option Description)) (x : Option File) → is_some (without_gone_pipe ds x) ≡ is_some x
 still_there ds None = refl
 still_there ds (Some (file.Regular bytes)) = refl
 still_there ds (Some (file.Fifo fifo)) = refl

@@ -1,11 +1,10 @@
 -- What an act changes in a world, as data: one edit at most of files and pipes, of processes, and of descriptors and
 -- open file descriptions.
 use Rattle.std.specs.Prelude.{ℕ, true, Option, List, [], ◌∷◌, ◌++◌, None, Some, length, take, slice_set, replicate}
-use Rattle.call_types.specs.declared.limits.TheConstants.{OPEN_MAX}
 use Rattle.posix_model.specs.Bytes.{splice, resized}
 use Rattle.posix_model.specs.Names.{with_name}
 use Rattle.posix_model.specs.Descriptors.{with_descriptor, with_offset, bytes_of}
-use Rattle.posix_model.specs.Types.{World, Process, Description, FileEdit, ProcessEdit, TableEdit, Change}
+use Rattle.posix_model.specs.Types.{World, Process, Description, FileEdit, ProcessEdit, TableEdit, Change, OPEN_MAX}
 use Rattle.posix_model.specs.declared.world.File.TheVariants as file
 use Rattle.posix_model.specs.declared.change.FileEdit.TheVariants as on_files
 use Rattle.posix_model.specs.declared.change.ProcessEdit.TheVariants as on_process

@@ -1,11 +1,10 @@
 -- What a change asks of the world that it is made in.
 use Rattle.std.specs.Prelude.{◌≡◌, ℕ, ◌+◌, ◌≤◌, ◌<◌, true, List, Option, None, Some, length}
-use Rattle.call_types.specs.declared.limits.TheConstants.{OFFSET_MAX, NAMES_MAX, DESCRIPTIONS_MAX, PROCESSES_MAX}
 use Rattle.posix_model.specs.Slots.{slot, live}
 use Rattle.posix_model.specs.Names.{file_of}
 use Rattle.posix_model.specs.Whole.{IsThere, is_regular_file, TargetIsThere}
 use Rattle.posix_model.specs.Change.{with_files, with_processes, free_table}
-use Rattle.posix_model.specs.Types.{World, Process, Description, FileEdit, ProcessEdit, TableEdit, Change}
+use Rattle.posix_model.specs.Types.{World, Process, Description, FileEdit, ProcessEdit, TableEdit, Change, OFFSET_MAX, NAMES_MAX, DESCRIPTIONS_MAX, PROCESSES_MAX}
 use Rattle.posix_model.specs.declared.change.FileEdit.TheVariants as on_files
 use Rattle.posix_model.specs.declared.change.ProcessEdit.TheVariants as on_process
 use Rattle.posix_model.specs.declared.change.TableEdit.TheVariants as on_table

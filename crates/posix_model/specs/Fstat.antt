@@ -1,7 +1,6 @@
 -- The page of fstat: kind, size and links.
 use Rattle.std.specs.Prelude.{ℕ, min, [], length}
-use Rattle.call_types.specs.declared.outcome.Reply.TheVariants.{Stat as Told}
-use Rattle.posix_model.specs.Types.{Stat, World, Target, OpenDescriptor}
+use Rattle.posix_model.specs.Types.{Stat, World, Target, OpenDescriptor, Told}
 use Rattle.call_types.specs.declared.outcome.Kind.TheVariants as kind
 use Rattle.posix_model.specs.Counts.{links}
 use Rattle.posix_model.specs.Pages.{Page, tells}

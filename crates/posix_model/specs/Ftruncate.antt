@@ -1,8 +1,6 @@
 -- The page of ftruncate.
 use Rattle.std.specs.Prelude.{ℤ, Bool, not, nat_lt, List, [], ◌∷◌}
-use Rattle.posix_model.specs.Types.{Errno, Bounds, OpenDescriptor}
-use Rattle.call_types.specs.declared.errno.Errno.TheVariants.{EINVAL, EFBIG}
-use Rattle.call_types.specs.declared.outcome.Reply.TheVariants.{Done}
+use Rattle.posix_model.specs.Types.{Errno, Bounds, OpenDescriptor, EINVAL, EFBIG, Done}
 use Rattle.posix_model.specs.Counts.{can_write}
 use Rattle.posix_model.specs.Positions.{is_before, bytes_before, is_regular, file_at}
 use Rattle.posix_model.specs.Pages.{Page, does}

@@ -1,13 +1,10 @@
 -- A new process (own).
 use Rattle.std.specs.Prelude.{Bool, ◌||◌, nat_le, [], ◌∷◌, length}
-use Rattle.call_types.specs.declared.errno.Errno.TheVariants.{EAGAIN}
-use Rattle.call_types.specs.declared.outcome.Reply.TheVariants.{Number}
-use Rattle.call_types.specs.declared.limits.TheConstants.{PROCESSES_MAX}
 use Rattle.posix_model.specs.Slots.{live}
 use Rattle.posix_model.specs.Pages.{Page, acts}
 use Rattle.posix_model.specs.Change.{free_table}
 use Rattle.posix_model.specs.declared.change.ProcessEdit.TheVariants as on_process
-use Rattle.posix_model.specs.Types.{World}
+use Rattle.posix_model.specs.Types.{World, EAGAIN, Number, PROCESSES_MAX}
 
 -- whether there may be no further process: there are too many, or the run is closed
 abbrev pub is_full : World → Bool

@@ -25,5 +25,6 @@ pub mod History
 pub mod Turns
 pub mod Fits
 pub mod Sound
+pub mod Lengths
 pub mod Released
 pub mod Laws

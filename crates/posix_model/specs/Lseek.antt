@@ -1,9 +1,6 @@
 -- The page of lseek.
 use Rattle.std.specs.Prelude.{ℕ, ℤ, pos, nat_abs, ◌+ℤ◌, int_lt, Bool, not, List, [], ◌∷◌, length}
-use Rattle.posix_model.specs.Types.{Errno, Whence, World, OpenDescriptor}
-use Rattle.call_types.specs.declared.errno.Errno.TheVariants.{EINVAL, ESPIPE, EOVERFLOW}
-use Rattle.call_types.specs.declared.outcome.Reply.TheVariants.{Number}
-use Rattle.call_types.specs.declared.limits.TheConstants.{OFFSET_MAX}
+use Rattle.posix_model.specs.Types.{Errno, Whence, World, OpenDescriptor, EINVAL, ESPIPE, EOVERFLOW, Number, OFFSET_MAX}
 use Rattle.call_types.specs.declared.whence.Whence.TheVariants as whence
 use Rattle.posix_model.specs.Positions.{is_before, is_regular, file_at}
 use Rattle.posix_model.specs.Pages.{Page, does}

@@ -5,10 +5,7 @@ use Rattle.std.specs.List.{list_all, list_any}
 use Rattle.std.specs.Str.{bytes_eq}
 use Rattle.call_types.specs.Flags.{has}
 use Rattle.call_types.specs.Flags as flag
-use Rattle.posix_model.specs.Types.{Errno, OpenFlags, World, Description, Mode, FileEdit, Decided}
-use Rattle.call_types.specs.declared.errno.Errno.TheVariants.{EINVAL, ENOENT, EEXIST, EMFILE, ENFILE, ENOSPC, ENAMETOOLONG}
-use Rattle.call_types.specs.declared.outcome.Reply.TheVariants.{Number}
-use Rattle.call_types.specs.declared.limits.TheConstants.{NAME_MAX, NAMES_MAX, DESCRIPTIONS_MAX}
+use Rattle.posix_model.specs.Types.{Errno, OpenFlags, World, Description, Mode, FileEdit, Decided, EINVAL, ENOENT, EEXIST, EMFILE, ENFILE, ENOSPC, ENAMETOOLONG, Number, NAME_MAX, NAMES_MAX, DESCRIPTIONS_MAX}
 use Rattle.posix_model.specs.Slots.{slot, lowest, live}
 use Rattle.posix_model.specs.Names.{file_of}
 use Rattle.posix_model.specs.Whole.{is_fifo}

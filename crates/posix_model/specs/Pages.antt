@@ -1,9 +1,6 @@
 -- A call is a page: its refusals in their order, and its effect where none of them is due.
 use Rattle.std.specs.Prelude.{Bool, List, [], ◌∷◌, Option, None, Some, if◌then◌else◌}
-use Rattle.posix_model.specs.Types.{Reply, Errno, OpenDescriptor, FileEdit, ProcessEdit, TableEdit, Change, Decided}
-use Rattle.call_types.specs.declared.errno.Errno.TheVariants.{EBADF}
-use Rattle.call_types.specs.declared.outcome.Outcome.TheVariants.{Reply as Replied}
-use Rattle.call_types.specs.declared.outcome.Reply.TheVariants.{Error}
+use Rattle.posix_model.specs.Types.{Reply, Errno, OpenDescriptor, FileEdit, ProcessEdit, TableEdit, Change, Decided, EBADF, Replied, Error}
 use Rattle.posix_model.specs.declared.change.FileEdit.TheVariants as on_files
 use Rattle.posix_model.specs.declared.change.ProcessEdit.TheVariants as on_process
 use Rattle.posix_model.specs.declared.change.TableEdit.TheVariants as on_table

@@ -1,9 +1,6 @@
 -- The page of read, pread: as read, from a position that the call gives; the offset stays.
 use Rattle.std.specs.Prelude.{ℕ, ℤ, Bool, not, nat_lt, List, [], ◌∷◌}
-use Rattle.posix_model.specs.Types.{Errno, World, OpenDescriptor}
-use Rattle.call_types.specs.declared.errno.Errno.TheVariants.{EBADF, EINVAL, ESPIPE}
-use Rattle.call_types.specs.declared.outcome.Reply.TheVariants.{Data}
-use Rattle.call_types.specs.declared.limits.TheConstants.{TRANSFER_MAX}
+use Rattle.posix_model.specs.Types.{Errno, World, OpenDescriptor, EBADF, EINVAL, ESPIPE, Data, TRANSFER_MAX}
 use Rattle.posix_model.specs.Bytes.{bytes_at}
 use Rattle.posix_model.specs.Counts.{can_read}
 use Rattle.posix_model.specs.Positions.{is_before, bytes_before, is_regular, file_at}

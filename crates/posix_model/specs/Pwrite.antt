@@ -1,8 +1,6 @@
 -- The page of write, pwrite: as write, at a position that the call gives, under append too; the offset stays.
 use Rattle.std.specs.Prelude.{ℕ, ℤ, Bool, not, nat_lt, List, [], ◌∷◌, length}
-use Rattle.posix_model.specs.Types.{Errno, Bounds, OpenDescriptor}
-use Rattle.call_types.specs.declared.errno.Errno.TheVariants.{EBADF, EINVAL, ESPIPE, EFBIG}
-use Rattle.call_types.specs.declared.limits.TheConstants.{TRANSFER_MAX}
+use Rattle.posix_model.specs.Types.{Errno, Bounds, OpenDescriptor, EBADF, EINVAL, ESPIPE, EFBIG, TRANSFER_MAX}
 use Rattle.posix_model.specs.Counts.{can_write}
 use Rattle.posix_model.specs.Positions.{is_before, bytes_before, is_regular, file_at}
 use Rattle.posix_model.specs.Pages.{Page}

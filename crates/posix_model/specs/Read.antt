@@ -1,9 +1,6 @@
 -- The page of read.
 use Rattle.std.specs.Prelude.{ℕ, ◌+◌, ◌==◌, Bool, not, nat_lt, List, [], ◌∷◌, length, if◌then◌else◌}
-use Rattle.posix_model.specs.Types.{Errno, World, OpenDescriptor, Decided}
-use Rattle.call_types.specs.declared.errno.Errno.TheVariants.{EBADF, EINVAL}
-use Rattle.call_types.specs.declared.outcome.Reply.TheVariants.{Data}
-use Rattle.call_types.specs.declared.limits.TheConstants.{TRANSFER_MAX}
+use Rattle.posix_model.specs.Types.{Errno, World, OpenDescriptor, Decided, EBADF, EINVAL, Data, TRANSFER_MAX}
 use Rattle.posix_model.specs.Bytes.{bytes_at}
 use Rattle.posix_model.specs.Counts.{can_read}
 use Rattle.posix_model.specs.Positions.{is_regular, file_at}

@@ -1,13 +1,10 @@
 -- What holds of all that acts come to: one record, which is proved by one lemma for each call.
-use Rattle.std.specs.Prelude.{◌≡◌, ℕ, ◌+◌, ◌≤◌, Bool, true, false, Option, None, Some, length, if◌then◌else◌}
+use Rattle.std.specs.Prelude.{◌≡◌, ℕ, ◌+◌, ◌≤◌, Bool, true, false, Option, None, Some, length, is_some, if◌then◌else◌}
 use Rattle.std.specs.Option.{option_map_or}
-use Rattle.call_types.specs.CallTable.{descriptor_of}
-use Rattle.posix_model.specs.Types.{Call, Act, Outcome, Errno, Bounds, World, FileEdit, ProcessEdit, TableEdit, Decided}
-use Rattle.call_types.specs.declared.limits.TheConstants.{OPEN_MAX, NAMES_MAX, DESCRIPTIONS_MAX, PROCESSES_MAX, OFFSET_MAX}
+use Rattle.call_types.specs.CallTable.{descriptor_of, payload_of}
+use Rattle.posix_model.specs.Types.{Call, Act, Outcome, Errno, Bounds, World, FileEdit, ProcessEdit, TableEdit, Decided, OPEN_MAX, NAMES_MAX, DESCRIPTIONS_MAX, PROCESSES_MAX, OFFSET_MAX, TRANSFER_MAX, Replied, Error, Number}
 use Rattle.call_types.specs.declared.act.Act.TheVariants as act
 use Rattle.call_types.specs.declared.call.Call.TheVariants as call
-use Rattle.call_types.specs.declared.outcome.Outcome.TheVariants.{Reply as Replied}
-use Rattle.call_types.specs.declared.outcome.Reply.TheVariants.{Error, Number}
 use Rattle.posix_model.specs.Slots.{live}
 use Rattle.posix_model.specs.Whole.{IsWhole, EachThere}
 use Rattle.posix_model.specs.Descriptors.{number_of, bytes_of}
@@ -15,7 +12,7 @@ use Rattle.posix_model.specs.Pages.{no_change}
 use Rattle.posix_model.specs.Join.{is_full}
 use Rattle.posix_model.specs.Fits.{Fits, IsProper}
 use Rattle.posix_model.specs.Step.{given, decided, comes_to}
-use Rattle.posix_model.specs.Turns.{took}
+use Rattle.posix_model.specs.Turns.{took, data_in}
 use Rattle.posix_model.specs.declared.change.FileEdit.TheVariants as on_files
 use Rattle.posix_model.specs.declared.change.ProcessEdit.TheVariants as on_process
 use Rattle.posix_model.specs.declared.change.TableEdit.TheVariants as on_table
@@ -34,6 +31,11 @@ added other outcome = 0
 abbrev pub ended : Act → ℕ
 ended act.Exit = 1
 ended other = 0
+
+-- how many bytes of data an act may be told: none where it gives data itself
+abbrev pub data_most : Act → ℕ
+data_most (act.Call c) = if is_some (payload_of c) then 0 else TRANSFER_MAX
+data_most other = 0
 
 -- how many processes an act is to add, before its outcome is known
 abbrev pub adds : World → Act → ℕ
@@ -81,14 +83,15 @@ TableWithin (on_table.Open process fd description) = description.offset ≤ OFFS
 TableWithin other = Unit {0}
 
 -- what an act comes to: a refusal changes nothing; it adds as many processes as it tells; it moves no offset but that of its
--- own descriptor; it changes no file, name or pipe where it may not; it takes no more bytes than it gives; and its change can
--- be made, within all limits. The limit of sizes is at most the greatest offset
+-- own descriptor; it changes no file, name or pipe where it may not; it takes no more bytes than it gives, and is told no more
+-- than it may be; and its change can be made, within all limits. The limit of sizes is at most the greatest offset
 pub record Sound (bounds : Bounds) (w : World) (actor : ℕ) (act : Act) (d : Decided) : Type 0 where
   pub refusal : (error : Errno) → d.outcome ≡ Replied (Error error) → d.change ≡ no_change
   pub told : makes d.change.process ≡ added act d.outcome
   pub planned : makes d.change.process ≡ adds w act
   pub own : (n : ℕ) → moved_offset d.change.table ≡ Some n → number_at w actor act ≡ Some n
   pub contents : may_change_contents act ≡ false → d.change.files ≡ on_files.Nothing
+  pub brief : length (data_in d.outcome) ≤ data_most act
   pub few : took w (record { actor = actor; act = act; outcome = d.outcome }) ≤ length (given act)
   pub proper : bounds.file_size ≤ OFFSET_MAX → IsProper w (given act) d.change
   pub fits : IsWhole w → Fits w (given act) d.change

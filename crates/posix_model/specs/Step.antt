@@ -52,10 +52,7 @@ decided bounds w process (call.Fstat fd) = on_open (opened w process fd) (fstat 
 abbrev pub comes_to : Bounds → World → ℕ → Act → Option Decided
 comes_to bounds w actor act.Join = if actor == length w.processes then Some (decided_by (join w)) else None
 comes_to bounds w actor (act.Call c) = if can_call (slot w.processes actor) then Some (decided bounds w actor c) else None
-comes_to bounds w actor act.Attach = None
-comes_to bounds w actor act.Resume = None
-comes_to bounds w actor act.Exit = None
-comes_to bounds w actor act.CloseRun = None
+comes_to bounds w actor other = None
 
 -- the bytes that an act gives: the data of a call that writes
 abbrev pub given : Act → List ℕ

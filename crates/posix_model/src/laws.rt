@@ -1,6 +1,7 @@
 //! Laws of every step and history, for the crates above. None of these functions does anything.
 
 ghost use Rattle.posix_model.specs.Sound.{CallsAreSound, ActsAreSound};
+ghost use Rattle.posix_model.specs.Lengths.{StepIsShort};
 ghost use Rattle.posix_model.specs.Released.{SettledIsSwept, SettledStays, SweepReleases};
 ghost use Rattle.posix_model.specs.Laws.{StepRaisesNumbers, StepKeepsWhole, HistoryIsWhole, HistoryRaisesNumbers, SweepSettles, StepSettles, HistorySettles, SweepLeaves, StepTellsProcesses, StepPlansProcesses};
 
@@ -40,6 +41,12 @@ pub fn sweep_releases()
     ensures settled { SettledIsSwept }
     ensures stays { SettledStays }
     ensures releases { SweepReleases }
+{}
+
+/// No record is longer than a record may be where it is sent, as long as no field of its act is longer than a call may
+/// give it.
+pub fn records_are_short()
+    ensures { StepIsShort }
 {}
 
 /// How many processes a step adds and ends, by its act and outcome, and as it is known before the step.

@@ -40,24 +40,10 @@ call_exits planned b p c = by_step (step b.limits.bounds w p (act.Call c)) (λ s
 pub join_comes : (b : BookState) → comes_to b.limits.bounds (world_now b) (length (world_now b).processes) act.Join ≡ Some (decided_by (join (world_now b)))
 join_comes b = let n = length (world_now b).processes in let same : eqb n n ≡ true = eq-eqb n n refl in rw same refl
 
-pub join_exits : StepPlansProcesses → (b : BookState) →
-    exits_left (world_after b (length (world_now b).processes) act.Join) ≡ cond (world_now b).closed (live (world_now b).processes + adds (world_now b) act.Join) (live (world_now b).processes + adds (world_now b) act.Join + 1)
-join_exits planned b =
-    let w = world_now b in
-    let n = length w.processes in
-    let s = stepped w (given act.Join) (decided_by (join w)) in
-    let is : step b.limits.bounds w n act.Join ≡ Some s = ap (option_map (stepped w (given act.Join))) (join_comes b) in
-    let P : Option Stepped → Type 0 = λ t. exits_left (option_map_or (λ t. t.world) t w) ≡ cond w.closed (live w.processes + adds w act.Join) (live w.processes + adds w act.Join + 1) in
-    subst P (sym is) (exits_of w s.world (adds w act.Join) (planned b.limits.bounds w n act.Join s is))
-
 -- no act that comes to something ends a process yet, and each adds one at most
 few_added : (w : World) (a : Act) → adds w a ≤ 1
 few_added w act.Join = elim (is_full w) as (λ b. cond b 0 1 ≤ 1) [ true ↦ omega arith | false ↦ omega arith ]
-few_added w act.Attach = omega arith
-few_added w (act.Call c) = omega arith
-few_added w act.Resume = omega arith
-few_added w act.Exit = omega arith
-few_added w act.CloseRun = omega arith
+few_added w other = omega arith
 
 pub plans : ActsAreSound → StepPlansProcesses → HistoryIsWhole → (b : BookState) (actor : ℕ) (a : Act) (d : Decided) → b.limits.bounds.file_size ≤ OFFSET_MAX →
     comes_to b.limits.bounds (world_now b) actor a ≡ Some d → is_too_full b actor a ≡ false → IsPlanned b actor a d

@@ -49,7 +49,8 @@ impl Book {
 
     /// Runs a join of a script; where it makes a process, its seat is put among the others.
     fn run_join(&mut self, alloc: Global, seats: &mut Seats) -> Result<Receipt, Refusal>
-        ensures { JoinRuns self.old self.new seats.old.0 seats.new.0 result }
+        ensures runs { JoinRuns self.old self.new seats.old.0 seats.new.0 result }
+        ensures limits { self.new.limits ≡ self.old.limits }
     {
         let actor = self.next_pid();
         if self.join_overfills() {
@@ -71,7 +72,8 @@ impl Book {
         process: u32,
         call: &Call,
     ) -> Result<Receipt, Refusal>
-        ensures { CallRuns self.old self.new seats.old.0 seats.new.0 process call.now result (slot seats.old.0 process) }
+        ensures runs { CallRuns self.old self.new seats.old.0 seats.new.0 process call.now result (slot seats.old.0 process) }
+        ensures limits { self.new.limits ≡ self.old.limits }
     {
         let number = process as usize;
         if number >= seats.slots.len() {
@@ -85,7 +87,8 @@ impl Book {
 
     /// Runs one act of a script, and tells of it.
     fn run_act<'a>(&mut self, alloc: Global, seats: &mut Seats, act: &'a ScriptAct) -> Told<'a>
-        ensures { Tells self.old self.new seats.old.0 seats.new.0 act.now (result ∷ []) }
+        ensures tells { Tells self.old self.new seats.old.0 seats.new.0 act.now (result ∷ []) }
+        ensures limits { self.new.limits ≡ self.old.limits }
     {
         let actor = match act {
             ScriptAct::Join => self.next_pid(),
@@ -113,6 +116,7 @@ impl Book {
         acts: &'a [ScriptAct],
     ) -> Result<Vec<Told<'a>>, AllocError>
         ensures told { IfOk result (λ told. (seats : List (Option SeatState)) × RunTells self.old self.new [] seats acts.now told.items) }
+        ensures limits { self.new.limits ≡ self.old.limits }
         ensures err { OnErr result (self.new ≡ self.old) }
     {
         let mut told = Vec::with_capacity(alloc, acts.len())?;

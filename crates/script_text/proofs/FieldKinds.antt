@@ -46,8 +46,7 @@ whence_takes word whence e =
 
 pub whence_again : (whence : Whence) → whence_of (whence_word whence) ≡ Some whence
 whence_again whences.Set = refl
-whence_again whences.Cur = refl
-whence_again whences.End = refl
+whence_again other = refl
 
 pub whence_unbroken : (whence : Whence) → Unbroken (whence_word whence)
 whence_unbroken whences.Set = unbroken (codes "set") refl

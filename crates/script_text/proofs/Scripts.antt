@@ -1,6 +1,5 @@
 -- Reading a script line by line.
 use Rattle.std.proofs.Common.{◌≡◌, ℕ, suc, ◌+◌, ◌≤◌, ◌<◌, Bor, Bool, true, false, cond, eqb, List, [], ◌∷◌, ◌++◌, length, Option, Some, None, Result, Ok, Err, refl, sym, ap, ◌∙◌, append_assoc, arith}
-use Rattle.std.proofs.lemmas.List.{append-nil}
 use Rattle.std.specs.Option.{option_copied, IfSome}
 use Rattle.std.specs.List.{slice_split, onto_first}
 use Rattle.call_types.specs.declared.act.ScriptAct.{ScriptAct}
@@ -67,6 +66,3 @@ fails faults.TooLong front n bytes line after total e h so_far = line_fails faul
 pub size_falls : (o : Option (Bor (List ℕ))) (n : ℕ) → IfSome o (λ rest. length rest.now < n) → left_size (option_copied o) ≤ n
 size_falls None n h = omega arith
 size_falls (Some rest) n h = omega arith
-
-pub is_done : (front : List ScriptAct) (total : Result (List ScriptAct) ScriptFault) → followed front (Ok []) ≡ total → total ≡ Ok front
-is_done front total so_far = sym so_far ∙ ap (λ (a : List ScriptAct). Ok a) (append-nil front)

@@ -1,4 +1,4 @@
-use Rattle.std.proofs.Common.{[], ◌∷◌, ◌<◌, length, take, arith}
+use Rattle.std.proofs.Common.{◌∙◌, [], ◌∷◌, ◌<◌, length, take, arith}
 use Rattle.std.proofs.lemmas.List.{take_more}
 use Rattle.record_book.proofs.RunLemmas.{run_more}
 use Rattle.record_book.proofs.book.Book.run_acts.Goals as goal
@@ -9,7 +9,8 @@ loop-act-preserved c =
     record {
       runs = rw (take_more c.args.acts.now c.loop-act.act-index c.act-item.result within, ← c.act-item.is, c.push_reserved.ensures.items)
           (run_more c.args.self.now c.loop-act.self c.run_act.new.self [] c.loop-act.seats.0 c.run_act.new.seats.0 (take c.loop-act.act-index c.args.acts.now) c.loop-act.told.items (c.run_act.result ∷ []) c.act-item.result
-          c.loop-act.invariant.runs c.run_act.ensures);
+          c.loop-act.invariant.runs c.run_act.ensures.tells);
+      limits = c.run_act.ensures.limits ∙ c.loop-act.invariant.limits;
       count = omega (arith, c.push_reserved.ensures.len, c.loop-act.invariant.count);
       room = rw c.push_reserved.ensures.capacity c.loop-act.invariant.room;
     }

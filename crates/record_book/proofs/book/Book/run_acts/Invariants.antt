@@ -7,6 +7,7 @@ abbrev pub invariant-loop-act : goal.invariant-loop-act
 invariant-loop-act l =
     record {
       runs : RunTells l.fn.self l.self [] l.seats.0 (take l.act-index l.acts) l.told.items;
+      limits : l.self.limits ≡ l.fn.self.limits;
       count : vec_len l.told ≡ l.act-index;
       room : length l.acts ≤ vec_capacity l.told;
     }

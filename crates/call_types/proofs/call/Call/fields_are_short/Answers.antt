@@ -1,0 +1,11 @@
+use Rattle.std.proofs.Common.{length, ap, arith}
+use Rattle.call_types.proofs.call.Call.fields_are_short.Goals as goal
+
+pub returns-in-Open : goal.returns-in-Open
+returns-in-Open c = rw c.in-Open.is (omega (arith, ap length c.as_slice-bytes.ensures.value, c.as_slice-bytes.ensures.within), (omega arith, tt))
+
+pub returns-in-Write : goal.returns-in-Write
+returns-in-Write c = rw c.in-Write.is (omega arith, (omega (arith, ap length c.as_slice-bytes-in-Write.ensures.value, c.as_slice-bytes-in-Write.ensures.within), tt))
+
+pub returns-in-Pwrite : goal.returns-in-Pwrite
+returns-in-Pwrite c = rw c.in-Pwrite.is (omega arith, (omega arith, (omega (arith, ap length c.as_slice-bytes-in-Pwrite.ensures.value, c.as_slice-bytes-in-Pwrite.ensures.within), tt)))
