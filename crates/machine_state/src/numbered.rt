@@ -5,7 +5,7 @@ mod files;
 mod processes;
 pub mod used;
 
-ghost use Rattle.std.specs.Prelude.{◌≡◌, ℕ, ◌<◌, ◌∷◌, [], ◌++◌, None, Some, length, slice_set, option_copied, IfOk, IfErr, OnOk};
+ghost use Rattle.std.specs.Prelude.{◌≡◌, ℕ, ◌<◌, ◌∷◌, [], ◌++◌, None, Some, length, option_copied, IfOk, IfErr, OnOk};
 ghost use Rattle.posix_model.specs.Slots.{slot, live};
 ghost use Rattle.machine_state.specs.Entries.{found, Rises, IsAt};
 
@@ -98,14 +98,5 @@ impl<T: Drop> Numbered<T> {
     {
         self.entries.push_reserved((self.next, value));
         self.next += 1;
-    }
-
-    /// Empties a slot.
-    pub(crate) fn clear(&mut self, number: usize)
-        ensures { self.new.0 ≡ slice_set self.old.0 number None }
-    {
-        if let Ok(index) = index_of(self.entries.as_slice(), number) {
-            self.entries.remove(index);
-        }
     }
 }

@@ -1,6 +1,5 @@
 -- What holds of each refusal, and of the effect where there is no fault, holds of a page.
-use Rattle.std.proofs.Common.{◌≡◌, ◌∙◌, Bool, true, false, cond, List, [], ◌∷◌, ◌++◌, Option, None, Some, refl, sym}
-use Rattle.std.specs.Option.{option_or}
+use Rattle.std.proofs.Common.{◌≡◌, Bool, true, false, cond, List, [], ◌∷◌, Option, None, Some, refl, sym, ◌⊎◌, inl, inr}
 use Rattle.posix_model.specs.Types.{Errno, OpenDescriptor, Decided, EBADF}
 use Rattle.posix_model.specs.Pages.{Page, first_fault, unless, refused, decided_by, on_open}
 
@@ -21,32 +20,17 @@ pub if_has : (Has : Decided → Type 0) (b : Bool) (d e : Decided) → (b ≡ tr
 if_has Has true d e h k = h refl
 if_has Has false d e h k = k refl
 
--- no condition of these faults holds
-abbrev pub Clear : List (Bool × Errno) → Type 0
-Clear [] = Unit {0}
-Clear (fault ∷ faults) = (fault.0 ≡ false) × Clear faults
+-- a condition is that of one of these faults
+abbrev pub IsOf : List (Bool × Errno) → Bool → Type 0
+IsOf [] b = ⊥
+IsOf (fault ∷ faults) b = (fault.0 ≡ b) ⊎ IsOf faults b
 
-pub clear : (faults : List (Bool × Errno)) → first_fault faults ≡ None → Clear faults
-clear [] h = tt
-clear (fault ∷ faults) h = by_first fault.0 fault.1 (λ rest. clear faults rest) h
+-- where there is no fault, no condition of one holds
+pub unmet : (faults : List (Bool × Errno)) → first_fault faults ≡ None → (b : Bool) → IsOf faults b → b ≡ false
+unmet [] h b of = absurd of
+unmet (fault ∷ faults) h b of = by_first fault.0 fault.1 (unmet faults) h of
   where
-    by_first : (b : Bool) (error : Errno) → (first_fault faults ≡ None → Clear faults) → cond b (Some error) (first_fault faults) ≡ None → (b ≡ false) × Clear faults
-    by_first true error rest h = cc
-    by_first false error rest h = (refl, rest h)
-
--- the first fault of two lists in a row is the first of the one, or else of the other
-pub first_of_both : (xs ys : List (Bool × Errno)) → first_fault (xs ++ ys) ≡ option_or (first_fault xs) (first_fault ys)
-first_of_both [] ys = refl
-first_of_both (x ∷ xs) ys =
-    elim x.0 as (λ b. cond b (Some x.1) (first_fault (xs ++ ys)) ≡ option_or (cond b (Some x.1) (first_fault xs)) (first_fault ys)) [
-      | true ↦ refl
-      | false ↦ first_of_both xs ys
-    ]
-
-neither : (a b : Option Errno) → option_or a b ≡ None → (a ≡ None) × (b ≡ None)
-neither None b h = (refl, h)
-neither (Some error) b h = cc
-
--- of two lists in a row without a fault neither has one
-pub none_in_both : (xs ys : List (Bool × Errno)) → first_fault (xs ++ ys) ≡ None → (first_fault xs ≡ None) × (first_fault ys ≡ None)
-none_in_both xs ys h = neither (first_fault xs) (first_fault ys) (sym (first_of_both xs ys) ∙ h)
+    by_first : (a : Bool) (error : Errno) → (first_fault faults ≡ None → (b : Bool) → IsOf faults b → b ≡ false) → cond a (Some error) (first_fault faults) ≡ None → (a ≡ b) ⊎ IsOf faults b → b ≡ false
+    by_first true error rest h of = cc
+    by_first false error rest h (inl is) = sym is
+    by_first false error rest h (inr of) = rest h b of

@@ -1,5 +1,5 @@
 -- What acts come to is sound: one lemma for each call.
-use Rattle.std.proofs.Common.{◌≡◌, ◌∙◌, ℕ, ℤ, pos, negsuc, nat_abs, ◌+◌, ◌-◌, ◌<◌, ◌≤◌, Bool, true, false, not, ◌&&◌, ◌||◌, cond, List, [], ◌∷◌, ◌++◌, Option, None, Some, length, refl, ap, sym, subst, arith, leb, ltb, eqb}
+use Rattle.std.proofs.Common.{rules, ◌≡◌, ◌∙◌, ℕ, ℤ, pos, negsuc, nat_abs, ◌+◌, ◌-◌, ◌<◌, ◌≤◌, Bool, true, false, not, ◌&&◌, ◌||◌, cond, List, [], ◌∷◌, ◌++◌, Option, None, Some, length, refl, ap, sym, subst, arith, leb, ltb, eqb}
 use Rattle.std.specs.Prelude.{◌+ℤ◌}
 use Rattle.std.specs.Option.{option_map, is_some, is_none, unwrap_or}
 use Rattle.std.specs.List.{All}
@@ -31,7 +31,7 @@ use Rattle.posix_model.specs.Pwrite.{pwrite_faults, pwrite}
 use Rattle.posix_model.specs.Lseek.{lseek_faults, lseek_to, base_of, lseek}
 use Rattle.posix_model.specs.Ftruncate.{ftruncate_faults, ftruncate}
 use Rattle.posix_model.specs.Fstat.{fstat, stat_of}
-use Rattle.posix_model.specs.Open.{flag_faults, name_faults, found_faults, room_faults, open_faults, open_found, opens, emptied, new_description, free_descriptor, open_file}
+use Rattle.posix_model.specs.Open.{open_faults, leads_to_fifo, open_found, opens, emptied, new_description, free_descriptor, open_file}
 use Rattle.posix_model.specs.Join.{join, is_full}
 use Rattle.posix_model.specs.Step.{given, decided, can_call}
 use Rattle.posix_model.specs.Turns.{total, took_in, new_turn, data_in}
@@ -41,7 +41,7 @@ use Rattle.posix_model.specs.declared.world.File.TheVariants as file
 use Rattle.posix_model.specs.declared.change.FileEdit.TheVariants as on_files
 use Rattle.posix_model.specs.declared.change.ProcessEdit.TheVariants as on_process
 use Rattle.posix_model.specs.declared.change.TableEdit.TheVariants as on_table
-use Rattle.posix_model.proofs.PageLaws.{page_has, on_open_has, if_has, Clear, clear, none_in_both}
+use Rattle.posix_model.proofs.PageLaws.{page_has, on_open_has, if_has, IsOf, unmet}
 use Rattle.posix_model.proofs.SlotLaws.{test_set, there_below, stands_there, lowest_is_least}
 
 -- what a call comes to is sound
@@ -165,7 +165,7 @@ read_few there start count most h = grind (arith, common_steps)
 sound_read : (bounds : Bounds) (w : World) (p : ℕ) (fd : ℤ) (count : ℕ) (o : OpenDescriptor) → opened w p fd ≡ Some o → first_fault (read_faults count o) ≡ None →
     Answers bounds w p (call.Read fd count) (read w count o).effect
 sound_read bounds w p fd count o is free =
-    let asked = not_below TRANSFER_MAX count (clear (read_faults count o) free).1.0 in
+    let asked = not_below TRANSFER_MAX count (unmet (read_faults count o) free (ltb TRANSFER_MAX count) (search rules)) in
     let brief = read_few (bytes_of w (file_at o)) o.description.offset count TRANSFER_MAX asked in
     let got = bytes_at (bytes_of w (file_at o)) o.description.offset count in
     let at = opened_stands w p fd o is in
@@ -189,9 +189,8 @@ sound_write : (bounds : Bounds) (w : World) (p : ℕ) (fd : ℤ) (bytes : List �
     Answers bounds w p (call.Write fd bytes) (write_from bounds start bytes o).effect
 sound_write bounds w p fd bytes start o is free =
     let at = opened_stands w p fd o is in
-    let allowed = clear (write_faults bounds start bytes o) free in
-    let regular = allowed.1.1.0 in
-    let below_limit = allowed.1.1.1.0 in
+    let regular = unmet (write_faults bounds start bytes o) free (not (is_regular o)) (search rules) in
+    let below_limit = unmet (write_faults bounds start bytes o) free (is_past_limit bounds start bytes) (search rules) in
     let n = fitting bounds start bytes in
     if_has (Answers bounds w p (call.Write fd bytes)) (eqb (length bytes) 0) (tells (Number 0)) (does (Number n) (on_files.Bytes (file_at o) start n) (on_table.Offset o.number (start + n)))
     (λ _. sound_tells bounds w p (call.Write fd bytes) (Number 0) refl (omega arith))
@@ -213,9 +212,8 @@ sound_pwrite : (bounds : Bounds) (w : World) (p : ℕ) (fd start : ℤ) (bytes :
     Answers bounds w p (call.Pwrite fd start bytes) (pwrite bounds start bytes o).effect
 sound_pwrite bounds w p fd start bytes o is free =
     let at = opened_stands w p fd o is in
-    let allowed = clear (pwrite_faults bounds start bytes o) free in
-    let regular = allowed.1.0 in
-    let below_limit = allowed.1.1.1.1.0 in
+    let regular = unmet (pwrite_faults bounds start bytes o) free (not (is_regular o)) (search rules) in
+    let below_limit = unmet (pwrite_faults bounds start bytes o) free (is_past_limit bounds (bytes_before start) bytes) (search rules) in
     let n = fitting bounds (bytes_before start) bytes in
     if_has (Answers bounds w p (call.Pwrite fd start bytes)) (eqb (length bytes) 0) (tells (Number 0)) (does (Number n) (on_files.Bytes (file_at o) (bytes_before start) n) on_table.Nothing)
     (λ _. sound_tells bounds w p (call.Pwrite fd start bytes) (Number 0) refl (omega arith))
@@ -235,8 +233,8 @@ sound_pwrite bounds w p fd start bytes o is free =
 
 -- a place that is not before the start of a file, and not past the greatest offset
 sought_within : (to : ℤ) (o : OpenDescriptor) → first_fault (lseek_faults to o) ≡ None → nat_abs to ≤ OFFSET_MAX
-sought_within (pos n) o free = not_below OFFSET_MAX n (clear (lseek_faults (pos n) o) free).1.1.0
-sought_within (negsuc n) o free = let none : true ≡ false = (clear (lseek_faults (negsuc n) o) free).1.0 in cc
+sought_within (pos n) o free = not_below OFFSET_MAX n (unmet (lseek_faults (pos n) o) free (ltb OFFSET_MAX n) (search rules))
+sought_within (negsuc n) o free = let none = unmet (lseek_faults (negsuc n) o) free true (search rules) in cc
 
 sound_lseek : (bounds : Bounds) (w : World) (p : ℕ) (fd offset : ℤ) (from : Whence) (to : ℤ) (o : OpenDescriptor) → opened w p fd ≡ Some o → first_fault (lseek_faults to o) ≡ None →
     Answers bounds w p (call.Lseek fd offset from) (lseek_to to o).effect
@@ -257,9 +255,8 @@ sound_lseek bounds w p fd offset from to o is free = record {
 sound_ftruncate : (bounds : Bounds) (w : World) (p : ℕ) (fd len : ℤ) (o : OpenDescriptor) → IsOpenAt w p o → first_fault (ftruncate_faults bounds len o) ≡ None →
     Answers bounds w p (call.Ftruncate fd len) (ftruncate bounds len o).effect
 sound_ftruncate bounds w p fd len o at free =
-    let allowed = clear (ftruncate_faults bounds len o) free in
-    let regular = allowed.1.0 in
-    let short : bytes_before len ≤ bounds.file_size = not_below bounds.file_size (bytes_before len) allowed.1.1.1.0 in
+    let regular = unmet (ftruncate_faults bounds len o) free (not (is_regular o)) (search rules) in
+    let short = not_below bounds.file_size (bytes_before len) (unmet (ftruncate_faults bounds len o) free (ltb bounds.file_size (bytes_before len)) (search rules)) in
     record {
       refusal = λ _ h. cc;
       told = refl;
@@ -318,16 +315,13 @@ record CanOpenFound (w : World) (p : ℕ) (found : Option ℕ) : Type 0 where
 
 can_open : (w : World) (p : ℕ) (name : List ℕ) (flags : OpenFlags) (found : Option ℕ) → first_fault (open_faults w p name flags found) ≡ None → CanOpenFound w p found
 can_open w p name flags found h =
-    let here = found_faults w flags found in
-    let room = room_faults w p found in
-    let later = none_in_both here room (none_in_both (name_faults name) (here ++ room) (none_in_both (flag_faults flags) (name_faults name ++ (here ++ room)) h).1).1 in
-    let what = clear here later.0 in
-    let roomy = clear room later.1 in
+    let no : (b : Bool) → IsOf (open_faults w p name flags found) b → b ≡ false = unmet (open_faults w p name flags found) h in
     record {
-      free = free_is w p (lowest (table_of (slot w.processes p))) refl roomy.0;
-      descriptions = not_at_most DESCRIPTIONS_MAX (live w.descriptions) roomy.1.0;
-      name = λ e. not_at_most NAMES_MAX (length w.names) (let P : Option ℕ → Type 0 = λ x. (is_none x && leb NAMES_MAX (length w.names)) ≡ false in subst P e roomy.1.1.0);
-      regular = λ f e. let P : Option ℕ → Type 0 = λ x. Clear (found_faults w flags x) in (subst P e what).1.1.0;
+      free = free_is w p (lowest (table_of (slot w.processes p))) refl (no (is_none (lowest (table_of (slot w.processes p)))) (search rules));
+      descriptions = not_at_most DESCRIPTIONS_MAX (live w.descriptions) (no (leb DESCRIPTIONS_MAX (live w.descriptions)) (search rules));
+      name = λ e. not_at_most NAMES_MAX (length w.names)
+          (let P : Option ℕ → Type 0 = λ x. (is_none x && leb NAMES_MAX (length w.names)) ≡ false in subst P e (no (is_none found && leb NAMES_MAX (length w.names)) (search rules)));
+      regular = λ f e. let P : Option ℕ → Type 0 = λ x. leads_to_fifo w x ≡ false in subst P e (no (leads_to_fifo w found) (search rules));
     }
 
 fits_emptied : (w : World) (p f : ℕ) (flags : OpenFlags) → IsFree w p (free_descriptor w p) → is_regular_file (slot w.files f) ≡ true → Fits w [] (opens w p (emptied f flags) (new_description f flags)).change
@@ -385,7 +379,7 @@ calls_are_sound bounds w p (call.Write fd bytes) =
 calls_are_sound bounds w p (call.Pread fd start count) =
     on_open_has (Answers bounds w p (call.Pread fd start count)) (opened w p fd) (pread w start count) (sound_refused bounds w p (call.Pread fd start count))
     (λ o is free.
-    let asked = not_below TRANSFER_MAX count (clear (pread_faults start count o) free).1.1.1.0 in
+    let asked = not_below TRANSFER_MAX count (unmet (pread_faults start count o) free (ltb TRANSFER_MAX count) (search rules)) in
     let there = bytes_of w (file_at o) in
     sound_tells bounds w p (call.Pread fd start count) (Data (bytes_at there (bytes_before start) count)) refl (read_few there (bytes_before start) count TRANSFER_MAX asked))
 calls_are_sound bounds w p (call.Pwrite fd start bytes) =
