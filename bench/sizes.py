@@ -1,5 +1,5 @@
 #!/usr/bin/env python3
-"""Prints the table of sizes of the README: lines of code, tests, definitions and proofs of each crate, and its edits.
+"""Prints the table of sizes of docs/MEASUREMENTS.md: lines of code, tests, definitions and proofs of each crate, and its edits.
 
 usage: bench/sizes.py
 

@@ -102,7 +102,7 @@ def expect(ran, status=0, stdout=b"", stderr=b""):
 
 
 def told(text):
-    """The line that a text is on standard error."""
+    """The line that a text is."""
     return text.encode() + b"\n"
 
 
@@ -173,10 +173,20 @@ def is_mistake(program, *words):
         raise Failure(f"standard error is {shown(ran.stderr)}, wanted a text that ends its line")
 
 
-@case("help", "Usage: fdref", "--help")
-@case("version", "fdref ", "--version")
+@case("text of a mistake", "replay", "--records", "0")
+def mistake_is_told(program, *words):
+    text = "error: invalid value '0' for '--records <N>': not a number from 1 to 1000000\n\nUsage: fdref replay [OPTIONS]\n\nFor more information, try '--help'."
+    expect(run(program, words), status=2, stderr=told(text))
+
+
+@case("version", "fdref 0.1.0", "--version")
+@case("version of replay", "fdref-replay 0.1.0", "replay", "-V")
+def is_version(program, text, *words):
+    expect(run(program, words), stdout=told(text))
+
+
+@case("help", "Usage: fdref <COMMAND>", "--help")
 @case("help of replay", "--records <N>", "replay", "--help")
-@case("version of replay", "fdref", "replay", "--version")
 def is_shown(program, part, *words):
     ran = run(program, words)
     if ran.status != 0 or ran.stderr:
@@ -199,6 +209,18 @@ def default_is_ten_thousand(program):
     lines = [b"0 p0 join = 0\n"]
     lines += [b"%d p0 close 0 = error EBADF\n" % place for place in range(1, 9_998)]
     lines += [b"- p0 close 0 = refused RunFull\n", b"records 9998 in 0 out 0\n"]
+    expect(replay(program, script), stdout=b"".join(lines))
+
+
+@case("a process that is quiet for thousands of records")
+def process_is_quiet(program):
+    count = 2_000
+    script = b"join\n" * 2 + b"p0 open a w,creat\np0 close 0\n" * count + b"p1 open a r\np1 close 0\n"
+    lines = [b"%d p%d join = %d\n" % (n, n, n) for n in (0, 1)]
+    for n in range(count):
+        lines += [b"%d p0 open a w,creat = 0\n" % (2 * n + 2), b"%d p0 close 0 = ok\n" % (2 * n + 3)]
+    end = 2 * count + 2
+    lines += [b"%d p1 open a r = 0\n%d p1 close 0 = ok\nrecords %d in 0 out 0\n" % (end, end + 1, end + 2)]
     expect(replay(program, script), stdout=b"".join(lines))
 
 

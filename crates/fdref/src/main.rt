@@ -67,6 +67,3 @@ fn main(rt: HostRuntime) -> ExitCode {
         }
     }
 }
-
-#[cfg(test)]
-mod tests;

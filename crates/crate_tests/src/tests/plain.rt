@@ -1,4 +1,4 @@
-//! The plain program, which nothing else of the program calls.
+//! The plain program.
 use call_types::act::Act;
 use call_types::bounded::{Name, Payload};
 use call_types::call::Call;
