@@ -5,9 +5,8 @@ ghost use Rattle.posix_model.specs.Sweep.{sweep};
 ghost use Rattle.machine_state.specs.Room.{HasFileRoom, HasProcessRoom, HasTableRoom, HasRoom, KeepsTableRoom};
 
 use crate::machine::Machine;
-use posix_model::change::{Change, FileEdit, ProcessEdit, TableEdit};
+use posix_model::change::{Change, FileEdit, ProcessEdit, TableEdit, process_with};
 use posix_model::laws::sweep_releases;
-use posix_model::world::Process;
 
 impl Machine {
     /// Makes an edit of files, with the bytes of the act.
@@ -38,11 +37,7 @@ impl Machine {
     {
         match edit {
             ProcessEdit::Nothing => {}
-            ProcessEdit::Add { table } => self.processes.push(Process {
-                table,
-                parked: None,
-                attached: true,
-            }),
+            ProcessEdit::Add { table } => self.processes.push(process_with(table)),
         }
     }
 

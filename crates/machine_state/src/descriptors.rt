@@ -1,6 +1,6 @@
-ghost use Rattle.std.specs.Prelude.{◌≡◌, ◌<◌, Some};
+ghost use Rattle.std.specs.Prelude.{◌≡◌, ◌<◌};
 ghost use Rattle.call_types.specs.declared.limits.TheConstants.{DESCRIPTIONS_MAX};
-ghost use Rattle.posix_model.specs.Slots.{slot, live};
+ghost use Rattle.posix_model.specs.Slots.{live};
 ghost use Rattle.posix_model.specs.Descriptors.{with_descriptor, with_offset};
 ghost use Rattle.posix_model.specs.Change.{with_description};
 ghost use Rattle.posix_model.specs.Fits.{CanOpen, CanSet};

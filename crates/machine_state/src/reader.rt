@@ -1,21 +1,12 @@
-ghost use Rattle.std.specs.Prelude.{◌≡◌, length};
-ghost use Rattle.posix_model.specs.Counts.{links};
-
 use crate::machine::Machine;
-use call_types::bounded::{Content, Name};
+use call_types::bounded::Content;
 use posix_model::contents::bytes_at;
+use posix_model::counts::links;
 use posix_model::names;
 use posix_model::opened::OpenDescriptor;
 use posix_model::reader::Reader;
 use posix_model::world::Parked;
 use std::alloc::{AllocError, Global};
-
-/// How many names a file has.
-fn links(names: &[(Name, usize)], file: usize) -> usize
-    ensures { result ≡ links names.now file }
-{
-    names.iter().filter(|entry| entry.1 == file).count()
-}
 
 impl Reader for Machine {
     ghost world = { λ m. m.world };

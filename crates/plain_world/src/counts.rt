@@ -1,9 +1,8 @@
 ghost use Rattle.std.specs.Prelude.{◌≡◌, count_by, nat_lt};
 ghost use Rattle.std.specs.List.{list_any};
-ghost use Rattle.posix_model.specs.Counts.{refers, refs_of, is_file, is_pipe, holds, links, holders};
+ghost use Rattle.posix_model.specs.Counts.{refers, refs_of, is_file, is_pipe, holds, holders};
 ghost use Rattle.plain_world.specs.Ends.{is_end};
 
-use posix_model::names::Names;
 use posix_model::slots::Slots;
 use posix_model::world::{Description, Process, Target};
 
@@ -76,17 +75,6 @@ fn is_end(number: usize, slot: Option<Description>) -> bool
         Some(description) => is_pipe(number, description.target),
         None => false,
     }
-}
-
-/// How many names a file has (XBD 3, Link Count).
-pub(crate) fn links(names: &Names, file: usize) -> usize
-    ensures { result ≡ links names.now file }
-{
-    names
-        .entries()
-        .iter()
-        .filter(|entry| entry.1 == file)
-        .count()
 }
 
 /// How many descriptions hold a file.

@@ -9,7 +9,7 @@ ghost use Rattle.posix_model.specs.Change.{created, with_files, with_processes, 
 ghost use Rattle.posix_model.specs.Fits.{FilesProper, IsProper};
 
 use call_types::bounded::Name;
-use posix_model::change::{Change, FileEdit, ProcessEdit, TableEdit};
+use posix_model::change::{Change, FileEdit, ProcessEdit, TableEdit, process_with};
 use posix_model::contents::Contents;
 use posix_model::slots::Slots;
 use posix_model::world::{Description, File, Process, World};
@@ -91,11 +91,7 @@ fn make_processes(world: &mut World, edit: ProcessEdit) -> Result<(), AllocError
 {
     match edit {
         ProcessEdit::Nothing => Ok(()),
-        ProcessEdit::Add { table } => world.processes.push(Process {
-            table,
-            parked: None,
-            attached: true,
-        }),
+        ProcessEdit::Add { table } => world.processes.push(process_with(table)),
     }
 }
 

@@ -2,8 +2,9 @@ ghost use Rattle.std.specs.Prelude.{◌≡◌, map, slice_set};
 ghost use Rattle.posix_model.specs.Slots.{slot, kept};
 ghost use Rattle.posix_model.specs.Sweep.{is_referred, is_open, is_wanted, open_pipe, without_gone_pipe, sweep};
 
-use crate::counts::{any_refers, ends, holders, links};
+use crate::counts::{any_refers, ends, holders};
 use posix_model::contents::Contents;
+use posix_model::counts::links;
 use posix_model::names::Names;
 use posix_model::slots::Slots;
 use posix_model::world::{Description, Fifo, File, Process, World};
@@ -26,7 +27,7 @@ fn is_open(descriptions: &Slots<Description>, pipe: usize) -> bool
 fn is_wanted(names: &Names, descriptions: &Slots<Description>, file: usize) -> bool
     ensures { result ≡ is_wanted names.now descriptions.now file }
 {
-    links(names, file) > 0 || holders(descriptions, file) > 0
+    links(names.entries(), file) > 0 || holders(descriptions, file) > 0
 }
 
 /// The pipe of a FIFO, if an end of it is open.

@@ -1,8 +1,9 @@
 ghost use Rattle.std.specs.Prelude.{◌≡◌};
+ghost use Rattle.posix_model.specs.Change.{process_with};
 ghost use Rattle.posix_model.specs.Pages.{tells, does, acts, refused};
 
 use crate::slots::Slots;
-use crate::world::Description;
+use crate::world::{Description, Process};
 use call_types::bounded::Name;
 use call_types::errno::Errno;
 use call_types::outcome::{Outcome, Reply};
@@ -60,6 +61,17 @@ pub enum TableEdit {
         fd: usize,
         entry: Option<usize>,
     },
+}
+
+/// A process with this table and its connection, that waits in no call.
+pub fn process_with(table: Slots<usize>) -> Process
+    ensures { result ≡ process_with table }
+{
+    Process {
+        table,
+        parked: None,
+        attached: true,
+    }
 }
 
 /// What an act changes, before the sweep: first files and pipes, then processes, then descriptors.

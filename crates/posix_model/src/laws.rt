@@ -2,7 +2,7 @@
 
 ghost use Rattle.posix_model.specs.Sound.{CallsAreSound, ActsAreSound};
 ghost use Rattle.posix_model.specs.Lengths.{StepIsShort};
-ghost use Rattle.posix_model.specs.Released.{SettledIsSwept, SettledStays, SweepReleases};
+ghost use Rattle.posix_model.specs.Released.{SweptIsSettled, SettledStays, SweepReleases};
 ghost use Rattle.posix_model.specs.Laws.{StepRaisesNumbers, StepKeepsWhole, HistoryIsWhole, HistoryRaisesNumbers, SweepSettles, StepSettles, HistorySettles, SweepLeaves, StepTellsProcesses, StepPlansProcesses};
 
 /// What each act comes to can be made, within all limits; a refusal changes nothing, and no act moves an offset but that
@@ -38,7 +38,7 @@ pub fn sweep_leaves_wanted()
 
 /// After a change of one description's references, the sweep takes it and what it alone held, or nothing.
 pub fn sweep_releases()
-    ensures settled { SettledIsSwept }
+    ensures settled { SweptIsSettled }
     ensures stays { SettledStays }
     ensures releases { SweepReleases }
 {}

@@ -3,6 +3,7 @@
 
 pub mod change;
 pub mod contents;
+pub mod counts;
 pub mod laws;
 pub mod names;
 pub mod opened;

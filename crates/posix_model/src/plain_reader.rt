@@ -1,11 +1,10 @@
 //! The plain world can be read as itself.
 
-ghost use Rattle.std.specs.Prelude.{◌≡◌, ◌==◌};
+ghost use Rattle.std.specs.Prelude.{◌≡◌};
 ghost use Rattle.posix_model.specs.Slots.{slot};
-ghost use Rattle.posix_model.specs.Counts.{links};
 ghost use Rattle.posix_model.specs.Descriptors.{opened_number, bytes_of, table_of};
 
-use crate::names::Names;
+use crate::counts::links;
 use crate::opened::OpenDescriptor;
 use crate::reader::Reader;
 use crate::slots::Slots;
@@ -44,17 +43,6 @@ pub fn bytes_of(world: &World, number: usize) -> &[u8]
         Some(File::Regular(contents)) => contents.as_slice(),
         _ => &[],
     }
-}
-
-/// How many names a file has (XBD 3, Link Count).
-fn links(names: &Names, file: usize) -> usize
-    ensures { result ≡ links names.now file }
-{
-    names
-        .entries()
-        .iter()
-        .filter(|entry| entry.1 == file)
-        .count()
 }
 
 impl Reader for World {
@@ -104,7 +92,7 @@ impl Reader for World {
     }
 
     fn links_told(&self, file: usize) -> u32 {
-        links(&self.names, file).min(u32::MAX as usize) as u32
+        links(self.names.entries(), file).min(u32::MAX as usize) as u32
     }
 
     fn held_in(&self, pipe: usize) -> usize {

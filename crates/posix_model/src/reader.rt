@@ -1,6 +1,6 @@
 //! What can be read as a world of the model. Calls are decided of any such state, by one body for all of them.
 
-ghost use Rattle.std.specs.Prelude.{◌≡◌, ◌≤◌, length, IfOk};
+ghost use Rattle.std.specs.Prelude.{◌≡◌, ◌≤◌, ◌<◌, ◌^◌, length, IfOk};
 ghost use Rattle.std.specs.Option.{option_copied};
 ghost use Rattle.posix_model.specs.Slots.{slot, lowest, live};
 ghost use Rattle.posix_model.specs.Names.{file_of};
@@ -43,7 +43,8 @@ pub trait Reader {
         count: usize,
     ) -> Result<Content, AllocError>
         requires { count ≤ TRANSFER_MAX }
-        ensures { IfOk result (λ content. content ≡ bytes_at (bytes_of (world self.now) file) start count) };
+        ensures content { IfOk result (λ content. content ≡ bytes_at (bytes_of (world self.now) file) start count) }
+        ensures within { length (bytes_of (world self.now) file) < 2 ^ 63 };
 
     /// The file of a name.
     fn file_of(&self, name: &[u8]) -> Option<usize>

@@ -115,18 +115,9 @@ impl<T: Drop> Slots<T> {
             self.put(number, None);
         }
     }
-
-    /// Puts a value at a number, or empties its slot.
-    pub fn set(&mut self, number: usize, value: Option<T>)
-        requires { number < length self.old }
-        ensures { self.new ≡ slice_set self.old number value }
-    {
-        self.items[number] = value;
-    }
 }
 
 impl<T: Clone> Clone for Slots<T> {
-    ghost use Rattle.std.specs.List.{AllZip};
     ghost use Rattle.std.specs.Prelude.{List, Option, length, ◌≡◌};
 
     ghost is_clone = { λ old new. (((x y : T) → T.is_clone x y → y ≡ x) → new ≡ old) };

@@ -12,7 +12,7 @@ fn replace_entry(process: &mut Process, fd: usize, entry: Option<usize>) -> Opti
     ensures old { result ≡ slot process.old.table fd }
 {
     let old = process.table.get(fd).copied();
-    process.table.set(fd, entry);
+    process.table.put(fd, entry);
     old
 }
 
