@@ -7,7 +7,7 @@ use Rattle.posix_model.specs.Slots.{slot}
 use Rattle.posix_model.specs.Counts.{links, refs, refs_of, refers, holders, holds, readers, reads, writers, writes, is_file, is_pipe, can_read, can_write}
 use Rattle.posix_model.specs.Whole.{IsThere, TargetIsThere, is_regular_file, is_fifo, IsWhole}
 use Rattle.posix_model.specs.Laws.{HistoryIsWhole, HistorySettles}
-use Rattle.posix_model.specs.Released.{IsSettled, SettledIsSwept}
+use Rattle.posix_model.specs.Released.{IsSettled, SweptIsSettled}
 use Rattle.posix_model.specs.History.{world_of}
 use Rattle.plain_world.specs.Types.{World, Process, Description, Target, File}
 use Rattle.posix_model.specs.declared.world.Target.TheVariants as target
@@ -104,5 +104,5 @@ keeps_exactly w whole settled = record {
   descriptions = λ n. (settled.descriptions n, referred_there w n whole);
 }
 
-pub history_keeps_exactly : HistoryIsWhole → HistorySettles → SettledIsSwept → HistoryKeepsExactly
+pub history_keeps_exactly : HistoryIsWhole → HistorySettles → SweptIsSettled → HistoryKeepsExactly
 history_keeps_exactly whole settles settled bounds h = keeps_exactly (world_of bounds h) (whole bounds h) (settled (world_of bounds h) (settles bounds h))

@@ -23,9 +23,9 @@ use Rattle.plain_world.proofs.ChangeLemmas.{offset_stays}
 use Rattle.plain_world.proofs.SlotLemmas.{stood}
 
 pub refused_step_keeps_world : ActsAreSound → RefusedStepKeepsWorld
-refused_step_keeps_world sound bounds w actor act s error _ settled h told =
+refused_step_keeps_world sound bounds w actor act s error other settled h told =
     step_parts (λ t. t.outcome ≡ Replied (Error error) → t.world ≡ w) bounds w actor act s
-    (λ d is refused. ap (λ c. sweep (changed w (given act) c)) ((sound bounds w actor act d is).refusal error refused) ∙ settled) h told
+    (λ d is refused. ap (λ c. sweep (changed w (given act) c)) ((sound bounds w actor act d is).refusal other error refused) ∙ settled) h told
 
 pub refused_next_keeps_world : ActsAreSound → HistorySettles → RefusedNextKeepsWorld
 refused_next_keeps_world sound settles bounds h actor act s error other = refused_step_keeps_world sound bounds (world_of bounds h) actor act s error other (settles bounds h)

@@ -1,5 +1,5 @@
 -- What holds of steps, and so of histories.
-use Rattle.std.specs.Prelude.{◌≡◌, ◌≢◌, ℕ, ◌+◌, ◌≤◌, ◌<◌, ◌↔◌, Bool, true, false, List, [], ◌∷◌, ◌++◌, Option, None, Some, length, is_some}
+use Rattle.std.specs.Prelude.{◌≡◌, ◌≢◌, ℕ, ◌+◌, ◌≤◌, ◌<◌, ◌↔◌, true, false, List, [], ◌∷◌, ◌++◌, Option, None, Some, length, is_some}
 use Rattle.std.specs.Option.{option_map}
 use Rattle.plain_world.specs.Types.{Act, Record, Errno, Bounds, World, Description, Decided, OFFSET_MAX, EAGAIN, Replied, Number, Error}
 use Rattle.call_types.specs.declared.act.Act.TheVariants as act
@@ -11,14 +11,9 @@ use Rattle.posix_model.specs.Change.{changed, new_process}
 use Rattle.posix_model.specs.Join.{is_full}
 use Rattle.posix_model.specs.Sweep.{sweep}
 use Rattle.posix_model.specs.Step.{given, comes_to, Stepped, step}
-use Rattle.posix_model.specs.Sound.{number_at, WithinLimits}
+use Rattle.posix_model.specs.Sound.{is_resume, number_at, WithinLimits}
 use Rattle.posix_model.specs.Turns.{took}
 use Rattle.posix_model.specs.History.{world_of, legal}
-
--- whether an act takes up a call that waits, which may have moved bytes before (own)
-abbrev pub is_resume : Act → Bool
-is_resume act.Resume = true
-is_resume other = false
 
 -- a step that records an error leaves a world that is its own sweep exactly as it was (own)
 abbrev pub RefusedStepKeepsWorld : Type 0

@@ -11,7 +11,7 @@ use Rattle.posix_model.specs.Types.{World, Description, Target, File, Fifo}
 use Rattle.posix_model.specs.declared.world.Target.TheVariants as target
 use Rattle.posix_model.specs.declared.world.File.TheVariants as file
 use Rattle.posix_model.proofs.SweepLaws.{LeavesThere, sweep_leaves, sweep_leaves_there, slot_mapped, still_there}
-use Rattle.posix_model.specs.Released.{released_descriptions, pipes_after, fifos_after, files_after, IsItsFifo, SettledIsSwept, SweepReleases, SettledStays}
+use Rattle.posix_model.specs.Released.{released_descriptions, pipes_after, fifos_after, files_after, IsItsFifo, SweptIsSettled, SweepReleases, SettledStays}
 use Rattle.posix_model.proofs.SlotLaws.{kept_all, kept_at, map_all, map_at}
 
 abbrev one : Bool → ℕ
@@ -126,8 +126,8 @@ sweep_releases w ps n d settled is its stays =
     rw (descriptions, pipes, files, fifos) refl
 
 -- what the law asks for, of a world that is its own sweep
-pub settled_is_swept : SettledIsSwept
-settled_is_swept w same =
+pub swept_is_settled : SweptIsSettled
+swept_is_settled w same =
     let P : World → Type 0 = λ v. LeavesThere w v in
     let left : LeavesThere w w = subst P same (sweep_leaves_there w) in
     let Q : World → Type 0 = λ v. (n : ℕ) → slot v.files n ≡ cond (is_wanted w.names v.descriptions n) (without_gone_pipe v.descriptions (slot w.files n)) None in

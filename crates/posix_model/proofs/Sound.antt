@@ -56,7 +56,7 @@ none_taken c most = elim (is_some (payload_of c)) as (λ b. cond b (0 - 0) 0 ≤
 sound_tells : (bounds : Bounds) (w : World) (process : ℕ) (c : Call) (reply : Reply) → total (Replied reply) ≡ 0 → length (data_in (Replied reply)) ≤ data_most (act.Call c) →
     Answers bounds w process c (tells reply)
 sound_tells bounds w process c reply none brief = record {
-  refusal = λ _ _. refl;
+  refusal = λ _ _ _. refl;
   told = refl;
   planned = refl;
   own = λ n h. cc;
@@ -141,7 +141,7 @@ put_below bounds start bytes clear some =
 
 sound_close : (bounds : Bounds) (w : World) (p : ℕ) (fd : ℤ) (o : OpenDescriptor) → IsOpenAt w p o → Answers bounds w p (call.Close fd) (close p o).effect
 sound_close bounds w p fd o at = record {
-  refusal = λ _ h. cc;
+  refusal = λ _ _ h. cc;
   told = refl;
   planned = refl;
   own = λ n h. cc;
@@ -172,7 +172,7 @@ sound_read bounds w p fd count o is free =
     if_has (Answers bounds w p (call.Read fd count)) (eqb (length got) 0) (tells (Data got)) (does (Data got) on_files.Nothing (on_table.Offset o.number (o.description.offset + length got)))
     (λ _. sound_tells bounds w p (call.Read fd count) (Data got) refl brief)
     (λ _. record {
-      refusal = λ _ h. cc;
+      refusal = λ _ _ h. cc;
       told = refl;
       planned = refl;
       own = λ n h. own_offset w p fd o n is h;
@@ -195,7 +195,7 @@ sound_write bounds w p fd bytes start o is free =
     if_has (Answers bounds w p (call.Write fd bytes)) (eqb (length bytes) 0) (tells (Number 0)) (does (Number n) (on_files.Bytes (file_at o) start n) (on_table.Offset o.number (start + n)))
     (λ _. sound_tells bounds w p (call.Write fd bytes) (Number 0) refl (omega arith))
     (λ some. let put = put_below bounds start bytes below_limit some in record {
-      refusal = λ _ h. cc;
+      refusal = λ _ _ h. cc;
       told = refl;
       planned = refl;
       own = λ n h. own_offset w p fd o n is h;
@@ -218,7 +218,7 @@ sound_pwrite bounds w p fd start bytes o is free =
     if_has (Answers bounds w p (call.Pwrite fd start bytes)) (eqb (length bytes) 0) (tells (Number 0)) (does (Number n) (on_files.Bytes (file_at o) (bytes_before start) n) on_table.Nothing)
     (λ _. sound_tells bounds w p (call.Pwrite fd start bytes) (Number 0) refl (omega arith))
     (λ some. let put = put_below bounds (bytes_before start) bytes below_limit some in record {
-      refusal = λ _ h. cc;
+      refusal = λ _ _ h. cc;
       told = refl;
       planned = refl;
       own = λ n h. cc;
@@ -239,7 +239,7 @@ sought_within (negsuc n) o free = let none = unmet (lseek_faults (negsuc n) o) f
 sound_lseek : (bounds : Bounds) (w : World) (p : ℕ) (fd offset : ℤ) (from : Whence) (to : ℤ) (o : OpenDescriptor) → opened w p fd ≡ Some o → first_fault (lseek_faults to o) ≡ None →
     Answers bounds w p (call.Lseek fd offset from) (lseek_to to o).effect
 sound_lseek bounds w p fd offset from to o is free = record {
-  refusal = λ _ h. cc;
+  refusal = λ _ _ h. cc;
   told = refl;
   planned = refl;
   own = λ n h. own_offset w p fd o n is h;
@@ -258,7 +258,7 @@ sound_ftruncate bounds w p fd len o at free =
     let regular = unmet (ftruncate_faults bounds len o) free (not (is_regular o)) (search rules) in
     let short = not_below bounds.file_size (bytes_before len) (unmet (ftruncate_faults bounds len o) free (ltb bounds.file_size (bytes_before len)) (search rules)) in
     record {
-      refusal = λ _ h. cc;
+      refusal = λ _ _ h. cc;
       told = refl;
       planned = refl;
       own = λ n h. cc;
@@ -334,7 +334,7 @@ fits_emptied w p f flags free there =
 sound_open : (bounds : Bounds) (w : World) (p : ℕ) (name : List ℕ) (flags : OpenFlags) (found : Option ℕ) → file_of name w.names ≡ found → CanOpenFound w p found →
     Answers bounds w p (call.Open name flags) (open_found w p name flags found)
 sound_open bounds w p name flags None is can = record {
-  refusal = λ _ h. cc;
+  refusal = λ _ _ h. cc;
   told = refl;
   planned = refl;
   own = λ n h. cc;
@@ -347,7 +347,7 @@ sound_open bounds w p name flags None is can = record {
   within_table = λ _ _. omega arith;
 }
 sound_open bounds w p name flags (Some f) is can = record {
-  refusal = λ _ h. cc;
+  refusal = λ _ _ h. cc;
   told = refl;
   planned = refl;
   own = λ n h. cc;
@@ -401,7 +401,7 @@ sound_join bounds w actor = by_room (is_full w) refl
   where
     by_room : (b : Bool) → is_full w ≡ b → Sound bounds w actor act.Join (unless (cond b (Some EAGAIN) None) (acts (Number (length w.processes)) (on_process.Add free_table)))
     by_room true e = record {
-      refusal = λ _ _. refl;
+      refusal = λ _ _ _. refl;
       told = refl;
       planned = rw e refl;
       own = λ n h. cc;
@@ -414,7 +414,7 @@ sound_join bounds w actor = by_room (is_full w) refl
       within_table = λ _ _. tt;
     }
     by_room false e = record {
-      refusal = λ _ h. cc;
+      refusal = λ _ _ h. cc;
       told = refl;
       planned = rw e refl;
       own = λ n h. cc;

@@ -1,12 +1,12 @@
 -- What holds of every step and history.
-use Rattle.std.specs.Prelude.{◌≡◌, ℕ, ◌+◌, List, ◌++◌, None, Some, length, if◌then◌else◌}
+use Rattle.std.specs.Prelude.{◌≡◌, ℕ, ◌+◌, ◌||◌, Bool, List, ◌++◌, None, Some, length, if◌then◌else◌}
 use Rattle.posix_model.specs.Types.{Act, Record, Bounds, World}
 use Rattle.posix_model.specs.Slots.{slot, live}
 use Rattle.posix_model.specs.Whole.{IsWhole}
 use Rattle.posix_model.specs.Numbers.{NumbersRise}
 use Rattle.posix_model.specs.Sweep.{is_referred, is_open, is_wanted, without_gone_pipe, sweep}
 use Rattle.posix_model.specs.Step.{Stepped, step}
-use Rattle.posix_model.specs.Sound.{added, ended, adds}
+use Rattle.posix_model.specs.Sound.{added, ended, closes, adds}
 use Rattle.posix_model.specs.History.{world_of}
 
 -- from a world in which nothing refers to what is gone, a step uses no number again (own)
@@ -37,19 +37,19 @@ StepSettles = (bounds : Bounds) (w : World) (actor : ℕ) (act : Act) (s : Stepp
 abbrev pub HistorySettles : Type 0
 HistorySettles = (bounds : Bounds) (h : List Record) → sweep (world_of bounds h) ≡ world_of bounds h
 
--- so many processes are there more, and so many of them live; a run that is closed stays so, and an open one open
-pub record Counts (w v : World) (more ends : ℕ) : Type 0 where
+-- so many processes are there more, so many ended, and the run is closed if it was before or is closed now
+pub record Counts (w v : World) (more ends : ℕ) (closing : Bool) : Type 0 where
   pub all : length v.processes ≡ length w.processes + more
   pub living : live v.processes + ends ≡ live w.processes + more
-  pub closed : v.closed ≡ w.closed
+  pub closed : v.closed ≡ (closing || w.closed)
 
--- a step adds as many processes as its act and outcome tell, and ends as many as its act does
+-- a step adds as many processes as its act and outcome tell, ends as many as its act does, and closes the run where its act does
 abbrev pub StepTellsProcesses : Type 0
-StepTellsProcesses = (bounds : Bounds) (w : World) (actor : ℕ) (act : Act) (s : Stepped) → step bounds w actor act ≡ Some s → Counts w s.world (added act s.outcome) (ended act)
+StepTellsProcesses = (bounds : Bounds) (w : World) (actor : ℕ) (act : Act) (s : Stepped) → step bounds w actor act ≡ Some s → Counts w s.world (added act s.outcome) (ended act) (closes act)
 
 -- as many as are known before it
 abbrev pub StepPlansProcesses : Type 0
-StepPlansProcesses = (bounds : Bounds) (w : World) (actor : ℕ) (act : Act) (s : Stepped) → step bounds w actor act ≡ Some s → Counts w s.world (adds w act) (ended act)
+StepPlansProcesses = (bounds : Bounds) (w : World) (actor : ℕ) (act : Act) (s : Stepped) → step bounds w actor act ≡ Some s → Counts w s.world (adds w act) (ended act) (closes act)
 
 -- what a sweep leaves, as it was and under its number: of the descriptions those with a descriptor, of the pipes those with
 -- an open end, of the files those with a name or a live description; a FIFO forgets a pipe that is gone (page of close)

@@ -20,19 +20,19 @@ released_pipe ds pipes p = if is_open ds p then pipes else slice_set pipes p Non
 abbrev pub released_file : Entries → List (Option Description) → List (Option File) → ℕ → List (Option File)
 released_file ns ds files f = if is_wanted ns ds f then files else slice_set files f None
 
--- the pipe behind a target
+-- the pipe that a target is an end of, after a release
 abbrev pub pipes_after : {T : Type 0} → List (Option Description) → List (Option T) → Target → List (Option T)
 pipes_after ds pipes (target.Regular f) = pipes
 pipes_after ds pipes (target.Pipe p) = released_pipe ds pipes p
 pipes_after ds pipes (target.Fifo f p) = released_pipe ds pipes p
 
--- the FIFO behind a target forgets its pipe, if that is gone
+-- the FIFO that a target is an end of forgets its pipe, if that is gone
 abbrev pub fifos_after : List (Option Description) → List (Option File) → Target → List (Option File)
 fifos_after ds files (target.Regular f) = files
 fifos_after ds files (target.Pipe p) = files
 fifos_after ds files (target.Fifo f p) = slice_set files f (without_gone_pipe ds (slot files f))
 
--- the file behind a target
+-- the file that a target is on, after a release
 abbrev pub files_after : Entries → List (Option Description) → List (Option File) → Target → List (Option File)
 files_after ns ds files (target.Regular f) = released_file ns ds files f
 files_after ns ds files (target.Pipe p) = files
@@ -55,8 +55,8 @@ pub record IsSettled (w : World) : Type 0 where
 abbrev pub IsItsFifo : List (Option File) → Target → Type 0
 IsItsFifo files t = (g : ℕ) (x : Fifo) (p : ℕ) → slot files g ≡ Some (file.Fifo x) → x.pipe ≡ Some p → is_pipe p t ≡ true → is_file g t ≡ true
 
-abbrev pub SettledIsSwept : Type 0
-SettledIsSwept = (w : World) → sweep w ≡ w → IsSettled w
+abbrev pub SweptIsSettled : Type 0
+SweptIsSettled = (w : World) → sweep w ≡ w → IsSettled w
 
 -- the other descriptions are referred to as before
 abbrev pub StaysBut : ℕ → List (Option Process) → List (Option Process) → Type 0

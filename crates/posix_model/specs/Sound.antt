@@ -32,6 +32,16 @@ abbrev pub ended : Act → ℕ
 ended act.Exit = 1
 ended other = 0
 
+-- whether an act closes the run
+abbrev pub closes : Act → Bool
+closes act.CloseRun = true
+closes other = false
+
+-- whether an act takes up a call that waits, which may have moved bytes before (own)
+abbrev pub is_resume : Act → Bool
+is_resume act.Resume = true
+is_resume other = false
+
 -- how many bytes of data an act may be told: none where it gives data itself
 abbrev pub data_most : Act → ℕ
 data_most (act.Call c) = if is_some (payload_of c) then 0 else TRANSFER_MAX
@@ -82,11 +92,11 @@ TableWithin (on_table.Offset number offset) = offset ≤ OFFSET_MAX
 TableWithin (on_table.Open process fd description) = description.offset ≤ OFFSET_MAX
 TableWithin other = Unit {0}
 
--- what an act comes to: a refusal changes nothing; it adds as many processes as it tells; it moves no offset but that of its
+-- what an act comes to: a refusal changes nothing, but for that of a resume; it adds as many processes as it tells; it moves no offset but that of its
 -- own descriptor; it changes no file, name or pipe where it may not; it takes no more bytes than it gives, and is told no more
 -- than it may be; and its change can be made, within all limits. The limit of sizes is at most the greatest offset
 pub record Sound (bounds : Bounds) (w : World) (actor : ℕ) (act : Act) (d : Decided) : Type 0 where
-  pub refusal : (error : Errno) → d.outcome ≡ Replied (Error error) → d.change ≡ no_change
+  pub refusal : is_resume act ≡ false → (error : Errno) → d.outcome ≡ Replied (Error error) → d.change ≡ no_change
   pub told : makes d.change.process ≡ added act d.outcome
   pub planned : makes d.change.process ≡ adds w act
   pub own : (n : ℕ) → moved_offset d.change.table ≡ Some n → number_at w actor act ≡ Some n

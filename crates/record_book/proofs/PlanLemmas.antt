@@ -22,7 +22,7 @@ use Rattle.record_book.specs.Refusals.{first_refusal, start_refusal, is_too_full
 use Rattle.record_book.specs.Planned.{IsPlanned}
 
 -- what is left of exits after an act that ends no process
-exits_of : (w v : World) (more : ℕ) → Counts w v more 0 → exits_left v ≡ cond w.closed (live w.processes + more) (live w.processes + more + 1)
+exits_of : (w v : World) (more : ℕ) → Counts w v more 0 false → exits_left v ≡ cond w.closed (live w.processes + more) (live w.processes + more + 1)
 exits_of w v more c = let living : live v.processes ≡ live w.processes + more = omega (arith, c.living) in rw (c.closed, living) refl
 
 -- after a call there are as many as before it, whether it is a step or not
@@ -32,7 +32,7 @@ call_exits planned b p c = by_step (step b.limits.bounds w p (act.Call c)) (λ s
     w : World
     w = world_now b
 
-    by_step : (s : Option Stepped) → ((t : Stepped) → s ≡ Some t → Counts w t.world 0 0) → exits_left (option_map_or (λ t. t.world) s w) ≡ exits_left w
+    by_step : (s : Option Stepped) → ((t : Stepped) → s ≡ Some t → Counts w t.world 0 0 false) → exits_left (option_map_or (λ t. t.world) s w) ≡ exits_left w
     by_step None all = refl
     by_step (Some t) all = let c = all t refl in let living : live t.world.processes ≡ live w.processes = omega (arith, c.living) in rw (c.closed, living) refl
 
