@@ -1,5 +1,7 @@
 -- What calls on an open descriptor do.
-use Rattle.std.proofs.Common.{◌≡◌, ℕ, zero, suc, ◌+◌, ℤ, pos, negsuc, ◌∙◌, Bool, true, cond, List, [], ◌∷◌, ◌++◌, Option, None, Some, length, set, take, refl, ap, sym, subst, append-nil, eqb}
+use Rattle.std.proofs.Common.{◌≡◌, ◌≢◌, ℕ, zero, suc, ◌+◌, ℤ, pos, negsuc, ◌∙◌, Bool, true, false, cond, List, [], ◌∷◌, ◌++◌, Option, None, Some, length, set, take, refl, ap, sym, subst, append-nil, eqb}
+use Rattle.std.proofs.Math.Dec.{eqb-suc-zero}
+use Rattle.std.proofs.Math.Seq.{take-nil}
 use Rattle.std.specs.Option.{unwrap_or}
 use Rattle.call_types.specs.declared.act.Act.TheVariants as act
 use Rattle.call_types.specs.declared.call.Call.TheVariants as call
@@ -7,7 +9,7 @@ use Rattle.posix_model.specs.Bytes.{splice, resized}
 use Rattle.posix_model.specs.Slots.{slot}
 use Rattle.posix_model.specs.Positions.{bytes_before, regular_file, file_at}
 use Rattle.posix_model.specs.Descriptors.{opened, opened_number, opened_description, table_of, file_bytes, bytes_of}
-use Rattle.posix_model.specs.Change.{changed}
+use Rattle.posix_model.specs.Change.{with_files, changed}
 use Rattle.posix_model.specs.Whole.{is_regular_file}
 use Rattle.posix_model.specs.Pages.{tells, does, on_open}
 use Rattle.posix_model.specs.Read.{read}
@@ -17,13 +19,13 @@ use Rattle.posix_model.specs.Pwrite.{pwrite}
 use Rattle.posix_model.specs.Ftruncate.{ftruncate}
 use Rattle.posix_model.specs.Step.{given, decided}
 use Rattle.posix_model.specs.Sound.{CallsAreSound}
-use Rattle.plain_world.specs.Types.{World, Description, File, OpenDescriptor, Decided, Replied, Number, Done}
+use Rattle.plain_world.specs.Types.{World, Description, File, OpenDescriptor, TableEdit, Decided, Replied, Number, Done}
 use Rattle.posix_model.specs.declared.world.File.TheVariants as file
 use Rattle.posix_model.specs.declared.change.FileEdit.TheVariants as on_files
 use Rattle.posix_model.specs.declared.change.TableEdit.TheVariants as on_table
-use Rattle.plain_world.specs.FileLaws.{WriteAppends, PreadKeepsWorld, NothingRead, NothingWritten, NothingPwritten, PwriteKeepsOffsets, with_append, with_appending, PwriteSameUnderAppend, ContentsStay, FtruncateLeavesResized}
+use Rattle.plain_world.specs.FileLaws.{OpenOn, WritePuts, PwritePuts, WriteAppends, PreadKeepsWorld, NothingRead, NothingWritten, NothingPwritten, PwriteKeepsOffsets, with_append, with_appending, PwriteSameUnderAppend, ContentsStay, FtruncateLeavesResized}
 use Rattle.plain_world.proofs.PageLemmas.{on_open_has, opened_has, if_has}
-use Rattle.plain_world.proofs.ChangeLemmas.{same_files, contents_same}
+use Rattle.plain_world.proofs.ChangeLemmas.{same_after_table, same_files, contents_same}
 use Rattle.plain_world.proofs.BytesLaws.{added_at_end}
 use Rattle.plain_world.proofs.SlotLemmas.{slot_set_there}
 
@@ -55,38 +57,56 @@ bytes_set [] n bytes there = cc
 bytes_set (f ∷ files) zero bytes there = refl
 bytes_set (f ∷ files) (suc n) bytes there = bytes_set files n bytes there
 
--- what a decided write that tells a number leaves in a file
-abbrev Appends : World → List ℕ → ℕ → ℕ → Decided → Type 0
-Appends w bytes f n d = d.outcome ≡ Replied (Number n) → bytes_of (changed w bytes d.change) f ≡ bytes_of w f ++ take n bytes
+-- some bytes are not none
+not_none : (bytes : List ℕ) → bytes ≢ [] → eqb (length bytes) 0 ≡ false
+not_none [] some = absurd (some refl)
+not_none (b ∷ bytes) some = eqb-suc-zero (length bytes)
 
--- bytes that are put at the end of a file
-puts_at_end : (w : World) (o : OpenDescriptor) (f count offset n : ℕ) (bytes : List ℕ) → is_regular_file (slot w.files f) ≡ true →
-    Appends w bytes f n (puts bytes f (length (bytes_of w f)) count (on_table.Offset o.number offset))
-puts_at_end w o f count offset n bytes there =
-    let end = length (bytes_of w f) in
-    if_has (Appends w bytes f n) (eqb (length bytes) 0) (tells (Number 0)) (does (Number count) (on_files.Bytes f end count) (on_table.Offset o.number offset))
-    (λ told. let none : n ≡ 0 = cc in rw none (sym (append-nil (bytes_of w f))))
+-- what a decided write of some bytes that tells a number leaves in a file
+abbrev Leaves : World → List ℕ → ℕ → ℕ → ℕ → Decided → Type 0
+Leaves w bytes f start n d = d.outcome ≡ Replied (Number n) → bytes_of (changed w bytes d.change) f ≡ splice (bytes_of w f) start (take n bytes)
+
+puts_leave : (w : World) (f start count : ℕ) (moved : TableEdit) (n : ℕ) (bytes : List ℕ) → bytes ≢ [] → is_regular_file (slot w.files f) ≡ true →
+    Leaves w bytes f start n (puts bytes f start count moved)
+puts_leave w f start count moved n bytes some there =
+    subst (λ none. Leaves w bytes f start n (cond none (tells (Number 0)) (does (Number count) (on_files.Bytes f start count) moved))) (sym (not_none bytes some))
     (λ told.
     let same : count ≡ n = cc in
-    bytes_set w.files f (splice (bytes_of w f) end (take count bytes)) there ∙
-    (added_at_end (bytes_of w f) (take count bytes) ∙ ap (λ k. bytes_of w f ++ take k bytes) same))
+    ap (λ fs. file_bytes (slot fs f)) (same_after_table (with_files w bytes (on_files.Bytes f start count)) moved).files ∙
+    (bytes_set w.files f (splice (bytes_of w f) start (take count bytes)) there ∙ ap (λ k. splice (bytes_of w f) start (take k bytes)) same))
+
+-- the file of an open descriptor
+file_is : (w : World) (process : ℕ) (fd : ℤ) (o : OpenDescriptor) (f : ℕ) → OpenOn w process fd o f → file_at o ≡ f
+file_is w process fd o f is = ap (λ t. unwrap_or (regular_file t) 0) is.target_is
+
+pub write_puts : WritePuts
+write_puts bounds w process fd bytes o f n is some told =
+    let start : ℕ → ℕ = λ g. write_start o.description (length (bytes_of w g)) in
+    let count = fitting bounds (start f) bytes in
+    let Puts : ℕ → Type 0 = λ g. let count = fitting bounds (start g) bytes in Leaves w bytes f (start f) n (puts bytes g (start g) count (on_table.Offset o.number (start g + count))) in
+    opened_has (Leaves w bytes f (start f) n) (opened w process fd) o (write bounds w bytes) is.opened_is (λ error refused. cc)
+    (subst Puts (sym (file_is w process fd o f is)) (puts_leave w f (start f) count (on_table.Offset o.number (start f + count)) n bytes some is.there)) told
+
+pub pwrite_puts : PwritePuts
+pwrite_puts bounds w process fd start bytes o f n is some told =
+    let from = bytes_before start in
+    let count = fitting bounds from bytes in
+    opened_has (Leaves w bytes f from n) (opened w process fd) o (pwrite bounds start bytes) is.opened_is (λ error refused. cc)
+    (subst (λ g. Leaves w bytes f from n (puts bytes g from count on_table.Nothing)) (sym (file_is w process fd o f is))
+    (puts_leave w f from count on_table.Nothing n bytes some is.there)) told
 
 pub write_appends : WriteAppends
-write_appends bounds w process fd bytes o f n is append told =
-    let Puts : ℕ → ℕ → Type 0 = λ g start. let count = fitting bounds start bytes in Appends w bytes f n (puts bytes g start count (on_table.Offset o.number (start + count))) in
+write_appends bounds w process fd [] o f n is append told =
+    ap (λ v. bytes_of v f) (nothing_is_written bounds w process fd) ∙ sym (ap (λ none. bytes_of w f ++ none) (take-nil n) ∙ append-nil (bytes_of w f))
+write_appends bounds w process fd (b ∷ bytes) o f n is append told =
     let end = length (bytes_of w f) in
-    let at : file_at o ≡ f = ap (λ t. unwrap_or (regular_file t) 0) is.target_is in
-    let from : write_start o.description (length (bytes_of w (file_at o))) ≡ end =
-    ap (λ b. cond b (length (bytes_of w (file_at o))) o.description.offset) append ∙ ap (λ g. length (bytes_of w g)) at in
-    let count = fitting bounds end bytes in
-    let puts_there : Puts f end = puts_at_end w o f count (end + count) n bytes is.there in
-    let puts_here : Puts (file_at o) (write_start o.description (length (bytes_of w (file_at o)))) = subst (Puts (file_at o)) (sym from) (subst (λ g. Puts g end) (sym at) puts_there) in
-    opened_has (Appends w bytes f n) (opened w process fd) o (write bounds w bytes) is.opened_is (λ error refused. cc) puts_here told
+    write_puts bounds w process fd (b ∷ bytes) o f n is (λ none. cc) told ∙
+    (ap (λ here. splice (bytes_of w f) (cond here end o.description.offset) (take n (b ∷ bytes))) append ∙ added_at_end (bytes_of w f) (take n (b ∷ bytes)))
 
 pub ftruncate_leaves_resized : FtruncateLeavesResized
 ftruncate_leaves_resized bounds w process fd len o f is told =
     let Resizes : Decided → Type 0 = λ d. d.outcome ≡ Replied Done → bytes_of (changed w [] d.change) f ≡ resized (bytes_of w f) (bytes_before len) in
-    let at : file_at o ≡ f = ap (λ t. unwrap_or (regular_file t) 0) is.target_is in
+    let at = file_is w process fd o f is in
     let there : Resizes (does Done (on_files.Resize f (bytes_before len)) on_table.Nothing) = λ _. bytes_set w.files f (resized (bytes_of w f) (bytes_before len)) is.there in
     opened_has Resizes (opened w process fd) o (ftruncate bounds len) is.opened_is (λ error refused. cc)
     (subst (λ g. Resizes (does Done (on_files.Resize g (bytes_before len)) on_table.Nothing)) (sym at) there) told

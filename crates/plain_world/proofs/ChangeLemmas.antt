@@ -30,7 +30,7 @@ same_after_process : (w : World) (e : ProcessEdit) → SameContents w (with_proc
 same_after_process w on_process.Nothing = record { files = refl; names = refl; pipes = refl }
 same_after_process w other = record { files = refl; names = refl; pipes = refl }
 
-same_after_table : (w : World) (e : TableEdit) → SameContents w (with_table w e)
+pub same_after_table : (w : World) (e : TableEdit) → SameContents w (with_table w e)
 same_after_table w on_table.Nothing = record { files = refl; names = refl; pipes = refl }
 same_after_table w other = record { files = refl; names = refl; pipes = refl }
 

@@ -11,6 +11,7 @@ use Rattle.posix_model.specs.Slots.{slot}
 use Rattle.posix_model.specs.Positions.{bytes_before}
 use Rattle.posix_model.specs.Descriptors.{opened, bytes_of}
 use Rattle.posix_model.specs.Whole.{is_regular_file}
+use Rattle.posix_model.specs.Write.{write_start}
 use Rattle.posix_model.specs.Open.{mode_of}
 use Rattle.posix_model.specs.Sound.{may_change_contents}
 use Rattle.posix_model.specs.declared.world.Target.TheVariants as target
@@ -24,7 +25,7 @@ pub record Spliced (bytes : List ℕ) (start : ℕ) (new : List ℕ) : Type 0 wh
   pub past : (i : ℕ) → i < length bytes → start + length new ≤ i → slice_index (splice bytes start new) i ≡ slice_index bytes i
   pub gap : (i : ℕ) → length bytes ≤ i → i < start → slice_index (splice bytes start new) i ≡ 0
 
--- and so they are after every write (page of write)
+-- and that is what `splice` makes of them (page of write)
 abbrev pub WriteSplices : Type 0
 WriteSplices = (bytes : List ℕ) (start : ℕ) (new : List ℕ) → Spliced bytes start new
 
@@ -34,7 +35,7 @@ pub record Resized (bytes : List ℕ) (len : ℕ) : Type 0 where
   pub first : (i : ℕ) → i < len → i < length bytes → slice_index (resized bytes len) i ≡ slice_index bytes i
   pub zeros : (i : ℕ) → length bytes ≤ i → i < len → slice_index (resized bytes len) i ≡ 0
 
--- and so they are after every ftruncate (page of ftruncate)
+-- and that is what `resized` makes of them (page of ftruncate)
 abbrev pub FtruncateResizes : Type 0
 FtruncateResizes = (bytes : List ℕ) (len : ℕ) → Resized bytes len
 
@@ -49,6 +50,18 @@ abbrev pub FtruncateLeavesResized : Type 0
 FtruncateLeavesResized = (bounds : Bounds) (w : World) (process : ℕ) (fd len : ℤ) (o : OpenDescriptor) (file : ℕ) → OpenOn w process fd o file →
     outcome_of bounds w process (call.Ftruncate fd len) ≡ Replied Done →
     bytes_of (before_sweep bounds w process (call.Ftruncate fd len)) file ≡ resized (bytes_of w file) (bytes_before len)
+
+-- a write of some bytes that is not refused puts those that it took at the offset, or at the end under append (page of write)
+abbrev pub WritePuts : Type 0
+WritePuts = (bounds : Bounds) (w : World) (process : ℕ) (fd : ℤ) (bytes : List ℕ) (o : OpenDescriptor) (file n : ℕ) → OpenOn w process fd o file →
+    bytes ≢ [] → outcome_of bounds w process (call.Write fd bytes) ≡ Replied (Number n) →
+    bytes_of (before_sweep bounds w process (call.Write fd bytes)) file ≡ splice (bytes_of w file) (write_start o.description (length (bytes_of w file))) (take n bytes)
+
+-- a pwrite puts them at its position, under append too (page of write, pwrite)
+abbrev pub PwritePuts : Type 0
+PwritePuts = (bounds : Bounds) (w : World) (process : ℕ) (fd start : ℤ) (bytes : List ℕ) (o : OpenDescriptor) (file n : ℕ) → OpenOn w process fd o file →
+    bytes ≢ [] → outcome_of bounds w process (call.Pwrite fd start bytes) ≡ Replied (Number n) →
+    bytes_of (before_sweep bounds w process (call.Pwrite fd start bytes)) file ≡ splice (bytes_of w file) (bytes_before start) (take n bytes)
 
 -- a write under append leaves the bytes that were there, and after them those that it took, whatever the offset (page of write)
 abbrev pub WriteAppends : Type 0

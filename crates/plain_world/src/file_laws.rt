@@ -1,12 +1,14 @@
 //! Laws of the calls on files. Each function does nothing; its contract is the law.
 
-ghost use Rattle.plain_world.specs.FileLaws.{WriteSplices, WriteAppends, PreadKeepsWorld, NothingRead, NothingWritten, NothingPwritten, PwriteKeepsOffsets, PwriteSameUnderAppend, ContentsStay, FtruncateResizes, FtruncateLeavesResized, OpenDescribes, ExclOpensNew, TruncOpenEmpties};
+ghost use Rattle.plain_world.specs.FileLaws.{WriteSplices, WritePuts, PwritePuts, WriteAppends, PreadKeepsWorld, NothingRead, NothingWritten, NothingPwritten, PwriteKeepsOffsets, PwriteSameUnderAppend, ContentsStay, FtruncateResizes, FtruncateLeavesResized, OpenDescribes, ExclOpensNew, TruncOpenEmpties};
 
 use posix_model::laws::calls_are_sound;
 
-/// A write puts its bytes where they belong, leaves the others, and fills a gap with zeros (page of write).
+/// A write puts the bytes that it took at the offset, or at the end under append, leaves the others, and fills a gap with
+/// zeros (page of write).
 pub fn write_splices()
-    ensures { WriteSplices }
+    ensures call { WritePuts }
+    ensures bytes { WriteSplices }
 {}
 
 /// Under append a write puts its bytes at the end of the file, whatever the offset (page of write).
@@ -31,9 +33,10 @@ pub fn pwrite_keeps_offsets()
     ensures { PwriteKeepsOffsets }
 {}
 
-/// A pwrite writes at its position, under append or not (page of write, pwrite).
+/// A pwrite puts the bytes that it took at its position, under append or not (page of write, pwrite).
 pub fn pwrite_ignores_append()
-    ensures { PwriteSameUnderAppend }
+    ensures call { PwritePuts }
+    ensures append { PwriteSameUnderAppend }
 {}
 
 /// Only an open, a write, a pwrite and an ftruncate may change a file, a name or a pipe; so a file is no longer for a seek
