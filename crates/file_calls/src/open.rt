@@ -1,7 +1,7 @@
-ghost use Rattle.std.specs.Prelude.{◌≡◌, IfOk};
+ghost use Rattle.std.specs.Prelude.{◌≡◌, None, IfOk, OnErr};
 ghost use Rattle.posix_model.specs.Names.{file_of};
 ghost use Rattle.posix_model.specs.Pages.{first_fault, decided_by};
-ghost use Rattle.posix_model.specs.Open.{found_faults, room_faults, open_faults, free_descriptor, opens, emptied, open_found, open_file};
+ghost use Rattle.posix_model.specs.Open.{found_faults, room_faults, open_faults, opens, emptied, open_found, open_file};
 
 use crate::opening::{flag_fault, name_fault, new_description};
 use call_types::bounded::Name;
@@ -85,7 +85,7 @@ fn emptied(file: usize, flags: OpenFlags) -> FileEdit
     }
 }
 
-/// The file that is there is opened, or a new one. An error says that memory ran out.
+/// The file that is there is opened, or a new one. An error says that memory for a new name ran out.
 fn open_found<R: Reader>(
     state: &R,
     process: usize,
@@ -93,7 +93,8 @@ fn open_found<R: Reader>(
     flags: OpenFlags,
     found: Option<usize>,
 ) -> Result<Decided, AllocError>
-    ensures { IfOk result (λ d. d ≡ open_found (R.world state.now) process name.now flags found) }
+    ensures effect { IfOk result (λ d. d ≡ open_found (R.world state.now) process name.now flags found) }
+    ensures needed { OnErr result (found ≡ None) }
 {
     match found {
         Some(file) => {
@@ -109,14 +110,16 @@ fn open_found<R: Reader>(
 }
 
 /// What open comes to: a refusal of its flags, its name, what that leads to or for want of room, or the lowest free
-/// descriptor (page of open). An error says that memory ran out.
+/// descriptor (page of open). An error says that memory for a new name ran out.
 pub fn decide_open<R: Reader>(
     state: &R,
     process: usize,
     name: &Name,
     flags: OpenFlags,
 ) -> Result<Decided, AllocError>
-    ensures { IfOk result (λ d. d ≡ decided_by (open_file (R.world state.now) process name.now flags)) }
+    ensures page { IfOk result (λ d. d ≡ decided_by (open_file (R.world state.now) process name.now flags)) }
+    ensures new { OnErr result (file_of name.now (R.world state.now).names ≡ None) }
+    ensures needed { OnErr result (first_fault (open_faults (R.world state.now) process name.now flags None) ≡ None) }
 {
     let found = state.file_of(name.as_slice());
     if let Some(error) = open_fault(state, process, name.as_slice(), flags, found) {

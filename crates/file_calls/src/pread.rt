@@ -1,4 +1,4 @@
-ghost use Rattle.std.specs.Prelude.{◌≡◌, IfOk};
+ghost use Rattle.std.specs.Prelude.{◌≡◌, None, IfOk, IfSome, OnErr};
 ghost use Rattle.posix_model.specs.Descriptors.{opened};
 ghost use Rattle.posix_model.specs.Pages.{first_fault, on_open};
 ghost use Rattle.posix_model.specs.Pread.{pread_faults, pread};
@@ -41,7 +41,8 @@ pub fn decide_pread<R: Reader>(
     start: i64,
     count: usize,
 ) -> Result<Decided, AllocError>
-    ensures { IfOk result (λ d. d ≡ on_open (opened (R.world state.now) process fd) (pread (R.world state.now) start count)) }
+    ensures page { IfOk result (λ d. d ≡ on_open (opened (R.world state.now) process fd) (pread (R.world state.now) start count)) }
+    ensures needed { OnErr result (IfSome (opened (R.world state.now) process fd) (λ o. first_fault (pread_faults start count o) ≡ None)) }
 {
     let descriptor = match state.opened(process, fd) {
         None => return Ok(refused(Errno::EBADF)),

@@ -1,4 +1,4 @@
-ghost use Rattle.std.specs.Prelude.{◌≡◌, ◌+◌, ◌<◌, ◌^◌, length, IfOk};
+ghost use Rattle.std.specs.Prelude.{◌≡◌, ◌+◌, ◌<◌, ◌^◌, length, None, IfOk, IfSome, OnErr};
 ghost use Rattle.posix_model.specs.Descriptors.{opened};
 ghost use Rattle.posix_model.specs.Pages.{first_fault, on_open};
 ghost use Rattle.posix_model.specs.Read.{read_faults, gives, read};
@@ -52,7 +52,8 @@ pub fn decide_read<R: Reader>(
     fd: i32,
     count: usize,
 ) -> Result<Decided, AllocError>
-    ensures { IfOk result (λ d. d ≡ on_open (opened (R.world state.now) process fd) (read (R.world state.now) count)) }
+    ensures page { IfOk result (λ d. d ≡ on_open (opened (R.world state.now) process fd) (read (R.world state.now) count)) }
+    ensures needed { OnErr result (IfSome (opened (R.world state.now) process fd) (λ o. first_fault (read_faults count o) ≡ None)) }
 {
     let descriptor = match state.opened(process, fd) {
         None => return Ok(refused(Errno::EBADF)),
@@ -63,7 +64,6 @@ pub fn decide_read<R: Reader>(
     }
     let file = file_at(descriptor);
     let start = descriptor.description.offset as usize;
-    let _len = state.length_of(file);
     let got = state.read_at(alloc, file, start, count)?;
     Ok(gives(descriptor, got))
 }

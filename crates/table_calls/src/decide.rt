@@ -1,4 +1,4 @@
-ghost use Rattle.std.specs.Prelude.{◌≡◌, ◌≤◌, is_some, length, IfOk};
+ghost use Rattle.std.specs.Prelude.{◌≡◌, ◌≤◌, IfOk};
 ghost use Rattle.posix_model.specs.Slots.{slot};
 ghost use Rattle.posix_model.specs.Step.{can_call, decided, comes_to};
 ghost use Rattle.posix_model.specs.Sound.{adds};

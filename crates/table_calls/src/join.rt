@@ -1,4 +1,4 @@
-ghost use Rattle.std.specs.Prelude.{◌≡◌, IfOk};
+ghost use Rattle.std.specs.Prelude.{◌≡◌, false, IfOk, OnErr};
 ghost use Rattle.posix_model.specs.Pages.{decided_by};
 ghost use Rattle.posix_model.specs.Join.{is_full, join};
 
@@ -17,9 +17,10 @@ pub fn is_full<R: Reader>(state: &R) -> bool
     state.is_closed() || state.live_processes() >= PROCESSES_MAX
 }
 
-/// What a join comes to: EAGAIN, or a new process under the next number. An error says that memory ran out.
+/// What a join comes to: EAGAIN, or a new process under the next number. An error says that memory for one ran out.
 pub fn decide_join<R: Reader>(state: &R, alloc: Global) -> Result<Decided, AllocError>
-    ensures { IfOk result (λ d. d ≡ decided_by (join (R.world state.now))) }
+    ensures page { IfOk result (λ d. d ≡ decided_by (join (R.world state.now))) }
+    ensures needed { OnErr result (is_full (R.world state.now) ≡ false) }
 {
     if is_full(state) {
         return Ok(refused(Errno::EAGAIN));
