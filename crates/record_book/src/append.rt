@@ -1,5 +1,5 @@
 ghost use Rattle.std.specs.Prelude.{◌≡◌, IfOk, OnErr};
-ghost use Rattle.record_book.specs.Book.{BookState, Appends, Receives};
+ghost use Rattle.record_book.specs.Book.{Appends, Receives};
 ghost use Rattle.record_book.specs.Planned.{IsPlanned};
 
 use crate::book::Book;

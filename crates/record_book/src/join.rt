@@ -1,5 +1,4 @@
-ghost use Rattle.std.specs.Prelude.{◌≡◌, None, [], IfOk, IfErr, OnOk, OnErr};
-ghost use Rattle.record_book.specs.Book.{BookState};
+ghost use Rattle.std.specs.Prelude.{◌≡◌, None, IfOk, IfErr, OnOk, OnErr};
 ghost use Rattle.record_book.specs.Refusals.{join_refusal, is_too_full, IsDue};
 
 use crate::book::Book;
@@ -8,7 +7,7 @@ use call_types::act::Act;
 use call_types::refusal::Refusal;
 use posix_model::laws::processes_are_counted;
 use posix_model::reader::Reader;
-use std::alloc::Global;
+use std::alloc::{AllocError, Global};
 use table_calls::decide::adds;
 use table_calls::join::{decide_join, is_full};
 
@@ -40,16 +39,12 @@ impl Book {
         self.overfills(self.machine.live_processes() + adds(&self.machine, &Act::Join))
     }
 
-    /// Records a join, and gives its receipt once more beside the seat.
-    pub(crate) fn join_told(&mut self, alloc: Global) -> Result<(Opened, Receipt), Refusal>
+    /// Records a join that is not refused, and gives its receipt once more beside the seat. On an error all is as it was.
+    pub(crate) fn record_join(&mut self, alloc: Global) -> Result<(Opened, Receipt), AllocError>
+        requires free { join_refusal self.old ≡ None }
         ensures recorded { IfOk result (λ joined. JoinsBy self.old self.new joined.0 joined.1) }
-        ensures not_refused { OnOk result (join_refusal self.old ≡ None) }
-        ensures refused { IfErr result (λ refusal. IsDue (join_refusal self.old) refusal) }
         ensures unchanged { OnErr result (self.new ≡ self.old) }
     {
-        if self.join_overfills() {
-            return Err(Refusal::RunFull);
-        }
         let full = is_full(&self.machine);
         let actor = self.next_pid();
         let mut seat = Seat::new(alloc, actor);
@@ -70,7 +65,10 @@ impl Book {
         ensures refused { IfErr result (λ refusal. IsDue (join_refusal self.old) refusal) }
         ensures unchanged { OnErr result (self.new ≡ self.old) }
     {
-        let (opened, _receipt) = self.join_told(alloc)?;
+        if self.join_overfills() {
+            return Err(Refusal::RunFull);
+        }
+        let (opened, _receipt) = self.record_join(alloc)?;
         Ok(opened)
     }
 }

@@ -1,6 +1,4 @@
 ghost use Rattle.std.specs.Prelude.{◌≡◌, ◌≤◌};
-ghost use Rattle.posix_model.specs.Slots.{slot};
-ghost use Rattle.posix_model.specs.Descriptors.{parked_of};
 ghost use Rattle.posix_model.specs.Turns.{total, took_in, new_turn, next_turn, took, gave};
 ghost use Rattle.posix_model.specs.declared.world.World.{World};
 

@@ -1,6 +1,6 @@
-ghost use Rattle.std.specs.Prelude.{◌≡◌, None, [], ◌∷◌, List, Option, length, vec_len, IfOk, IfErr, OnOk, OnErr};
+ghost use Rattle.std.specs.Prelude.{◌≡◌, None, [], ◌∷◌, List, Option, IfOk, IfErr, OnOk, OnErr};
 ghost use Rattle.record_book.specs.Seat.{SeatState};
-ghost use Rattle.record_book.specs.Book.{BookState, Appends, Receives};
+ghost use Rattle.record_book.specs.Book.{Appends, Receives};
 ghost use Rattle.record_book.specs.Refusals.{start_refusal, IsDue};
 
 use crate::book::Book;
@@ -57,7 +57,7 @@ impl Book {
             return Err(Refusal::RunFull);
         }
         seats.reserve(actor as usize)?;
-        let (opened, receipt) = self.join_told(alloc)?;
+        let (opened, receipt) = self.record_join(alloc)?;
         if let Opened::Seated(seat) = opened {
             seats.put(actor as usize, seat);
         }
@@ -90,13 +90,11 @@ impl Book {
         ensures tells { Tells self.old self.new seats.old.0 seats.new.0 act.now (result ∷ []) }
         ensures limits { self.new.limits ≡ self.old.limits }
     {
-        let actor = match act {
-            ScriptAct::Join => self.next_pid(),
-            ScriptAct::Call { process, .. } => *process,
-        };
-        let ran = match act {
-            ScriptAct::Join => self.run_join(alloc, seats),
-            ScriptAct::Call { process, call } => self.run_call(alloc, seats, *process, call),
+        let (actor, ran) = match act {
+            ScriptAct::Join => (self.next_pid(), self.run_join(alloc, seats)),
+            ScriptAct::Call { process, call } => {
+                (*process, self.run_call(alloc, seats, *process, call))
+            }
         };
         match ran {
             Ok(receipt) => Told::Recorded(receipt),

@@ -1,4 +1,4 @@
-ghost use Rattle.std.specs.Prelude.{◌≡◌, ◌<◌, ◌≤◌, ◌-◌, ◌∷◌, [], ◌++◌, List, Option, ℕ, None, Some, length, replicate, slice_set, vec_capacity, vec_len, OnOk};
+ghost use Rattle.std.specs.Prelude.{◌≡◌, ◌<◌, ◌≤◌, ◌-◌, [], ◌++◌, List, Option, ℕ, None, replicate, vec_capacity, vec_len, OnOk};
 ghost use Rattle.record_book.specs.Seat.{SeatState};
 ghost use Rattle.record_book.specs.Runs.{Seats as AllSeats, with_seat};
 
