@@ -13,7 +13,7 @@ use Rattle.record_book.specs.Book.{BookState}
 use Rattle.record_book.specs.Runs.{RunTells, Seats}
 use Rattle.record_book.specs.declared.run.Told.{Told}
 use Rattle.fdref.specs.Output.{AppendsFront, closing_line, told_lines}
-use Rattle.fdref.specs.Replay.{IsOutput, RunsActs, StopsShort}
+use Rattle.fdref.specs.Replay.{IsOutput, RunsActs, StopsShort, OfInput}
 use Rattle.fdref.specs.declared.ended.Ended.{Ended}
 use Rattle.fdref.specs.declared.ended.Ended.TheVariants as ended
 
@@ -78,8 +78,8 @@ pub wrote_front : (limits : Limits) (acts : List ScriptAct) (old new : Option (L
 wrote_front limits acts old new output (Ok x) how is front = tt
 wrote_front limits acts old new output (Err e) how is front = stops_short limits acts old new output e how is front
 
--- what holds of a text that was not cut holds of the input
+-- a text that was not cut is the input
 pub of_input : (known : Option (List ℕ)) (P : List ℕ → Type 0) (text : List ℕ) → length text ≤ 16777216 → IfSome known (λ input. length text ≤ 16777216 → text ≡ input) → P text
-    → IfSome known P
-of_input None P text short same holds = tt
-of_input (Some input) P text short same holds = subst P (same short) holds
+    → OfInput known P
+of_input None P text short same holds = (text, tt, holds)
+of_input (Some input) P text short same holds = (text, same short, holds)

@@ -28,7 +28,7 @@ pub record AppendsFront (old new : Option (List ℕ)) (text : List ℕ) : Type 0
   pub is : text ≡ front ++ rest
   pub appends : Appends old new front
 
--- bytes were given to a writer or still stand in the buffer before it, and the text is behind the old ones
+-- bytes were given to a writer or still stand in the buffer before it, and the text is after the old ones
 pub record Puts (old new : Option (List ℕ)) (before after : List ℕ) (text : List ℕ) : Type 0 where
   pub added : List ℕ
   pub appends : Appends old new added

@@ -56,14 +56,18 @@ pub record Refuses (fault : ScriptFault) (text : List ℕ) : Type 0 where
   pub unspelled : IsNoScript text
   pub fault_is : script text ≡ Err fault
 
+-- this holds of a text, which is the input where that is known
+abbrev pub OfInput : Option (List ℕ) → (List ℕ → Type 0) → Type 0
+OfInput input P = (text : List ℕ) × IfSome input (λ known. text ≡ known) × P text
+
 -- what the end says of the input, where that is known, and of what was written
 abbrev pub Ends : Limits → Option (List ℕ) → Option (List ℕ) → Option (List ℕ) → Ended → Type 0
-Ends limits input old new ended.Done = IfSome input (WritesReplay limits old new)
+Ends limits input old new ended.Done = OfInput input (WritesReplay limits old new)
 Ends limits input old new (ended.BadLine line column) = IfSome input (Refuses (faults.BadLine line column)) × (new ≡ old)
 Ends limits input old new ended.TooLong = IfSome input (Refuses faults.TooLong) × (new ≡ old)
 Ends limits input old new ended.CannotRead = new ≡ old
-Ends limits input old new ended.CannotWrite = IfSome input (WritesReplayFront limits old new)
-Ends limits input old new ended.NoMemory = (new ≡ old) ⊎ IfSome input (WritesReplayFront limits old new)
+Ends limits input old new ended.CannotWrite = OfInput input (WritesReplayFront limits old new)
+Ends limits input old new ended.NoMemory = (new ≡ old) ⊎ OfInput input (WritesReplayFront limits old new)
 
 -- the exit status of an end
 abbrev pub ended_status : Ended → ℕ

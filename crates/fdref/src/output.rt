@@ -79,6 +79,7 @@ fn put_told<W: Write>(writer: &mut W, out: &mut Vec<u8>, told: &Told<'_>) -> Res
     ensures text { OnOk result (Puts (W.contents writer.old) (W.contents writer.new) out.old.items out.new.items (told_line told.now)) }
     ensures front { OnErr result (AppendsFront (W.contents writer.old) (W.contents writer.new) (out.old.items ++ told_line told.now)) }
     ensures fault { IfErr result (λ ended. (ended ≡ Ended.CannotWrite) ⊎ (ended ≡ Ended.NoMemory)) }
+    ensures memory { IfErr result (λ ended. ended ≡ Ended.NoMemory → Keeps (W.contents writer.old) (W.contents writer.new)) }
 {
     put_line(out, told)?;
     if out.len() >= BUFFER_SIZE {
@@ -99,7 +100,7 @@ fn put_all<W: Write>(writer: &mut W, out: &mut Vec<u8>, told: &[Told<'_>]) -> Re
     Ok(())
 }
 
-/// Writes what is gathered with the closing line behind it.
+/// Writes what is gathered with the closing line after it.
 fn write_last<W: Write>(writer: &mut W, out: &mut Vec<u8>, counts: Counts) -> Result<(), Ended>
     ensures output { OnOk result (Appends (W.contents writer.old) (W.contents writer.new) (out.old.items ++ totals_line counts.records counts.bytes_in counts.bytes_out)) }
     ensures front { OnErr result (AppendsFront (W.contents writer.old) (W.contents writer.new) (out.old.items ++ totals_line counts.records counts.bytes_in counts.bytes_out)) }
