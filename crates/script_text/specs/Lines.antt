@@ -47,10 +47,14 @@ abbrev pub name_word : List ℕ → List ℕ
 name_word [] = codes "%"
 name_word (byte ∷ bytes) = flat_map name_byte (byte ∷ bytes)
 
--- the byte of which data has more than 16 and no other, where there is one
+-- data of so many bytes at most is written out, even where all of them are the same
+abbrev pub written_out_max : ℕ
+written_out_max = 16
+
+-- the one byte of which data is that is not written out, where it has no other
 abbrev pub one_byte : List ℕ → Option ℕ
 one_byte [] = None
-one_byte (byte ∷ bytes) = if nat_lt 16 (length (byte ∷ bytes)) && list_all (λ b. b == byte) (byte ∷ bytes) then Some byte else None
+one_byte (byte ∷ bytes) = if nat_lt written_out_max (length (byte ∷ bytes)) && list_all (λ b. b == byte) (byte ∷ bytes) then Some byte else None
 
 -- data by its digits, or by its one byte, a * and how many bytes there are
 abbrev pub data_text : Option ℕ → List ℕ → List ℕ

@@ -1,6 +1,6 @@
 //! Numbers, read from a word.
 
-ghost use Rattle.std.specs.Prelude.{◌≡◌, ◌≤◌, ◌<◌, ◌+◌, ◌^◌, Some, IfSome, pos, negsuc, ◌≤ℤ◌};
+ghost use Rattle.std.specs.Prelude.{◌≡◌, ◌≤◌, ◌<◌, ◌^◌, Some, IfSome, pos, negsuc, ◌≤ℤ◌};
 ghost use Rattle.script_text.specs.ReadingNumbers.{digits_on, number_of, process_of, signed_of, descriptor_of, position_of, negative};
 
 /// The number at most `most` that a word is in decimal, without leading zeros.

@@ -17,6 +17,9 @@ use call_types::limits::GIVEN_BYTES_MAX;
 use hex::encode_to_slice;
 use std::alloc::{AllocError, Global};
 
+/// Data of so many bytes at most is written out, even where all of them are the same.
+const WRITTEN_OUT_MAX: usize = 16;
+
 /// The byte of the first pair of digits, and what is left after it.
 fn first_pair(digits: &[u8]) -> Option<(u8, &[u8])>
     ensures { option_map (λ x. (x.0, x.1.now)) result ≡ first_paired digits.now }
@@ -132,12 +135,12 @@ fn all_are(byte: u8, bytes: &[u8]) -> bool
     bytes.iter().all(|b| *b == byte)
 }
 
-/// The byte of which data has more than 16 and no other.
+/// The one byte of which data is that is not written out, where it has no other.
 fn repeated_byte(bytes: &[u8]) -> Option<u8>
     ensures { result ≡ one_byte bytes.now }
 {
     match bytes {
-        [first, ..] if bytes.len() > 16 => all_are(*first, bytes).then_some(*first),
+        [first, ..] if bytes.len() > WRITTEN_OUT_MAX => all_are(*first, bytes).then_some(*first),
         _ => None,
     }
 }
