@@ -106,7 +106,7 @@ parts (calls.Fstat fd) = of fstat_entry (fd, tt)
 abbrev pub Parted : Entry → Type 0
 Parted e = (vs : Values e.fields) → parts (made e.fields e.make vs) ≡ of e vs
 
--- a field that is a descriptor, or what the fields behind it tell
+-- a field that is a descriptor, or what the fields after it tell
 abbrev pub descriptor_or : (k : FieldKind) → Value k → Option ℤ → Option ℤ
 descriptor_or a_descriptor fd other = Some fd
 descriptor_or k value other = other
@@ -120,7 +120,7 @@ descriptor_in (k ∷ ks) vs = descriptor_or k vs.0 (descriptor_in ks vs.1)
 abbrev pub descriptor_of : Call → Option ℤ
 descriptor_of call = descriptor_in (parts call).entry.fields (parts call).values
 
--- a field that is data to write, or what the fields behind it tell
+-- a field that is data to write, or what the fields after it tell
 abbrev pub payload_or : (k : FieldKind) → Value k → Option (List ℕ) → Option (List ℕ)
 payload_or a_payload bytes other = Some bytes
 payload_or k value other = other

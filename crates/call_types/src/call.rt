@@ -36,7 +36,7 @@ pub enum Call {
         start: i64,
         bytes: Payload,
     },
-    /// Moves the offset to so many bytes behind a base (its page).
+    /// Moves the offset to so many bytes past a base (its page).
     Lseek {
         fd: i32,
         offset: i64,
