@@ -1,3 +1,4 @@
 pub mod Errors
 pub mod Flags
+pub mod Names
 pub mod CallTable

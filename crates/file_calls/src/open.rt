@@ -1,5 +1,5 @@
 ghost use Rattle.std.specs.Prelude.{◌≡◌, None, IfOk, OnErr};
-ghost use Rattle.posix_model.specs.Names.{file_of};
+ghost use Rattle.call_types.specs.Names.{file_of};
 ghost use Rattle.posix_model.specs.Pages.{first_fault, decided_by};
 ghost use Rattle.posix_model.specs.Open.{found_faults, room_faults, open_faults, opens, emptied, open_found, open_file};
 

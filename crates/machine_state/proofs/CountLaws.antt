@@ -8,7 +8,7 @@ use Rattle.std.specs.FinMap.Entries.{by_order}
 use Rattle.std.specs.declared.cmp.Ordering.TheVariants.{Less, Equal, Greater}
 use Rattle.call_types.specs.declared.limits.TheConstants.{OPEN_MAX}
 use Rattle.posix_model.specs.Slots.{slot, live, edited}
-use Rattle.posix_model.specs.Names.{Entries, file_of, with_name}
+use Rattle.call_types.specs.Names.{Entries, file_of, with_name}
 use Rattle.posix_model.specs.Counts.{links, refers, refs, refs_of, holds, holders}
 use Rattle.posix_model.specs.Descriptors.{at_offset, with_entry, table_of}
 use Rattle.posix_model.specs.Whole.{EachThere}

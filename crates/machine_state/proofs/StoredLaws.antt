@@ -4,7 +4,7 @@ use Rattle.std.specs.Option.{option_map}
 use Rattle.std.proofs.lemmas.Bool.{lt-ltb}
 use Rattle.call_types.specs.declared.limits.TheConstants.{OPEN_MAX, NAMES_MAX, DESCRIPTIONS_MAX, PROCESSES_MAX}
 use Rattle.posix_model.specs.Slots.{slot, live, edited}
-use Rattle.posix_model.specs.Names.{file_of, with_name}
+use Rattle.call_types.specs.Names.{file_of, with_name}
 use Rattle.posix_model.specs.Counts.{links, refers, refs, holders}
 use Rattle.posix_model.specs.Sweep.{sweep, is_open, is_referred}
 use Rattle.posix_model.specs.Descriptors.{at_offset, with_entry, with_descriptor, with_offset, table_of}

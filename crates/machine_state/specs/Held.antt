@@ -1,6 +1,6 @@
 -- What contracts see of a machine: its world, and the room reserved.
-use Rattle.std.specs.Prelude.{ℕ, ◌-◌, Bool, List, [], Option, None, Some, map, vec_len, vec_capacity}
-use Rattle.posix_model.specs.Names.{Entries}
+use Rattle.std.specs.Prelude.{ℕ, Bool, List, [], Option, None, Some, map}
+use Rattle.call_types.specs.Names.{Entries}
 use Rattle.machine_state.specs.Types.{World, Process, Description, File, Used}
 use Rattle.posix_model.specs.declared.world.File.TheVariants as file
 use Rattle.machine_state.specs.Uses.{values_in}
@@ -62,7 +62,7 @@ stored_in m = record {
   files = m.files.0;
   descriptions = m.descriptions.0;
   processes = m.processes.0;
-  names = m.names.items;
+  names = m.names.0;
   closed = m.closed;
 }
 
@@ -74,7 +74,7 @@ held_by m = record {
     files = m.files.1;
     descriptions = m.descriptions.1;
     processes = m.processes.1;
-    names = vec_capacity m.names - vec_len m.names;
+    names = m.names.1;
     bytes = room_slots (values_in m.files.0);
   };
 }

@@ -2,7 +2,7 @@ ghost use Rattle.std.specs.Prelude.{◌≡◌, ◌+◌, ◌<◌, ◌≤◌, None
 ghost use Rattle.call_types.specs.declared.limits.TheConstants.{NAMES_MAX};
 ghost use Rattle.posix_model.specs.Slots.{slot};
 ghost use Rattle.posix_model.specs.Bytes.{splice, resized};
-ghost use Rattle.posix_model.specs.Names.{file_of};
+ghost use Rattle.call_types.specs.Names.{file_of};
 ghost use Rattle.posix_model.specs.Whole.{is_regular_file};
 ghost use Rattle.posix_model.specs.Descriptors.{bytes_of};
 ghost use Rattle.posix_model.specs.Change.{with_bytes, created};
@@ -12,7 +12,6 @@ use crate::buffer::Buffer;
 use crate::machine::Machine;
 use crate::numbered::used::Used;
 use call_types::bounded::Name;
-use posix_model::names;
 use std::alloc::AllocError;
 
 impl Machine {
@@ -59,6 +58,6 @@ impl Machine {
             value: Buffer::new(self.alloc),
             uses: 1,
         });
-        names::put_name(&mut self.names, name, file);
+        self.names.add(name, file);
     }
 }

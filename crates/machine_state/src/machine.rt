@@ -4,7 +4,7 @@ ghost use Rattle.posix_model.specs.History.{empty_world};
 use crate::buffer::Buffer;
 use crate::numbered::Numbered;
 use crate::numbered::used::Used;
-use call_types::bounded::Name;
+use name_table::NameTable;
 use posix_model::world::{Description, Process};
 use std::alloc::Global;
 use std::marker::Model;
@@ -16,7 +16,7 @@ pub struct Machine {
     pub(crate) files: Numbered<Used<Buffer>>,
     pub(crate) descriptions: Numbered<Used<Description>>,
     pub(crate) processes: Numbered<Process>,
-    pub(crate) names: Vec<(Name, usize)>,
+    pub(crate) names: NameTable,
     pub(crate) closed: bool,
 }
 
@@ -41,7 +41,7 @@ impl Machine {
             files: Numbered::new(alloc),
             descriptions: Numbered::new(alloc),
             processes: Numbered::new(alloc),
-            names: Vec::new(alloc),
+            names: NameTable::new(alloc),
             closed: false,
         }
     }

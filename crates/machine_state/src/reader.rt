@@ -2,7 +2,6 @@ use crate::machine::Machine;
 use call_types::bounded::Content;
 use posix_model::contents::bytes_at;
 use posix_model::counts::links;
-use posix_model::names;
 use posix_model::opened::OpenDescriptor;
 use posix_model::reader::Reader;
 use posix_model::world::Parked;
@@ -44,7 +43,7 @@ impl Reader for Machine {
     }
 
     fn file_of(&self, name: &[u8]) -> Option<usize> {
-        names::file_of(self.names.as_slice(), name)
+        self.names.find(name)
     }
 
     /// No file of a machine is a FIFO yet.
@@ -55,7 +54,7 @@ impl Reader for Machine {
     }
 
     fn links_told(&self, file: usize) -> u32 {
-        links(self.names.as_slice(), file).min(u32::MAX as usize) as u32
+        links(self.names.entries(), file).min(u32::MAX as usize) as u32
     }
 
     /// No machine has a pipe yet.

@@ -44,7 +44,7 @@ impl Machine {
             FileEdit::Resize { file, len } => self.reserve_bytes(*file, *len),
             FileEdit::MakeFile { .. } => {
                 self.files.reserve()?;
-                self.names.reserve(1)
+                self.names.reserve()
             }
         }
     }

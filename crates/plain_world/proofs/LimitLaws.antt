@@ -12,7 +12,7 @@ use Rattle.plain_world.specs.Types.{Act, Record, Bounds, World, Process, Descrip
 use Rattle.call_types.specs.declared.act.Act.TheVariants as act
 use Rattle.posix_model.specs.Bytes.{splice, resized}
 use Rattle.posix_model.specs.Slots.{slot, live, kept_from}
-use Rattle.posix_model.specs.Names.{Entries, with_name}
+use Rattle.call_types.specs.Names.{Entries, with_name}
 use Rattle.posix_model.specs.Descriptors.{at_offset, with_entry, with_descriptor, with_offset, file_bytes, bytes_of}
 use Rattle.posix_model.specs.Change.{with_bytes, created, with_files, free_table, process_with, with_processes, with_table, changed}
 use Rattle.posix_model.specs.Fits.{FilesProper, ProcessProper, ProcessFits, TableProper, IsProper}

@@ -13,7 +13,7 @@ use Rattle.call_types.specs.Flags.{has}
 use Rattle.call_types.specs.Flags as flag
 use Rattle.plain_world.specs.Types.{Errno, OpenFlags, World, Process, Description, File, EMFILE, Replied, Number}
 use Rattle.posix_model.specs.Slots.{slot, lowest, edited}
-use Rattle.posix_model.specs.Names.{Entries, file_of, with_name}
+use Rattle.call_types.specs.Names.{Entries, file_of, with_name}
 use Rattle.posix_model.specs.Descriptors.{opened, opened_number, opened_description, table_of, with_entry, file_bytes}
 use Rattle.posix_model.specs.Change.{with_files, with_description, changed}
 use Rattle.posix_model.specs.Pages.{first_fault}

@@ -6,7 +6,7 @@ use Rattle.plain_world.specs.Types.{Call, OpenFlags, Bounds, World, Description,
 use Rattle.call_types.specs.declared.act.Act.TheVariants as act
 use Rattle.call_types.specs.declared.call.Call.TheVariants as call
 use Rattle.posix_model.specs.Bytes.{splice, resized}
-use Rattle.posix_model.specs.Names.{file_of}
+use Rattle.call_types.specs.Names.{file_of}
 use Rattle.posix_model.specs.Slots.{slot}
 use Rattle.posix_model.specs.Positions.{bytes_before}
 use Rattle.posix_model.specs.Descriptors.{opened, bytes_of}

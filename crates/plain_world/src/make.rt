@@ -3,7 +3,7 @@
 ghost use Rattle.std.specs.Prelude.{◌≡◌, ◌+◌, ◌<◌, ◌^◌, None, length, slice_set, OnOk};
 ghost use Rattle.posix_model.specs.Bytes.{splice, resized};
 ghost use Rattle.posix_model.specs.Slots.{slot, edited};
-ghost use Rattle.posix_model.specs.Names.{file_of};
+ghost use Rattle.call_types.specs.Names.{file_of};
 ghost use Rattle.posix_model.specs.Descriptors.{file_bytes, at_offset, with_entry};
 ghost use Rattle.posix_model.specs.Change.{created, with_files, with_processes, with_description, with_table, changed};
 ghost use Rattle.posix_model.specs.Fits.{FilesProper, IsProper};

@@ -9,7 +9,7 @@ use Rattle.std.specs.FinMap.Entries.{by_order}
 use Rattle.std.specs.declared.cmp.Ordering.TheVariants.{Less, Equal, Greater}
 use Rattle.posix_model.specs.Whole.{IsThere, TargetIsThere, is_fifo, is_regular_file}
 use Rattle.posix_model.specs.Slots.{slot}
-use Rattle.posix_model.specs.Names.{Entries, with_name}
+use Rattle.call_types.specs.Names.{Entries, with_name}
 use Rattle.posix_model.specs.Descriptors.{at_offset, with_entry, with_descriptor, with_offset, bytes_of}
 use Rattle.posix_model.specs.Change.{with_files, with_processes, with_table, changed, with_bytes, created, free_table, process_with, with_description}
 use Rattle.posix_model.specs.Fits.{FilesFit, ProcessFits, TableFits, Fits}

@@ -1,4 +1,3 @@
-pub mod NameLemmas
 pub mod SlotLaws
 pub mod SweepLaws
 pub mod ChangeLaws

@@ -4,7 +4,7 @@ use Rattle.std.specs.List.{count_by}
 use Rattle.std.proofs.lemmas.List.Sums.{sum_by-cons}
 use Rattle.std.proofs.lemmas.Bool.{ltb-true, lt-ltb}
 use Rattle.posix_model.specs.Slots.{slot, kept}
-use Rattle.posix_model.specs.Names.{Entries}
+use Rattle.call_types.specs.Names.{Entries}
 use Rattle.posix_model.specs.Counts.{links, refs, holds, holders, reads, readers, writes, writers, is_file, is_pipe}
 use Rattle.posix_model.specs.Sweep.{is_referred, is_open, is_wanted, open_pipe, without_gone_pipe}
 use Rattle.posix_model.specs.Types.{World, Description, Target, File, Fifo}

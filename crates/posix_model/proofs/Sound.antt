@@ -16,7 +16,7 @@ use Rattle.call_types.specs.declared.act.Act.TheVariants as act
 use Rattle.call_types.specs.declared.call.Call.TheVariants as call
 use Rattle.posix_model.specs.Bytes.{bytes_at}
 use Rattle.posix_model.specs.Slots.{slot, lowest, live}
-use Rattle.posix_model.specs.Names.{Entries, file_of}
+use Rattle.call_types.specs.Names.{Entries, file_of}
 use Rattle.posix_model.specs.Whole.{IsThere, TargetIsThere, is_fifo, is_regular_file, IsWhole}
 use Rattle.posix_model.specs.Descriptors.{opened, opened_number, opened_description, number_of, table_of, bytes_of}
 use Rattle.posix_model.specs.Positions.{bytes_before, regular_file, is_regular, file_at}

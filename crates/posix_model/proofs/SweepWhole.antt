@@ -5,7 +5,7 @@ use Rattle.std.specs.List.{count_by}
 use Rattle.std.proofs.lemmas.List.Sums.{get_or-le-sum_by}
 use Rattle.std.proofs.lemmas.Bool.Decides.{nat_tests}
 use Rattle.posix_model.specs.Slots.{slot, kept}
-use Rattle.posix_model.specs.Names.{Entries}
+use Rattle.call_types.specs.Names.{Entries}
 use Rattle.posix_model.specs.Counts.{links, refs, refs_of, refers, holders, holds, readers, reads, writers, writes, is_file, is_pipe}
 use Rattle.posix_model.specs.Sweep.{is_referred, is_open, is_wanted, open_pipe, without_gone_pipe, sweep}
 use Rattle.posix_model.specs.Whole.{is_fifo, is_regular_file, TargetIsThere, PipeIsThere, IsWhole}

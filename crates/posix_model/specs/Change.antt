@@ -2,7 +2,7 @@
 -- open file descriptions.
 use Rattle.std.specs.Prelude.{ℕ, true, Option, List, [], ◌∷◌, ◌++◌, None, Some, length, take, slice_set, replicate}
 use Rattle.posix_model.specs.Bytes.{splice, resized}
-use Rattle.posix_model.specs.Names.{with_name}
+use Rattle.call_types.specs.Names.{with_name}
 use Rattle.posix_model.specs.Descriptors.{with_descriptor, with_offset, bytes_of}
 use Rattle.posix_model.specs.Types.{World, Process, Description, FileEdit, ProcessEdit, TableEdit, Change, OPEN_MAX}
 use Rattle.posix_model.specs.declared.world.File.TheVariants as file

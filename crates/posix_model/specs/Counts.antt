@@ -1,6 +1,6 @@
 -- The counts of a world, each counted afresh.
 use Rattle.std.specs.Prelude.{ℕ, Bool, true, false, ◌&&◌, ◌==◌, List, Option, None, Some, count_by, sum_by}
-use Rattle.posix_model.specs.Names.{Entries}
+use Rattle.call_types.specs.Names.{Entries}
 use Rattle.posix_model.specs.Types.{Process, Description, Target, Mode}
 use Rattle.posix_model.specs.declared.world.Target.TheVariants as target
 use Rattle.posix_model.specs.declared.world.Mode.TheVariants as mode

@@ -1,7 +1,7 @@
 -- What a change asks of the world that it is made in.
 use Rattle.std.specs.Prelude.{◌≡◌, ℕ, ◌+◌, ◌≤◌, ◌<◌, true, List, Option, None, Some, length}
 use Rattle.posix_model.specs.Slots.{slot, live}
-use Rattle.posix_model.specs.Names.{file_of}
+use Rattle.call_types.specs.Names.{file_of}
 use Rattle.posix_model.specs.Whole.{IsThere, is_regular_file, TargetIsThere}
 use Rattle.posix_model.specs.Change.{with_files, with_processes, free_table}
 use Rattle.posix_model.specs.Types.{World, Process, Description, FileEdit, ProcessEdit, TableEdit, Change, OFFSET_MAX, NAMES_MAX, DESCRIPTIONS_MAX, PROCESSES_MAX}

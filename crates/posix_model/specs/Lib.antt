@@ -1,7 +1,6 @@
 pub mod Types
 pub mod Bytes
 pub mod Slots
-pub mod Names
 pub mod Counts
 pub mod Sweep
 pub mod Whole

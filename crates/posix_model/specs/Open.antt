@@ -7,7 +7,7 @@ use Rattle.call_types.specs.Flags.{has}
 use Rattle.call_types.specs.Flags as flag
 use Rattle.posix_model.specs.Types.{Errno, OpenFlags, World, Description, Mode, FileEdit, Decided, EINVAL, ENOENT, EEXIST, EMFILE, ENFILE, ENOSPC, ENAMETOOLONG, Number, NAME_MAX, NAMES_MAX, DESCRIPTIONS_MAX}
 use Rattle.posix_model.specs.Slots.{slot, lowest, live}
-use Rattle.posix_model.specs.Names.{file_of}
+use Rattle.call_types.specs.Names.{file_of}
 use Rattle.posix_model.specs.Whole.{is_fifo}
 use Rattle.posix_model.specs.Pages.{Page, does}
 use Rattle.posix_model.specs.Descriptors.{table_of}

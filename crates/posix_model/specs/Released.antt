@@ -1,7 +1,7 @@
 -- What goes where one description loses a reference: it and what it alone held, and no other.
 use Rattle.std.specs.Prelude.{◌≡◌, ◌≢◌, ℕ, ◌+◌, ◌<◌, true, List, Option, None, Some, is_some, slice_set, if◌then◌else◌}
 use Rattle.posix_model.specs.Slots.{slot}
-use Rattle.posix_model.specs.Names.{Entries}
+use Rattle.call_types.specs.Names.{Entries}
 use Rattle.posix_model.specs.Counts.{links, refs, holders, readers, writers, is_pipe, is_file}
 use Rattle.posix_model.specs.Sweep.{is_referred, is_open, is_wanted, without_gone_pipe, sweep}
 use Rattle.posix_model.specs.Types.{World, Process, Description, Target, File, Fifo}

@@ -1,7 +1,7 @@
 -- What nothing refers to any more goes (page of close).
 use Rattle.std.specs.Prelude.{ℕ, ◌+◌, Bool, nat_lt, List, Option, None, Some, map, if◌then◌else◌}
 use Rattle.posix_model.specs.Slots.{kept}
-use Rattle.posix_model.specs.Names.{Entries}
+use Rattle.call_types.specs.Names.{Entries}
 use Rattle.posix_model.specs.Counts.{links, refs, holders, readers, writers}
 use Rattle.posix_model.specs.Types.{World, Process, Description, File}
 use Rattle.posix_model.specs.declared.world.File.TheVariants as file

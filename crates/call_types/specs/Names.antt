@@ -1,9 +1,9 @@
 -- The names of files: a finite map, as the list of its entries in the order of the names' bytes.
-use Rattle.std.specs.Prelude.{ℕ, List, Option}
-use Rattle.std.specs.Ordering.{nat_cmp, is_gt}
+use Rattle.std.specs.Prelude.{ℕ, not, List, Option}
+use Rattle.std.specs.Ordering.{nat_cmp, eq_by_cmp}
 use Rattle.std.specs.Cmp.Lexicographic.{slice_cmp}
-use Rattle.std.specs.List.{prefix_len}
 use Rattle.std.specs.FinMap.{find, put}
+use Rattle.std.specs.FinMap.Entries.{where_key}
 
 -- a name and the number of its file
 abbrev pub Entries : Type 0
@@ -17,6 +17,6 @@ file_of name entries = find (slice_cmp nat_cmp) name entries
 abbrev pub with_name : List ℕ → ℕ → Entries → Entries
 with_name name file entries = put (slice_cmp nat_cmp) name file entries
 
--- how many of the entries stand before the name
-abbrev pub rank_of : List ℕ → Entries → ℕ
-rank_of name entries = prefix_len (λ e. is_gt (slice_cmp nat_cmp name e.0)) entries
+-- the entries without the name
+abbrev pub without_name : List ℕ → Entries → Entries
+without_name name entries = where_key (slice_cmp nat_cmp) (λ other. not (eq_by_cmp (slice_cmp nat_cmp) name other)) entries
