@@ -1,8 +1,8 @@
 -- The bytes after a write and after an ftruncate, byte by byte.
-use Rattle.std.proofs.Common.{◌≡◌, ℕ, ◌+◌, ◌-◌, ◌<◌, ◌≤◌, max, List, ◌++◌, length, get_or, arith}
+use Rattle.std.proofs.Common.{◌≡◌, ℕ, ◌+◌, ◌-◌, ◌<◌, ◌≤◌, max, min, List, ◌++◌, length, get_or, arith}
 use Rattle.std.proofs.lemmas.Grind.{common_steps}
-use Rattle.posix_model.specs.Bytes.{splice, resized}
-use Rattle.plain_world.specs.FileLaws.{WriteSplices, FtruncateResizes}
+use Rattle.posix_model.specs.Bytes.{splice, resized, bytes_at}
+use Rattle.plain_world.specs.FileLaws.{WriteSplices, FtruncateResizes, IsRead}
 
 size : (bytes : List ℕ) (start : ℕ) (new : List ℕ) → length (splice bytes start new) ≡ max (length bytes) (start + length new)
 size bytes start new = grind (arith, common_steps)
@@ -43,3 +43,13 @@ ftruncate_resizes bytes len = record { size = resized_size bytes len; first = re
 -- bytes that are written at the end
 pub added_at_end : (there new : List ℕ) → splice there (length there) new ≡ there ++ new
 added_at_end there new = grind (arith, common_steps)
+
+read_size : (bytes : List ℕ) (start count : ℕ) → length (bytes_at bytes start count) ≡ min count (length bytes - start)
+read_size bytes start count = grind (arith, common_steps)
+
+read_each : (bytes : List ℕ) (start count i : ℕ) → i < length (bytes_at bytes start count) → get_or (bytes_at bytes start count) i 0 ≡ get_or bytes (start + i) 0
+read_each bytes start count i below = grind (arith, common_steps)
+
+-- the bytes that a read gives
+pub is_read : (bytes : List ℕ) (start count : ℕ) → IsRead bytes start count (bytes_at bytes start count)
+is_read bytes start count = record { size = read_size bytes start count; each = read_each bytes start count }

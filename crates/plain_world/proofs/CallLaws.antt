@@ -1,52 +1,63 @@
 -- What calls on an open descriptor do.
-use Rattle.std.proofs.Common.{◌≡◌, ◌≢◌, ℕ, zero, suc, ◌+◌, ℤ, pos, negsuc, ◌∙◌, Bool, true, false, cond, List, [], ◌∷◌, ◌++◌, Option, None, Some, length, set, take, refl, ap, sym, subst, append-nil, eqb}
+use Rattle.std.proofs.Common.{rules, ◌≡◌, ◌≢◌, ℕ, zero, suc, ◌+◌, ℤ, pos, negsuc, nat_abs, ◌+ℤ◌, ◌∙◌, Bool, true, false, cond, List, [], ◌∷◌, ◌++◌, Option, None, Some, length, set, take, refl, ap, sym, subst, append-nil, arith, eqb}
 use Rattle.std.proofs.Math.Dec.{eqb-suc-zero}
 use Rattle.std.proofs.Math.Seq.{take-nil}
-use Rattle.std.specs.Option.{unwrap_or}
+use Rattle.std.proofs.Math.IntN.{+ℤ_idl}
+use Rattle.std.proofs.lemmas.Bool.Decides.{nat_tests}
+use Rattle.std.proofs.lemmas.List.{get_or-set_other}
+use Rattle.std.specs.Option.{unwrap_or, option_map, is_some}
 use Rattle.call_types.specs.declared.act.Act.TheVariants as act
 use Rattle.call_types.specs.declared.call.Call.TheVariants as call
-use Rattle.posix_model.specs.Bytes.{splice, resized}
+use Rattle.call_types.specs.declared.whence.Whence.{Whence}
+use Rattle.call_types.specs.declared.whence.Whence.TheVariants.{Set, Cur, End}
+use Rattle.posix_model.specs.Bytes.{splice, resized, bytes_at}
 use Rattle.posix_model.specs.Slots.{slot}
 use Rattle.posix_model.specs.Positions.{bytes_before, regular_file, file_at}
-use Rattle.posix_model.specs.Descriptors.{opened, opened_number, opened_description, table_of, file_bytes, bytes_of}
+use Rattle.posix_model.specs.Descriptors.{opened, opened_number, opened_description, at_offset, file_bytes, bytes_of}
 use Rattle.posix_model.specs.Change.{with_files, changed}
 use Rattle.posix_model.specs.Whole.{is_regular_file}
-use Rattle.posix_model.specs.Pages.{tells, does, on_open}
-use Rattle.posix_model.specs.Read.{read}
+use Rattle.posix_model.specs.Pages.{first_fault, tells, does, on_open}
+use Rattle.posix_model.specs.Read.{gives, read}
 use Rattle.posix_model.specs.Write.{fitting, puts, write_start, write}
 use Rattle.posix_model.specs.Pread.{pread}
 use Rattle.posix_model.specs.Pwrite.{pwrite}
+use Rattle.posix_model.specs.Lseek.{base_of, lseek_faults, lseek}
 use Rattle.posix_model.specs.Ftruncate.{ftruncate}
 use Rattle.posix_model.specs.Step.{given, decided}
 use Rattle.posix_model.specs.Sound.{CallsAreSound}
-use Rattle.plain_world.specs.Types.{World, Description, File, OpenDescriptor, TableEdit, Decided, Replied, Number, Done}
+use Rattle.posix_model.specs.Types.{Data}
+use Rattle.plain_world.specs.Types.{Errno, World, File, OpenDescriptor, TableEdit, Decided, Replied, Number, Done}
 use Rattle.posix_model.specs.declared.world.File.TheVariants as file
 use Rattle.posix_model.specs.declared.change.FileEdit.TheVariants as on_files
 use Rattle.posix_model.specs.declared.change.TableEdit.TheVariants as on_table
-use Rattle.plain_world.specs.FileLaws.{OpenOn, WritePuts, PwritePuts, WriteAppends, PreadKeepsWorld, NothingRead, NothingWritten, NothingPwritten, PwriteKeepsOffsets, with_append, with_appending, PwriteSameUnderAppend, ContentsStay, FtruncateLeavesResized}
+use Rattle.plain_world.specs.FileLaws.{OpenOn, WritePuts, PwritePuts, WriteAppends, IsRead, ReadGives, PreadGives, ReadMoves, LseekTells, PreadKeepsWorld, NothingRead, NothingWritten, NothingPwritten, PwriteKeepsOffsets, with_append, with_appending, PwriteSameUnderAppend, OwnFileAlone, ContentsStay, FtruncateLeavesResized, FtruncateKeepsOffsets}
 use Rattle.plain_world.proofs.PageLemmas.{on_open_has, opened_has, if_has}
 use Rattle.plain_world.proofs.ChangeLemmas.{same_after_table, same_files, contents_same}
-use Rattle.plain_world.proofs.BytesLaws.{added_at_end}
-use Rattle.plain_world.proofs.SlotLemmas.{slot_set_there}
+use Rattle.plain_world.proofs.BytesLaws.{added_at_end, is_read}
+use Rattle.plain_world.proofs.OpenedLemmas.{opened_stands}
+use Rattle.plain_world.proofs.SlotLemmas.{slot_set_there, slot_edited}
 
 pub pread_keeps_world : PreadKeepsWorld
-pread_keeps_world bounds w process fd start count = on_open_has (λ d. changed w [] d.change ≡ w) (opened w process fd) (pread w start count) (λ _. refl) (λ _. refl)
+pread_keeps_world bounds w process fd start count = on_open_has (λ d. changed w [] d.change ≡ w) (opened w process fd) (pread w start count) (λ _. refl) (λ _ _. refl)
 
 pub nothing_read : NothingRead
-nothing_read bounds w process fd = on_open_has (λ d. changed w [] d.change ≡ w) (opened w process fd) (read w 0) (λ _. refl) (λ _. refl)
+nothing_read bounds w process fd = on_open_has (λ d. changed w [] d.change ≡ w) (opened w process fd) (read w 0) (λ _. refl) (λ _ _. refl)
 
 pub nothing_is_written : NothingWritten
-nothing_is_written bounds w process fd = on_open_has (λ d. changed w [] d.change ≡ w) (opened w process fd) (write bounds w []) (λ _. refl) (λ _. refl)
+nothing_is_written bounds w process fd = on_open_has (λ d. changed w [] d.change ≡ w) (opened w process fd) (write bounds w []) (λ _. refl) (λ _ _. refl)
 
 pub nothing_pwritten : NothingPwritten
-nothing_pwritten bounds w process fd start = on_open_has (λ d. changed w [] d.change ≡ w) (opened w process fd) (pwrite bounds start []) (λ _. refl) (λ _. refl)
+nothing_pwritten bounds w process fd start = on_open_has (λ d. changed w [] d.change ≡ w) (opened w process fd) (pwrite bounds start []) (λ _. refl) (λ _ _. refl)
 
 pub pwrite_keeps_offsets : PwriteKeepsOffsets
 pwrite_keeps_offsets bounds w process fd start bytes =
     let Same : Decided → Type 0 = λ d. (changed w bytes d.change).descriptions ≡ w.descriptions in
     let n = fitting bounds (bytes_before start) bytes in
     on_open_has Same (opened w process fd) (pwrite bounds start bytes) (λ _. refl)
-    (λ o. if_has Same (eqb (length bytes) 0) (tells (Number 0)) (does (Number n) (on_files.Bytes (file_at o) (bytes_before start) n) on_table.Nothing) refl refl)
+    (λ o _. if_has Same (eqb (length bytes) 0) (tells (Number 0)) (does (Number n) (on_files.Bytes (file_at o) (bytes_before start) n) on_table.Nothing) (λ _. refl) (λ _. refl))
+
+pub ftruncate_keeps_offsets : FtruncateKeepsOffsets
+ftruncate_keeps_offsets bounds w process fd len = on_open_has (λ d. (changed w [] d.change).descriptions ≡ w.descriptions) (opened w process fd) (ftruncate bounds len) (λ _. refl) (λ _ _. refl)
 
 pub contents_stay : CallsAreSound → ContentsStay
 contents_stay sound bounds w process c other = contents_same w (given (act.Call c)) (decided bounds w process c).change ((sound bounds w process c).contents other)
@@ -85,14 +96,14 @@ write_puts bounds w process fd bytes o f n is some told =
     let count = fitting bounds (start f) bytes in
     let Puts : ℕ → Type 0 = λ g. let count = fitting bounds (start g) bytes in Leaves w bytes f (start f) n (puts bytes g (start g) count (on_table.Offset o.number (start g + count))) in
     opened_has (Leaves w bytes f (start f) n) (opened w process fd) o (write bounds w bytes) is.opened_is (λ error refused. cc)
-    (subst Puts (sym (file_is w process fd o f is)) (puts_leave w f (start f) count (on_table.Offset o.number (start f + count)) n bytes some is.there)) told
+    (λ _. subst Puts (sym (file_is w process fd o f is)) (puts_leave w f (start f) count (on_table.Offset o.number (start f + count)) n bytes some is.there)) told
 
 pub pwrite_puts : PwritePuts
 pwrite_puts bounds w process fd start bytes o f n is some told =
     let from = bytes_before start in
     let count = fitting bounds from bytes in
     opened_has (Leaves w bytes f from n) (opened w process fd) o (pwrite bounds start bytes) is.opened_is (λ error refused. cc)
-    (subst (λ g. Leaves w bytes f from n (puts bytes g from count on_table.Nothing)) (sym (file_is w process fd o f is))
+    (λ _. subst (λ g. Leaves w bytes f from n (puts bytes g from count on_table.Nothing)) (sym (file_is w process fd o f is))
     (puts_leave w f from count on_table.Nothing n bytes some is.there)) told
 
 pub write_appends : WriteAppends
@@ -109,26 +120,16 @@ ftruncate_leaves_resized bounds w process fd len o f is told =
     let at = file_is w process fd o f is in
     let there : Resizes (does Done (on_files.Resize f (bytes_before len)) on_table.Nothing) = λ _. bytes_set w.files f (resized (bytes_of w f) (bytes_before len)) is.there in
     opened_has Resizes (opened w process fd) o (ftruncate bounds len) is.opened_is (λ error refused. cc)
-    (subst (λ g. Resizes (does Done (on_files.Resize g (bytes_before len)) on_table.Nothing)) (sym at) there) told
-
-appending_description : (w : World) (fd number : ℕ) (there : Option Description) (o : OpenDescriptor) (append : Bool) → slot w.descriptions number ≡ there →
-    opened_description fd number there ≡ Some o → opened_number (with_appending w o append) fd (Some number) ≡ Some (with_append o append)
-appending_description w fd number None o append stands h = cc
-appending_description w fd number (Some d) o append stands h =
-    let opens : OpenDescriptor = record { fd = fd; number = number; description = d } in
-    let same : opens ≡ o = cc in
-    subst (λ (x : OpenDescriptor). opened_number (with_appending w x append) fd (Some number) ≡ Some (with_append x append)) same
-    (ap (opened_description fd number) (slot_set_there w.descriptions number d (Some (record d { append = append })) stands))
-
-appending_number : (w : World) (fd : ℕ) (entry : Option ℕ) (o : OpenDescriptor) (append : Bool) → opened_number w fd entry ≡ Some o →
-    opened_number (with_appending w o append) fd entry ≡ Some (with_append o append)
-appending_number w fd None o append h = cc
-appending_number w fd (Some number) o append h = appending_description w fd number (slot w.descriptions number) o append refl h
+    (λ _. subst (λ g. Resizes (does Done (on_files.Resize g (bytes_before len)) on_table.Nothing)) (sym at) there) told
 
 opened_appending : (w : World) (process : ℕ) (fd : ℤ) (o : OpenDescriptor) (append : Bool) → opened w process fd ≡ Some o →
     opened (with_appending w o append) process fd ≡ Some (with_append o append)
-opened_appending w process (pos fd) o append h = appending_number w fd (slot (table_of (slot w.processes process)) fd) o append h
-opened_appending w process (negsuc n) o append h = cc
+opened_appending w process fd o append h =
+    let at = opened_stands w process fd o h in
+    let v = with_appending w o append in
+    subst (λ x. opened v process x ≡ Some (with_append o append)) at.fd_is
+    (ap (opened_number v o.fd) at.entry_is ∙
+    ap (opened_description o.fd o.number) (slot_set_there w.descriptions o.number o.description (Some (with_append o append).description) at.description_is))
 
 pub pwrite_same_under_append : PwriteSameUnderAppend
 pwrite_same_under_append bounds w process fd start bytes o append h =
@@ -139,4 +140,113 @@ pwrite_same_under_append bounds w process fd start bytes o append h =
     record {
       outcome = ap (λ d. d.outcome) same;
       files = ap (λ d. (changed v bytes d.change).files) same ∙ same_files w v bytes (decided bounds w process c).change refl;
+    }
+
+-- bytes that are told are those that were read
+told_read : (x got : List ℕ) → Replied (Data x) ≡ Replied (Data got) → x ≡ got
+told_read x got told = cc
+
+-- what a decided read that gives these bytes leaves of the description of its descriptor
+abbrev Moved : World → OpenDescriptor → List ℕ → Decided → Type 0
+Moved w o got d = d.outcome ≡ Replied (Data got) → slot (changed w [] d.change).descriptions o.number ≡ Some (at_offset (o.description.offset + length got) o.description)
+
+none_long : (x : List ℕ) → eqb (length x) 0 ≡ true → length x ≡ 0
+none_long x h = grind (arith, nat_tests)
+
+gives_moved : (w : World) (o : OpenDescriptor) (x got : List ℕ) → slot w.descriptions o.number ≡ Some o.description → Moved w o got (gives o x)
+gives_moved w o x got there =
+    let start = o.description.offset in
+    if_has (Moved w o got) (eqb (length x) 0) (tells (Data x)) (does (Data x) on_files.Nothing (on_table.Offset o.number (start + length x)))
+    (λ none told.
+    let zero_long : length got ≡ 0 = ap length (sym (told_read x got told)) ∙ none_long x none in
+    let stays : start ≡ start + length got = omega (arith, zero_long) in
+    there ∙ ap (λ k. Some (at_offset k o.description)) stays)
+    (λ some told. slot_edited w.descriptions o.number (at_offset (start + length x)) ∙
+    (ap (option_map (at_offset (start + length x))) there ∙ ap (λ (l : List ℕ). Some (at_offset (start + length l) o.description)) (told_read x got told)))
+
+pub read_moves : ReadMoves
+read_moves bounds w process fd count o got is told =
+    opened_has (Moved w o got) (opened w process fd) o (read w count) is (λ error refused. cc)
+    (λ _. gives_moved w o (bytes_at (bytes_of w (file_at o)) o.description.offset count) got (opened_stands w process fd o is).description_is) told
+
+-- what a decided read tells was read from a position on
+abbrev Given : List ℕ → ℕ → ℕ → List ℕ → Decided → Type 0
+Given bytes start count got d = d.outcome ≡ Replied (Data got) → IsRead bytes start count got
+
+given_read : (bytes : List ℕ) (start count : ℕ) (got : List ℕ) → Replied (Data (bytes_at bytes start count)) ≡ Replied (Data got) → IsRead bytes start count got
+given_read bytes start count got told = subst (λ (x : List ℕ). IsRead bytes start count x) (told_read (bytes_at bytes start count) got told) (is_read bytes start count)
+
+gives_read : (o : OpenDescriptor) (bytes : List ℕ) (start count : ℕ) (got : List ℕ) → Given bytes start count got (gives o (bytes_at bytes start count))
+gives_read o bytes start count got =
+    let x = bytes_at bytes start count in
+    if_has (Given bytes start count got) (eqb (length x) 0) (tells (Data x)) (does (Data x) on_files.Nothing (on_table.Offset o.number (o.description.offset + length x)))
+    (λ _. given_read bytes start count got) (λ _. given_read bytes start count got)
+
+pub read_gives : ReadGives
+read_gives bounds w process fd count o f got is told =
+    let start = o.description.offset in
+    opened_has (Given (bytes_of w f) start count got) (opened w process fd) o (read w count) is.opened_is (λ error refused. cc)
+    (λ _. subst (λ g. Given (bytes_of w f) start count got (gives o (bytes_at (bytes_of w g) start count))) (sym (file_is w process fd o f is)) (gives_read o (bytes_of w f) start count got)) told
+
+pub pread_gives : PreadGives
+pread_gives bounds w process fd start count o f got is told =
+    let from = bytes_before start in
+    opened_has (Given (bytes_of w f) from count got) (opened w process fd) o (pread w start count) is.opened_is (λ error refused. cc)
+    (λ _. subst (λ g. Given (bytes_of w f) from count got (tells (Data (bytes_at (bytes_of w g) from count)))) (sym (file_is w process fd o f is)) (given_read (bytes_of w f) from count got)) told
+
+-- a fault stays one with another before it
+still_fault : (b : Bool) (error : Errno) (rest : Option Errno) → is_some rest ≡ true → is_some (cond b (Some error) rest) ≡ true
+still_fault true error rest h = refl
+still_fault false error rest h = h
+
+-- a place without a fault is not before the start
+sought : (to : ℤ) (o : OpenDescriptor) → first_fault (lseek_faults to o) ≡ None → pos (nat_abs to) ≡ to
+sought (pos n) o free = refl
+sought (negsuc n) o free =
+    let fault : is_some (first_fault (lseek_faults (negsuc n) o)) ≡ true = search (rules, still_fault) in
+    let none : is_some (first_fault (lseek_faults (negsuc n) o)) ≡ false = ap is_some free in
+    cc
+
+-- the place that an lseek tells
+place_told : (w : World) (process : ℕ) (fd offset : ℤ) (from : Whence) (o : OpenDescriptor) (n : ℕ) → opened w process fd ≡ Some o →
+    (on_open (opened w process fd) (lseek w offset from)).outcome ≡ Replied (Number n) → pos n ≡ pos (base_of w o from) +ℤ offset
+place_told w process fd offset from o n is told =
+    let to = pos (base_of w o from) +ℤ offset in
+    opened_has (λ d. d.outcome ≡ Replied (Number n) → pos n ≡ to) (opened w process fd) o (lseek w offset from) is (λ error refused. cc)
+    (λ free told. let number : nat_abs to ≡ n = cc in ap (λ (k : ℕ). pos k) (sym number) ∙ sought to o free) told
+
+pub lseek_tells : LseekTells
+lseek_tells bounds w process fd offset o f n is = record {
+  set = λ told. place_told w process fd offset Set o n is.opened_is told ∙ +ℤ_idl offset;
+  cur = λ told. place_told w process fd offset Cur o n is.opened_is told;
+  end = λ told. place_told w process fd offset End o n is.opened_is told ∙ ap (λ (g : ℕ). pos (length (bytes_of w g)) +ℤ offset) (file_is w process fd o f is);
+}
+
+-- what a decided write puts is not put into another file
+puts_apart : (w : World) (f start count n : ℕ) (bytes : List ℕ) (moved : TableEdit) → n ≢ f →
+    slot (changed w bytes (puts bytes f start count moved).change).files n ≡ slot w.files n
+puts_apart w f start count n bytes moved other =
+    let new = splice (bytes_of w f) start (take count bytes) in
+    if_has (λ d. slot (changed w bytes d.change).files n ≡ slot w.files n) (eqb (length bytes) 0) (tells (Number 0)) (does (Number count) (on_files.Bytes f start count) moved) (λ _. refl)
+    (λ _. ap (λ fs. slot fs n) (same_after_table (with_files w bytes (on_files.Bytes f start count)) moved).files ∙
+    get_or-set_other w.files f n (Some (file.Regular new)) None other)
+
+pub own_file_alone : OwnFileAlone
+own_file_alone bounds w process fd start len bytes o f n is other =
+    let Apart : List ℕ → Decided → Type 0 = λ given d. slot (changed w given d.change).files n ≡ slot w.files n in
+    let g = file_at o in
+    let away : n ≢ g = subst (λ (g : ℕ). n ≢ g) (sym (file_is w process fd o f is)) other in
+    let from = write_start o.description (length (bytes_of w g)) in
+    let count = fitting bounds from bytes in
+    let at = bytes_before start in
+    record {
+      write =
+          opened_has (Apart bytes) (opened w process fd) o (write bounds w bytes) is.opened_is (λ _. refl)
+          (λ _. puts_apart w g from count n bytes (on_table.Offset o.number (from + count)) away);
+      pwrite =
+          opened_has (Apart bytes) (opened w process fd) o (pwrite bounds start bytes) is.opened_is (λ _. refl)
+          (λ _. puts_apart w g at (fitting bounds at bytes) n bytes on_table.Nothing away);
+      ftruncate =
+          opened_has (Apart []) (opened w process fd) o (ftruncate bounds len) is.opened_is (λ _. refl)
+          (λ _. get_or-set_other w.files g n (Some (file.Regular (resized (bytes_of w g) (bytes_before len)))) None away);
     }

@@ -1,6 +1,6 @@
 -- What holds of each refusal, and of the effect where there is no fault, holds of a page; what holds of all that acts come to
 -- holds of steps.
-use Rattle.std.proofs.Common.{◌≡◌, ℕ, Bool, true, false, cond, List, [], ◌∷◌, ◌++◌, Option, None, Some, refl, subst}
+use Rattle.std.proofs.Common.{◌≡◌, ℕ, Bool, true, false, cond, List, [], ◌∷◌, ◌++◌, Option, None, Some, refl, sym, subst}
 use Rattle.std.specs.Option.{option_map, option_map_or}
 use Rattle.plain_world.specs.Types.{Act, Errno, Bounds, World, OpenDescriptor, Decided, EBADF}
 use Rattle.posix_model.specs.Pages.{Page, first_fault, unless, refused, decided_by, on_open}
@@ -15,21 +15,18 @@ page_has Has page refuses all = unless_has Has (first_fault page.faults) page.ef
 
 -- the same of a call on a descriptor
 pub on_open_has : (Has : Decided → Type 0) (o : Option OpenDescriptor) (page : OpenDescriptor → Page) → ((error : Errno) → Has (refused error)) →
-    ((x : OpenDescriptor) → Has (page x).effect) → Has (on_open o page)
+    ((x : OpenDescriptor) → o ≡ Some x → Has (page x).effect) → Has (on_open o page)
 on_open_has Has None page refuses all = refuses EBADF
-on_open_has Has (Some o) page refuses all = page_has Has (page o) refuses (λ _. all o)
+on_open_has Has (Some o) page refuses all = page_has Has (page o) refuses (λ _. all o refl)
 
 -- the same of a call on a descriptor that is open
 pub opened_has : (Has : Decided → Type 0) (o : Option OpenDescriptor) (x : OpenDescriptor) (page : OpenDescriptor → Page) → o ≡ Some x → ((error : Errno) → Has (refused error)) →
-    Has (page x).effect → Has (on_open o page)
-opened_has Has None x page is refuses all = cc
-opened_has Has (Some o) x page is refuses all =
-    let same : x ≡ o = cc in
-    page_has Has (page o) refuses (λ _. subst (λ (y : OpenDescriptor). Has (page y).effect) same all)
+    (first_fault (page x).faults ≡ None → Has (page x).effect) → Has (on_open o page)
+opened_has Has o x page is refuses all = subst (λ o. Has (on_open o page)) (sym is) (page_has Has (page x) refuses all)
 
-pub if_has : (Has : Decided → Type 0) (b : Bool) (d e : Decided) → Has d → Has e → Has (cond b d e)
-if_has Has true d e h k = h
-if_has Has false d e h k = k
+pub if_has : (Has : Decided → Type 0) (b : Bool) (d e : Decided) → (b ≡ true → Has d) → (b ≡ false → Has e) → Has (cond b d e)
+if_has Has true d e h k = h refl
+if_has Has false d e h k = k refl
 
 -- of two lists of faults in a row without one, the second has none
 pub no_fault_after : (xs ys : List (Bool × Errno)) → first_fault (xs ++ ys) ≡ None → first_fault ys ≡ None

@@ -1,19 +1,22 @@
 -- What holds of the calls on files, in words that the pages use.
-use Rattle.std.specs.Prelude.{◌≡◌, ◌≢◌, ℕ, ℤ, pos, ◌+◌, ◌-◌, ◌≤◌, ◌<◌, Bool, true, false, max, List, [], ◌∷◌, ◌++◌, None, Some, length, take, slice_index, slice_set}
+use Rattle.std.specs.Prelude.{◌≡◌, ◌≢◌, ℕ, ℤ, pos, ◌+◌, ◌-◌, ◌+ℤ◌, ◌≤◌, ◌<◌, Bool, true, false, max, min, List, [], ◌∷◌, ◌++◌, None, Some, length, take, slice_index, slice_set}
 use Rattle.call_types.specs.Flags.{has}
 use Rattle.call_types.specs.Flags as flag
 use Rattle.plain_world.specs.Types.{Call, OpenFlags, Bounds, World, Description, OpenDescriptor, Replied, Number, Done}
 use Rattle.call_types.specs.declared.act.Act.TheVariants as act
 use Rattle.call_types.specs.declared.call.Call.TheVariants as call
+use Rattle.call_types.specs.declared.whence.Whence.TheVariants.{Set, Cur, End}
 use Rattle.posix_model.specs.Bytes.{splice, resized}
 use Rattle.call_types.specs.Names.{file_of}
 use Rattle.posix_model.specs.Slots.{slot}
 use Rattle.posix_model.specs.Positions.{bytes_before}
-use Rattle.posix_model.specs.Descriptors.{opened, bytes_of}
+use Rattle.posix_model.specs.Descriptors.{opened, at_offset, bytes_of}
 use Rattle.posix_model.specs.Whole.{is_regular_file}
 use Rattle.posix_model.specs.Write.{write_start}
 use Rattle.posix_model.specs.Open.{mode_of}
 use Rattle.posix_model.specs.Sound.{may_change_contents}
+use Rattle.posix_model.specs.Types.{Data}
+use Rattle.posix_model.specs.declared.world.File.TheVariants as file
 use Rattle.posix_model.specs.declared.world.Target.TheVariants as target
 use Rattle.plain_world.specs.Calls.{outcome_of, before_sweep}
 
@@ -51,6 +54,10 @@ FtruncateLeavesResized = (bounds : Bounds) (w : World) (process : ℕ) (fd len :
     outcome_of bounds w process (call.Ftruncate fd len) ≡ Replied Done →
     bytes_of (before_sweep bounds w process (call.Ftruncate fd len)) file ≡ resized (bytes_of w file) (bytes_before len)
 
+-- an ftruncate leaves every open file description, with its offset, as it was (page of ftruncate)
+abbrev pub FtruncateKeepsOffsets : Type 0
+FtruncateKeepsOffsets = (bounds : Bounds) (w : World) (process : ℕ) (fd len : ℤ) → (before_sweep bounds w process (call.Ftruncate fd len)).descriptions ≡ w.descriptions
+
 -- a write of some bytes that is not refused puts those that it took at the offset, or at the end under append (page of write)
 abbrev pub WritePuts : Type 0
 WritePuts = (bounds : Bounds) (w : World) (process : ℕ) (fd : ℤ) (bytes : List ℕ) (o : OpenDescriptor) (file n : ℕ) → OpenOn w process fd o file →
@@ -68,6 +75,37 @@ abbrev pub WriteAppends : Type 0
 WriteAppends = (bounds : Bounds) (w : World) (process : ℕ) (fd : ℤ) (bytes : List ℕ) (o : OpenDescriptor) (file n : ℕ) → OpenOn w process fd o file →
     o.description.append ≡ true → outcome_of bounds w process (call.Write fd bytes) ≡ Replied (Number n) →
     bytes_of (before_sweep bounds w process (call.Write fd bytes)) file ≡ bytes_of w file ++ take n bytes
+
+-- the bytes that stand from a position on: as many as were asked, or as there are (page of read)
+pub record IsRead (bytes : List ℕ) (start count : ℕ) (got : List ℕ) : Type 0 where
+  pub size : length got ≡ min count (length bytes - start)
+  pub each : (i : ℕ) → i < length got → slice_index got i ≡ slice_index bytes (start + i)
+
+-- a read that is not refused gives those from its offset on (page of read)
+abbrev pub ReadGives : Type 0
+ReadGives = (bounds : Bounds) (w : World) (process : ℕ) (fd : ℤ) (count : ℕ) (o : OpenDescriptor) (file : ℕ) (got : List ℕ) → OpenOn w process fd o file →
+    outcome_of bounds w process (call.Read fd count) ≡ Replied (Data got) → IsRead (bytes_of w file) o.description.offset count got
+
+-- a pread gives those from its position on (page of read, pread)
+abbrev pub PreadGives : Type 0
+PreadGives = (bounds : Bounds) (w : World) (process : ℕ) (fd start : ℤ) (count : ℕ) (o : OpenDescriptor) (file : ℕ) (got : List ℕ) → OpenOn w process fd o file →
+    outcome_of bounds w process (call.Pread fd start count) ≡ Replied (Data got) → IsRead (bytes_of w file) (bytes_before start) count got
+
+-- a read leaves the offset after the bytes that it gave, so the next one goes on there (page of read)
+abbrev pub ReadMoves : Type 0
+ReadMoves = (bounds : Bounds) (w : World) (process : ℕ) (fd : ℤ) (count : ℕ) (o : OpenDescriptor) (got : List ℕ) → opened w process fd ≡ Some o →
+    outcome_of bounds w process (call.Read fd count) ≡ Replied (Data got) →
+    slot (before_sweep bounds w process (call.Read fd count)).descriptions o.number ≡ Some (at_offset (o.description.offset + length got) o.description)
+
+-- an lseek that is not refused tells the place that is so many bytes past the start, the offset or the end (page of lseek)
+pub record Seeks (bounds : Bounds) (w : World) (process : ℕ) (fd offset : ℤ) (o : OpenDescriptor) (file n : ℕ) : Type 0 where
+  pub set : outcome_of bounds w process (call.Lseek fd offset Set) ≡ Replied (Number n) → pos n ≡ offset
+  pub cur : outcome_of bounds w process (call.Lseek fd offset Cur) ≡ Replied (Number n) → pos n ≡ pos o.description.offset +ℤ offset
+  pub end : outcome_of bounds w process (call.Lseek fd offset End) ≡ Replied (Number n) → pos n ≡ pos (length (bytes_of w file)) +ℤ offset
+
+-- and that is what each of them tells (page of lseek)
+abbrev pub LseekTells : Type 0
+LseekTells = (bounds : Bounds) (w : World) (process : ℕ) (fd offset : ℤ) (o : OpenDescriptor) (file n : ℕ) → OpenOn w process fd o file → Seeks bounds w process fd offset o file n
 
 -- a pread changes nothing: no byte, and no offset (page of read, pread)
 abbrev pub PreadKeepsWorld : Type 0
@@ -108,14 +146,25 @@ abbrev pub PwriteSameUnderAppend : Type 0
 PwriteSameUnderAppend = (bounds : Bounds) (w : World) (process : ℕ) (fd start : ℤ) (bytes : List ℕ) (o : OpenDescriptor) (append : Bool) →
     opened w process fd ≡ Some o → SameWriting bounds process (call.Pwrite fd start bytes) w (with_appending w o append)
 
+-- a write, a pwrite and an ftruncate on a descriptor leave the file of this number as it was
+pub record LeaveFile (bounds : Bounds) (w : World) (process : ℕ) (fd start len : ℤ) (bytes : List ℕ) (n : ℕ) : Type 0 where
+  pub write : slot (before_sweep bounds w process (call.Write fd bytes)).files n ≡ slot w.files n
+  pub pwrite : slot (before_sweep bounds w process (call.Pwrite fd start bytes)).files n ≡ slot w.files n
+  pub ftruncate : slot (before_sweep bounds w process (call.Ftruncate fd len)).files n ≡ slot w.files n
+
+-- and so they leave each file but the one that the descriptor is open on (pages of write, pwrite and ftruncate)
+abbrev pub OwnFileAlone : Type 0
+OwnFileAlone = (bounds : Bounds) (w : World) (process : ℕ) (fd start len : ℤ) (bytes : List ℕ) (o : OpenDescriptor) (number n : ℕ) → OpenOn w process fd o number → n ≢ number →
+    LeaveFile bounds w process fd start len bytes n
+
 -- the second world has the files, names and pipes of the first, with their bytes
 pub record SameContents (w v : World) : Type 0 where
   pub files : v.files ≡ w.files
   pub names : v.names ≡ w.names
   pub pipes : v.pipes ≡ w.pipes
 
--- an open, a write, a pwrite and an ftruncate may change them; every other call leaves all of them: a seek past the end neither
--- makes a file longer nor changes a byte (their pages)
+-- an open, a write, a pwrite, an ftruncate, a link and an unlink may change them; every other call leaves all of them: a seek
+-- past the end neither makes a file longer nor changes a byte (their pages)
 abbrev pub ContentsStay : Type 0
 ContentsStay = (bounds : Bounds) (w : World) (process : ℕ) (c : Call) → may_change_contents (act.Call c) ≡ false → SameContents w (before_sweep bounds w process c)
 
@@ -153,3 +202,13 @@ abbrev pub TruncOpenEmpties : Type 0
 TruncOpenEmpties = (bounds : Bounds) (w : World) (process : ℕ) (name : List ℕ) (flags : OpenFlags) (fd number : ℕ) → file_of name w.names ≡ Some number →
     has flags flag.trunc ≡ true → outcome_of bounds w process (call.Open name flags) ≡ Replied (Number fd) →
     EmptiesFile number w (before_sweep bounds w process (call.Open name flags))
+
+-- an open without trunc of a name that is there changes no file (page of open)
+abbrev pub OpenKeepsFiles : Type 0
+OpenKeepsFiles = (bounds : Bounds) (w : World) (process : ℕ) (name : List ℕ) (flags : OpenFlags) (number : ℕ) → file_of name w.names ≡ Some number →
+    has flags flag.trunc ≡ false → (before_sweep bounds w process (call.Open name flags)).files ≡ w.files
+
+-- an open of a new name that is not refused adds an empty regular file, and changes no other (page of open)
+abbrev pub OpenMakesEmpty : Type 0
+OpenMakesEmpty = (bounds : Bounds) (w : World) (process : ℕ) (name : List ℕ) (flags : OpenFlags) (fd : ℕ) → file_of name w.names ≡ None →
+    outcome_of bounds w process (call.Open name flags) ≡ Replied (Number fd) → (before_sweep bounds w process (call.Open name flags)).files ≡ w.files ++ Some (file.Regular []) ∷ []

@@ -1,6 +1,6 @@
 //! Laws of the calls on files. Each function does nothing; its contract is the law.
 
-ghost use Rattle.plain_world.specs.FileLaws.{WriteSplices, WritePuts, PwritePuts, WriteAppends, PreadKeepsWorld, NothingRead, NothingWritten, NothingPwritten, PwriteKeepsOffsets, PwriteSameUnderAppend, ContentsStay, FtruncateResizes, FtruncateLeavesResized, OpenDescribes, ExclOpensNew, TruncOpenEmpties};
+ghost use Rattle.plain_world.specs.FileLaws.{WriteSplices, WritePuts, PwritePuts, WriteAppends, ReadGives, PreadGives, ReadMoves, LseekTells, PreadKeepsWorld, NothingRead, NothingWritten, NothingPwritten, PwriteKeepsOffsets, PwriteSameUnderAppend, OwnFileAlone, ContentsStay, FtruncateResizes, FtruncateLeavesResized, FtruncateKeepsOffsets, OpenDescribes, ExclOpensNew, TruncOpenEmpties, OpenKeepsFiles, OpenMakesEmpty};
 
 use posix_model::laws::calls_are_sound;
 
@@ -14,6 +14,19 @@ pub fn write_splices()
 /// Under append a write puts its bytes at the end of the file, whatever the offset (page of write).
 pub fn append_adds_at_end()
     ensures { WriteAppends }
+{}
+
+/// A read gives the bytes from its offset on, as many as were asked or as there are, and leaves the offset after them; a
+/// pread gives those from its position on (page of read).
+pub fn reads_give_the_bytes()
+    ensures read { ReadGives }
+    ensures pread { PreadGives }
+    ensures offset { ReadMoves }
+{}
+
+/// An lseek tells the place that is so many bytes past the start, the offset or the end (page of lseek).
+pub fn lseek_tells_the_offset()
+    ensures { LseekTells }
 {}
 
 /// A pread changes nothing: no byte, and no offset (page of read, pread).
@@ -39,8 +52,14 @@ pub fn pwrite_ignores_append()
     ensures append { PwriteSameUnderAppend }
 {}
 
-/// Only an open, a write, a pwrite and an ftruncate may change a file, a name or a pipe; so a file is no longer for a seek
-/// past its end (pages of the other calls).
+/// A write, a pwrite and an ftruncate change no file but the one that their descriptor is open on (pages of write, pwrite
+/// and ftruncate).
+pub fn other_files_stay()
+    ensures { OwnFileAlone }
+{}
+
+/// Only an open, a write, a pwrite, an ftruncate, a link and an unlink may change a file, a name or a pipe; so a file is no
+/// longer for a seek past its end (pages of the other calls).
 pub fn contents_stay()
     ensures { ContentsStay }
 {
@@ -51,6 +70,11 @@ pub fn contents_stay()
 pub fn ftruncate_resizes()
     ensures bytes { FtruncateResizes }
     ensures call { FtruncateLeavesResized }
+{}
+
+/// An ftruncate leaves every offset as it was (page of ftruncate).
+pub fn ftruncate_keeps_offsets()
+    ensures { FtruncateKeepsOffsets }
 {}
 
 /// Two opens of one file have two open file descriptions, each at the start of the file that the name leads to, in the
@@ -67,4 +91,11 @@ pub fn excl_opens_new()
 /// An open under trunc empties its file, and changes no other (page of open).
 pub fn trunc_empties()
     ensures { TruncOpenEmpties }
+{}
+
+/// An open without trunc of a name that is there changes no file, and one of a new name adds an empty regular file (page of
+/// open).
+pub fn open_keeps_files()
+    ensures present { OpenKeepsFiles }
+    ensures new { OpenMakesEmpty }
 {}

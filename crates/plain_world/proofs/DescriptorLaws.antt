@@ -1,0 +1,122 @@
+-- What calls do to descriptors.
+use Rattle.std.proofs.Common.{rules, ◌≡◌, ◌≢◌, ◌∙◌, ℕ, ℤ, Bool, cond, List, [], Option, None, Some, length, refl, ap, sym, subst}
+use Rattle.std.specs.Option.{option_map}
+use Rattle.call_types.specs.declared.act.Act.TheVariants as act
+use Rattle.call_types.specs.declared.call.Call.TheVariants as call
+use Rattle.posix_model.specs.Slots.{slot}
+use Rattle.posix_model.specs.Numbers.{IsLowest}
+use Rattle.call_types.specs.Names.{file_of}
+use Rattle.posix_model.specs.Descriptors.{opened, opened_number, table_of, with_entry}
+use Rattle.posix_model.specs.Change.{with_files, with_processes, with_table, changed}
+use Rattle.posix_model.specs.Pages.{Page, refused, does, on_open}
+use Rattle.posix_model.specs.Open.{open_found, open_file}
+use Rattle.posix_model.specs.Close.{close}
+use Rattle.posix_model.specs.Step.{given, decided}
+use Rattle.posix_model.specs.Sound.{makes, CallsAreSound}
+use Rattle.plain_world.specs.Types.{Call, Reply, Errno, OpenFlags, Bounds, World, Process, OpenDescriptor, FileEdit, ProcessEdit, TableEdit, Change, Decided, EBADF, Replied, Number, Done, Error}
+use Rattle.posix_model.specs.declared.change.FileEdit.TheVariants as on_files
+use Rattle.posix_model.specs.declared.change.ProcessEdit.TheVariants as on_process
+use Rattle.posix_model.specs.declared.change.TableEdit.TheVariants as on_table
+use Rattle.plain_world.specs.DescriptorLaws.{OpenGivesLowest, CloseCloses, NotOpenIsBad, ProcessesAreApart}
+use Rattle.plain_world.proofs.PageLemmas.{page_has, on_open_has, if_has}
+use Rattle.plain_world.proofs.OpenedLemmas.{IsOpenAt, opened_stands}
+use Rattle.plain_world.proofs.ChangeLemmas.{files_leave}
+use Rattle.plain_world.proofs.OpenLaws.{told_lowest}
+use Rattle.plain_world.proofs.StepLaws.{lowest_is_least}
+use Rattle.plain_world.proofs.SlotLemmas.{slot_edited, slot_freed, other_slot}
+
+pub open_gives_lowest : OpenGivesLowest
+open_gives_lowest bounds w p name flags fd told =
+    let found = file_of name w.names in
+    let table = table_of (slot w.processes p) in
+    page_has (λ d. d.outcome ≡ Replied (Number fd) → IsLowest table fd) (open_file w p name flags) (λ error refused. cc)
+    (λ free opens. lowest_is_least table fd (told_lowest w p name flags found fd free opens)) told
+
+table_freed : (there : Option Process) (fd : ℕ) → slot (table_of (option_map (with_entry fd None) there)) fd ≡ None
+table_freed None fd = refl
+table_freed (Some process) fd = slot_freed process.table fd
+
+-- a descriptor that is closed is free
+closed_at : (w : World) (p : ℕ) (fd : ℤ) (o : OpenDescriptor) → IsOpenAt w p fd o → opened (changed w [] (close p o).effect.change) p fd ≡ None
+closed_at w p fd o at =
+    let v = changed w [] (close p o).effect.change in
+    subst (λ x. opened v p x ≡ None) at.fd_is
+    (ap (opened_number v o.fd) (ap (λ x. slot (table_of x) o.fd) (slot_edited w.processes p (with_entry o.fd None)) ∙ table_freed (slot w.processes p) o.fd))
+
+pub close_closes : CloseCloses
+close_closes bounds w p fd told =
+    on_open_has (λ d. d.outcome ≡ Replied Done → opened (changed w [] d.change) p fd ≡ None) (opened w p fd) (close p) (λ error refused. cc)
+    (λ o is _. closed_at w p fd o (opened_stands w p fd o is)) told
+
+-- what is decided of a descriptor that is not open
+refused_as_bad : (w : World) (p : ℕ) (fd named : ℤ) (page : OpenDescriptor → Page) → opened w p fd ≡ None → Some named ≡ Some fd → (on_open (opened w p named) page).outcome ≡ Replied (Error EBADF)
+refused_as_bad w p fd named page free is =
+    let same : named ≡ fd = cc in
+    ap (λ o. (on_open o page).outcome) (ap (opened w p) same ∙ free)
+
+pub not_open_is_bad : NotOpenIsBad
+not_open_is_bad bounds w p fd (call.Open name flags) free is = cc
+not_open_is_bad bounds w p fd (call.Link old new) free is = cc
+not_open_is_bad bounds w p fd (call.Unlink name) free is = cc
+not_open_is_bad bounds w p fd other free is = refused_as_bad w p fd _ _ free is
+
+-- the process whose descriptors an edit changes
+abbrev edited_process : TableEdit → Option ℕ
+edited_process (on_table.Open process fd description) = Some process
+edited_process (on_table.Entry process fd entry) = Some process
+edited_process other = None
+
+-- it leaves each other process
+other_process : (w : World) (e : TableEdit) (q : ℕ) → edited_process e ≢ Some q → slot (with_table w e).processes q ≡ slot w.processes q
+other_process w on_table.Nothing q other = refl
+other_process w (on_table.Offset number offset) q other = refl
+other_process w (on_table.Open p fd d) q other = other_slot w.processes p q (with_entry fd (Some (length w.descriptions))) (λ same. other (ap Some (sym same)))
+other_process w (on_table.Entry p fd entry) q other = other_slot w.processes p q (with_entry fd entry) (λ same. other (ap Some (sym same)))
+
+-- an edit that makes no process changes none
+none_made : (w : World) (e : ProcessEdit) → makes e ≡ 0 → (with_processes w e).processes ≡ w.processes
+none_made w on_process.Nothing none = refl
+none_made w (on_process.Add table) none = cc
+
+process_stays : (w : World) (bytes : List ℕ) (c : Change) (q : ℕ) → makes c.process ≡ 0 → edited_process c.table ≢ Some q → slot (changed w bytes c).processes q ≡ slot w.processes q
+process_stays w bytes c q none other =
+    let v = with_files w bytes c.files in
+    other_process (with_processes v c.process) c.table q other ∙ ap (λ ps. slot ps q) (none_made v c.process none ∙ (files_leave w bytes c.files).1)
+
+-- what is decided changes descriptors of this process alone
+record Own (p : ℕ) (d : Decided) : Type 0 where
+  own : (q : ℕ) → edited_process d.change.table ≡ Some q → q ≡ p
+
+own_nothing : (p : ℕ) (reply : Reply) (files : FileEdit) → Own p (does reply files on_table.Nothing)
+own_nothing p reply files = record { own = λ q h. cc }
+
+own_offset : (p : ℕ) (reply : Reply) (files : FileEdit) (number offset : ℕ) → Own p (does reply files (on_table.Offset number offset))
+own_offset p reply files number offset = record { own = λ q h. cc }
+
+own_entry : (p : ℕ) (reply : Reply) (files : FileEdit) (fd : ℕ) (entry : Option ℕ) → Own p (does reply files (on_table.Entry p fd entry))
+own_entry p reply files fd entry = record { own = λ q h. cc }
+
+own_if : (p : ℕ) (b : Bool) (d e : Decided) → Own p d → Own p e → Own p (cond b d e)
+own_if p b d e h k = if_has (Own p) b d e (λ _. h) (λ _. k)
+
+own_refused : (p : ℕ) (error : Errno) → Own p (refused error)
+own_refused p error = own_nothing p (Error error) on_files.Nothing
+
+own_on_open : (p : ℕ) (o : Option OpenDescriptor) (page : OpenDescriptor → Page) → ((x : OpenDescriptor) → Own p (page x).effect) → Own p (on_open o page)
+own_on_open p o page all = on_open_has (Own p) o page (own_refused p) (λ x _. all x)
+
+open_own : (w : World) (p : ℕ) (name : List ℕ) (flags : OpenFlags) (found : Option ℕ) → Own p (open_found w p name flags found)
+open_own w p name flags None = record { own = λ q h. cc }
+open_own w p name flags (Some n) = record { own = λ q h. cc }
+
+-- what the page of a call on a descriptor is made of
+ruleset own_rules = (own_on_open, own_if, own_nothing, own_offset, own_entry)
+
+-- so a call changes descriptors of its own process alone
+calls_own : (bounds : Bounds) (w : World) (p : ℕ) (c : Call) → Own p (decided bounds w p c)
+calls_own bounds w p (call.Open name flags) = page_has (Own p) (open_file w p name flags) (own_refused p) (λ _. open_own w p name flags (file_of name w.names))
+calls_own bounds w p other = search (rules, own_rules)
+
+pub processes_are_apart : CallsAreSound → ProcessesAreApart
+processes_are_apart sound bounds w p c q other =
+    process_stays w (given (act.Call c)) (decided bounds w p c).change q (sound bounds w p c).planned (λ h. other ((calls_own bounds w p c).own q h))

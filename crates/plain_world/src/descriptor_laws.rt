@@ -1,0 +1,24 @@
+//! Laws of the descriptors of processes. Each function does nothing; its contract is the law.
+
+ghost use Rattle.plain_world.specs.DescriptorLaws.{OpenGivesLowest, CloseCloses, NotOpenIsBad, ProcessesAreApart};
+
+use posix_model::laws::calls_are_sound;
+
+/// An open gives the least descriptor of the process that is free (page of open).
+pub fn open_gives_the_lowest()
+    ensures { OpenGivesLowest }
+{}
+
+/// A descriptor that was closed is not open, and a call on one that is not open is EBADF, whatever else is wrong with it
+/// (page of close, and EBADF of each page).
+pub fn closed_is_not_open()
+    ensures close { CloseCloses }
+    ensures not_open { NotOpenIsBad }
+{}
+
+/// A call of one process leaves every other process, with its descriptors, as it was (XBD 3, File Descriptor).
+pub fn processes_are_apart()
+    ensures { ProcessesAreApart }
+{
+    calls_are_sound();
+}
