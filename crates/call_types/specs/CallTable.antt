@@ -71,6 +71,12 @@ lseek_entry = record { word = codes "lseek"; byte = 22; fields = a_descriptor �
 abbrev pub ftruncate_entry : Entry
 ftruncate_entry = record { word = codes "ftruncate"; byte = 23; fields = a_descriptor ∷ a_position ∷ []; make = calls.Ftruncate }
 
+abbrev pub link_entry : Entry
+link_entry = record { word = codes "link"; byte = 28; fields = a_name ∷ a_name ∷ []; make = calls.Link }
+
+abbrev pub unlink_entry : Entry
+unlink_entry = record { word = codes "unlink"; byte = 29; fields = a_name ∷ []; make = calls.Unlink }
+
 abbrev pub fstat_entry : Entry
 fstat_entry = record { word = codes "fstat"; byte = 30; fields = a_descriptor ∷ []; make = calls.Fstat }
 
@@ -80,7 +86,7 @@ position_table = pread_entry ∷ pwrite_entry ∷ lseek_entry ∷ ftruncate_entr
 
 -- the calls
 abbrev pub call_table : List Entry
-call_table = open_entry ∷ close_entry ∷ read_entry ∷ write_entry ∷ fstat_entry ∷ position_table
+call_table = open_entry ∷ close_entry ∷ read_entry ∷ write_entry ∷ link_entry ∷ unlink_entry ∷ fstat_entry ∷ position_table
 
 -- an entry, and fields for it
 pub record Parts : Type 0 where
@@ -100,6 +106,8 @@ parts (calls.Pread fd start count) = of pread_entry (fd, (start, (count, tt)))
 parts (calls.Pwrite fd start bytes) = of pwrite_entry (fd, (start, (bytes, tt)))
 parts (calls.Lseek fd offset whence) = of lseek_entry (fd, (offset, (whence, tt)))
 parts (calls.Ftruncate fd len) = of ftruncate_entry (fd, (len, tt))
+parts (calls.Link old new) = of link_entry (old, (new, tt))
+parts (calls.Unlink name) = of unlink_entry (name, tt)
 parts (calls.Fstat fd) = of fstat_entry (fd, tt)
 
 -- an entry makes the calls that have it in their parts

@@ -47,6 +47,15 @@ pub enum Call {
         fd: i32,
         len: i64,
     },
+    /// Gives a file one more name (page of link).
+    Link {
+        old: Name,
+        new: Name,
+    },
+    /// Takes a name away (page of unlink).
+    Unlink {
+        name: Name,
+    },
     /// Tells kind, size and links of a file (page of fstat).
     Fstat {
         fd: i32,
@@ -84,6 +93,13 @@ impl Call {
             }
             Call::Pwrite { bytes, .. } => {
                 let _bytes = bytes.as_slice();
+            }
+            Call::Link { old, new } => {
+                let _old = old.as_slice();
+                let _new = new.as_slice();
+            }
+            Call::Unlink { name } => {
+                let _bytes = name.as_slice();
             }
             _ => {}
         }

@@ -12,6 +12,9 @@ pub const NAME_MAX: usize = 64;
 /// Names that there are at one time; one more is ENOSPC.
 pub const NAMES_MAX: usize = 1024;
 
+/// Names that one file has; one more is EMLINK (XBD limits.h, LINK_MAX).
+pub const LINK_MAX: usize = 8;
+
 /// Live open file descriptions; one more is ENFILE.
 pub const DESCRIPTIONS_MAX: usize = 1024;
 
@@ -48,6 +51,7 @@ pub fn numbers_of_the_profile()
     ensures open_max { OPEN_MAX ≡ 32 }
     ensures name_max { NAME_MAX ≡ 64 }
     ensures names_max { NAMES_MAX ≡ 1024 }
+    ensures link_max { LINK_MAX ≡ 8 }
     ensures descriptions_max { DESCRIPTIONS_MAX ≡ 1024 }
     ensures processes_max { PROCESSES_MAX ≡ 64 }
     ensures transfer_max { TRANSFER_MAX ≡ 65536 }

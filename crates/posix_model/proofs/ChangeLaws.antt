@@ -1,15 +1,15 @@
 -- Changes of a world that use no number again and leave nothing that refers to what is gone.
-use Rattle.std.proofs.Common.{◌≡◌, ◌∙◌, zero, suc, replicate, take, ℕ, true, false, List, [], ◌∷◌, ◌++◌, Option, None, Some, length, set, get_or, refl, ap, sym, subst}
+use Rattle.std.proofs.Common.{◌≡◌, ◌∙◌, zero, suc, replicate, take, ℕ, true, false, not, cond, List, [], ◌∷◌, ◌++◌, Option, None, Some, length, set, get_or, refl, ap, sym, subst}
 use Rattle.std.specs.Option.{option_map, is_some}
 use Rattle.std.specs.List.{All}
 use Rattle.std.proofs.lemmas.List.Elements.{All-cons, All-head, All-tail}
-use Rattle.std.specs.Ordering.{nat_cmp}
+use Rattle.std.specs.Ordering.{nat_cmp, eq_by_cmp}
 use Rattle.std.specs.Cmp.Lexicographic.{slice_cmp}
 use Rattle.std.specs.FinMap.Entries.{by_order}
 use Rattle.std.specs.declared.cmp.Ordering.TheVariants.{Less, Equal, Greater}
 use Rattle.posix_model.specs.Whole.{IsThere, TargetIsThere, is_fifo, is_regular_file}
 use Rattle.posix_model.specs.Slots.{slot}
-use Rattle.call_types.specs.Names.{Entries, with_name}
+use Rattle.call_types.specs.Names.{Entries, with_name, without_name}
 use Rattle.posix_model.specs.Descriptors.{at_offset, with_entry, with_descriptor, with_offset, bytes_of}
 use Rattle.posix_model.specs.Change.{with_files, with_processes, with_table, changed, with_bytes, created, free_table, process_with, with_description}
 use Rattle.posix_model.specs.Fits.{FilesFit, ProcessFits, TableFits, Fits}
@@ -170,6 +170,25 @@ names_with files name f (e ∷ es) there all =
       | Greater ↦ All-cons (λ entry. IsThere files entry.1) e (with_name name f es) first (names_with files name f es there rest)
     ]
 
+-- and some names are taken away
+names_without : (files : List (Option File)) (name : List ℕ) (es : Entries) → All (λ entry. IsThere files entry.1) es → All (λ entry. IsThere files entry.1) (without_name name es)
+names_without files name [] all = all
+names_without files name (e ∷ es) all =
+    let rest = names_without files name es (All-tail (λ entry. IsThere files entry.1) e es all) in
+    elim (not (eq_by_cmp (slice_cmp nat_cmp) name e.0)) as (λ b. All (λ entry. IsThere files entry.1) (cond b (e ∷ without_name name es) (without_name name es))) [
+      | true ↦ All-cons (λ entry. IsThere files entry.1) e (without_name name es) (All-head (λ entry. IsThere files entry.1) e es all) rest
+      | false ↦ rest
+    ]
+
+-- the names are others, and each is of a file that is there
+names_go : (w : World) (names : Entries) → IsWhole w → All (λ entry. IsThere w.files entry.1) names → Goes w (record w { names = names })
+names_go w names whole all =
+    let same = same_rises w in
+    record {
+      rises = record { files = same.files; pipes = same.pipes; descriptions = same.descriptions; processes = same.processes; kinds = same.kinds; targets = same.targets; modes = same.modes };
+      whole = record { names = all; descriptions = whole.descriptions; fifos = whole.fifos; processes = whole.processes };
+    }
+
 pub created_goes : (w : World) (name : List ℕ) → IsWhole w → Goes w (created w name)
 created_goes w name whole =
     let files = w.files ++ Some (file.Regular []) ∷ [] in
@@ -278,6 +297,8 @@ files_go_on : (w : World) (bytes : List ℕ) (e : FileEdit) → IsWhole w → Fi
 files_go_on w bytes on_files.Nothing whole fits = goes_nowhere w whole
 files_go_on w bytes (on_files.Bytes f start count) whole fits = bytes_go w f (splice (bytes_of w f) start (take count bytes)) whole fits
 files_go_on w bytes (on_files.Resize f len) whole fits = bytes_go w f (resized (bytes_of w f) len) whole fits
+files_go_on w bytes (on_files.AddName name f) whole fits = names_go w (with_name name f w.names) whole (names_with w.files name f w.names fits whole.names)
+files_go_on w bytes (on_files.RemoveName name) whole fits = names_go w (without_name name w.names) whole (names_without w.files name w.names whole.names)
 files_go_on w bytes (on_files.MakeFile name) whole fits = created_goes w name whole
 
 processes_go_on : (w : World) (e : ProcessEdit) → IsWhole w → ProcessFits e → Goes w (with_processes w e)

@@ -11,7 +11,7 @@ use Rattle.posix_model.specs.Types.{World, Description, Target, File, Fifo}
 use Rattle.posix_model.specs.declared.world.Target.TheVariants as target
 use Rattle.posix_model.specs.declared.world.File.TheVariants as file
 use Rattle.posix_model.proofs.SweepLaws.{LeavesThere, sweep_leaves, sweep_leaves_there, slot_mapped, still_there}
-use Rattle.posix_model.specs.Released.{released_descriptions, pipes_after, fifos_after, files_after, IsItsFifo, SweptIsSettled, SweepReleases, SettledStays}
+use Rattle.posix_model.specs.Released.{released_descriptions, pipes_after, fifos_after, files_after, IsItsFifo, SweptIsSettled, SweepReleases, SettledStays, NamesRelease, released_file}
 use Rattle.posix_model.proofs.SlotLaws.{kept_all, kept_at, map_all, map_at}
 
 abbrev one : Bool → ℕ
@@ -156,3 +156,18 @@ settled_stays w settled =
     let fifos : map (without_gone_pipe ds) w.files ≡ w.files = map_all (without_gone_pipe ds) w.files settled.fifos in
     let files : kept (is_wanted w.names ds) w.files ≡ w.files = kept_all (is_wanted w.names ds) w.files (λ m there. lt-ltb 0 _ (settled.files m there)) in
     rw (descriptions, pipes, fifos, files) refl
+
+-- a file that lost a name goes, or nothing does
+pub names_release : NamesRelease
+names_release w names f settled stays =
+    let ds = w.descriptions in
+    let descriptions : kept (is_referred w.processes) ds ≡ ds = kept_all (is_referred w.processes) ds (λ m there. lt-ltb 0 (refs w.processes m) (settled.descriptions m there)) in
+    let pipes : kept (is_open ds) w.pipes ≡ w.pipes = kept_all (is_open ds) w.pipes (λ m there. lt-ltb 0 _ (settled.pipes m there)) in
+    let fifos : map (without_gone_pipe ds) w.files ≡ w.files = map_all (without_gone_pipe ds) w.files settled.fifos in
+    let files : kept (is_wanted names ds) w.files ≡ released_file names ds w.files f = kept_at (is_wanted names ds) w.files f (λ m other there.
+    lt-ltb 0 (links names m + holders ds m) (either (links w.names m) (links names m) (holders ds m) (stays m other) (settled.files m there))) in
+    rw (descriptions, pipes, fifos, files) refl
+  where
+    either : (a b c : ℕ) → (0 < a → 0 < b) → 0 < a + c → 0 < b + c
+    either zero b c h there = omega (arith, there)
+    either (suc a) b c h there = let more : 0 < b = h (omega arith) in omega (arith, more)

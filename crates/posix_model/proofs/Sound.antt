@@ -30,6 +30,8 @@ use Rattle.posix_model.specs.Pread.{pread_faults, pread}
 use Rattle.posix_model.specs.Pwrite.{pwrite_faults, pwrite}
 use Rattle.posix_model.specs.Lseek.{lseek_faults, lseek_to, base_of, lseek}
 use Rattle.posix_model.specs.Ftruncate.{ftruncate_faults, ftruncate}
+use Rattle.posix_model.specs.Link.{link_at, link}
+use Rattle.posix_model.specs.Unlink.{unlink_faults, unlink}
 use Rattle.posix_model.specs.Fstat.{fstat, stat_of}
 use Rattle.posix_model.specs.Open.{open_faults, leads_to_fifo, open_found, opens, emptied, new_description, free_descriptor, open_file}
 use Rattle.posix_model.specs.Join.{join, is_full}
@@ -64,7 +66,7 @@ sound_tells bounds w process c reply none brief = record {
   brief = brief;
   few = subst (λ n. took_in n (new_turn c) ≤ length (given (act.Call c))) (sym none) (none_taken c (length (given (act.Call c))));
   proper = λ _. record { files = tt; process = tt; table = tt };
-  fits = λ _. record { files = tt; process = tt; table = tt };
+  fits = λ _. record { files = tt; process = tt; table = tt; alone = λ h. cc };
   within_files = tt;
   within_table = λ _ _. tt;
 }
@@ -149,7 +151,7 @@ sound_close bounds w p fd o at = record {
   brief = omega arith;
   few = omega arith;
   proper = λ _. record { files = tt; process = tt; table = tt };
-  fits = λ _. record { files = tt; process = tt; table = record { process = at.process; process_is = at.process_is; within = at.within; there = λ n h. cc } };
+  fits = λ _. record { files = tt; process = tt; table = record { process = at.process; process_is = at.process_is; within = at.within; there = λ n h. cc }; alone = λ h. cc };
   within_files = tt;
   within_table = λ _ _. tt;
 }
@@ -180,7 +182,7 @@ sound_read bounds w p fd count o is free =
       brief = brief;
       few = omega arith;
       proper = λ _. record { files = tt; process = tt; table = tt };
-      fits = λ _. record { files = tt; process = tt; table = tt };
+      fits = λ _. record { files = tt; process = tt; table = tt; alone = λ h. cc };
       within_files = tt;
       within_table = λ small limits. read_end (bytes_of w (file_at o)) o.description.offset count bounds.file_size OFFSET_MAX (limits.files (file_at o)) small (limits.offsets o.number o.description at.description_is);
     })
@@ -203,7 +205,7 @@ sound_write bounds w p fd bytes start o is free =
       brief = omega arith;
       few = omega (arith, put.0);
       proper = λ small. record { files = (put.0, omega (arith, put.1, small)); process = tt; table = tt };
-      fits = λ whole. record { files = file_there w p o at regular whole; process = tt; table = tt };
+      fits = λ whole. record { files = file_there w p o at regular whole; process = tt; table = tt; alone = λ h. cc };
       within_files = put.1;
       within_table = λ small _. omega (arith, put.1, small);
     })
@@ -226,7 +228,7 @@ sound_pwrite bounds w p fd start bytes o is free =
       brief = omega arith;
       few = omega (arith, put.0);
       proper = λ small. record { files = (put.0, omega (arith, put.1, small)); process = tt; table = tt };
-      fits = λ whole. record { files = file_there w p o at regular whole; process = tt; table = tt };
+      fits = λ whole. record { files = file_there w p o at regular whole; process = tt; table = tt; alone = λ h. cc };
       within_files = put.1;
       within_table = λ _ _. tt;
     })
@@ -247,7 +249,7 @@ sound_lseek bounds w p fd offset from to o is free = record {
   brief = omega arith;
   few = omega arith;
   proper = λ _. record { files = tt; process = tt; table = tt };
-  fits = λ _. record { files = tt; process = tt; table = tt };
+  fits = λ _. record { files = tt; process = tt; table = tt; alone = λ h. cc };
   within_files = tt;
   within_table = λ _ _. sought_within to o free;
 }
@@ -266,7 +268,7 @@ sound_ftruncate bounds w p fd len o at free =
       brief = omega arith;
       few = omega arith;
       proper = λ small. record { files = omega (arith, short, small); process = tt; table = tt };
-      fits = λ whole. record { files = file_there w p o at regular whole; process = tt; table = tt };
+      fits = λ whole. record { files = file_there w p o at regular whole; process = tt; table = tt; alone = λ h. cc };
       within_files = short;
       within_table = λ _ _. tt;
     }
@@ -327,8 +329,8 @@ can_open w p name flags found h =
 fits_emptied : (w : World) (p f : ℕ) (flags : OpenFlags) → IsFree w p (free_descriptor w p) → is_regular_file (slot w.files f) ≡ true → Fits w [] (opens w p (emptied f flags) (new_description f flags)).change
 fits_emptied w p f flags free there =
     elim (has flags flag.trunc) as (λ b. Fits w [] (opens w p (cond b (on_files.Resize f 0) on_files.Nothing) (new_description f flags)).change) [
-      | true ↦ record { files = there; process = tt; table = record { free = free_stays w (with_bytes w f []) p (free_descriptor w p) refl free; there = test_set is_regular_file w.files f (Some (file.Regular [])) f (sym there) ∙ there } }
-      | false ↦ record { files = tt; process = tt; table = record { free = free; there = there } }
+      | true ↦ record { files = there; process = tt; table = record { free = free_stays w (with_bytes w f []) p (free_descriptor w p) refl free; there = test_set is_regular_file w.files f (Some (file.Regular [])) f (sym there) ∙ there }; alone = λ h. cc }
+      | false ↦ record { files = tt; process = tt; table = record { free = free; there = there }; alone = λ h. cc }
     ]
 
 sound_open : (bounds : Bounds) (w : World) (p : ℕ) (name : List ℕ) (flags : OpenFlags) (found : Option ℕ) → file_of name w.names ≡ found → CanOpenFound w p found →
@@ -342,7 +344,7 @@ sound_open bounds w p name flags None is can = record {
   brief = omega arith;
   few = omega arith;
   proper = λ _. record { files = (is, can.name refl); process = tt; table = can.descriptions };
-  fits = λ _. record { files = tt; process = tt; table = record { free = free_stays w (created w name) p (free_descriptor w p) refl can.free; there = regular_pushed w.files } };
+  fits = λ _. record { files = tt; process = tt; table = record { free = free_stays w (created w name) p (free_descriptor w p) refl can.free; there = regular_pushed w.files }; alone = λ h. cc };
   within_files = tt;
   within_table = λ _ _. omega arith;
 }
@@ -361,6 +363,54 @@ sound_open bounds w p name flags (Some f) is can = record {
   fits = λ whole. fits_emptied w p f flags can.free (no_fifo_regular (slot w.files f) (found_there (IsThere w.files) name w.names f whole.names is) (can.regular f refl));
   within_files = elim (has flags flag.trunc) as (λ b. FilesWithin bounds (cond b (on_files.Resize f 0) on_files.Nothing)) [ true ↦ omega arith | false ↦ tt ];
   within_table = λ _ _. omega arith;
+}
+
+-- what is not there
+none_there : (x : Option ℕ) → is_some x ≡ false → x ≡ None
+none_there None h = refl
+none_there (Some n) h = cc
+
+sound_link : (bounds : Bounds) (w : World) (p : ℕ) (old new : List ℕ) (found : Option ℕ) → file_of old w.names ≡ found → first_fault (link_at w old new found).faults ≡ None →
+    Answers bounds w p (call.Link old new) (link_at w old new found).effect
+sound_link bounds w p old new None is free = let bad : true ≡ false = unmet (link_at w old new None).faults free true (search rules) in cc
+sound_link bounds w p old new (Some f) is free =
+    let faults = (link_at w old new (Some f)).faults in
+    record {
+      refusal = λ _ _ h. cc;
+      told = refl;
+      planned = refl;
+      own = λ n h. cc;
+      contents = λ h. cc;
+      brief = omega arith;
+      few = omega arith;
+      proper = λ _. record {
+        files = (none_there (file_of new w.names) (unmet faults free (is_some (file_of new w.names)) (search rules)), not_at_most NAMES_MAX (length w.names) (unmet faults free (leb NAMES_MAX (length w.names)) (search rules)));
+        process = tt;
+        table = tt;
+      };
+      fits = λ whole. record { files = found_there (IsThere w.files) old w.names f whole.names is; process = tt; table = tt; alone = λ h. cc };
+      within_files = tt;
+      within_table = λ _ _. tt;
+    }
+
+-- what is not missing is there
+some_there : (x : Option ℕ) → is_none x ≡ false → is_some x ≡ true
+some_there None h = cc
+some_there (Some n) h = refl
+
+sound_unlink : (bounds : Bounds) (w : World) (p : ℕ) (name : List ℕ) → first_fault (unlink_faults w name) ≡ None → Answers bounds w p (call.Unlink name) (unlink w name).effect
+sound_unlink bounds w p name free = record {
+  refusal = λ _ _ h. cc;
+  told = refl;
+  planned = refl;
+  own = λ n h. cc;
+  contents = λ h. cc;
+  brief = omega arith;
+  few = omega arith;
+  proper = λ _. record { files = tt; process = tt; table = tt };
+  fits = λ _. record { files = some_there (file_of name w.names) (unmet (unlink_faults w name) free (is_none (file_of name w.names)) (search rules)); process = tt; table = tt; alone = λ _. (refl, refl) };
+  within_files = tt;
+  within_table = λ _ _. tt;
 }
 
 -- one case for each call
@@ -391,6 +441,10 @@ calls_are_sound bounds w p (call.Lseek fd offset from) =
 calls_are_sound bounds w p (call.Ftruncate fd len) =
     on_open_has (Answers bounds w p (call.Ftruncate fd len)) (opened w p fd) (ftruncate bounds len) (sound_refused bounds w p (call.Ftruncate fd len))
     (λ o is free. sound_ftruncate bounds w p fd len o (opened_stands w p fd o is) free)
+calls_are_sound bounds w p (call.Link old new) =
+    page_has (Answers bounds w p (call.Link old new)) (link w old new) (sound_refused bounds w p (call.Link old new)) (λ free. sound_link bounds w p old new (file_of old w.names) refl free)
+calls_are_sound bounds w p (call.Unlink name) =
+    page_has (Answers bounds w p (call.Unlink name)) (unlink w name) (sound_refused bounds w p (call.Unlink name)) (λ free. sound_unlink bounds w p name free)
 calls_are_sound bounds w p (call.Fstat fd) =
     on_open_has (Answers bounds w p (call.Fstat fd)) (opened w p fd) (fstat w) (sound_refused bounds w p (call.Fstat fd))
     (λ o is _. sound_tells bounds w p (call.Fstat fd) (Told (stat_of w o.description.target)) refl (omega arith))
@@ -409,7 +463,7 @@ sound_join bounds w actor = by_room (is_full w) refl
       brief = omega arith;
       few = omega arith;
       proper = λ _. record { files = tt; process = tt; table = tt };
-      fits = λ _. record { files = tt; process = tt; table = tt };
+      fits = λ _. record { files = tt; process = tt; table = tt; alone = λ h. cc };
       within_files = tt;
       within_table = λ _ _. tt;
     }
@@ -422,7 +476,7 @@ sound_join bounds w actor = by_room (is_full w) refl
       brief = omega arith;
       few = omega arith;
       proper = λ _. record { files = tt; process = not_at_most PROCESSES_MAX (live w.processes) (second_of_either w.closed (leb PROCESSES_MAX (live w.processes)) e); table = tt };
-      fits = λ _. record { files = tt; process = refl; table = tt };
+      fits = λ _. record { files = tt; process = refl; table = tt; alone = λ h. cc };
       within_files = tt;
       within_table = λ _ _. tt;
     }

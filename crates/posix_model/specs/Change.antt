@@ -2,7 +2,7 @@
 -- open file descriptions.
 use Rattle.std.specs.Prelude.{ℕ, true, Option, List, [], ◌∷◌, ◌++◌, None, Some, length, take, slice_set, replicate}
 use Rattle.posix_model.specs.Bytes.{splice, resized}
-use Rattle.call_types.specs.Names.{with_name}
+use Rattle.call_types.specs.Names.{with_name, without_name}
 use Rattle.posix_model.specs.Descriptors.{with_descriptor, with_offset, bytes_of}
 use Rattle.posix_model.specs.Types.{World, Process, Description, FileEdit, ProcessEdit, TableEdit, Change, OPEN_MAX}
 use Rattle.posix_model.specs.declared.world.File.TheVariants as file
@@ -23,6 +23,8 @@ abbrev pub with_files : World → List ℕ → FileEdit → World
 with_files w bytes on_files.Nothing = w
 with_files w bytes (on_files.Bytes file start count) = with_bytes w file (splice (bytes_of w file) start (take count bytes))
 with_files w bytes (on_files.Resize file len) = with_bytes w file (resized (bytes_of w file) len)
+with_files w bytes (on_files.AddName name file) = record w { names = with_name name file w.names }
+with_files w bytes (on_files.RemoveName name) = record w { names = without_name name w.names }
 with_files w bytes (on_files.MakeFile name) = created w name
 
 -- a table of which no descriptor is open

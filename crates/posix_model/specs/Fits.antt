@@ -1,5 +1,5 @@
 -- What a change asks of the world that it is made in.
-use Rattle.std.specs.Prelude.{◌≡◌, ℕ, ◌+◌, ◌≤◌, ◌<◌, true, List, Option, None, Some, length}
+use Rattle.std.specs.Prelude.{◌≡◌, ℕ, ◌+◌, ◌≤◌, ◌<◌, Bool, true, false, List, Option, None, Some, length, is_some}
 use Rattle.posix_model.specs.Slots.{slot, live}
 use Rattle.call_types.specs.Names.{file_of}
 use Rattle.posix_model.specs.Whole.{IsThere, is_regular_file, TargetIsThere}
@@ -30,10 +30,11 @@ pub record CanSet (w : World) (p fd : ℕ) (entry : Option ℕ) : Type 0 where
 
 -- what an edit of files asks to be there
 abbrev pub FilesFit : World → FileEdit → Type 0
-FilesFit w on_files.Nothing = Unit {0}
 FilesFit w (on_files.Bytes file start count) = is_regular_file (slot w.files file) ≡ true
 FilesFit w (on_files.Resize file len) = is_regular_file (slot w.files file) ≡ true
-FilesFit w (on_files.MakeFile name) = Unit {0}
+FilesFit w (on_files.AddName name file) = IsThere w.files file
+FilesFit w (on_files.RemoveName name) = is_some (file_of name w.names) ≡ true
+FilesFit w other = Unit {0}
 
 -- what an edit of processes asks
 abbrev pub ProcessFits : ProcessEdit → Type 0
@@ -47,11 +48,17 @@ TableFits w (on_table.Offset number offset) = Unit {0}
 TableFits w (on_table.Open process fd description) = CanOpen w process fd description
 TableFits w (on_table.Entry process fd entry) = CanSet w process fd entry
 
--- what a change asks to be there, each edit in the world after the one before it
+-- whether an edit takes a name away, with which a file may go
+abbrev pub removes : FileEdit → Bool
+removes (on_files.RemoveName name) = true
+removes other = false
+
+-- what a change asks to be there, each edit in the world after the one before it; a name is taken away alone
 pub record Fits (w : World) (bytes : List ℕ) (c : Change) : Type 0 where
   pub files : FilesFit w c.files
   pub process : ProcessFits c.process
   pub table : TableFits (with_processes (with_files w bytes c.files) c.process) c.table
+  pub alone : removes c.files ≡ true → (c.process ≡ on_process.Nothing) × (c.table ≡ on_table.Nothing)
 
 -- what an edit of files asks of its numbers: no more bytes than the act gives, no position past the greatest offset, and
 -- room for a name that is new
@@ -59,6 +66,8 @@ abbrev pub FilesProper : World → List ℕ → FileEdit → Type 0
 FilesProper w bytes on_files.Nothing = Unit {0}
 FilesProper w bytes (on_files.Bytes file start count) = (count ≤ length bytes) × (start + count ≤ OFFSET_MAX)
 FilesProper w bytes (on_files.Resize file len) = len ≤ OFFSET_MAX
+FilesProper w bytes (on_files.AddName name file) = (file_of name w.names ≡ None) × (length w.names < NAMES_MAX)
+FilesProper w bytes (on_files.RemoveName name) = Unit {0}
 FilesProper w bytes (on_files.MakeFile name) = (file_of name w.names ≡ None) × (length w.names < NAMES_MAX)
 
 -- what an edit of processes asks: room for one more

@@ -17,6 +17,8 @@ pub mod Pread
 pub mod Pwrite
 pub mod Lseek
 pub mod Ftruncate
+pub mod Link
+pub mod Unlink
 pub mod Fstat
 pub mod Join
 pub mod Step

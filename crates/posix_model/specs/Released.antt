@@ -70,3 +70,8 @@ SweepReleases = (w : World) (ps : List (Option Process)) (n : ℕ) (d : Descript
 -- a settled world is its own sweep
 abbrev pub SettledStays : Type 0
 SettledStays = (w : World) → IsSettled w → sweep w ≡ w
+
+-- after a change of one file's names, the sweep takes that file at most
+abbrev pub NamesRelease : Type 0
+NamesRelease = (w : World) (names : Entries) (f : ℕ) → IsSettled w → ((g : ℕ) → g ≢ f → 0 < links w.names g → 0 < links names g) →
+    sweep (record w { names = names }) ≡ record w { names = names; files = released_file names w.descriptions w.files f }

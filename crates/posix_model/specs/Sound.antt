@@ -1,5 +1,5 @@
 -- What holds of all that acts come to: one record, which is proved by one lemma for each call.
-use Rattle.std.specs.Prelude.{◌≡◌, ℕ, ◌+◌, ◌≤◌, Bool, true, false, Option, None, Some, length, is_some, if◌then◌else◌}
+use Rattle.std.specs.Prelude.{◌≡◌, ℕ, ◌+◌, ◌≤◌, Bool, true, false, Option, None, Some, length, is_some, is_none, ◌&&◌, if◌then◌else◌}
 use Rattle.std.specs.Option.{option_map_or}
 use Rattle.call_types.specs.CallTable.{descriptor_of, payload_of}
 use Rattle.posix_model.specs.Types.{Call, Act, Outcome, Errno, Bounds, World, FileEdit, ProcessEdit, TableEdit, Decided, OPEN_MAX, NAMES_MAX, DESCRIPTIONS_MAX, PROCESSES_MAX, OFFSET_MAX, TRANSFER_MAX, Replied, Error, Number}
@@ -42,9 +42,9 @@ abbrev pub is_resume : Act → Bool
 is_resume act.Resume = true
 is_resume other = false
 
--- how many bytes of data an act may be told: none where it gives data itself
+-- how many bytes of data an act may be told: none where it gives data itself, or is on no descriptor
 abbrev pub data_most : Act → ℕ
-data_most (act.Call c) = if is_some (payload_of c) then 0 else TRANSFER_MAX
+data_most (act.Call c) = if is_some (descriptor_of c) && is_none (payload_of c) then TRANSFER_MAX else 0
 data_most other = 0
 
 -- how many processes an act is to add, before its outcome is known
@@ -68,6 +68,8 @@ may_change_contents (act.Call (call.Open name flags)) = true
 may_change_contents (act.Call (call.Write fd bytes)) = true
 may_change_contents (act.Call (call.Pwrite fd start bytes)) = true
 may_change_contents (act.Call (call.Ftruncate fd len)) = true
+may_change_contents (act.Call (call.Link old new)) = true
+may_change_contents (act.Call (call.Unlink name)) = true
 may_change_contents other = false
 
 -- no file is too long, no offset too great, each process has so many descriptors, and there are no more names, live

@@ -19,6 +19,8 @@ use Rattle.posix_model.specs.Pread.{pread}
 use Rattle.posix_model.specs.Pwrite.{pwrite}
 use Rattle.posix_model.specs.Lseek.{lseek}
 use Rattle.posix_model.specs.Ftruncate.{ftruncate}
+use Rattle.posix_model.specs.Link.{link}
+use Rattle.posix_model.specs.Unlink.{unlink}
 use Rattle.posix_model.specs.Fstat.{fstat}
 
 -- whether a process is live and attached
@@ -45,6 +47,8 @@ decided bounds w process (call.Pread fd start count) = on_open (opened w process
 decided bounds w process (call.Pwrite fd start bytes) = on_open (opened w process fd) (pwrite bounds start bytes)
 decided bounds w process (call.Lseek fd offset from) = on_open (opened w process fd) (lseek w offset from)
 decided bounds w process (call.Ftruncate fd len) = on_open (opened w process fd) (ftruncate bounds len)
+decided bounds w process (call.Link old new) = decided_by (link w old new)
+decided bounds w process (call.Unlink name) = decided_by (unlink w name)
 decided bounds w process (call.Fstat fd) = on_open (opened w process fd) (fstat w)
 
 -- what an act comes to, or nothing where the rules record none: a join under another number than the next, a call of a

@@ -23,7 +23,7 @@ pub use Rattle.posix_model.specs.declared.change.ProcessEdit.{ProcessEdit}
 pub use Rattle.posix_model.specs.declared.change.TableEdit.{TableEdit}
 pub use Rattle.posix_model.specs.declared.change.Change.{Change}
 pub use Rattle.posix_model.specs.declared.change.Decided.{Decided}
-pub use Rattle.call_types.specs.declared.errno.Errno.TheVariants.{EAGAIN, EBADF, EEXIST, EFBIG, EINVAL, EMFILE, ENAMETOOLONG, ENFILE, ENOENT, ENOSPC, EOVERFLOW, ESPIPE}
-pub use Rattle.call_types.specs.declared.limits.TheConstants.{DESCRIPTIONS_MAX, NAMES_MAX, NAME_MAX, OFFSET_MAX, OPEN_MAX, PROCESSES_MAX, RECORD_LENGTH_MAX, TRANSFER_MAX}
+pub use Rattle.call_types.specs.declared.errno.Errno.TheVariants.{EAGAIN, EBADF, EEXIST, EFBIG, EINVAL, EMFILE, EMLINK, ENAMETOOLONG, ENFILE, ENOENT, ENOSPC, EOVERFLOW, ESPIPE}
+pub use Rattle.call_types.specs.declared.limits.TheConstants.{DESCRIPTIONS_MAX, LINK_MAX, NAMES_MAX, NAME_MAX, OFFSET_MAX, OPEN_MAX, PROCESSES_MAX, RECORD_LENGTH_MAX, TRANSFER_MAX}
 pub use Rattle.call_types.specs.declared.outcome.Outcome.TheVariants.{Reply as Replied}
 pub use Rattle.call_types.specs.declared.outcome.Reply.TheVariants.{Data, Done, Error, Number, Stat as Told}

@@ -24,6 +24,15 @@ pub enum FileEdit {
         file: usize,
         len: usize,
     },
+    /// A file that is there has one more name.
+    AddName {
+        name: Name,
+        file: usize,
+    },
+    /// A name is taken away.
+    RemoveName {
+        name: Name,
+    },
     /// An empty regular file has a new name.
     MakeFile {
         name: Name,

@@ -2,7 +2,7 @@
 
 ghost use Rattle.posix_model.specs.Sound.{CallsAreSound, ActsAreSound};
 ghost use Rattle.posix_model.specs.Lengths.{StepIsShort};
-ghost use Rattle.posix_model.specs.Released.{SweptIsSettled, SettledStays, SweepReleases};
+ghost use Rattle.posix_model.specs.Released.{SweptIsSettled, SettledStays, SweepReleases, NamesRelease};
 ghost use Rattle.posix_model.specs.Laws.{StepRaisesNumbers, StepKeepsWhole, HistoryIsWhole, HistoryRaisesNumbers, SweepSettles, StepSettles, HistorySettles, SweepLeaves, StepTellsProcesses, StepPlansProcesses};
 
 /// What each act comes to can be made, within all limits; a refusal changes nothing, and no act moves an offset but that
@@ -36,11 +36,13 @@ pub fn sweep_leaves_wanted()
     ensures { SweepLeaves }
 {}
 
-/// After a change of one description's references, the sweep takes it and what it alone held, or nothing.
+/// After a change of one description's references, the sweep takes it and what it alone held, or nothing; after a change of one
+/// file's names that file, or nothing.
 pub fn sweep_releases()
     ensures settled { SweptIsSettled }
     ensures stays { SettledStays }
     ensures releases { SweepReleases }
+    ensures names { NamesRelease }
 {}
 
 /// No record is longer than a record may be where it is sent, as long as no field of its act is longer than a call may

@@ -1,5 +1,5 @@
 ghost use Rattle.std.specs.Prelude.{◌≡◌, None, [], length, OnOk, OnErr};
-ghost use Rattle.call_types.specs.Names.{Entries, file_of, with_name};
+ghost use Rattle.call_types.specs.Names.{Entries, file_of, with_name, without_name};
 
 use call_types::bounded::Name;
 use name_table::NameTable;
@@ -58,6 +58,13 @@ impl Names {
         self.table.reserve()?;
         self.table.add(name, file);
         Ok(())
+    }
+
+    /// Takes a name away.
+    pub fn remove(&mut self, name: &[u8])
+        ensures { self.new ≡ without_name name.now self.old }
+    {
+        self.table.remove(name);
     }
 }
 

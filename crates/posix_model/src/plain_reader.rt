@@ -91,8 +91,8 @@ impl Reader for World {
         }
     }
 
-    fn links_told(&self, file: usize) -> u32 {
-        links(self.names.entries(), file).min(u32::MAX as usize) as u32
+    fn links(&self, file: usize) -> usize {
+        links(self.names.entries(), file)
     }
 
     fn held_in(&self, pipe: usize) -> usize {

@@ -7,7 +7,7 @@ ghost use Rattle.call_types.specs.Names.{file_of};
 ghost use Rattle.posix_model.specs.Bytes.{bytes_at};
 ghost use Rattle.posix_model.specs.Descriptors.{opened, bytes_of, table_of, parked_of, held_in};
 ghost use Rattle.posix_model.specs.Open.{leads_to_fifo};
-ghost use Rattle.posix_model.specs.Fstat.{links_told};
+ghost use Rattle.posix_model.specs.Counts.{links};
 ghost use Rattle.posix_model.specs.Step.{is_here};
 ghost use Rattle.posix_model.specs.declared.world.World.{World as Worlds};
 
@@ -54,9 +54,9 @@ pub trait Reader {
     fn leads_to_fifo(&self, found: Option<usize>) -> bool
         ensures { result ≡ leads_to_fifo (world self.now) found };
 
-    /// How many names a file has, as fstat tells them.
-    fn links_told(&self, file: usize) -> u32
-        ensures { result ≡ links_told (world self.now) file };
+    /// How many names a file has.
+    fn links(&self, file: usize) -> usize
+        ensures { result ≡ links (world self.now).names file };
 
     /// How many bytes a pipe holds now.
     fn held_in(&self, pipe: usize) -> usize
