@@ -1,14 +1,14 @@
-use Rattle.std.proofs.Common.{◌≡◌, ℕ, zero, suc, ◌+◌, ◌*◌, ◌≤◌, ◌<◌, ◌∙◌, Bool, true, cond, List, [], ◌∷◌, ◌++◌, Option, None, Some, length, set, refl, ap, sym, false, arith}
+use Rattle.std.proofs.Common.{◌≡◌, ℕ, zero, suc, ◌+◌, ◌*◌, ◌≤◌, ◌<◌, ◌∙◌, Bool, true, not, cond, List, [], ◌∷◌, ◌++◌, Option, None, Some, length, set, refl, ap, sym, false, arith}
 use Rattle.std.specs.Prelude.{is_some, ◌==◌}
 use Rattle.std.specs.List.{count_by}
 use Rattle.std.proofs.lemmas.List.Sums.{sum_by-set, sum_by-append, sum_by-cons}
-use Rattle.std.specs.Ordering.{nat_cmp, is_eq}
+use Rattle.std.specs.Ordering.{nat_cmp, is_eq, eq_by_cmp}
 use Rattle.std.specs.Cmp.Lexicographic.{slice_cmp}
 use Rattle.std.specs.FinMap.Entries.{by_order}
 use Rattle.std.specs.declared.cmp.Ordering.TheVariants.{Less, Equal, Greater}
 use Rattle.call_types.specs.declared.limits.TheConstants.{OPEN_MAX}
 use Rattle.posix_model.specs.Slots.{slot, live, edited}
-use Rattle.call_types.specs.Names.{Entries, file_of, with_name}
+use Rattle.call_types.specs.Names.{Entries, file_of, with_name, without_name}
 use Rattle.posix_model.specs.Counts.{links, refers, refs, refs_of, holds, holders}
 use Rattle.posix_model.specs.Descriptors.{at_offset, with_entry, table_of}
 use Rattle.posix_model.specs.Whole.{EachThere}
@@ -107,6 +107,16 @@ names_longer name file (e ∷ es) new =
       | Equal ↦ λ there. cc
       | Greater ↦ λ after. omega (arith, names_longer name file es after)
     ] new
+
+-- without a name there are no more
+pub names_shorter : (name : List ℕ) (es : Entries) → length (without_name name es) ≤ length es
+names_shorter name [] = omega arith
+names_shorter name (e ∷ es) =
+    let rest = names_shorter name es in
+    elim (not (eq_by_cmp (slice_cmp nat_cmp) name e.0)) as (λ b. length (cond b (e ∷ without_name name es) (without_name name es)) ≤ length (e ∷ es)) [
+      | true ↦ omega (arith, rest)
+      | false ↦ omega (arith, rest)
+    ]
 
 -- how many are live after one is set, added or edited
 pub live_set : {T : Type 0} (xs : List (Option T)) (n : ℕ) (x : T) (y : Option T) → slot xs n ≡ Some x → live (set xs n y) + 1 ≡ live xs + one (is_some y)

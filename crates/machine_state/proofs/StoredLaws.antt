@@ -4,14 +4,14 @@ use Rattle.std.specs.Option.{option_map}
 use Rattle.std.proofs.lemmas.Bool.{lt-ltb}
 use Rattle.call_types.specs.declared.limits.TheConstants.{OPEN_MAX, NAMES_MAX, DESCRIPTIONS_MAX, PROCESSES_MAX}
 use Rattle.posix_model.specs.Slots.{slot, live, edited}
-use Rattle.call_types.specs.Names.{file_of, with_name}
+use Rattle.call_types.specs.Names.{file_of, with_name, without_name}
 use Rattle.posix_model.specs.Counts.{links, refers, refs, holders}
 use Rattle.posix_model.specs.Sweep.{sweep, is_open, is_referred}
 use Rattle.posix_model.specs.Descriptors.{at_offset, with_entry, with_descriptor, with_offset, table_of}
 use Rattle.posix_model.specs.Change.{with_description}
-use Rattle.posix_model.specs.Whole.{EachThere, is_fifo, TargetIsThere}
+use Rattle.posix_model.specs.Whole.{EachThere, is_fifo, IsThere, TargetIsThere}
 use Rattle.posix_model.specs.Fits.{CanOpen, CanSet}
-use Rattle.posix_model.specs.Released.{IsSettled, IsItsFifo, StaysBut, SettledStays, SweepReleases, released, files_after, fifos_after, pipes_after}
+use Rattle.posix_model.specs.Released.{IsSettled, IsItsFifo, StaysBut, SettledStays, SweepReleases, NamesRelease, released, files_after, fifos_after, pipes_after}
 use Rattle.machine_state.specs.Types.{World, Process, Description, Target, File, Used}
 use Rattle.posix_model.specs.declared.world.File.TheVariants as file
 use Rattle.posix_model.specs.declared.world.Target.TheVariants as target
@@ -22,7 +22,7 @@ use Rattle.machine_state.specs.Consistent.{IsConsistent}
 use Rattle.machine_state.proofs.SlotLaws.{one, other_number, slot_set}
 use Rattle.machine_state.proofs.UseLaws.{Counted, there_values, counted_as, counted_more, values_more, counted_added, values_added, length_values, counted_edited, values_edited, StaysUsed, Goes, LosesUse, loses_use}
 use Rattle.machine_state.proofs.FileLaws.{slot_files, some_regular, regular_stays, fifo_stays, file_slots_set, files_there}
-use Rattle.machine_state.proofs.CountLaws.{refs_entry, refs_most, holders_most, count_most, holders_gone, holders_added, holders_same, links_added, names_longer, live_set, live_added, live_edited}
+use Rattle.machine_state.proofs.CountLaws.{refs_entry, refs_most, holders_most, count_most, holders_gone, holders_added, holders_same, links_added, names_longer, names_shorter, live_set, live_added, live_edited}
 
 -- what holds of a machine, with each count told at its slot
 pub record Facts (s : Stored) : Type 0 where
@@ -113,6 +113,30 @@ module _ (s : Stored) (all : IsConsistent s) where
         few_descriptions = facts.few_descriptions;
         few_names = omega (arith, few, names_longer name (length s.files) s.names new);
       })
+
+  -- a file that is there has one more name
+  abbrev pub linked : List ℕ → ℕ → Stored
+  linked name file = record s { files = with_use (Some file) s.files; names = with_name name file s.names }
+
+  pub after_link : (name : List ℕ) (file : ℕ) → file_of name s.names ≡ None → IsThere (world_in s).files file → length s.names < NAMES_MAX → IsConsistent (linked name file)
+  after_link name file new there few =
+      let facts = facts_of s all in
+      consistent_of (linked name file) (record {
+        references = facts.references;
+        holders = counted_more s.files (λ g. links s.names g + holders ds g) (λ g. links (with_name name file s.names) g + holders ds g) (Some file) facts.holders
+            (λ n is. let P : ℕ → Type 0 = λ k. is_some (slot s.files k) ≡ true in subst P (same_entry file n is) (sym (files_there s.files file) ∙ there))
+            (λ g. omega (arith, links_added name file g s.names new));
+        tables = facts.tables;
+        few_processes = facts.few_processes;
+        few_descriptions = facts.few_descriptions;
+        few_names = omega (arith, few, names_longer name file s.names new);
+      })
+    where
+      same_entry : (a b : ℕ) → Some a ≡ Some b → a ≡ b
+      same_entry a b e = cc
+
+  pub linked_world : (name : List ℕ) (file : ℕ) → world_in (linked name file) ≡ record (world_in s) { names = with_name name file s.names }
+  linked_world name file = rw (values_more s.files (Some file)) refl
 
   -- a description has another offset
   pub after_offset : (n offset : ℕ) → IsConsistent (record s { descriptions = edited n (with_value (at_offset offset)) s.descriptions })
@@ -210,6 +234,32 @@ module _ (s : Stored) (all : IsConsistent s) where
     where
       same_number : (a b : ℕ) → Some a ≡ Some b → b ≡ a
       same_number a b e = cc
+
+  -- a name is taken away, and a file that has lost its last use is gone
+  abbrev pub unlinked : List ℕ → ℕ → Stored
+  unlinked name file = record s { files = without_use (Some file) s.files; names = without_name name s.names }
+
+  pub record IsUnlinked (name : List ℕ) (t : Stored) : Type 0 where
+    pub consistent : IsConsistent t
+    pub world : world_in t ≡ sweep (record (world_in s) { names = without_name name s.names })
+
+  pub after_unlink : (name : List ℕ) (file : ℕ) → ((g : ℕ) → links (without_name name s.names) g + one (file == g) ≡ links s.names g) → NamesRelease → IsUnlinked name (unlinked name file)
+  after_unlink name file fewer release =
+      let facts = facts_of s all in
+      let names = without_name name s.names in
+      let left = loses_use s.files (λ g. links s.names g + holders ds g) (λ g. links names g + holders ds g) (Some file) facts.holders (λ g. omega (arith, fewer g)) in
+      let law = release (world_in s) names file all.settled (λ g apart some. let none : one (file == g) ≡ 0 = ap one (other_number g file apart) in omega (arith, none, some, fewer g)) in
+      record {
+        consistent = consistent_of (unlinked name file) (record {
+          references = facts.references;
+          holders = left.counted;
+          tables = facts.tables;
+          few_processes = facts.few_processes;
+          few_descriptions = facts.few_descriptions;
+          few_names = omega (arith, facts.few_names, names_shorter name s.names);
+        });
+        world = sym (law ∙ ap (λ fs. record (world_in s) { names = names; files = fs }) (released_as (λ g. links names g + holders ds g) file left.either));
+      }
 
   files_released : (es : List (Option Description)) (t : Target) → StaysUsed s.files (λ f. links s.names f + holders es f) (file_of_target t) ⊎ Goes s.files (λ f. links s.names f + holders es f) (file_of_target t) →
       files_after s.names es (fifos_after es (world_in s).files t) t ≡ file_slots (values_in (without_use (file_of_target t) s.files))

@@ -8,10 +8,11 @@ use Rattle.machine_state.specs.Held.{Room, Held}
 
 -- the room of an edit of files stands reserved
 abbrev pub HasFileRoom : Room → FileEdit → Type 0
-HasFileRoom room on_files.Nothing = Unit {0}
 HasFileRoom room (on_files.Bytes file start count) = start + count ≤ slice_index room.bytes file
 HasFileRoom room (on_files.Resize file len) = len ≤ slice_index room.bytes file
+HasFileRoom room (on_files.AddName name file) = 0 < room.names
 HasFileRoom room (on_files.MakeFile name) = (0 < room.files) × (0 < room.names)
+HasFileRoom room other = Unit {0}
 
 -- the room of an edit of processes stands reserved, where there is room for so many more
 abbrev pub HasProcessRoom : ℕ → ProcessEdit → Type 0

@@ -1,6 +1,6 @@
-ghost use Rattle.std.specs.Prelude.{◌≡◌};
+ghost use Rattle.std.specs.Prelude.{◌≡◌, false};
 ghost use Rattle.posix_model.specs.Change.{with_files, with_processes, with_table, changed};
-ghost use Rattle.posix_model.specs.Fits.{FilesFit, ProcessFits, TableFits, Fits, FilesProper, ProcessProper, TableProper, IsProper};
+ghost use Rattle.posix_model.specs.Fits.{FilesFit, ProcessFits, TableFits, removes, Fits, FilesProper, ProcessProper, TableProper, IsProper};
 ghost use Rattle.posix_model.specs.Sweep.{sweep};
 ghost use Rattle.machine_state.specs.Room.{HasFileRoom, HasProcessRoom, HasTableRoom, HasRoom, KeepsTableRoom};
 
@@ -9,11 +9,12 @@ use posix_model::change::{Change, FileEdit, ProcessEdit, TableEdit, process_with
 use posix_model::laws::sweep_releases;
 
 impl Machine {
-    /// Makes an edit of files, with the bytes of the act.
+    /// Makes an edit of files that takes no name away, with the bytes of the act. Nothing waits for a sweep after it.
     fn apply_files(&mut self, bytes: &[u8], edit: FileEdit)
         requires fits { FilesFit self.old.world edit }
         requires proper { FilesProper self.old.world bytes.now edit }
         requires room { HasFileRoom self.old.room edit }
+        requires stays { removes edit ≡ false }
         ensures world { self.new.world ≡ with_files self.old.world bytes.now edit }
         ensures tables { KeepsTableRoom self.old self.new }
     {
@@ -23,6 +24,8 @@ impl Machine {
                 self.write_bytes(file, start, &bytes[..count]);
             }
             FileEdit::Resize { file, len } => self.set_len(file, len),
+            FileEdit::AddName { name, file } => self.link(name, file),
+            FileEdit::RemoveName { .. } => unreachable!(),
             FileEdit::MakeFile { name } => self.create(name),
         }
     }
@@ -76,6 +79,10 @@ impl Machine {
             process,
             table,
         } = change;
+        if let FileEdit::RemoveName { name } = &files {
+            self.unlink(name.as_slice());
+            return;
+        }
         self.apply_files(bytes, files);
         self.apply_process(process);
         self.apply_table(table);

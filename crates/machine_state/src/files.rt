@@ -1,9 +1,10 @@
-ghost use Rattle.std.specs.Prelude.{◌≡◌, ◌+◌, ◌<◌, ◌≤◌, None, true, length, slice_index, OnOk};
+ghost use Rattle.std.specs.Prelude.{◌≡◌, ◌+◌, ◌<◌, ◌≤◌, None, true, is_some, length, slice_index, OnOk};
 ghost use Rattle.call_types.specs.declared.limits.TheConstants.{NAMES_MAX};
 ghost use Rattle.posix_model.specs.Slots.{slot};
 ghost use Rattle.posix_model.specs.Bytes.{splice, resized};
-ghost use Rattle.call_types.specs.Names.{file_of};
-ghost use Rattle.posix_model.specs.Whole.{is_regular_file};
+ghost use Rattle.call_types.specs.Names.{file_of, with_name, without_name};
+ghost use Rattle.posix_model.specs.Whole.{IsThere, is_regular_file};
+ghost use Rattle.posix_model.specs.Sweep.{sweep};
 ghost use Rattle.posix_model.specs.Descriptors.{bytes_of};
 ghost use Rattle.posix_model.specs.Change.{with_bytes, created};
 ghost use Rattle.machine_state.specs.Room.{KeepsTableRoom};
@@ -12,6 +13,7 @@ use crate::buffer::Buffer;
 use crate::machine::Machine;
 use crate::numbered::used::Used;
 use call_types::bounded::Name;
+use posix_model::laws::sweep_releases;
 use std::alloc::AllocError;
 
 impl Machine {
@@ -43,6 +45,32 @@ impl Machine {
         ensures tables { KeepsTableRoom self.old self.new }
     {
         self.files.set_len(file, len);
+    }
+
+    /// Gives a new name to a file that is there.
+    pub(crate) fn link(&mut self, name: Name, file: usize)
+        requires new { file_of name self.old.world.names ≡ None }
+        requires there { IsThere self.old.world.files file }
+        requires few { length self.old.world.names < NAMES_MAX }
+        requires room { 0 < self.old.room.names }
+        ensures world { self.new.world ≡ record self.old.world { names = with_name name file self.old.world.names } }
+        ensures tables { KeepsTableRoom self.old self.new }
+    {
+        self.files.add_use(Some(file));
+        self.names.add(name, file);
+    }
+
+    /// Takes a name away. Its file goes, if this was its last name and nothing has it open.
+    pub(crate) fn unlink(&mut self, name: &[u8])
+        requires { is_some (file_of name.now self.old.world.names) ≡ true }
+        ensures world { self.new.world ≡ sweep (record self.old.world { names = without_name name.now self.old.world.names }) }
+        ensures tables { KeepsTableRoom self.old self.new }
+    {
+        sweep_releases();
+        match self.names.remove(name) {
+            Some(file) => drop(self.files.drop_use(Some(file))),
+            None => unreachable!(),
+        }
     }
 
     /// Gives a new name to an empty file.

@@ -53,8 +53,8 @@ impl Reader for Machine {
         false
     }
 
-    fn links_told(&self, file: usize) -> u32 {
-        links(self.names.entries(), file).min(u32::MAX as usize) as u32
+    fn links(&self, file: usize) -> usize {
+        links(self.names.entries(), file)
     }
 
     /// No machine has a pipe yet.

@@ -42,6 +42,8 @@ impl Machine {
             FileEdit::Nothing => Ok(()),
             FileEdit::Bytes { file, start, count } => self.reserve_bytes(*file, *start + *count),
             FileEdit::Resize { file, len } => self.reserve_bytes(*file, *len),
+            FileEdit::AddName { .. } => self.names.reserve(),
+            FileEdit::RemoveName { .. } => Ok(()),
             FileEdit::MakeFile { .. } => {
                 self.files.reserve()?;
                 self.names.reserve()

@@ -1,6 +1,7 @@
 -- Where a name stands among the entries.
 use Rattle.std.proofs.Common.{◌≡◌, ◌∙◌, ℕ, zero, suc, ◌+◌, ◌≤◌, ◌<◌, Bool, true, false, cond, not, ◌&&◌, T, List, [], ◌∷◌, None, Some, length, get_or, refl, ap, sym, subst, arith}
-use Rattle.std.specs.Prelude.{insert}
+use Rattle.std.specs.Prelude.{insert, count_by, ◌==◌}
+use Rattle.std.proofs.lemmas.List.Sums.{sum_by-cons}
 use Rattle.std.specs.List.{remove, prefix_len}
 use Rattle.std.specs.List.Sorted.{IsPartitionedBy, IsPartitionPoint}
 use Rattle.std.specs.Ordering.{nat_cmp, is_gt, is_eq, is_lt, eq_by_cmp, ordering_reverse}
@@ -170,3 +171,10 @@ added_named name file es named new = subst IsNamed (sym (inserted_at_rank name f
 -- as they do where a name is taken out
 pub removed_named : (name : List ℕ) (es : Entries) → IsNamed es → IsNamed (without_name name es)
 removed_named name es named = is_sorted-where_key to (λ other. not (eq_by_cmp to name other)) es named
+
+-- a file has one name less where an entry of it is taken out
+pub links_removed : (es : Entries) (at f : ℕ) (d : List ℕ × ℕ) → at < length es → count_by (λ e. e.1 == f) (remove es at) + cond ((get_or es at d).1 == f) 1 0 ≡ count_by (λ e. e.1 == f) es
+links_removed [] at f d within = absurd (omega arith)
+links_removed (e ∷ es) zero f d within = omega (arith, sum_by-cons (λ x. cond (x.1 == f) 1 0) e es)
+links_removed (e ∷ es) (suc k) f d within =
+    omega (arith, links_removed es k f d (omega arith), sum_by-cons (λ x. cond (x.1 == f) 1 0) e es, sum_by-cons (λ x. cond (x.1 == f) 1 0) e (remove es k))

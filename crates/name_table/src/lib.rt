@@ -1,7 +1,7 @@
 //! The names of files: a finite map from names to numbers, in the order of the names' bytes.
 #![tactic(auto)]
 
-ghost use Rattle.std.specs.Prelude.{◌≡◌, ◌≤◌, ◌<◌, [], None, length, OnOk};
+ghost use Rattle.std.specs.Prelude.{◌≡◌, ◌+◌, ◌≤◌, ◌<◌, ◌==◌, ℕ, [], None, length, count_by, if◌then◌else◌, IfSome, OnOk};
 ghost use Rattle.std.specs.Ordering.{nat_cmp, is_eq};
 ghost use Rattle.std.specs.Cmp.Lexicographic.{slice_cmp};
 ghost use Rattle.call_types.specs.Names.{file_of, with_name, without_name};
@@ -112,10 +112,11 @@ impl NameTable {
         self.entries.insert(rank, (name, file)).unwrap();
     }
 
-    /// Takes a name away, and gives the file that it led to.
+    /// Takes a name away, and gives the file that it led to, which has one name less.
     pub fn remove(&mut self, name: &[u8]) -> Option<usize>
         ensures entries { self.new.0 ≡ without_name name.now self.old.0 }
         ensures file { result ≡ file_of name.now self.old.0 }
+        ensures links { IfSome result (λ file. (other : ℕ) → count_by (λ e. e.1 == other) self.new.0 + (if file == other then 1 else 0) ≡ count_by (λ e. e.1 == other) self.old.0) }
     {
         let place = self.place_of(name)?;
         Some(self.entries.remove(place).1)

@@ -1,7 +1,8 @@
-use Rattle.std.proofs.Common.{◌≡◌, ◌∙◌, ap, sym, subst, rules, Some, []}
+use Rattle.std.proofs.Common.{◌≡◌, ◌∙◌, ap, sym, subst, rules, Some, [], List, ℕ, cond}
 use Rattle.std.specs.List.{remove}
+use Rattle.std.specs.Prelude.{count_by, ◌==◌, ◌+◌}
 use Rattle.name_table.specs.Places.{HasName, IsNamed}
-use Rattle.name_table.proofs.NameLaws.{place_found, removed_named}
+use Rattle.name_table.proofs.NameLaws.{place_found, removed_named, links_removed}
 use Rattle.name_table.proofs.NameTable.remove.Goals as goal
 
 pub invariant_of-self : goal.invariant_of-self
@@ -30,3 +31,13 @@ returns-clause-file c =
     let has : HasName name es place = search rules in
     let entry = c.remove.result in
     rw (← c.self.view_is) (sym ((place_found name es place entry c.self.invariant has.within (has.has entry)).0 ∙ ap (λ e. Some e.1) (sym c.remove.ensures.value)))
+
+pub returns-clause-links : goal.returns-clause-links
+returns-clause-links c =
+    let es = c.self.inside.entries.items in
+    let place = c.in_ok-place.place in
+    let has : HasName c.args.name.now es place = search rules in
+    let items : c.remove.new.self.items ≡ remove es place = search rules in
+    let entry = c.remove.result in
+    rw (← c.self.view_is) (λ other. rw items (subst (λ (e : List ℕ × ℕ). count_by (λ x. x.1 == other) (remove es place) + cond (e.1 == other) 1 0 ≡ count_by (λ x. x.1 == other) es) (sym c.remove.ensures.value)
+    (links_removed es place other entry has.within)))
