@@ -1,13 +1,20 @@
 ghost use Rattle.std.specs.Prelude.{◌≡◌};
 ghost use Rattle.posix_model.specs.Descriptors.{opened};
 ghost use Rattle.posix_model.specs.Pages.{on_open};
-ghost use Rattle.posix_model.specs.Fstat.{stat_of, fstat};
+ghost use Rattle.posix_model.specs.Fstat.{links_told, stat_of, fstat};
 
 use call_types::errno::Errno;
 use call_types::outcome::{Kind, Reply, Stat};
 use posix_model::change::{Decided, refused, tells};
 use posix_model::reader::Reader;
 use posix_model::world::Target;
+
+/// How many names a file has, in 32 bits.
+fn links_told<R: Reader>(state: &R, file: usize) -> u32
+    ensures { result ≡ links_told (R.world state.now) file }
+{
+    state.links(file).min(u32::MAX as usize) as u32
+}
 
 /// Kind, size in bytes and links of what a descriptor refers to.
 fn stat_of<R: Reader>(state: &R, target: Target) -> Stat
@@ -17,7 +24,7 @@ fn stat_of<R: Reader>(state: &R, target: Target) -> Stat
         Target::Regular { file } => Stat {
             kind: Kind::Regular,
             size: state.length_of(file) as u64,
-            links: state.links_told(file),
+            links: links_told(state, file),
         },
         Target::Pipe { pipe } => Stat {
             kind: Kind::Pipe,
@@ -27,7 +34,7 @@ fn stat_of<R: Reader>(state: &R, target: Target) -> Stat
         Target::Fifo { file, pipe } => Stat {
             kind: Kind::Fifo,
             size: state.held_in(pipe) as u64,
-            links: state.links_told(file),
+            links: links_told(state, file),
         },
     }
 }

@@ -7,7 +7,7 @@ pub mod fstat;
 pub mod ftruncate;
 pub mod lseek;
 pub mod open;
-mod opening;
+pub mod opening;
 pub mod pread;
 mod puts;
 pub mod pwrite;

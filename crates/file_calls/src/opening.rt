@@ -30,7 +30,7 @@ fn is_portable(name: &[u8]) -> bool
 }
 
 /// The first refusal of a name: ENOENT, ENAMETOOLONG or EINVAL.
-pub(crate) fn name_fault(name: &[u8]) -> Option<Errno>
+pub fn name_fault(name: &[u8]) -> Option<Errno>
     ensures { result ≡ first_fault (name_faults name.now) }
 {
     if name.is_empty() {

@@ -3,7 +3,7 @@
 
 ghost use Rattle.std.specs.Prelude.{◌≡◌};
 ghost use Rattle.std.specs.Option.{option_copied};
-ghost use Rattle.call_types.specs.CallTable.{open_entry, close_entry, read_entry, write_entry, pread_entry, pwrite_entry, lseek_entry, ftruncate_entry, fstat_entry, position_table};
+ghost use Rattle.call_types.specs.CallTable.{open_entry, close_entry, read_entry, write_entry, pread_entry, pwrite_entry, lseek_entry, ftruncate_entry, link_entry, unlink_entry, fstat_entry, position_table};
 ghost use Rattle.script_text.specs.Reading.{Gives, Word};
 ghost use Rattle.script_text.specs.ReadingCalls.{entry_at, one_of, named_call};
 ghost use Rattle.script_text.specs.Writing.{Appends};
@@ -198,6 +198,45 @@ fn put_ftruncate(out: &mut Vec<u8>, fd: i32, len: i64) -> Result<(), AllocError>
     Ok(())
 }
 
+/// `link NAME NAME`
+fn link_call(alloc: Global, left: Left<'_>) -> Result<Call, WordFault>
+    ensures { Gives (λ x. x) result (entry_at link_entry (option_copied left.entry)) }
+{
+    let (old, left) = fields::name(alloc, left)?;
+    let (new, left) = fields::name(alloc, left)?;
+    line_end(left)?;
+    Ok(Call::Link { old, new })
+}
+
+/// Appends a link.
+fn put_link(out: &mut Vec<u8>, old: &Name, new: &Name) -> Result<(), AllocError>
+    ensures { Appends result out.old.items out.new.items (call_text (Call.Link old.now new.now)) }
+{
+    put(out, b"link ")?;
+    put_name(out, old.as_slice())?;
+    put(out, b" ")?;
+    put_name(out, new.as_slice())?;
+    Ok(())
+}
+
+/// `unlink NAME`
+fn unlink_call(alloc: Global, left: Left<'_>) -> Result<Call, WordFault>
+    ensures { Gives (λ x. x) result (entry_at unlink_entry (option_copied left.entry)) }
+{
+    let (name, left) = fields::name(alloc, left)?;
+    line_end(left)?;
+    Ok(Call::Unlink { name })
+}
+
+/// Appends an unlink.
+fn put_unlink(out: &mut Vec<u8>, name: &Name) -> Result<(), AllocError>
+    ensures { Appends result out.old.items out.new.items (call_text (Call.Unlink name.now)) }
+{
+    put(out, b"unlink ")?;
+    put_name(out, name.as_slice())?;
+    Ok(())
+}
+
 /// `fstat FD`
 fn fstat_call(left: Left<'_>) -> Result<Call, WordFault>
     ensures { Gives (λ x. x) result (entry_at fstat_entry (option_copied left.entry)) }
@@ -228,6 +267,10 @@ pub(crate) fn call(alloc: Global, word: Next<'_>) -> Result<Call, WordFault>
         read_call(word.after)
     } else if word.is(b"write") {
         write_call(alloc, word.after)
+    } else if word.is(b"link") {
+        link_call(alloc, word.after)
+    } else if word.is(b"unlink") {
+        unlink_call(alloc, word.after)
     } else if word.is(b"fstat") {
         fstat_call(word.after)
     } else {
@@ -268,6 +311,8 @@ pub(crate) fn put_call(out: &mut Vec<u8>, call: &Call) -> Result<(), AllocError>
         Call::Pwrite { fd, start, bytes } => put_pwrite(out, *fd, *start, bytes),
         Call::Lseek { fd, offset, whence } => put_lseek(out, *fd, *offset, *whence),
         Call::Ftruncate { fd, len } => put_ftruncate(out, *fd, *len),
+        Call::Link { old, new } => put_link(out, old, new),
+        Call::Unlink { name } => put_unlink(out, name),
         Call::Fstat { fd } => put_fstat(out, *fd),
     }
 }

@@ -4,6 +4,8 @@ ghost use Rattle.posix_model.specs.Step.{can_call, decided, comes_to};
 ghost use Rattle.posix_model.specs.Sound.{adds};
 
 use crate::join::{decide_join, is_full};
+use crate::link::decide_link;
+use crate::unlink::decide_unlink;
 use call_types::act::Act;
 use call_types::call::Call;
 use call_types::limits::Bounds;
@@ -54,6 +56,8 @@ pub fn decide_call<R: Reader>(
             Ok(decide_lseek(state, process, *fd, *offset, *whence))
         }
         Call::Ftruncate { fd, len } => Ok(decide_ftruncate(state, bounds, process, *fd, *len)),
+        Call::Link { old, new } => decide_link(state, old, new),
+        Call::Unlink { name } => decide_unlink(state, name),
         Call::Fstat { fd } => Ok(decide_fstat(state, process, *fd)),
     }
 }

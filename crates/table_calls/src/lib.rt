@@ -4,3 +4,5 @@
 pub mod decide;
 pub mod given;
 pub mod join;
+pub mod link;
+pub mod unlink;
