@@ -1,7 +1,5 @@
 -- What each edit leaves as it was.
-use Rattle.std.proofs.Common.{◌≡◌, ◌≢◌, ◌∙◌, ℕ, ◌<◌, List, ◌++◌, [], ◌∷◌, Option, Some, None, set, length, take, refl, ap, sym, subst}
-use Rattle.std.specs.Option.{option_map}
-use Rattle.std.proofs.lemmas.List.{get_or-set_other}
+use Rattle.std.proofs.Common.{◌≡◌, ◌≢◌, ◌∙◌, ℕ, ◌<◌, List, ◌++◌, [], ◌∷◌, Option, Some, set, length, take, refl, ap, sym, subst}
 use Rattle.posix_model.specs.Bytes.{splice, resized}
 use Rattle.posix_model.specs.Slots.{slot}
 use Rattle.posix_model.specs.Descriptors.{at_offset, file_bytes}
@@ -13,7 +11,7 @@ use Rattle.posix_model.specs.declared.change.FileEdit.TheVariants as on_files
 use Rattle.posix_model.specs.declared.change.ProcessEdit.TheVariants as on_process
 use Rattle.posix_model.specs.declared.change.TableEdit.TheVariants as on_table
 use Rattle.plain_world.specs.FileLaws.{SameContents}
-use Rattle.plain_world.proofs.SlotLemmas.{slot_pushed}
+use Rattle.plain_world.proofs.SlotLemmas.{slot_pushed, other_slot}
 
 -- an edit of files leaves descriptions and processes
 pub files_leave : (w : World) (bytes : List ℕ) (e : FileEdit) → ((with_files w bytes e).descriptions ≡ w.descriptions) × ((with_files w bytes e).processes ≡ w.processes)
@@ -55,6 +53,8 @@ same_edit : (w v : World) (bytes : List ℕ) (e : FileEdit) → v.files ≡ w.fi
 same_edit w v bytes on_files.Nothing h = h
 same_edit w v bytes (on_files.Bytes f start count) h = ap (λ fs. set fs f (Some (file.Regular (splice (file_bytes (slot fs f)) start (take count bytes))))) h
 same_edit w v bytes (on_files.Resize f len) h = ap (λ fs. set fs f (Some (file.Regular (resized (file_bytes (slot fs f)) len)))) h
+same_edit w v bytes (on_files.AddName name f) h = h
+same_edit w v bytes (on_files.RemoveName name) h = h
 same_edit w v bytes (on_files.MakeFile name) h = ap (λ fs. fs ++ Some (file.Regular []) ∷ []) h
 
 -- so a change does the same to the same files
@@ -65,7 +65,7 @@ same_files w v bytes c h = (same_after_files v bytes c).files ∙ (same_edit w v
 other_description : (w : World) (e : TableEdit) (n : ℕ) → n < length w.descriptions → moved_offset e ≢ Some n → slot (with_table w e).descriptions n ≡ slot w.descriptions n
 other_description w on_table.Nothing n below other = refl
 other_description w (on_table.Offset number offset) n below other =
-    get_or-set_other w.descriptions number n (option_map (at_offset offset) (slot w.descriptions number)) None (λ same. other (ap Some (sym same)))
+    other_slot w.descriptions number n (at_offset offset) (λ same. other (ap Some (sym same)))
 other_description w (on_table.Open process fd d) n below other = slot_pushed w.descriptions (Some d) n below
 other_description w (on_table.Entry process fd entry) n below other = refl
 

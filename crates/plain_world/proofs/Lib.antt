@@ -3,8 +3,11 @@ pub mod SweepLemmas
 pub mod BytesLaws
 pub mod PageLemmas
 pub mod ChangeLemmas
+pub mod OpenedLemmas
 pub mod CallLaws
+pub mod NameLaws
 pub mod OpenLaws
+pub mod DescriptorLaws
 pub mod StepLaws
 pub mod LimitLaws
 pub mod KeptLaws

@@ -1,10 +1,10 @@
 -- No step goes past a limit: one lemma for each edit, and one for the sweep.
-use Rattle.std.proofs.Common.{eqb, ◌≡◌, ℕ, zero, suc, ◌+◌, ◌≤◌, ◌<◌, ◌∙◌, Bool, true, false, cond, List, [], ◌∷◌, ◌++◌, Option, None, Some, length, set, take, refl, ap, sym, subst, arith, length-set}
+use Rattle.std.proofs.Common.{eqb, ◌≡◌, ℕ, zero, suc, ◌+◌, ◌≤◌, ◌<◌, ◌∙◌, Bool, true, false, not, cond, List, [], ◌∷◌, ◌++◌, Option, None, Some, length, set, take, refl, ap, sym, subst, arith, length-set}
 use Rattle.std.specs.Option.{option_map, is_some}
 use Rattle.std.proofs.lemmas.Grind.{common_steps}
 use Rattle.std.proofs.lemmas.List.{length-replicate}
 use Rattle.std.proofs.lemmas.List.Sums.{sum_by-cons, sum_by_push}
-use Rattle.std.specs.Ordering.{nat_cmp}
+use Rattle.std.specs.Ordering.{nat_cmp, eq_by_cmp}
 use Rattle.std.specs.Cmp.Lexicographic.{slice_cmp}
 use Rattle.std.specs.FinMap.Entries.{by_order}
 use Rattle.std.specs.declared.cmp.Ordering.TheVariants.{Less, Equal, Greater}
@@ -12,7 +12,7 @@ use Rattle.plain_world.specs.Types.{Act, Record, Bounds, World, Process, Descrip
 use Rattle.call_types.specs.declared.act.Act.TheVariants as act
 use Rattle.posix_model.specs.Bytes.{splice, resized}
 use Rattle.posix_model.specs.Slots.{slot, live, kept_from}
-use Rattle.call_types.specs.Names.{Entries, with_name}
+use Rattle.call_types.specs.Names.{Entries, with_name, without_name}
 use Rattle.posix_model.specs.Descriptors.{at_offset, with_entry, with_descriptor, with_offset, file_bytes, bytes_of}
 use Rattle.posix_model.specs.Change.{with_bytes, created, with_files, free_table, process_with, with_processes, with_table, changed}
 use Rattle.posix_model.specs.Fits.{FilesProper, ProcessProper, ProcessFits, TableProper, IsProper}
@@ -100,11 +100,26 @@ created_within bounds w name h room = record {
   processes = h.processes;
 }
 
+-- and a name that is taken away makes them no longer
+no_more_names : (name : List ℕ) (es : Entries) → length (without_name name es) ≤ length es
+no_more_names name [] = omega arith
+no_more_names name (e ∷ es) =
+    let rest = no_more_names name es in
+    elim (not (eq_by_cmp (slice_cmp nat_cmp) name e.0)) as (λ b. length (cond b (e ∷ without_name name es) (without_name name es)) ≤ length (e ∷ es)) [
+      | true ↦ omega (arith, rest)
+      | false ↦ omega (arith, rest)
+    ]
+
+names_within : (bounds : Bounds) (w : World) (names : Entries) → WithinLimits bounds w → length names ≤ NAMES_MAX → WithinLimits bounds (record w { names = names })
+names_within bounds w names h few = record { files = h.files; offsets = h.offsets; tables = h.tables; names = few; descriptions = h.descriptions; processes = h.processes }
+
 files_within : (bounds : Bounds) (w : World) (bytes : List ℕ) (e : FileEdit) → WithinLimits bounds w → FilesProper w bytes e → FilesWithin bounds e → WithinLimits bounds (with_files w bytes e)
 files_within bounds w bytes on_files.Nothing h proper within = h
 files_within bounds w bytes (on_files.Bytes f start count) h proper within =
     bytes_within bounds w f (splice (bytes_of w f) start (take count bytes)) h (splice_fits bounds.file_size start count (bytes_of w f) bytes (h.files f) within)
 files_within bounds w bytes (on_files.Resize f len) h proper within = bytes_within bounds w f (resized (bytes_of w f) len) h (resized_fits (bytes_of w f) len bounds.file_size within)
+files_within bounds w bytes (on_files.AddName name f) h proper within = names_within bounds w (with_name name f w.names) h (let more = one_more_name name f w.names in omega (arith, more, proper.1))
+files_within bounds w bytes (on_files.RemoveName name) h proper within = names_within bounds w (without_name name w.names) h (let few = no_more_names name w.names in omega (arith, few, h.names))
 files_within bounds w bytes (on_files.MakeFile name) h proper within = created_within bounds w name h proper.1
 
 new_table : (table : List (Option ℕ)) → table ≡ free_table → length table ≡ OPEN_MAX

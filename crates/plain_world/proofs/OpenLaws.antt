@@ -2,41 +2,23 @@
 use Rattle.std.proofs.Common.{◌≡◌, ℕ, zero, suc, pos, ◌∙◌, Bool, true, false, cond, List, [], ◌∷◌, ◌++◌, Option, None, Some, length, set, refl, ap, sym, subst}
 use Rattle.std.proofs.lemmas.List.{get_or-set_other, get_or-set_same}
 use Rattle.std.proofs.lemmas.List.Quantifiers.{position-Some}
-use Rattle.std.proofs.lemmas.Cmp.{nat_list_cmp_total}
-use Rattle.std.specs.FinMap.Entries.{find-put}
 use Rattle.std.specs.Option.{is_none, is_some, unwrap_or}
-use Rattle.std.specs.Ordering.{nat_cmp, is_eq, eq_by_cmp, ordering_reverse}
-use Rattle.std.specs.declared.cmp.Ordering.{Ordering}
-use Rattle.std.specs.declared.cmp.Ordering.TheVariants.{Less, Equal, Greater}
-use Rattle.std.specs.Cmp.Lexicographic.{slice_cmp}
 use Rattle.call_types.specs.Flags.{has}
 use Rattle.call_types.specs.Flags as flag
 use Rattle.plain_world.specs.Types.{Errno, OpenFlags, World, Process, Description, File, EMFILE, Replied, Number}
 use Rattle.posix_model.specs.Slots.{slot, lowest, edited}
-use Rattle.call_types.specs.Names.{Entries, file_of, with_name}
+use Rattle.call_types.specs.Names.{file_of}
 use Rattle.posix_model.specs.Descriptors.{opened, opened_number, opened_description, table_of, with_entry, file_bytes}
 use Rattle.posix_model.specs.Change.{with_files, with_description, changed}
 use Rattle.posix_model.specs.Pages.{first_fault}
 use Rattle.posix_model.specs.Open.{flag_faults, name_faults, found_faults, room_faults, open_faults, new_description, free_descriptor, emptied, open_found, open_file}
 use Rattle.posix_model.specs.declared.world.File.TheVariants as file
 use Rattle.posix_model.specs.declared.change.FileEdit.TheVariants as on_files
-use Rattle.plain_world.specs.FileLaws.{Opens, OpenDescribes, ExclOpensNew, EmptiesFile, TruncOpenEmpties}
+use Rattle.plain_world.specs.FileLaws.{Opens, OpenDescribes, ExclOpensNew, EmptiesFile, TruncOpenEmpties, OpenKeepsFiles, OpenMakesEmpty}
+use Rattle.plain_world.proofs.NameLaws.{named_file}
 use Rattle.plain_world.proofs.PageLemmas.{page_has, no_fault_after}
 use Rattle.plain_world.proofs.ChangeLemmas.{files_leave}
 use Rattle.plain_world.proofs.SlotLemmas.{slot_at_end, slot_set_there}
-
--- a value is equal to itself in a total order
-ties : (name : List ℕ) → eq_by_cmp (slice_cmp nat_cmp) name name ≡ true
-ties name = at (slice_cmp nat_cmp name name) (nat_list_cmp_total.antisymm name name)
-  where
-    at : (o : Ordering) → o ≡ ordering_reverse o → is_eq o ≡ true
-    at Less h = cc
-    at Equal h = refl
-    at Greater h = cc
-
--- a name leads to the file that it was given
-named_file : (name : List ℕ) (file : ℕ) (es : Entries) → file_of name (with_name name file es) ≡ Some file
-named_file name file es = find-put (slice_cmp nat_cmp) nat_list_cmp_total name name file es ∙ rw (ties name) refl
 
 -- what an open without a fault finds, and the room that there is for it
 later_clear : (w : World) (p : ℕ) (name : List ℕ) (flags : OpenFlags) (found : Option ℕ) → first_fault (open_faults w p name flags found) ≡ None →
@@ -110,15 +92,20 @@ told_found : (w : World) (p : ℕ) (name : List ℕ) (flags : OpenFlags) (found 
 told_found w p name flags None k low = ap (λ l. Replied (Number (unwrap_or l 0))) low
 told_found w p name flags (Some n) k low = ap (λ l. Replied (Number (unwrap_or l 0))) low
 
+-- and it is the lowest free one
+pub told_lowest : (w : World) (p : ℕ) (name : List ℕ) (flags : OpenFlags) (found : Option ℕ) (fd : ℕ) → first_fault (open_faults w p name flags found) ≡ None →
+    (open_found w p name flags found).outcome ≡ Replied (Number fd) → lowest (table_of (slot w.processes p)) ≡ Some fd
+told_lowest w p name flags found fd free opens =
+    let low = has_free w p name flags found free in
+    let tells : (open_found w p name flags found).outcome ≡ Replied (Number low.0) = told_found w p name flags found low.0 low.1 in
+    let same : low.0 ≡ fd = cc in
+    low.1 ∙ ap (λ (k : ℕ). Some k) same
+
 pub open_describes : OpenDescribes
 open_describes bounds w p name flags fd told =
     let found = file_of name w.names in
     page_has (λ d. d.outcome ≡ Replied (Number fd) → Opens w (changed w [] d.change) p name flags fd) (open_file w p name flags) (λ error refused. cc)
-    (λ free opens.
-    let low = has_free w p name flags found free in
-    let tells : (open_found w p name flags found).outcome ≡ Replied (Number low.0) = told_found w p name flags found low.0 low.1 in
-    let same : low.0 ≡ fd = cc in
-    subst (λ k. Opens w (changed w [] (open_found w p name flags found).change) p name flags k) same (opens_found w p name flags found low.0 refl low.1)) told
+    (λ free opens. opens_found w p name flags found fd refl (told_lowest w p name flags found fd free opens)) told
 
 -- under excl and creat a name that is there is a fault
 excl_refuses : (w : World) (flags : OpenFlags) (n : ℕ) (rest : List (Bool × Errno)) → has flags flag.excl ≡ true → has flags flag.creat ≡ true →
@@ -156,3 +143,17 @@ pub trunc_open_empties : TruncOpenEmpties
 trunc_open_empties bounds w p name flags fd n is trunc told =
     page_has (λ d. d.outcome ≡ Replied (Number fd) → EmptiesFile n w (changed w [] d.change)) (open_file w p name flags) (λ error refused. cc)
     (λ _ _. trunc_found w p name flags (file_of name w.names) n is trunc) told
+
+kept_found : (w : World) (p : ℕ) (name : List ℕ) (flags : OpenFlags) (found : Option ℕ) (n : ℕ) → found ≡ Some n → has flags flag.trunc ≡ false →
+    (changed w [] (open_found w p name flags found).change).files ≡ w.files
+kept_found w p name flags found n is trunc = subst (λ (x : Option ℕ). (changed w [] (open_found w p name flags x).change).files ≡ w.files) (sym is) (rw trunc refl)
+
+pub open_keeps_files : OpenKeepsFiles
+open_keeps_files bounds w p name flags n is trunc =
+    page_has (λ d. (changed w [] d.change).files ≡ w.files) (open_file w p name flags) (λ _. refl) (λ _. kept_found w p name flags (file_of name w.names) n is trunc)
+
+pub open_makes_empty : OpenMakesEmpty
+open_makes_empty bounds w p name flags fd is told =
+    let new = Some (file.Regular []) in
+    page_has (λ d. d.outcome ≡ Replied (Number fd) → (changed w [] d.change).files ≡ w.files ++ new ∷ []) (open_file w p name flags) (λ error refused. cc)
+    (λ _ _. subst (λ (x : Option ℕ). (changed w [] (open_found w p name flags x).change).files ≡ w.files ++ new ∷ []) (sym is) refl) told

@@ -1,7 +1,7 @@
 -- Worked runs: what each act answers, and the bytes that each run takes and gives.
 use Rattle.std.specs.Prelude.{◌≡◌, ℕ, pos, negsuc, List, [], ◌∷◌, codes}
 use Rattle.plain_world.specs.Types.{Call, Record, Reply, OpenFlags, Bounds, EBADF, EINVAL, EFBIG, EOVERFLOW, ENOENT, EEXIST}
-use Rattle.call_types.specs.declared.call.Call.TheVariants.{Open, Close, Read, Write, Pread, Pwrite, Lseek, Ftruncate, Fstat}
+use Rattle.call_types.specs.declared.call.Call.TheVariants.{Open, Close, Read, Write, Pread, Pwrite, Lseek, Ftruncate, Link, Unlink, Fstat}
 use Rattle.call_types.specs.declared.whence.Whence.TheVariants.{Set, Cur, End}
 use Rattle.call_types.specs.declared.act.Act.TheVariants as act
 use Rattle.call_types.specs.declared.outcome.Outcome.TheVariants as outcome
@@ -98,6 +98,23 @@ pwrite_under_append =
     ∷ answers (Write (pos 0) (codes "d")) (reply.Number 1)
     ∷ answers (Lseek (pos 0) (pos 0) Cur) (reply.Number 4)
     ∷ answers (Pread (pos 0) (pos 0) 9) (reply.Data (codes "Xbcd"))
+    ∷ []
+
+-- a file whose name goes stays while it is open, and another file takes the name
+abbrev pub deferred_removal : List Record
+deferred_removal =
+    joins
+    ∷ answers (Open (codes "t") (bits 7)) (reply.Number 0)
+    ∷ answers (Write (pos 0) (codes "old")) (reply.Number 3)
+    ∷ answers (Unlink (codes "t")) reply.Done
+    ∷ answers (Pread (pos 0) (pos 0) 9) (reply.Data (codes "old"))
+    ∷ answers (Open (codes "t") (bits 7)) (reply.Number 1)
+    ∷ answers (Link (codes "t") (codes "u")) reply.Done
+    ∷ answers (Link (codes "t") (codes "t")) (reply.Error EEXIST)
+    ∷ answers (Fstat (pos 0)) (reply.Stat (record { kind = Regular; size = 3; links = 0 }))
+    ∷ answers (Fstat (pos 1)) (reply.Stat (record { kind = Regular; size = 0; links = 2 }))
+    ∷ answers (Close (pos 0)) reply.Done
+    ∷ answers (Unlink (codes "v")) (reply.Error ENOENT)
     ∷ []
 
 -- flags and names of open, each with its refusal

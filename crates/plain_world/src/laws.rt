@@ -1,7 +1,7 @@
 //! Laws of steps and histories, and worked runs. None of these functions does anything; each contract is its law.
 
 ghost use Rattle.plain_world.specs.Laws.{RefusedStepKeepsWorld, RefusedNextKeepsWorld, JoinAdds, FullJoinRefused, LowestIsLeast, NoLowestIsFull, OffsetsAreApart, OffsetsStayApart, TakesFew, StepKeepsLimits, LimitsHold, HistoryKeepsExactly, LegalIsAnswered, AnsweredIsLegal};
-ghost use Rattle.plain_world.specs.Rows.{Runs, standard, small, path, hole, greatest_offset, size_limit, pwrite_under_append, opening};
+ghost use Rattle.plain_world.specs.Rows.{Runs, standard, small, path, hole, greatest_offset, size_limit, pwrite_under_append, opening, deferred_removal};
 
 use posix_model::laws::{
     acts_are_sound, numbers_rise, sweep_leaves_wanted, sweep_releases, sweep_settles,
@@ -75,7 +75,7 @@ pub fn legal_is_answered()
     ensures only { AnsweredIsLegal }
 {}
 
-/// Six runs, each answer as it is written down, computed from the definitions alone.
+/// Worked runs, each answer as it is written down, computed from the definitions alone.
 pub fn worked_runs()
     ensures path { Runs standard path 6 6 }
     ensures hole { Runs standard hole 4 11 }
@@ -83,4 +83,5 @@ pub fn worked_runs()
     ensures size_limit { Runs small size_limit 1 0 }
     ensures pwrite_under_append { Runs standard pwrite_under_append 5 4 }
     ensures opening { Runs standard opening 2 3 }
+    ensures deferred_removal { Runs standard deferred_removal 3 3 }
 {}

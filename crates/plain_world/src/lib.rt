@@ -3,9 +3,11 @@
 #![tactic(auto)]
 
 mod counts;
+pub mod descriptor_laws;
 pub mod file_laws;
 pub mod history;
 pub mod laws;
 mod make;
+pub mod name_laws;
 pub mod step;
 mod sweep;

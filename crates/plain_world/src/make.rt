@@ -81,6 +81,11 @@ fn make_files(
             write_bytes(alloc, &mut world.files, file, start, &bytes[..count])
         }
         FileEdit::Resize { file, len } => resize(alloc, &mut world.files, file, len),
+        FileEdit::AddName { name, file } => world.names.put(name, file),
+        FileEdit::RemoveName { name } => {
+            world.names.remove(name.as_slice());
+            Ok(())
+        }
         FileEdit::MakeFile { name } => make_file(alloc, world, name),
     }
 }

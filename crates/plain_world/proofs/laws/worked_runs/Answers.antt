@@ -10,4 +10,5 @@ returns c = record {
   size_limit = record { is_legal = (refl, (refl, (refl, (refl, (refl, (refl, (refl, tt))))))); takes = refl; gives = refl };
   pwrite_under_append = record { is_legal = (refl, (refl, (refl, (refl, (refl, (refl, (refl, (refl, (refl, (refl, tt)))))))))); takes = refl; gives = refl };
   opening = record { is_legal = (refl, (refl, (refl, (refl, (refl, (refl, (refl, (refl, (refl, (refl, (refl, (refl, (refl, (refl, (refl, tt))))))))))))))); takes = refl; gives = refl };
+  deferred_removal = record { is_legal = (refl, (refl, (refl, (refl, (refl, (refl, (refl, (refl, (refl, (refl, (refl, (refl, tt)))))))))))); takes = refl; gives = refl };
 }
