@@ -1,13 +1,17 @@
 //! The table of names: found and taken away by their bytes.
 use call_types::bounded::Name;
 use name_table::NameTable;
-use std::alloc::{AllocError, Global};
+use std::alloc::Global;
 use std::test::Fail;
 
-/// Adds a name.
-fn added(alloc: Global, names: &mut NameTable, name: &[u8], file: usize) -> Result<(), AllocError> {
+/// Adds a new name of a few bytes.
+fn added(alloc: Global, names: &mut NameTable, name: &[u8], file: usize) -> Result<(), Fail> {
+    if name.len() > 64 || names.find(name).is_some() {
+        return Err("a new name of a few bytes")?;
+    }
+    let name = Name::copied(alloc, name)?;
     names.reserve()?;
-    names.add(Name::copied(alloc, name)?, file);
+    names.add(name, file);
     Ok(())
 }
 
@@ -32,7 +36,10 @@ fn names_stand_in_the_order_of_their_bytes(rt: HostRuntime) -> Result<(), Fail> 
     assert_eq!(rt; first(&names), Some(2));
     assert_eq!(rt; names.remove(b"B"), Some(2));
     assert_eq!(rt; first(&names), Some(1));
-    assert_eq!(rt; (names.find(b"ab"), names.find(b"b"), names.len()), (Some(1), Some(1), 2));
+    assert_eq!(rt;
+        (names.find(b"ab"), names.find(b"b"), names.len()),
+        (Some(1), Some(1), 2)
+    );
     assert_eq!(rt; names.remove(b"a"), None);
     Ok(())
 }
