@@ -11,6 +11,11 @@ fit into a script. A time is the best of N runs (3), from the start of the progr
 the output going to a file. The growth is the cost of an act over its cost in the script before:
 1.00 where the cost does not depend on the length of the run.
 
+`churn` makes a file, writes 64 bytes, gives it a second name, takes both away, reads the bytes back through the
+descriptor and closes it, among 300 names of a set of 500. `wide` has 60 processes with 15 descriptors each beside
+1,000 names, and writes, seeks, reads, asks, opens and closes among them. `9,000 files` are made, written one byte at
+their end, unlinked and closed, one after another: what went must not stay in memory.
+
 `64 KiB, ..` has writes of 65,536 bytes spread over files of sixteen writes each, since a file holds
 1,048,576 bytes. In the spelling `61*65536` there are 1,000 of them. In the spelling `x6162..` each
 takes 131,085 bytes of a script that holds 16,777,216 at most, so there are 127 of them; their bytes
@@ -49,6 +54,7 @@ class Script:
         self.size = 0
         self.bytes_in = 0
         self.bytes_out = 0
+        self.processes = 1
         self.file = open(path, "w", encoding="ascii")
 
     def act(self, line):
@@ -79,8 +85,8 @@ class Script:
         return self
 
     def limit(self):
-        # what the run needs beyond its records: one place for its process, and one more
-        return self.acts + 2
+        # what the run needs beyond its records: one place for each process, and one more
+        return self.acts + self.processes + 1
 
     def closing(self):
         return f"records {self.acts} in {self.bytes_in} out {self.bytes_out}\n".encode()
@@ -161,6 +167,75 @@ def rewritten(path, acts):
     opened(script, FILE_MOST)
     for at in range(acts):
         script.pwrite(0, 4096 * at % (FILE_MOST - BIG), f"61*{BIG}", BIG)
+    return script.done()
+
+
+NAMES = 500
+STANDING = 300
+
+
+def churn(path, acts):
+    """Files that are made, named twice, unlinked, read through their descriptor and closed, among 300 names of a set of 500."""
+    script = Script(f"churn {acts:,}", path)
+    script.act("join")
+    # the names that stand are spread over the set, and so are those that come and go
+    names = [f"n{at}" for at in range(NAMES)]
+    standing = [name for at, name in enumerate(names) if at * STANDING % NAMES < STANDING]
+    coming = [name for name in names if name not in set(standing)]
+    for name in standing[: STANDING - 1]:
+        script.act(f"p0 open {name} r,creat")
+        script.act("p0 close 0")
+    turn = 0
+    while script.acts + 7 <= acts:
+        first, second = coming[2 * turn % len(coming)], coming[(2 * turn + 1) % len(coming)]
+        script.act(f"p0 open {first} rw,creat")
+        script.write(0, "61*64", 64)
+        script.act(f"p0 link {first} {second}")
+        script.act(f"p0 unlink {first}")
+        script.act(f"p0 unlink {second}")
+        script.pread(0, 0, 64)
+        script.act("p0 close 0")
+        turn += 1
+    while script.acts < acts:
+        script.act("p0 close 9")
+    return script.done()
+
+
+def wide(path, acts):
+    """Small acts, opens and closes of 60 processes with 15 descriptors each, beside 1,000 names."""
+    script = Script(f"wide {acts:,}", path)
+    script.processes = 60
+    for _ in range(script.processes):
+        script.act("join")
+    for at in range(1_000):
+        script.act(f"p0 open n{at} w,creat")
+        script.act("p0 close 0")
+    for at in range(script.processes * 15):
+        script.act(f"p{at // 15} open n{at} rw")
+    turn = 0
+    while script.acts + 6 <= acts:
+        process, fd, name = turn * 7 % script.processes, turn * 11 % 15, turn * 613 % 1_000
+        for line in (f"write {fd} 61*8", f"lseek {fd} 0 set", f"read {fd} 8", f"fstat {fd}"):
+            script.act(f"p{process} {line}")
+        script.bytes_in += 8
+        script.bytes_out += 8
+        script.act(f"p{process} open n{name} r")
+        script.act(f"p{process} close 15")
+        turn += 1
+    while script.acts < acts:
+        script.act("p0 close 31")
+    return script.done()
+
+
+def ends(path, files):
+    """Files that are made, written one byte at their end and unlinked while they are open, one after another."""
+    script = Script(f"{files:,} files", path)
+    script.act("join")
+    for _ in range(files):
+        script.act("p0 open f w,creat")
+        script.pwrite(0, FILE_MOST - 1, "61*1", 1)
+        script.act("p0 unlink f")
+        script.act("p0 close 0")
     return script.done()
 
 
@@ -246,6 +321,11 @@ def table(program, runs, folder):
     for acts in (10_000, 100_000, 999_000):
         costs.append(line(mix(path, acts), costs[-1] if costs else None))
     print(f"growth of the cost of an act from 10,000 to 999,000 acts: {costs[-1] / costs[0]:.2f}")
+    for kind in (churn, wide):
+        few = line(kind(path, 10_000))
+        many = line(kind(path, 999_000), few)
+        print(f"an act of it over a small act: {few / costs[0]:.2f} of 10,000, {many / costs[-1]:.2f} of 999,000")
+    line(ends(path, 9_000))
     line(big(path, "64 KiB, 61*65536", 1_000, counted))
     line(big(path, "64 KiB, x6162..", 127, spelled))
     short = line(scattered(path, 200_000, 1024))

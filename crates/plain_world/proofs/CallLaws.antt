@@ -30,7 +30,7 @@ use Rattle.plain_world.specs.Types.{Errno, World, File, OpenDescriptor, TableEdi
 use Rattle.posix_model.specs.declared.world.File.TheVariants as file
 use Rattle.posix_model.specs.declared.change.FileEdit.TheVariants as on_files
 use Rattle.posix_model.specs.declared.change.TableEdit.TheVariants as on_table
-use Rattle.plain_world.specs.FileLaws.{OpenOn, WritePuts, PwritePuts, WriteAppends, IsRead, ReadGives, PreadGives, ReadMoves, LseekTells, PreadKeepsWorld, NothingRead, NothingWritten, NothingPwritten, PwriteKeepsOffsets, with_append, with_appending, PwriteSameUnderAppend, OwnFileAlone, ContentsStay, FtruncateLeavesResized, FtruncateKeepsOffsets}
+use Rattle.plain_world.specs.FileLaws.{OpenOn, WritePuts, PwritePuts, WriteAppends, IsRead, ReadGives, PreadGives, ReadMoves, SeekTells, PreadKeepsWorld, NothingRead, NothingWritten, NothingPwritten, PwriteKeepsOffsets, with_append, with_appending, PwriteSameUnderAppend, OwnFileAlone, ContentsStay, FtruncateLeavesResized, FtruncateKeepsOffsets}
 use Rattle.plain_world.proofs.PageLemmas.{on_open_has, opened_has, if_has}
 use Rattle.plain_world.proofs.ChangeLemmas.{same_after_table, same_files, contents_same}
 use Rattle.plain_world.proofs.BytesLaws.{added_at_end, is_read}
@@ -215,8 +215,8 @@ place_told w process fd offset from o n is told =
     opened_has (λ d. d.outcome ≡ Replied (Number n) → pos n ≡ to) (opened w process fd) o (lseek w offset from) is (λ error refused. cc)
     (λ free told. let number : nat_abs to ≡ n = cc in ap (λ (k : ℕ). pos k) (sym number) ∙ sought to o free) told
 
-pub lseek_tells : LseekTells
-lseek_tells bounds w process fd offset o f n is = record {
+pub seek_tells : SeekTells
+seek_tells bounds w process fd offset o f n is = record {
   set = λ told. place_told w process fd offset Set o n is.opened_is told ∙ +ℤ_idl offset;
   cur = λ told. place_told w process fd offset Cur o n is.opened_is told;
   end = λ told. place_told w process fd offset End o n is.opened_is told ∙ ap (λ (g : ℕ). pos (length (bytes_of w g)) +ℤ offset) (file_is w process fd o f is);

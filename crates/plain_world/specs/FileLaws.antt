@@ -104,8 +104,8 @@ pub record Seeks (bounds : Bounds) (w : World) (process : ℕ) (fd offset : ℤ)
   pub end : outcome_of bounds w process (call.Lseek fd offset End) ≡ Replied (Number n) → pos n ≡ pos (length (bytes_of w file)) +ℤ offset
 
 -- and that is what each of them tells (page of lseek)
-abbrev pub LseekTells : Type 0
-LseekTells = (bounds : Bounds) (w : World) (process : ℕ) (fd offset : ℤ) (o : OpenDescriptor) (file n : ℕ) → OpenOn w process fd o file → Seeks bounds w process fd offset o file n
+abbrev pub SeekTells : Type 0
+SeekTells = (bounds : Bounds) (w : World) (process : ℕ) (fd offset : ℤ) (o : OpenDescriptor) (file n : ℕ) → OpenOn w process fd o file → Seeks bounds w process fd offset o file n
 
 -- a pread changes nothing: no byte, and no offset (page of read, pread)
 abbrev pub PreadKeepsWorld : Type 0

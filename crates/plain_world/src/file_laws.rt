@@ -1,6 +1,6 @@
 //! Laws of the calls on files. Each function does nothing; its contract is the law.
 
-ghost use Rattle.plain_world.specs.FileLaws.{WriteSplices, WritePuts, PwritePuts, WriteAppends, ReadGives, PreadGives, ReadMoves, LseekTells, PreadKeepsWorld, NothingRead, NothingWritten, NothingPwritten, PwriteKeepsOffsets, PwriteSameUnderAppend, OwnFileAlone, ContentsStay, FtruncateResizes, FtruncateLeavesResized, FtruncateKeepsOffsets, OpenDescribes, ExclOpensNew, TruncOpenEmpties, OpenKeepsFiles, OpenMakesEmpty};
+ghost use Rattle.plain_world.specs.FileLaws.{WriteSplices, WritePuts, PwritePuts, WriteAppends, ReadGives, PreadGives, ReadMoves, SeekTells, PreadKeepsWorld, NothingRead, NothingWritten, NothingPwritten, PwriteKeepsOffsets, PwriteSameUnderAppend, OwnFileAlone, ContentsStay, FtruncateResizes, FtruncateLeavesResized, FtruncateKeepsOffsets, OpenDescribes, ExclOpensNew, TruncOpenEmpties, OpenKeepsFiles, OpenMakesEmpty};
 
 use posix_model::laws::calls_are_sound;
 
@@ -24,9 +24,9 @@ pub fn reads_give_the_bytes()
     ensures offset { ReadMoves }
 {}
 
-/// An lseek tells the place that is so many bytes past the start, the offset or the end (page of lseek).
-pub fn lseek_tells_the_offset()
-    ensures { LseekTells }
+/// A seek tells the place that is so many bytes past the start, the offset or the end (its page).
+pub fn seek_tells_the_offset()
+    ensures { SeekTells }
 {}
 
 /// A pread changes nothing: no byte, and no offset (page of read, pread).
