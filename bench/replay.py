@@ -84,6 +84,12 @@ class Script:
         assert self.limit() <= RECORDS_MOST, f"{self.name}: {self.acts} acts are too many"
         return self
 
+    def filled(self, acts):
+        """The script with as many acts as it is named by."""
+        while self.acts < acts:
+            self.act("p0 close 31")
+        return self.done()
+
     def limit(self):
         # what the run needs beyond its records: one place for each process, and one more
         return self.acts + self.processes + 1
@@ -108,10 +114,7 @@ def mix(path, acts):
         script.act(f"p0 open n{turn % 5} w,creat")
         script.act("p0 close 0")
         turn += 1
-    # the rest, so that the script has as many acts as it is named by
-    while script.acts < acts:
-        script.act("p0 close 9")
-    return script.done()
+    return script.filled(acts)
 
 
 def big(path, name, count, spell):
@@ -196,9 +199,7 @@ def churn(path, acts):
         script.pread(0, 0, 64)
         script.act("p0 close 0")
         turn += 1
-    while script.acts < acts:
-        script.act("p0 close 9")
-    return script.done()
+    return script.filled(acts)
 
 
 def wide(path, acts):
@@ -222,9 +223,7 @@ def wide(path, acts):
         script.act(f"p{process} open n{name} r")
         script.act(f"p{process} close 15")
         turn += 1
-    while script.acts < acts:
-        script.act("p0 close 31")
-    return script.done()
+    return script.filled(acts)
 
 
 def ends(path, files):
