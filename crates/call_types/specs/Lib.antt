@@ -1,4 +1,5 @@
 pub mod Errors
 pub mod Flags
 pub mod Names
+pub mod Descriptions
 pub mod CallTable

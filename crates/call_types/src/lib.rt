@@ -4,6 +4,7 @@
 pub mod act;
 pub mod bounded;
 pub mod call;
+pub mod description;
 pub mod errno;
 pub mod flags;
 pub mod limits;

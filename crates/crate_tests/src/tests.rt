@@ -1,4 +1,5 @@
-//! Tests of books, by seats, of the table of names and of the plain program.
+//! Tests of books, by seats, of the tables of names and of descriptions, and of the plain program.
 mod books;
+mod descriptions;
 mod names;
 mod plain;

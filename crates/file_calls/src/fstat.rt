@@ -3,11 +3,11 @@ ghost use Rattle.posix_model.specs.Descriptors.{opened};
 ghost use Rattle.posix_model.specs.Pages.{on_open};
 ghost use Rattle.posix_model.specs.Fstat.{links_told, stat_of, fstat};
 
+use call_types::description::Target;
 use call_types::errno::Errno;
 use call_types::outcome::{Kind, Reply, Stat};
 use posix_model::change::{Decided, refused, tells};
 use posix_model::reader::Reader;
-use posix_model::world::Target;
 
 /// How many names a file has, in 32 bits.
 fn links_told<R: Reader>(state: &R, file: usize) -> u32

@@ -3,7 +3,7 @@ ghost use Rattle.posix_model.specs.Descriptors.{opened};
 ghost use Rattle.posix_model.specs.Pages.{first_fault, on_open};
 ghost use Rattle.posix_model.specs.Ftruncate.{ftruncate_faults, ftruncate};
 
-use crate::targets::{can_write, file_at, is_regular};
+use crate::targets::{file_at, is_regular};
 use call_types::errno::Errno;
 use call_types::limits::Bounds;
 use call_types::outcome::Reply;
@@ -21,7 +21,7 @@ fn ftruncate_fault(bounds: Bounds, descriptor: OpenDescriptor, len: i64) -> Opti
     if !is_regular(descriptor) {
         return Some(Errno::EINVAL);
     }
-    if !can_write(descriptor.description.mode) {
+    if !descriptor.description.mode.can_write() {
         return Some(Errno::EINVAL);
     }
     if len.unsigned_abs() > bounds.file_size {

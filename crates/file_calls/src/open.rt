@@ -5,13 +5,13 @@ ghost use Rattle.posix_model.specs.Open.{found_faults, room_faults, open_faults,
 
 use crate::opening::{flag_fault, name_fault, new_description};
 use call_types::bounded::Name;
+use call_types::description::Description;
 use call_types::errno::Errno;
 use call_types::flags::OpenFlags;
 use call_types::limits::{DESCRIPTIONS_MAX, NAMES_MAX};
 use call_types::outcome::Reply;
 use posix_model::change::{Decided, FileEdit, TableEdit, does, refused};
 use posix_model::reader::Reader;
-use posix_model::world::Description;
 use std::alloc::AllocError;
 
 /// The first refusal of what a name leads to: ENOENT, EEXIST or EINVAL.

@@ -3,10 +3,10 @@ ghost use Rattle.std.specs.List.{list_all};
 ghost use Rattle.posix_model.specs.Pages.{first_fault};
 ghost use Rattle.posix_model.specs.Open.{is_name_byte, is_dots, name_faults, flag_faults, mode_of, new_description};
 
+use call_types::description::{Description, Mode, Target};
 use call_types::errno::Errno;
 use call_types::flags::OpenFlags;
 use call_types::limits::NAME_MAX;
-use posix_model::world::{Description, Mode, Target};
 
 /// Whether a byte may stand in a name (XBD 3, Portable Filename Character Set).
 fn is_name_byte(byte: u8) -> bool

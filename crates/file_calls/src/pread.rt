@@ -3,7 +3,7 @@ ghost use Rattle.posix_model.specs.Descriptors.{opened};
 ghost use Rattle.posix_model.specs.Pages.{first_fault, on_open};
 ghost use Rattle.posix_model.specs.Pread.{pread_faults, pread};
 
-use crate::targets::{can_read, file_at, is_regular};
+use crate::targets::{file_at, is_regular};
 use call_types::errno::Errno;
 use call_types::limits::TRANSFER_MAX;
 use call_types::outcome::Reply;
@@ -16,7 +16,7 @@ use std::alloc::{AllocError, Global};
 fn pread_fault(descriptor: OpenDescriptor, start: i64, count: usize) -> Option<Errno>
     ensures { result ≡ first_fault (pread_faults start count descriptor) }
 {
-    if !can_read(descriptor.description.mode) {
+    if !descriptor.description.mode.can_read() {
         return Some(Errno::EBADF);
     }
     if !is_regular(descriptor) {

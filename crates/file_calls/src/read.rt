@@ -3,7 +3,7 @@ ghost use Rattle.posix_model.specs.Descriptors.{opened};
 ghost use Rattle.posix_model.specs.Pages.{first_fault, on_open};
 ghost use Rattle.posix_model.specs.Read.{read_faults, gives, read};
 
-use crate::targets::{can_read, file_at, is_regular};
+use crate::targets::{file_at, is_regular};
 use call_types::bounded::Content;
 use call_types::errno::Errno;
 use call_types::limits::TRANSFER_MAX;
@@ -17,7 +17,7 @@ use std::alloc::{AllocError, Global};
 fn read_fault(descriptor: OpenDescriptor, count: usize) -> Option<Errno>
     ensures { result ≡ first_fault (read_faults count descriptor) }
 {
-    if !can_read(descriptor.description.mode) {
+    if !descriptor.description.mode.can_read() {
         return Some(Errno::EBADF);
     }
     if count > TRANSFER_MAX {

@@ -1,29 +1,8 @@
 ghost use Rattle.std.specs.Prelude.{◌≡◌};
-ghost use Rattle.posix_model.specs.Counts.{can_read, can_write};
 ghost use Rattle.posix_model.specs.Positions.{regular_file, is_regular, file_at};
 
+use call_types::description::Target;
 use posix_model::opened::OpenDescriptor;
-use posix_model::world::{Mode, Target};
-
-/// Whether a mode has reading.
-pub(crate) fn can_read(mode: Mode) -> bool
-    ensures { result ≡ can_read mode }
-{
-    match mode {
-        Mode::Read | Mode::ReadWrite => true,
-        Mode::Write => false,
-    }
-}
-
-/// Whether a mode has writing.
-pub(crate) fn can_write(mode: Mode) -> bool
-    ensures { result ≡ can_write mode }
-{
-    match mode {
-        Mode::Write | Mode::ReadWrite => true,
-        Mode::Read => false,
-    }
-}
 
 /// The regular file that a target is, which has positions.
 fn regular_file(target: Target) -> Option<usize>

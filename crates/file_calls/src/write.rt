@@ -5,7 +5,7 @@ ghost use Rattle.posix_model.specs.Pages.{first_fault, on_open};
 ghost use Rattle.posix_model.specs.Write.{write_start, write_faults, write};
 
 use crate::puts::{fitting, is_past_limit, puts};
-use crate::targets::{can_write, file_at, is_regular};
+use crate::targets::{file_at, is_regular};
 use call_types::errno::Errno;
 use call_types::limits::{Bounds, TRANSFER_MAX};
 use posix_model::change::{Decided, TableEdit, refused};
@@ -32,7 +32,7 @@ fn write_fault(
 ) -> Option<Errno>
     ensures { result ≡ first_fault (write_faults bounds start bytes.now descriptor) }
 {
-    if !can_write(descriptor.description.mode) {
+    if !descriptor.description.mode.can_write() {
         return Some(Errno::EBADF);
     }
     if bytes.len() > TRANSFER_MAX {

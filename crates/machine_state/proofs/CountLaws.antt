@@ -7,14 +7,15 @@ use Rattle.std.specs.Cmp.Lexicographic.{slice_cmp}
 use Rattle.std.specs.FinMap.Entries.{by_order}
 use Rattle.std.specs.declared.cmp.Ordering.TheVariants.{Less, Equal, Greater}
 use Rattle.call_types.specs.declared.limits.TheConstants.{OPEN_MAX}
-use Rattle.posix_model.specs.Slots.{slot, live, edited}
+use Rattle.slots.specs.Slots.{slot, live, edited}
 use Rattle.call_types.specs.Names.{Entries, file_of, with_name, without_name}
 use Rattle.posix_model.specs.Counts.{links, refers, refs, refs_of, holds, holders}
-use Rattle.posix_model.specs.Descriptors.{at_offset, with_entry, table_of}
+use Rattle.call_types.specs.Descriptions.{at_offset}
+use Rattle.posix_model.specs.Descriptors.{with_entry, table_of}
 use Rattle.posix_model.specs.Whole.{EachThere}
 use Rattle.machine_state.specs.Types.{Process, Description, Target}
 use Rattle.machine_state.specs.Targets.{file_of_target}
-use Rattle.posix_model.specs.declared.world.Target.TheVariants as target
+use Rattle.call_types.specs.declared.description.Target.TheVariants as target
 use Rattle.posix_model.specs.Counts.{is_file}
 use Rattle.machine_state.proofs.SlotLaws.{one, there_below}
 

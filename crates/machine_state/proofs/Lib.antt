@@ -1,6 +1,6 @@
 pub mod SlotLaws
-pub mod EntryLaws
 pub mod UseLaws
 pub mod FileLaws
+pub mod LinkLaws
 pub mod CountLaws
 pub mod StoredLaws

@@ -3,31 +3,37 @@ use Rattle.std.specs.Prelude.{is_some, ◌==◌}
 use Rattle.std.specs.Option.{option_map}
 use Rattle.std.proofs.lemmas.Bool.{lt-ltb}
 use Rattle.call_types.specs.declared.limits.TheConstants.{OPEN_MAX, NAMES_MAX, DESCRIPTIONS_MAX, PROCESSES_MAX}
-use Rattle.posix_model.specs.Slots.{slot, live, edited}
+use Rattle.slots.specs.Slots.{slot, live, edited}
 use Rattle.call_types.specs.Names.{file_of, with_name, without_name}
 use Rattle.posix_model.specs.Counts.{links, refers, refs, holders}
 use Rattle.posix_model.specs.Sweep.{sweep, is_open, is_referred}
-use Rattle.posix_model.specs.Descriptors.{at_offset, with_entry, with_descriptor, with_offset, table_of}
+use Rattle.call_types.specs.Descriptions.{at_offset}
+use Rattle.posix_model.specs.Descriptors.{with_entry, with_descriptor, with_offset, table_of}
 use Rattle.posix_model.specs.Change.{with_description}
 use Rattle.posix_model.specs.Whole.{EachThere, is_fifo, IsThere, TargetIsThere}
 use Rattle.posix_model.specs.Fits.{CanOpen, CanSet}
 use Rattle.posix_model.specs.Released.{IsSettled, IsItsFifo, StaysBut, SettledStays, SweepReleases, NamesRelease, released, files_after, fifos_after, pipes_after}
 use Rattle.machine_state.specs.Types.{World, Process, Description, Target, File, Used}
 use Rattle.posix_model.specs.declared.world.File.TheVariants as file
-use Rattle.posix_model.specs.declared.world.Target.TheVariants as target
-use Rattle.machine_state.specs.Uses.{uses_at, values_in, used_once, with_use, without_use, lost, with_value}
-use Rattle.machine_state.specs.Targets.{file_of_target, file_held}
-use Rattle.machine_state.specs.Held.{file_slot, file_slots, Stored, world_in}
+use Rattle.call_types.specs.declared.description.Target.TheVariants as target
+use Rattle.slots.specs.Uses.{uses_at, value_at, values_in, used_once, use_added, use_dropped, with_value}
+use Rattle.description_table.specs.Drops.{dropped}
+use Rattle.machine_state.specs.Uses.{with_use, without_use, lost}
+use Rattle.machine_state.specs.Targets.{file_of_target, file_of_gone}
+use Rattle.machine_state.specs.Files.{FileState, named, unnamed, file_slot, file_slots, links_at}
+use Rattle.machine_state.specs.Held.{Stored, world_in}
 use Rattle.machine_state.specs.Consistent.{IsConsistent}
-use Rattle.machine_state.proofs.SlotLaws.{one, other_number, slot_set}
-use Rattle.machine_state.proofs.UseLaws.{Counted, there_values, counted_as, counted_more, values_more, counted_added, values_added, length_values, counted_edited, values_edited, StaysUsed, Goes, LosesUse, loses_use}
-use Rattle.machine_state.proofs.FileLaws.{slot_files, some_regular, regular_stays, fifo_stays, file_slots_set, files_there}
+use Rattle.machine_state.proofs.SlotLaws.{one, other_number, is_itself, slot_set}
+use Rattle.machine_state.proofs.UseLaws.{Counted, slot_values, there_edited, there_values, counted_as, counted_more, values_more, counted_added, values_added, length_values, counted_edited, values_edited, StaysUsed, Goes, LosesUse, loses_use}
+use Rattle.machine_state.proofs.FileLaws.{Files, slot_files, regular_there, regular_stays, fifo_stays, file_slots_set, files_there, files_same}
+use Rattle.machine_state.proofs.LinkLaws.{Linked, linked_named, linked_unnamed, linked_added, linked_edited, linked_less}
 use Rattle.machine_state.proofs.CountLaws.{refs_entry, refs_most, holders_most, count_most, holders_gone, holders_added, holders_same, links_added, names_longer, names_shorter, live_set, live_added, live_edited}
 
 -- what holds of a machine, with each count told at its slot
 pub record Facts (s : Stored) : Type 0 where
   pub references : Counted s.descriptions (λ n. refs s.processes n)
   pub holders : Counted s.files (λ f. links s.names f + holders (values_in s.descriptions) f)
+  pub links : Linked (values_in s.files) (λ f. links s.names f)
   pub tables : EachThere (λ process. length process.table ≡ OPEN_MAX) s.processes
   pub few_processes : live s.processes ≤ PROCESSES_MAX
   pub few_descriptions : live (values_in s.descriptions) ≤ DESCRIPTIONS_MAX
@@ -37,6 +43,7 @@ pub facts_of : (s : Stored) → IsConsistent s → Facts s
 facts_of s all = record {
   references = λ n. record { uses = all.references n; some = λ there. all.settled.descriptions n (there_values s.descriptions n ∙ there) };
   holders = λ f. record { uses = all.holders f; some = λ there. all.settled.files f (files_there s.files f ∙ there) };
+  links = all.links;
   tables = all.tables;
   few_processes = all.few_processes;
   few_descriptions = all.few_descriptions;
@@ -47,7 +54,7 @@ facts_of s all = record {
 pub no_fifo : (s : Stored) (t : Target) → IsItsFifo (world_in s).files t
 no_fifo s t g x p is has here = absurd (regular (slot (values_in s.files) g) (sym (slot_files (values_in s.files) g) ∙ is))
   where
-    regular : (b : Option (List ℕ × ℕ)) → file_slot b ≡ Some (file.Fifo x) → ⊥
+    regular : (b : Option FileState) → file_slot b ≡ Some (file.Fifo x) → ⊥
     regular None e = cc
     regular (Some b) e = cc
 
@@ -63,6 +70,7 @@ pub consistent_of : (s : Stored) → Facts s → IsConsistent s
 consistent_of s facts = record {
   references = λ n. (facts.references n).uses;
   holders = λ f. (facts.holders f).uses;
+  links = facts.links;
   settled = settled s facts;
   tables = facts.tables;
   few_processes = facts.few_processes;
@@ -82,17 +90,23 @@ few_holders s all f =
     let names : length s.names ≤ 1024 = all.few_names in
     omega (arith, most, names, all.holders f, holders_most (values_in s.descriptions) f, count_most (λ entry. entry.1 == f) s.names)
 
+pub few_links : (s : Stored) → IsConsistent s → (f : ℕ) → links_at (slot (values_in s.files) f) ≤ 1024
+few_links s all f =
+    let names : length s.names ≤ 1024 = all.few_names in
+    omega (arith, names, all.links f, count_most (λ entry. entry.1 == f) s.names)
+
 module _ (s : Stored) (all : IsConsistent s) where
   abbrev ds : List (Option Description)
   ds = values_in s.descriptions
 
   -- a file has other bytes
-  pub after_bytes : (n : ℕ) (f : List ℕ × ℕ → List ℕ × ℕ) → IsConsistent (record s { files = edited n (with_value f) s.files })
-  after_bytes n f =
+  pub after_bytes : (n : ℕ) (f : FileState → FileState) → ((state : FileState) → (f state).links ≡ state.links) → IsConsistent (record s { files = edited n (with_value f) s.files })
+  after_bytes n f same =
       let facts = facts_of s all in
       consistent_of (record s { files = edited n (with_value f) s.files }) (record {
         references = facts.references;
         holders = counted_edited s.files (λ g. links s.names g + holders ds g) n f facts.holders;
+        links = rw (values_edited s.files n f) (linked_edited (values_in s.files) (λ g. links s.names g) n f same facts.links);
         tables = facts.tables;
         few_processes = facts.few_processes;
         few_descriptions = facts.few_descriptions;
@@ -100,14 +114,16 @@ module _ (s : Stored) (all : IsConsistent s) where
       })
 
   -- an empty file has a new name
-  pub after_create : (name : List ℕ) (buffer : List ℕ × ℕ) → file_of name s.names ≡ None → length s.names < NAMES_MAX →
-      IsConsistent (record s { files = s.files ++ Some (used_once buffer) ∷ []; names = with_name name (length s.files) s.names })
-  after_create name buffer new few =
+  pub after_create : (name : List ℕ) (state : FileState) → state.links ≡ 1 → file_of name s.names ≡ None → length s.names < NAMES_MAX →
+      IsConsistent (record s { files = s.files ++ Some (used_once state) ∷ []; names = with_name name (length s.files) s.names })
+  after_create name state single new few =
       let facts = facts_of s all in
-      consistent_of (record s { files = s.files ++ Some (used_once buffer) ∷ []; names = with_name name (length s.files) s.names }) (record {
+      consistent_of (record s { files = s.files ++ Some (used_once state) ∷ []; names = with_name name (length s.files) s.names }) (record {
         references = facts.references;
-        holders = counted_added s.files (λ g. links s.names g + holders ds g) (λ g. links (with_name name (length s.files) s.names) g + holders ds g) buffer facts.holders
+        holders = counted_added s.files (λ g. links s.names g + holders ds g) (λ g. links (with_name name (length s.files) s.names) g + holders ds g) state facts.holders
             (λ g. omega (arith, links_added name (length s.files) g s.names new));
+        links = rw (values_added s.files state) (linked_added (values_in s.files) (λ g. links s.names g) (λ g. links (with_name name (length s.files) s.names) g) facts.links state single
+            (λ g. rw (length_values s.files) (links_added name (length s.files) g s.names new)));
         tables = facts.tables;
         few_processes = facts.few_processes;
         few_descriptions = facts.few_descriptions;
@@ -115,28 +131,37 @@ module _ (s : Stored) (all : IsConsistent s) where
       })
 
   -- a file that is there has one more name
+  abbrev named_files : ℕ → Files
+  named_files file = edited file (with_value named) s.files
+
   abbrev pub linked : List ℕ → ℕ → Stored
-  linked name file = record s { files = with_use (Some file) s.files; names = with_name name file s.names }
+  linked name file = record s { files = use_added file (named_files file); names = with_name name file s.names }
+
+  same_entry : (a b : ℕ) → Some a ≡ Some b → a ≡ b
+  same_entry a b e = cc
 
   pub after_link : (name : List ℕ) (file : ℕ) → file_of name s.names ≡ None → IsThere (world_in s).files file → length s.names < NAMES_MAX → IsConsistent (linked name file)
   after_link name file new there few =
       let facts = facts_of s all in
+      let stored : is_some (slot s.files file) ≡ true = sym (files_there s.files file) ∙ there in
+      let xs = named_files file in
+      let values : values_in (use_added file xs) ≡ edited file named (values_in s.files) = values_more xs (Some file) ∙ values_edited s.files file named in
+      let more : (g : ℕ) → links (with_name name file s.names) g ≡ links s.names g + one (file == g) = λ g. links_added name file g s.names new in
       consistent_of (linked name file) (record {
         references = facts.references;
-        holders = counted_more s.files (λ g. links s.names g + holders ds g) (λ g. links (with_name name file s.names) g + holders ds g) (Some file) facts.holders
-            (λ n is. let P : ℕ → Type 0 = λ k. is_some (slot s.files k) ≡ true in subst P (same_entry file n is) (sym (files_there s.files file) ∙ there))
-            (λ g. omega (arith, links_added name file g s.names new));
+        holders = counted_more xs (λ g. links s.names g + holders ds g) (λ g. links (with_name name file s.names) g + holders ds g) (Some file)
+            (counted_edited s.files (λ g. links s.names g + holders ds g) file named facts.holders)
+            (λ n is. let P : ℕ → Type 0 = λ k. is_some (slot xs k) ≡ true in subst P (same_entry file n is) (there_edited s.files file (with_value named) file stored))
+            (λ g. omega (arith, more g));
+        links = rw values (linked_named (values_in s.files) (λ g. links s.names g) (λ g. links (with_name name file s.names) g) facts.links file (there_values s.files file ∙ stored) more);
         tables = facts.tables;
         few_processes = facts.few_processes;
         few_descriptions = facts.few_descriptions;
         few_names = omega (arith, few, names_longer name file s.names new);
       })
-    where
-      same_entry : (a b : ℕ) → Some a ≡ Some b → a ≡ b
-      same_entry a b e = cc
 
   pub linked_world : (name : List ℕ) (file : ℕ) → world_in (linked name file) ≡ record (world_in s) { names = with_name name file s.names }
-  linked_world name file = rw (values_more s.files (Some file)) refl
+  linked_world name file = rw (values_more (named_files file) (Some file), files_same s.files file named (λ _. refl)) refl
 
   -- a description has another offset
   pub after_offset : (n offset : ℕ) → IsConsistent (record s { descriptions = edited n (with_value (at_offset offset)) s.descriptions })
@@ -148,6 +173,7 @@ module _ (s : Stored) (all : IsConsistent s) where
         references = counted_edited s.descriptions (λ m. refs s.processes m) n (at_offset offset) facts.references;
         holders = counted_as s.files (λ f. links s.names f + holders ds f) (λ f. links s.names f + holders (values_in t.descriptions) f) facts.holders
             (λ f. rw values (ap (λ k. links s.names f + k) (holders_same ds n offset f)));
+        links = facts.links;
         tables = facts.tables;
         few_processes = facts.few_processes;
         few_descriptions = rw values (omega (arith, facts.few_descriptions, live_edited ds n (at_offset offset)));
@@ -176,8 +202,8 @@ module _ (s : Stored) (all : IsConsistent s) where
       same_some a b e = cc
 
   -- what is opened is there
-  target_there : (t : Target) → TargetIsThere (world_in s).files (world_in s).pipes t → (n : ℕ) → file_of_target t ≡ Some n → is_some (slot s.files n) ≡ true
-  target_there (target.Regular f) there n is = let P : ℕ → Type 0 = λ k. is_some (slot s.files k) ≡ true in subst P (same_number f n is) (sym (files_there s.files f) ∙ some_regular (slot (world_in s).files f) there)
+  pub target_there : (t : Target) → TargetIsThere (world_in s).files (world_in s).pipes t → (n : ℕ) → file_of_target t ≡ Some n → is_some (slot s.files n) ≡ true
+  target_there (target.Regular f) there n is = let P : ℕ → Type 0 = λ k. is_some (slot s.files k) ≡ true in subst P (same_number f n is) (regular_there s.files f there)
     where
       same_number : (a b : ℕ) → Some a ≡ Some b → a ≡ b
       same_number a b e = cc
@@ -212,6 +238,7 @@ module _ (s : Stored) (all : IsConsistent s) where
             (λ n. omega (arith, refs_entry s.processes p fd (Some (length s.descriptions)) n within, nothing n));
         holders = counted_more s.files (λ f. links s.names f + holders ds f) (λ f. links s.names f + holders es f) (file_of_target d.target) facts.holders (target_there d.target can.there)
             (λ f. rw values (omega (arith, holders_added ds d f)));
+        links = rw (values_more s.files (file_of_target d.target)) facts.links;
         tables = same_tables p fd (Some (length s.descriptions)) free.process free.process_is;
         few_processes = omega (arith, facts.few_processes, live_edited s.processes p (with_entry fd (Some (length s.descriptions))));
         few_descriptions = rw values (omega (arith, few, live_added ds d));
@@ -221,23 +248,29 @@ module _ (s : Stored) (all : IsConsistent s) where
   pub opened_world : (p fd : ℕ) (d : Description) → world_in (opened p fd d) ≡ with_description (world_in s) p fd d
   opened_world p fd d = rw (values_more s.files (file_of_target d.target), values_added s.descriptions d, length_values s.descriptions) refl
 
-  -- a file whose holder goes
-  released_as : (new : ℕ → ℕ) (f : ℕ) → StaysUsed s.files new (Some f) ⊎ Goes s.files new (Some f) →
-      cond (ltb 0 (new f)) (file_slots (values_in s.files)) (set (file_slots (values_in s.files)) f None) ≡ file_slots (values_in (without_use (Some f) s.files))
-  released_as new f (inl stays) =
+  -- a file that loses a use
+  released_as : (xs : Files) (new : ℕ → ℕ) (f : ℕ) → StaysUsed xs new (Some f) ⊎ Goes xs new (Some f) →
+      cond (ltb 0 (new f)) (file_slots (values_in xs)) (set (file_slots (values_in xs)) f None) ≡ file_slots (values_in (without_use (Some f) xs))
+  released_as xs new f (inl stays) =
       let still : ltb 0 (new f) ≡ true = lt-ltb 0 (new f) (stays.used f refl) in
       rw (still, stays.values) refl
-  released_as new f (inr goes) =
-      let same : goes.number ≡ f = same_number f goes.number goes.entry_is in
+  released_as xs new f (inr goes) =
+      let same : goes.number ≡ f = sym (same_entry f goes.number goes.entry_is) in
       let gone : ltb 0 (new f) ≡ false = rw (← same, goes.none) refl in
-      rw (gone, goes.values, same) (sym (file_slots_set (values_in s.files) f None))
-    where
-      same_number : (a b : ℕ) → Some a ≡ Some b → b ≡ a
-      same_number a b e = cc
+      rw (gone, goes.values, same) (sym (file_slots_set (values_in xs) f None))
 
   -- a name is taken away, and a file that has lost its last use is gone
+  abbrev unnamed_files : ℕ → Files
+  unnamed_files file = edited file (with_value unnamed) s.files
+
   abbrev pub unlinked : List ℕ → ℕ → Stored
-  unlinked name file = record s { files = without_use (Some file) s.files; names = without_name name s.names }
+  unlinked name file = record s { files = use_dropped file (unnamed_files file); names = without_name name s.names }
+
+  -- a name that is taken away was one of its file
+  pub some_link : (name : List ℕ) (file : ℕ) → ((g : ℕ) → links (without_name name s.names) g + one (file == g) ≡ links s.names g) → 0 < links_at (value_at (slot s.files file))
+  some_link name file fewer =
+      let once : one (file == file) ≡ 1 = ap one (is_itself file) in
+      omega (arith, once, fewer file, all.links file, ap links_at (slot_values s.files file))
 
   pub record IsUnlinked (name : List ℕ) (t : Stored) : Type 0 where
     pub consistent : IsConsistent t
@@ -247,27 +280,32 @@ module _ (s : Stored) (all : IsConsistent s) where
   after_unlink name file fewer release =
       let facts = facts_of s all in
       let names = without_name name s.names in
-      let left = loses_use s.files (λ g. links s.names g + holders ds g) (λ g. links names g + holders ds g) (Some file) facts.holders (λ g. omega (arith, fewer g)) in
+      let xs = unnamed_files file in
+      let uses : ℕ → ℕ = λ g. links names g + holders ds g in
+      let left = loses_use xs (λ g. links s.names g + holders ds g) uses (Some file) (counted_edited s.files (λ g. links s.names g + holders ds g) file unnamed facts.holders) (λ g. omega (arith, fewer g)) in
       let law = release (world_in s) names file all.settled (λ g apart some. let none : one (file == g) ≡ 0 = ap one (other_number g file apart) in omega (arith, none, some, fewer g)) in
+      let same : file_slots (values_in xs) ≡ file_slots (values_in s.files) = files_same s.files file unnamed (λ _. refl) in
       record {
         consistent = consistent_of (unlinked name file) (record {
           references = facts.references;
           holders = left.counted;
+          links = linked_less xs uses (λ g. links names g) (Some file) left.either (λ g. omega arith)
+              (rw (values_edited s.files file unnamed) (linked_unnamed (values_in s.files) (λ g. links s.names g) (λ g. links names g) facts.links file fewer));
           tables = facts.tables;
           few_processes = facts.few_processes;
           few_descriptions = facts.few_descriptions;
           few_names = omega (arith, facts.few_names, names_shorter name s.names);
         });
-        world = sym (law ∙ ap (λ fs. record (world_in s) { names = names; files = fs }) (released_as (λ g. links names g + holders ds g) file left.either));
+        world = sym (law ∙ ap (λ fs. record (world_in s) { names = names; files = fs }) (rw same at (released_as xs uses file left.either)));
       }
 
   files_released : (es : List (Option Description)) (t : Target) → StaysUsed s.files (λ f. links s.names f + holders es f) (file_of_target t) ⊎ Goes s.files (λ f. links s.names f + holders es f) (file_of_target t) →
       files_after s.names es (fifos_after es (world_in s).files t) t ≡ file_slots (values_in (without_use (file_of_target t) s.files))
-  files_released es (target.Regular f) either = released_as (λ f. links s.names f + holders es f) f either
+  files_released es (target.Regular f) either = released_as s.files (λ f. links s.names f + holders es f) f either
   files_released es (target.Pipe p) either = refl
   files_released es (target.Fifo f p) either =
       let same : fifos_after es (world_in s).files (target.Fifo f p) ≡ (world_in s).files = fifo_stays es (values_in s.files) f in
-      rw same (released_as (λ f. links s.names f + holders es f) f either)
+      rw same (released_as s.files (λ f. links s.names f + holders es f) f either)
 
   pipes_released : (es : List (Option Description)) (t : Target) → pipes_after es (world_in s).pipes t ≡ []
   pipes_released es (target.Regular f) = refl
@@ -277,7 +315,7 @@ module _ (s : Stored) (all : IsConsistent s) where
   -- a descriptor refers to another description or is free, and what has lost its last use is gone
   abbrev pub entry_set : ℕ → ℕ → Option ℕ → Option Description → Stored
   entry_set p fd entry gone = record s {
-    files = without_use (file_held gone) s.files;
+    files = without_use (file_of_gone (dropped gone)) s.files;
     descriptions = without_use (slot (table_of (slot s.processes p)) fd) (with_use entry s.descriptions);
     processes = edited p (with_entry fd entry) s.processes;
   }
@@ -312,6 +350,7 @@ module _ (s : Stored) (all : IsConsistent s) where
         let now : Facts t = record {
           references = loses.counted;
           holders = rw values facts.holders;
+          links = facts.links;
           tables = same_tables p fd entry can.process can.process_is;
           few_processes = omega (arith, facts.few_processes, live_edited s.processes p (with_entry fd entry));
           few_descriptions = rw values facts.few_descriptions;
@@ -333,6 +372,7 @@ module _ (s : Stored) (all : IsConsistent s) where
         let now : Facts t = record {
           references = loses.counted;
           holders = rw values left.counted;
+          links = linked_less s.files (λ f. links s.names f + holders es f) (λ f. links s.names f) (file_of_target last.value.target) left.either (λ f. omega arith) facts.links;
           tables = same_tables p fd entry can.process can.process_is;
           few_processes = omega (arith, facts.few_processes, live_edited s.processes p (with_entry fd entry));
           few_descriptions = rw values (omega (arith, facts.few_descriptions, live_set ds last.number last.value None is));

@@ -1,35 +1,16 @@
-use Rattle.std.proofs.Common.{◌≡◌, ◌≢◌, ℕ, zero, suc, ◌+◌, ◌-◌, ◌<◌, ◌∙◌, true, false, List, [], ◌∷◌, ◌++◌, Option, None, Some, length, set, refl, ap, sym, subst, arith, ltb, ◌⊎◌, inl, inr}
+use Rattle.std.proofs.Common.{◌≡◌, ◌≢◌, ℕ, zero, suc, ◌+◌, ◌-◌, ◌<◌, ◌∙◌, true, false, List, [], ◌∷◌, ◌++◌, Option, None, Some, length, set, refl, ap, sym, subst, arith, cond, ltb, eqb, ◌⊎◌, inl, inr}
 use Rattle.std.specs.Prelude.{is_some, ◌==◌}
 use Rattle.std.specs.Option.{option_map}
 use Rattle.std.proofs.lemmas.List.{map-set}
 use Rattle.std.proofs.Math.Seq.{map-set_same}
+use Rattle.std.proofs.Math.ListN.{get_or-map, get_or-eq_default}
 use Rattle.std.proofs.lemmas.Bool.{lt-ltb, ltb-true}
-use Rattle.posix_model.specs.Slots.{slot, edited}
+use Rattle.slots.specs.Slots.{slot, edited}
 use Rattle.posix_model.specs.Counts.{refers}
 use Rattle.machine_state.specs.Types.{Used}
-use Rattle.machine_state.specs.Uses.{uses_at, value_at, values_in, used_once, one_more, one_less, last_value, with_use, without_use, lost, with_value}
-use Rattle.machine_state.proofs.SlotLaws.{one, same_or_not, is_itself, slot_set, slot_mapped, slot_past, slot_added, set_none}
-
--- what one use less leaves at a slot, and what goes with it
-pub record IsLess {T : Type 0} (used : Used T) (left : Option (Used T)) (gone : Option T) : Type 0 where
-  pub slot : one_less (Some used) ≡ left
-  pub lost : last_value (Some used) ≡ gone
-
-pub more_left : {T : Type 0} (used : Used T) → 1 < used.uses → IsLess used (Some (record used { uses = used.uses - 1 })) None
-more_left used more =
-    let test : ltb 1 used.uses ≡ true = lt-ltb 1 used.uses more in
-    record { slot = rw test refl; lost = rw test refl }
-
-not_below : (k n : ℕ) → (k < n → ⊥) → ltb k n ≡ false
-not_below k n h = elim (ltb k n) as (λ b. ltb k n ≡ b → b ≡ false) [
-  | true ↦ λ e. absurd (h (ltb-true k n e))
-  | false ↦ λ _. refl
-] refl
-
-pub none_left : {T : Type 0} (used : Used T) → (1 < used.uses → ⊥) → IsLess used None (Some used.value)
-none_left used last =
-    let test : ltb 1 used.uses ≡ false = not_below 1 used.uses last in
-    record { slot = rw test refl; lost = rw test refl }
+use Rattle.slots.specs.Uses.{uses_at, value_at, values_in, used_once, one_more, one_less, with_value}
+use Rattle.machine_state.specs.Uses.{with_use, without_use, lost}
+use Rattle.machine_state.proofs.SlotLaws.{one, same_or_not, is_itself, slot_set, slot_added, set_none}
 
 -- a count is that of a total, and what is there is used
 pub record Tells {T : Type 0} (x : Option (Used T)) (total : ℕ) : Type 0 where
@@ -41,7 +22,7 @@ Counted xs total = (n : ℕ) → Tells (slot xs n) (total n)
 
 module _ {T : Type 0} where
   pub slot_values : (xs : List (Option (Used T))) (n : ℕ) → slot (values_in xs) n ≡ value_at (slot xs n)
-  slot_values xs n = slot_mapped value_at refl xs n
+  slot_values xs n = get_or-map value_at xs n None
 
   as_full : (x : Option (Used T)) → is_some (value_at x) ≡ is_some x
   as_full None = refl
@@ -49,6 +30,18 @@ module _ {T : Type 0} where
 
   pub there_values : (xs : List (Option (Used T))) (n : ℕ) → is_some (slot (values_in xs) n) ≡ is_some (slot xs n)
   there_values xs n = ap is_some (slot_values xs n) ∙ as_full (slot xs n)
+
+  -- an edit takes nothing away
+  pub there_edited : (xs : List (Option (Used T))) (k : ℕ) (f : Used T → Used T) (n : ℕ) → is_some (slot xs n) ≡ true → is_some (slot (edited k f xs) n) ≡ true
+  there_edited xs k f n there = by_slot (slot xs k) refl
+    where
+      by_slot : (x : Option (Used T)) → slot xs k ≡ x → is_some (slot (edited k f xs) n) ≡ true
+      by_slot None is = rw (is, set_none xs k is) there
+      by_slot (Some x) is = rw (is, slot_set xs k x (Some (f x)) n is) (elim (eqb k n) as (λ b. is_some (cond b (Some (f x)) (slot xs n)) ≡ true) [ true ↦ refl | false ↦ there ])
+
+  -- a value that is written is edited
+  pub edited_as : (xs : List (Option (Used T))) (n : ℕ) (f : Used T → Used T) (x y : Used T) → slot xs n ≡ Some x → y ≡ f x → set xs n (Some y) ≡ edited n f xs
+  edited_as xs n f x y is same = ap (λ y. set xs n y) (ap Some same ∙ ap (option_map f) (sym is))
 
   -- what is used is there
   pub positive : (x : Option (Used T)) → 0 < uses_at x → is_some x ≡ true
@@ -99,7 +92,7 @@ module _ {T : Type 0} where
   counted_added xs old new value counted more n = elim (same_or_not (length xs) n) [
     | inl same ↦
         let once : one (length xs == n) ≡ 1 = ap one same.1 in
-        let none : uses_at (slot xs n) ≡ 0 = ap uses_at (slot_past xs n (omega (arith, same.0))) in
+        let none : uses_at (slot xs n) ≡ 0 = ap uses_at (get_or-eq_default xs None (omega (arith, same.0))) in
         rw (slot_added xs (Some (used_once value)) n, same.1) (record { uses = omega (arith, once, none, (counted n).uses, more n); some = λ _. omega (arith, once, more n) })
     | inr other ↦
         let none : one (length xs == n) ≡ 0 = ap one other.1 in
@@ -171,20 +164,18 @@ module _ {T : Type 0} where
           elim (ltb 1 used.uses) as (λ b. ltb 1 used.uses ≡ b → LosesUse xs new (Some k)) [
             | true ↦ λ e.
                 let many : 1 < used.uses = ltb-true 1 used.uses e in
-                let left = more_left used many in
-                let slot_is : one_less (slot xs k) ≡ Some (record used { uses = used.uses - 1 }) = ap one_less is ∙ left.slot in
+                let slot_is : one_less (slot xs k) ≡ Some (record used { uses = used.uses - 1 }) = ap one_less is ∙ rw e refl in
                 record {
                   counted = rw slot_is (counted_set xs old new k used (Some (record used { uses = used.uses - 1 })) counted is (record { uses = omega (arith, was); some = λ _. omega (arith, was, many) }) others);
                   either = inl (record {
                     used = λ n same. let P : ℕ → Type 0 = λ n. 0 < new n in subst P (same_some k n same) (omega (arith, was, many));
                     values = rw slot_is (map-set_same value_at xs k (Some (record used { uses = used.uses - 1 })) None (ap value_at (sym is)));
-                    lost = rw is left.lost;
+                    lost = rw (is, e) refl;
                   });
                 }
             | false ↦ λ e.
-                let last = none_left used (λ many. let bad : true ≡ false = sym (lt-ltb 1 used.uses many) ∙ e in cc) in
                 let few : used.uses ≡ 1 = single used.uses (new k) was e in
-                let slot_is : one_less (slot xs k) ≡ None = ap one_less is ∙ last.slot in
+                let slot_is : one_less (slot xs k) ≡ None = ap one_less is ∙ rw e refl in
                 let zero_left : new k ≡ 0 = omega (arith, was, few) in
                 record {
                   counted = rw slot_is (counted_set xs old new k used None counted is (record { uses = sym zero_left; some = λ h. cc }) others);
@@ -195,7 +186,7 @@ module _ {T : Type 0} where
                     is = slot_values xs k ∙ ap value_at is;
                     none = zero_left;
                     values = rw slot_is (map-set value_at xs k None);
-                    lost = rw is last.lost;
+                    lost = rw (is, e) refl;
                   });
                 }
           ] refl

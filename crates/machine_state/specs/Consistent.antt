@@ -1,17 +1,20 @@
 -- What holds of each machine.
-use Rattle.std.specs.Prelude.{◌≡◌, ◌+◌, ◌≤◌, length}
+use Rattle.std.specs.Prelude.{◌≡◌, ℕ, ◌+◌, ◌≤◌, length}
 use Rattle.call_types.specs.declared.limits.TheConstants.{OPEN_MAX, NAMES_MAX, DESCRIPTIONS_MAX, PROCESSES_MAX}
-use Rattle.posix_model.specs.Slots.{live}
+use Rattle.slots.specs.Slots.{slot, live}
 use Rattle.posix_model.specs.Counts.{links, refs, holders}
 use Rattle.posix_model.specs.Whole.{EachThere}
 use Rattle.posix_model.specs.Released.{IsSettled}
-use Rattle.machine_state.specs.Uses.{values_in, Counts}
+use Rattle.slots.specs.Uses.{values_in}
+use Rattle.machine_state.specs.Uses.{Counts}
+use Rattle.machine_state.specs.Files.{links_at}
 use Rattle.machine_state.specs.Held.{Stored, world_in}
 
 -- each count is that of the world, nothing waits for a sweep, and there is no more than the profile allows
 pub record IsConsistent (s : Stored) : Type 0 where
   pub references : Counts s.descriptions (λ n. refs s.processes n)
   pub holders : Counts s.files (λ f. links s.names f + holders (values_in s.descriptions) f)
+  pub links : (f : ℕ) → links_at (slot (values_in s.files) f) ≡ links s.names f
   pub settled : IsSettled (world_in s)
   pub tables : EachThere (λ process. length process.table ≡ OPEN_MAX) s.processes
   pub few_processes : live s.processes ≤ PROCESSES_MAX

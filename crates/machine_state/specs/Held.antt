@@ -1,9 +1,9 @@
 -- What contracts see of a machine: its world, and the room reserved.
-use Rattle.std.specs.Prelude.{ℕ, Bool, List, [], Option, None, Some, map}
+use Rattle.std.specs.Prelude.{ℕ, Bool, List, [], Option}
 use Rattle.call_types.specs.Names.{Entries}
-use Rattle.machine_state.specs.Types.{World, Process, Description, File, Used}
-use Rattle.posix_model.specs.declared.world.File.TheVariants as file
-use Rattle.machine_state.specs.Uses.{values_in}
+use Rattle.machine_state.specs.Types.{World, Process, Description, Used}
+use Rattle.slots.specs.Uses.{values_in}
+use Rattle.machine_state.specs.Files.{FileState, file_slots, room_slots}
 use Rattle.machine_state.specs.declared.machine.Machine.TheInside.{Inside}
 
 -- for how many more files, descriptions, processes and names there is room, and for how many bytes in all in each file
@@ -19,27 +19,9 @@ pub record Held : Type 0 where
   pub world : World
   pub room : Room
 
--- the bytes of a file with their room, as a file of a world
-abbrev pub file_slot : Option (List ℕ × ℕ) → Option File
-file_slot None = None
-file_slot (Some buffer) = Some (file.Regular buffer.0)
-
--- the same for each file
-abbrev pub file_slots : List (Option (List ℕ × ℕ)) → List (Option File)
-file_slots buffers = map file_slot buffers
-
--- the room for bytes at a slot
-abbrev pub room_slot : Option (List ℕ × ℕ) → ℕ
-room_slot None = 0
-room_slot (Some buffer) = buffer.1
-
--- the same for each file
-abbrev pub room_slots : List (Option (List ℕ × ℕ)) → List ℕ
-room_slots buffers = map room_slot buffers
-
 -- what a machine stores: its files and descriptions have the counts of their uses
 pub record Stored : Type 0 where
-  pub files : List (Option (Used (List ℕ × ℕ)))
+  pub files : List (Option (Used FileState))
   pub descriptions : List (Option (Used Description))
   pub processes : List (Option Process)
   pub names : Entries

@@ -1,7 +1,7 @@
 pub mod Types
-pub mod Entries
 pub mod Uses
 pub mod Targets
+pub mod Files
 pub mod Held
 pub mod Consistent
 pub mod Room

@@ -1,12 +1,13 @@
 -- The types that definitions and proofs name, in one place.
 pub use Rattle.posix_model.specs.declared.world.World.{World}
 pub use Rattle.posix_model.specs.declared.world.Process.{Process}
-pub use Rattle.posix_model.specs.declared.world.Description.{Description}
-pub use Rattle.posix_model.specs.declared.world.Target.{Target}
+pub use Rattle.call_types.specs.declared.description.Description.{Description}
+pub use Rattle.call_types.specs.declared.description.Target.{Target}
 pub use Rattle.posix_model.specs.declared.world.File.{File}
 pub use Rattle.posix_model.specs.declared.opened.OpenDescriptor.{OpenDescriptor}
 pub use Rattle.posix_model.specs.declared.change.FileEdit.{FileEdit}
 pub use Rattle.posix_model.specs.declared.change.ProcessEdit.{ProcessEdit}
 pub use Rattle.posix_model.specs.declared.change.TableEdit.{TableEdit}
 pub use Rattle.posix_model.specs.declared.change.Change.{Change}
-pub use Rattle.machine_state.specs.declared.numbered.used.Used.{Used}
+pub use Rattle.slots.specs.declared.used.Used.{Used}
+pub use Rattle.description_table.specs.declared.Dropped.{Dropped}

@@ -1,59 +1,24 @@
--- Slots with a count of their uses, which are empty after the last use.
-use Rattle.std.specs.Prelude.{◌≡◌, ℕ, ◌+◌, ◌-◌, nat_lt, List, Option, None, Some, map, slice_set, if◌then◌else◌}
-use Rattle.posix_model.specs.Slots.{slot, edited}
+-- Uses by entries, of which one that is free uses nothing.
+use Rattle.std.specs.Prelude.{◌≡◌, ℕ, List, Option, None, Some}
+use Rattle.slots.specs.Slots.{slot}
+use Rattle.slots.specs.Uses.{uses_at, last_value, use_added, use_dropped}
 use Rattle.machine_state.specs.Types.{Used}
-
--- the count at a slot
-abbrev pub uses_at : {T : Type 0} → Option (Used T) → ℕ
-uses_at None = 0
-uses_at (Some used) = used.uses
-
--- what is counted at a slot
-abbrev pub value_at : {T : Type 0} → Option (Used T) → Option T
-value_at None = None
-value_at (Some used) = Some used.value
-
--- the slots without their counts
-abbrev pub values_in : {T : Type 0} → List (Option (Used T)) → List (Option T)
-values_in slots = map value_at slots
 
 -- each count is that of a total
 abbrev pub Counts : {T : Type 0} → List (Option (Used T)) → (ℕ → ℕ) → Type 0
 Counts slots total = (n : ℕ) → uses_at (slot slots n) ≡ total n
 
--- a new value, with one use
-abbrev pub used_once : {T : Type 0} → T → Used T
-used_once value = record { value = value; uses = 1 }
-
--- a value that is used once more
-abbrev pub one_more : {T : Type 0} → Used T → Used T
-one_more used = record used { uses = used.uses + 1 }
-
--- a slot with one use less; it is empty after the last
-abbrev pub one_less : {T : Type 0} → Option (Used T) → Option (Used T)
-one_less None = None
-one_less (Some used) = if nat_lt 1 used.uses then Some (record used { uses = used.uses - 1 }) else None
-
--- the value at a slot whose last use goes
-abbrev pub last_value : {T : Type 0} → Option (Used T) → Option T
-last_value None = None
-last_value (Some used) = if nat_lt 1 used.uses then None else Some used.value
-
 -- the slots after something refers to this, if it refers to any
 abbrev pub with_use : {T : Type 0} → Option ℕ → List (Option (Used T)) → List (Option (Used T))
 with_use None slots = slots
-with_use (Some n) slots = edited n one_more slots
+with_use (Some n) slots = use_added n slots
 
 -- the slots after something refers to this no more, if it did to any
 abbrev pub without_use : {T : Type 0} → Option ℕ → List (Option (Used T)) → List (Option (Used T))
 without_use None slots = slots
-without_use (Some n) slots = slice_set slots n (one_less (slot slots n))
+without_use (Some n) slots = use_dropped n slots
 
 -- the value that goes with that
 abbrev pub lost : {T : Type 0} → Option ℕ → List (Option (Used T)) → Option T
 lost None slots = None
 lost (Some n) slots = last_value (slot slots n)
-
--- the same value with as many uses, after an edit of the value
-abbrev pub with_value : {T : Type 0} → (T → T) → Used T → Used T
-with_value edit used = record used { value = edit used.value }

@@ -1,16 +1,18 @@
 ghost use Rattle.std.specs.Prelude.{◌≡◌, ◌<◌};
 ghost use Rattle.call_types.specs.declared.limits.TheConstants.{DESCRIPTIONS_MAX};
-ghost use Rattle.posix_model.specs.Slots.{live};
+ghost use Rattle.slots.specs.Slots.{live};
 ghost use Rattle.posix_model.specs.Descriptors.{with_descriptor, with_offset};
 ghost use Rattle.posix_model.specs.Change.{with_description};
 ghost use Rattle.posix_model.specs.Fits.{CanOpen, CanSet};
 ghost use Rattle.posix_model.specs.Sweep.{sweep};
-ghost use Rattle.machine_state.specs.Targets.{file_of_target, file_held};
+ghost use Rattle.machine_state.specs.Targets.{file_of_target, file_of_gone};
 
+use crate::entries::{drop_entry, hold_entry, replace_entry};
 use crate::machine::Machine;
-use crate::numbered::used::Used;
+use crate::stored_files::{drop_file, hold_file};
+use call_types::description::{Description, Target};
+use description_table::Dropped;
 use posix_model::laws::sweep_releases;
-use posix_model::world::{Description, Target};
 
 /// The file that a target holds, if it holds one.
 fn file_of_target(target: Target) -> Option<usize>
@@ -23,12 +25,12 @@ fn file_of_target(target: Target) -> Option<usize>
 }
 
 /// The file that a description held, if one went and it held one.
-fn file_held(gone: Option<Description>) -> Option<usize>
-    ensures { result ≡ file_held gone }
+fn file_of_gone(dropped: Dropped) -> Option<usize>
+    ensures { result ≡ file_of_gone dropped }
 {
-    match gone {
-        Some(description) => file_of_target(description.target),
-        None => None,
+    match dropped {
+        Dropped::Gone { target } => file_of_target(target),
+        Dropped::Still => None,
     }
 }
 
@@ -50,12 +52,9 @@ impl Machine {
     {
         sweep_releases();
         let number = self.descriptions.next();
-        self.files.add_use(file_of_target(description.target));
-        self.descriptions.push(Used {
-            value: description,
-            uses: 1,
-        });
-        self.processes.replace_entry(process, fd, Some(number));
+        hold_file(&mut self.files, file_of_target(description.target));
+        self.descriptions.add(description);
+        replace_entry(&mut self.processes, process, fd, Some(number));
     }
 
     /// Lets a descriptor refer to a description that is there, or frees it. The description that it referred to before
@@ -65,9 +64,9 @@ impl Machine {
         ensures { self.new.world ≡ sweep (with_descriptor self.old.world process fd entry) }
     {
         sweep_releases();
-        self.descriptions.add_use(entry);
-        let old = self.processes.replace_entry(process, fd, entry);
-        let gone = self.descriptions.drop_use(old);
-        self.files.drop_use(file_held(gone));
+        hold_entry(&mut self.descriptions, entry);
+        let old = replace_entry(&mut self.processes, process, fd, entry);
+        let dropped = drop_entry(&mut self.descriptions, old);
+        drop_file(&mut self.files, file_of_gone(dropped));
     }
 }

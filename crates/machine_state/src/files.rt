@@ -1,6 +1,6 @@
 ghost use Rattle.std.specs.Prelude.{◌≡◌, ◌+◌, ◌<◌, ◌≤◌, None, true, is_some, length, slice_index, OnOk};
 ghost use Rattle.call_types.specs.declared.limits.TheConstants.{NAMES_MAX};
-ghost use Rattle.posix_model.specs.Slots.{slot};
+ghost use Rattle.slots.specs.Slots.{slot};
 ghost use Rattle.posix_model.specs.Bytes.{splice, resized};
 ghost use Rattle.call_types.specs.Names.{file_of, with_name, without_name};
 ghost use Rattle.posix_model.specs.Whole.{IsThere, is_regular_file};
@@ -9,11 +9,12 @@ ghost use Rattle.posix_model.specs.Descriptors.{bytes_of};
 ghost use Rattle.posix_model.specs.Change.{with_bytes, created};
 ghost use Rattle.machine_state.specs.Room.{KeepsTableRoom};
 
-use crate::buffer::Buffer;
 use crate::machine::Machine;
-use crate::numbered::used::Used;
+use crate::stored_file::StoredFile;
+use crate::stored_files::{add_link, drop_link, reserve_bytes, set_len, write};
 use call_types::bounded::Name;
 use posix_model::laws::sweep_releases;
+use slots::used::Used;
 use std::alloc::AllocError;
 
 impl Machine {
@@ -24,7 +25,7 @@ impl Machine {
         ensures room { OnOk result (len ≤ slice_index self.new.room.bytes file) }
         ensures tables { KeepsTableRoom self.old self.new }
     {
-        self.files.reserve_bytes(file, len)
+        reserve_bytes(&mut self.files, file, len)
     }
 
     /// Writes bytes into a file from the byte `start` on.
@@ -34,7 +35,7 @@ impl Machine {
         ensures world { self.new.world ≡ with_bytes self.old.world file (splice (bytes_of self.old.world file) start bytes.now) }
         ensures tables { KeepsTableRoom self.old self.new }
     {
-        self.files.write(file, start, bytes);
+        write(&mut self.files, file, start, bytes);
     }
 
     /// Gives a file its length, in bytes: its first bytes, and zeros where there were fewer.
@@ -44,7 +45,7 @@ impl Machine {
         ensures world { self.new.world ≡ with_bytes self.old.world file (resized (bytes_of self.old.world file) len) }
         ensures tables { KeepsTableRoom self.old self.new }
     {
-        self.files.set_len(file, len);
+        set_len(&mut self.files, file, len);
     }
 
     /// Gives a new name to a file that is there.
@@ -56,7 +57,7 @@ impl Machine {
         ensures world { self.new.world ≡ record self.old.world { names = with_name name file self.old.world.names } }
         ensures tables { KeepsTableRoom self.old self.new }
     {
-        self.files.add_use(Some(file));
+        add_link(&mut self.files, file);
         self.names.add(name, file);
     }
 
@@ -68,7 +69,7 @@ impl Machine {
     {
         sweep_releases();
         match self.names.remove(name) {
-            Some(file) => drop(self.files.drop_use(Some(file))),
+            Some(file) => drop_link(&mut self.files, file),
             None => unreachable!(),
         }
     }
@@ -83,7 +84,7 @@ impl Machine {
     {
         let file = self.files.next();
         self.files.push(Used {
-            value: Buffer::new(self.alloc),
+            value: StoredFile::new(self.alloc),
             uses: 1,
         });
         self.names.add(name, file);

@@ -2,10 +2,11 @@
 #![tactic(auto)]
 
 mod apply;
-mod buffer;
 mod descriptors;
+mod entries;
 mod files;
 pub mod machine;
-mod numbered;
 mod reader;
 mod reserve;
+mod stored_file;
+mod stored_files;

@@ -1,11 +1,12 @@
 ghost use Rattle.std.specs.Prelude.{◌≡◌};
 ghost use Rattle.posix_model.specs.History.{empty_world};
 
-use crate::buffer::Buffer;
-use crate::numbered::Numbered;
-use crate::numbered::used::Used;
+use crate::stored_file::StoredFile;
+use description_table::DescriptionTable;
 use name_table::NameTable;
-use posix_model::world::{Description, Process};
+use posix_model::world::Process;
+use slots::numbered::Numbered;
+use slots::used::Used;
 use std::alloc::Global;
 use std::marker::Model;
 
@@ -13,8 +14,8 @@ use std::marker::Model;
 #[derive(Drop)]
 pub struct Machine {
     pub(crate) alloc: Global,
-    pub(crate) files: Numbered<Used<Buffer>>,
-    pub(crate) descriptions: Numbered<Used<Description>>,
+    pub(crate) files: Numbered<Used<StoredFile>>,
+    pub(crate) descriptions: DescriptionTable,
     pub(crate) processes: Numbered<Process>,
     pub(crate) names: NameTable,
     pub(crate) closed: bool,
@@ -39,7 +40,7 @@ impl Machine {
         Machine {
             alloc,
             files: Numbered::new(alloc),
-            descriptions: Numbered::new(alloc),
+            descriptions: DescriptionTable::new(alloc),
             processes: Numbered::new(alloc),
             names: NameTable::new(alloc),
             closed: false,

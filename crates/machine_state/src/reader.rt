@@ -1,7 +1,7 @@
 use crate::machine::Machine;
+use crate::stored_files::{bytes_of, links_of};
 use call_types::bounded::Content;
 use posix_model::contents::bytes_at;
-use posix_model::counts::links;
 use posix_model::opened::OpenDescriptor;
 use posix_model::reader::Reader;
 use posix_model::world::Parked;
@@ -13,7 +13,7 @@ impl Reader for Machine {
     fn opened(&self, process: usize, fd: i32) -> Option<OpenDescriptor> {
         let fd = usize::try_from(fd).ok()?;
         let number = *self.processes.get(process)?.table.get(fd)?;
-        let description = self.descriptions.get(number)?.value;
+        let description = *self.descriptions.get(number)?;
         Some(OpenDescriptor {
             fd,
             number,
@@ -29,7 +29,7 @@ impl Reader for Machine {
     }
 
     fn length_of(&self, file: usize) -> usize {
-        self.files.bytes_of(file).len()
+        bytes_of(&self.files, file).len()
     }
 
     fn read_at(
@@ -39,7 +39,7 @@ impl Reader for Machine {
         start: usize,
         count: usize,
     ) -> Result<Content, AllocError> {
-        Content::copied(alloc, bytes_at(self.files.bytes_of(file), start, count))
+        Content::copied(alloc, bytes_at(bytes_of(&self.files, file), start, count))
     }
 
     fn file_of(&self, name: &[u8]) -> Option<usize> {
@@ -54,7 +54,7 @@ impl Reader for Machine {
     }
 
     fn links(&self, file: usize) -> usize {
-        links(self.names.entries(), file)
+        links_of(&self.files, file)
     }
 
     /// No machine has a pipe yet.

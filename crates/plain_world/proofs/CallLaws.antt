@@ -11,9 +11,10 @@ use Rattle.call_types.specs.declared.call.Call.TheVariants as call
 use Rattle.call_types.specs.declared.whence.Whence.{Whence}
 use Rattle.call_types.specs.declared.whence.Whence.TheVariants.{Set, Cur, End}
 use Rattle.posix_model.specs.Bytes.{splice, resized, bytes_at}
-use Rattle.posix_model.specs.Slots.{slot}
+use Rattle.slots.specs.Slots.{slot}
 use Rattle.posix_model.specs.Positions.{bytes_before, regular_file, file_at}
-use Rattle.posix_model.specs.Descriptors.{opened, opened_number, opened_description, at_offset, file_bytes, bytes_of}
+use Rattle.call_types.specs.Descriptions.{at_offset}
+use Rattle.posix_model.specs.Descriptors.{opened, opened_number, opened_description, file_bytes, bytes_of}
 use Rattle.posix_model.specs.Change.{with_files, changed}
 use Rattle.posix_model.specs.Whole.{is_regular_file}
 use Rattle.posix_model.specs.Pages.{first_fault, tells, does, on_open}

@@ -1,8 +1,9 @@
 -- What each edit leaves as it was.
 use Rattle.std.proofs.Common.{◌≡◌, ◌≢◌, ◌∙◌, ℕ, ◌<◌, List, ◌++◌, [], ◌∷◌, Option, Some, set, length, take, refl, ap, sym, subst}
 use Rattle.posix_model.specs.Bytes.{splice, resized}
-use Rattle.posix_model.specs.Slots.{slot}
-use Rattle.posix_model.specs.Descriptors.{at_offset, file_bytes}
+use Rattle.slots.specs.Slots.{slot}
+use Rattle.call_types.specs.Descriptions.{at_offset}
+use Rattle.posix_model.specs.Descriptors.{file_bytes}
 use Rattle.posix_model.specs.Change.{with_files, with_processes, with_table, changed}
 use Rattle.posix_model.specs.Sound.{moved_offset}
 use Rattle.plain_world.specs.Types.{World, Description, FileEdit, ProcessEdit, TableEdit, Change}

@@ -3,7 +3,7 @@ use Rattle.std.proofs.Common.{rules, ◌≡◌, ◌≢◌, ◌∙◌, ℕ, ℤ, 
 use Rattle.std.specs.Option.{option_map}
 use Rattle.call_types.specs.declared.act.Act.TheVariants as act
 use Rattle.call_types.specs.declared.call.Call.TheVariants as call
-use Rattle.posix_model.specs.Slots.{slot}
+use Rattle.slots.specs.Slots.{slot}
 use Rattle.posix_model.specs.Numbers.{IsLowest}
 use Rattle.call_types.specs.Names.{file_of}
 use Rattle.posix_model.specs.Descriptors.{opened, opened_number, table_of, with_entry}

@@ -3,14 +3,15 @@ use Rattle.std.proofs.Common.{◌≡◌, ℕ, zero, suc, ◌+◌, ◌<◌, Bool,
 use Rattle.std.specs.Option.{is_some}
 use Rattle.std.specs.List.{count_by, sum_by}
 use Rattle.std.proofs.lemmas.List.Sums.{sum_by-cons}
-use Rattle.posix_model.specs.Slots.{slot}
-use Rattle.posix_model.specs.Counts.{links, refs, refs_of, refers, holders, holds, readers, reads, writers, writes, is_file, is_pipe, can_read, can_write}
+use Rattle.slots.specs.Slots.{slot}
+use Rattle.call_types.specs.Descriptions.{can_read, can_write}
+use Rattle.posix_model.specs.Counts.{links, refs, refs_of, refers, holders, holds, readers, reads, writers, writes, is_file, is_pipe}
 use Rattle.posix_model.specs.Whole.{IsThere, TargetIsThere, is_regular_file, is_fifo, IsWhole}
 use Rattle.posix_model.specs.Laws.{HistoryIsWhole, HistorySettles}
 use Rattle.posix_model.specs.Released.{IsSettled, SweptIsSettled}
 use Rattle.posix_model.specs.History.{world_of}
 use Rattle.plain_world.specs.Types.{World, Process, Description, Target, File}
-use Rattle.posix_model.specs.declared.world.Target.TheVariants as target
+use Rattle.call_types.specs.declared.description.Target.TheVariants as target
 use Rattle.plain_world.specs.Laws.{KeptExactly, HistoryKeepsExactly}
 
 -- a sum of two that is above zero has a term that is

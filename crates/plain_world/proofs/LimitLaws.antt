@@ -11,9 +11,10 @@ use Rattle.std.specs.declared.cmp.Ordering.TheVariants.{Less, Equal, Greater}
 use Rattle.plain_world.specs.Types.{Act, Record, Bounds, World, Process, Description, File, FileEdit, ProcessEdit, TableEdit, Change, Decided, OPEN_MAX, NAMES_MAX, DESCRIPTIONS_MAX, OFFSET_MAX, EAGAIN}
 use Rattle.call_types.specs.declared.act.Act.TheVariants as act
 use Rattle.posix_model.specs.Bytes.{splice, resized}
-use Rattle.posix_model.specs.Slots.{slot, live, kept_from}
+use Rattle.slots.specs.Slots.{slot, live, kept_from}
 use Rattle.call_types.specs.Names.{Entries, with_name, without_name}
-use Rattle.posix_model.specs.Descriptors.{at_offset, with_entry, with_descriptor, with_offset, file_bytes, bytes_of}
+use Rattle.call_types.specs.Descriptions.{at_offset}
+use Rattle.posix_model.specs.Descriptors.{with_entry, with_descriptor, with_offset, file_bytes, bytes_of}
 use Rattle.posix_model.specs.Change.{with_bytes, created, with_files, free_table, process_with, with_processes, with_table, changed}
 use Rattle.posix_model.specs.Fits.{FilesProper, ProcessProper, ProcessFits, TableProper, IsProper}
 use Rattle.posix_model.specs.Sweep.{is_referred, is_wanted, without_gone_pipe, sweep}

@@ -6,7 +6,7 @@ use Rattle.std.specs.Option.{is_none, is_some, unwrap_or}
 use Rattle.call_types.specs.Flags.{has}
 use Rattle.call_types.specs.Flags as flag
 use Rattle.plain_world.specs.Types.{Errno, OpenFlags, World, Process, Description, File, EMFILE, Replied, Number}
-use Rattle.posix_model.specs.Slots.{slot, lowest, edited}
+use Rattle.slots.specs.Slots.{slot, lowest, edited}
 use Rattle.call_types.specs.Names.{file_of}
 use Rattle.posix_model.specs.Descriptors.{opened, opened_number, opened_description, table_of, with_entry, file_bytes}
 use Rattle.posix_model.specs.Change.{with_files, with_description, changed}

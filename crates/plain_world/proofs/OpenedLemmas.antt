@@ -1,7 +1,7 @@
 -- Where an open descriptor stands.
 use Rattle.std.proofs.Common.{◌≡◌, ℕ, ℤ, pos, negsuc, Option, None, Some, refl, subst}
 use Rattle.plain_world.specs.Types.{World, Description, OpenDescriptor}
-use Rattle.posix_model.specs.Slots.{slot}
+use Rattle.slots.specs.Slots.{slot}
 use Rattle.posix_model.specs.Descriptors.{opened, opened_number, opened_description, table_of}
 
 -- its number stands in the table of its process, and its description under its number

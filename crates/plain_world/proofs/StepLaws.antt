@@ -7,7 +7,7 @@ use Rattle.std.proofs.lemmas.List.Sums.{fails_before_first}
 use Rattle.std.specs.List.{position_or_len}
 use Rattle.plain_world.specs.Types.{Record, Bounds, World, Decided, EAGAIN, Replied, Error}
 use Rattle.call_types.specs.declared.act.Act.TheVariants as act
-use Rattle.posix_model.specs.Slots.{slot}
+use Rattle.slots.specs.Slots.{slot}
 use Rattle.posix_model.specs.Change.{changed}
 use Rattle.posix_model.specs.Pages.{decided_by}
 use Rattle.posix_model.specs.Join.{join}

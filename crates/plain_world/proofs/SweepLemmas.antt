@@ -3,11 +3,12 @@ use Rattle.std.proofs.Common.{◌≡◌, ℕ, zero, suc, ◌+◌, Bool, true, fa
 use Rattle.std.specs.List.{list_any, sum_by, count_by}
 use Rattle.std.proofs.lemmas.List.Sums.{sum_by-cons}
 use Rattle.std.proofs.lemmas.Bool.Decides.{nat_tests}
-use Rattle.posix_model.specs.Slots.{kept, kept_from}
-use Rattle.posix_model.specs.Counts.{reads, writes, is_pipe, can_read, can_write}
+use Rattle.slots.specs.Slots.{kept, kept_from}
+use Rattle.call_types.specs.Descriptions.{can_read, can_write}
+use Rattle.posix_model.specs.Counts.{reads, writes, is_pipe}
 use Rattle.posix_model.specs.Sweep.{is_open}
 use Rattle.plain_world.specs.Types.{Description, Mode}
-use Rattle.posix_model.specs.declared.world.Mode.TheVariants as mode
+use Rattle.call_types.specs.declared.description.Mode.TheVariants as mode
 use Rattle.plain_world.specs.Ends.{is_end}
 
 -- a sum of two is above zero where one of them is

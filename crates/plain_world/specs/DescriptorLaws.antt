@@ -3,7 +3,7 @@ use Rattle.std.specs.Prelude.{◌≡◌, ◌≢◌, ℕ, ℤ, List, None, Some}
 use Rattle.call_types.specs.CallTable.{descriptor_of}
 use Rattle.plain_world.specs.Types.{Call, OpenFlags, Bounds, World, EBADF, Replied, Number, Done, Error}
 use Rattle.call_types.specs.declared.call.Call.TheVariants as call
-use Rattle.posix_model.specs.Slots.{slot}
+use Rattle.slots.specs.Slots.{slot}
 use Rattle.posix_model.specs.Numbers.{IsLowest}
 use Rattle.posix_model.specs.Descriptors.{opened, table_of}
 use Rattle.plain_world.specs.Calls.{outcome_of, before_sweep}

@@ -8,16 +8,17 @@ use Rattle.call_types.specs.declared.call.Call.TheVariants as call
 use Rattle.call_types.specs.declared.whence.Whence.TheVariants.{Set, Cur, End}
 use Rattle.posix_model.specs.Bytes.{splice, resized}
 use Rattle.call_types.specs.Names.{file_of}
-use Rattle.posix_model.specs.Slots.{slot}
+use Rattle.slots.specs.Slots.{slot}
 use Rattle.posix_model.specs.Positions.{bytes_before}
-use Rattle.posix_model.specs.Descriptors.{opened, at_offset, bytes_of}
+use Rattle.call_types.specs.Descriptions.{at_offset}
+use Rattle.posix_model.specs.Descriptors.{opened, bytes_of}
 use Rattle.posix_model.specs.Whole.{is_regular_file}
 use Rattle.posix_model.specs.Write.{write_start}
 use Rattle.posix_model.specs.Open.{mode_of}
 use Rattle.posix_model.specs.Sound.{may_change_contents}
 use Rattle.posix_model.specs.Types.{Data}
 use Rattle.posix_model.specs.declared.world.File.TheVariants as file
-use Rattle.posix_model.specs.declared.world.Target.TheVariants as target
+use Rattle.call_types.specs.declared.description.Target.TheVariants as target
 use Rattle.plain_world.specs.Calls.{outcome_of, before_sweep}
 
 -- the bytes after a write: the new ones where they were put, else those that were there, else zeros (page of write)

@@ -3,7 +3,7 @@ use Rattle.std.specs.Prelude.{◌≡◌, ◌≢◌, ℕ, ◌+◌, ◌≤◌, ◌
 use Rattle.std.specs.Option.{option_map}
 use Rattle.plain_world.specs.Types.{Act, Record, Errno, Bounds, World, Description, Decided, OFFSET_MAX, EAGAIN, Replied, Number, Error}
 use Rattle.call_types.specs.declared.act.Act.TheVariants as act
-use Rattle.posix_model.specs.Slots.{slot, lowest}
+use Rattle.slots.specs.Slots.{slot, lowest}
 use Rattle.posix_model.specs.Whole.{IsThere}
 use Rattle.posix_model.specs.Numbers.{IsLowest}
 use Rattle.posix_model.specs.Counts.{links, refs, holders, readers, writers}

@@ -9,9 +9,9 @@ pub use Rattle.call_types.specs.declared.flags.OpenFlags.{OpenFlags}
 pub use Rattle.call_types.specs.declared.limits.Bounds.{Bounds}
 pub use Rattle.posix_model.specs.declared.world.World.{World}
 pub use Rattle.posix_model.specs.declared.world.Process.{Process}
-pub use Rattle.posix_model.specs.declared.world.Description.{Description}
-pub use Rattle.posix_model.specs.declared.world.Target.{Target}
-pub use Rattle.posix_model.specs.declared.world.Mode.{Mode}
+pub use Rattle.call_types.specs.declared.description.Description.{Description}
+pub use Rattle.call_types.specs.declared.description.Target.{Target}
+pub use Rattle.call_types.specs.declared.description.Mode.{Mode}
 pub use Rattle.posix_model.specs.declared.world.File.{File}
 pub use Rattle.posix_model.specs.declared.opened.OpenDescriptor.{OpenDescriptor}
 pub use Rattle.posix_model.specs.declared.change.FileEdit.{FileEdit}

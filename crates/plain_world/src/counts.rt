@@ -3,8 +3,9 @@ ghost use Rattle.std.specs.List.{list_any};
 ghost use Rattle.posix_model.specs.Counts.{refers, refs_of, is_file, is_pipe, holds, holders};
 ghost use Rattle.plain_world.specs.Ends.{is_end};
 
-use posix_model::slots::Slots;
-use posix_model::world::{Description, Process, Target};
+use call_types::description::{Description, Target};
+use posix_model::world::Process;
+use slots::dense::Slots;
 
 /// Whether a descriptor refers to the description of a number.
 fn refers(number: usize, entry: Option<usize>) -> bool

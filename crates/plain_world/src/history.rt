@@ -2,8 +2,8 @@ ghost use Rattle.std.specs.Prelude.{◌≡◌};
 ghost use Rattle.posix_model.specs.History.{empty_world};
 
 use posix_model::names::Names;
-use posix_model::slots::Slots;
 use posix_model::world::World;
+use slots::dense::Slots;
 use std::alloc::Global;
 
 /// The world in which a run begins: there is nothing.

@@ -2,17 +2,19 @@
 
 ghost use Rattle.std.specs.Prelude.{◌≡◌, ◌+◌, ◌<◌, ◌^◌, None, length, slice_set, OnOk};
 ghost use Rattle.posix_model.specs.Bytes.{splice, resized};
-ghost use Rattle.posix_model.specs.Slots.{slot, edited};
+ghost use Rattle.slots.specs.Slots.{slot, edited};
 ghost use Rattle.call_types.specs.Names.{file_of};
-ghost use Rattle.posix_model.specs.Descriptors.{file_bytes, at_offset, with_entry};
+ghost use Rattle.call_types.specs.Descriptions.{at_offset};
+ghost use Rattle.posix_model.specs.Descriptors.{file_bytes, with_entry};
 ghost use Rattle.posix_model.specs.Change.{created, with_files, with_processes, with_description, with_table, changed};
 ghost use Rattle.posix_model.specs.Fits.{FilesProper, IsProper};
 
 use call_types::bounded::Name;
+use call_types::description::Description;
 use posix_model::change::{Change, FileEdit, ProcessEdit, TableEdit, process_with};
 use posix_model::contents::Contents;
-use posix_model::slots::Slots;
-use posix_model::world::{Description, File, Process, World};
+use posix_model::world::{File, Process, World};
+use slots::dense::Slots;
 use std::alloc::{AllocError, Global};
 
 /// Takes the bytes out of a regular file; none where there is no such file.

@@ -1,13 +1,14 @@
 ghost use Rattle.std.specs.Prelude.{◌≡◌, map, slice_set};
-ghost use Rattle.posix_model.specs.Slots.{slot, kept};
+ghost use Rattle.slots.specs.Slots.{slot, kept};
 ghost use Rattle.posix_model.specs.Sweep.{is_referred, is_open, is_wanted, open_pipe, without_gone_pipe, sweep};
 
 use crate::counts::{any_refers, ends, holders};
+use call_types::description::Description;
 use posix_model::contents::Contents;
 use posix_model::counts::links;
 use posix_model::names::Names;
-use posix_model::slots::Slots;
-use posix_model::world::{Description, Fifo, File, Process, World};
+use posix_model::world::{Fifo, File, Process, World};
+use slots::dense::Slots;
 
 /// Whether an open file description stays: while a descriptor refers to it.
 fn is_referred(processes: &Slots<Process>, number: usize) -> bool

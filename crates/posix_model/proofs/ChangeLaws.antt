@@ -8,9 +8,10 @@ use Rattle.std.specs.Cmp.Lexicographic.{slice_cmp}
 use Rattle.std.specs.FinMap.Entries.{by_order}
 use Rattle.std.specs.declared.cmp.Ordering.TheVariants.{Less, Equal, Greater}
 use Rattle.posix_model.specs.Whole.{IsThere, TargetIsThere, is_fifo, is_regular_file}
-use Rattle.posix_model.specs.Slots.{slot}
+use Rattle.slots.specs.Slots.{slot}
 use Rattle.call_types.specs.Names.{Entries, with_name, without_name}
-use Rattle.posix_model.specs.Descriptors.{at_offset, with_entry, with_descriptor, with_offset, bytes_of}
+use Rattle.call_types.specs.Descriptions.{at_offset}
+use Rattle.posix_model.specs.Descriptors.{with_entry, with_descriptor, with_offset, bytes_of}
 use Rattle.posix_model.specs.Change.{with_files, with_processes, with_table, changed, with_bytes, created, free_table, process_with, with_description}
 use Rattle.posix_model.specs.Fits.{FilesFit, ProcessFits, TableFits, Fits}
 use Rattle.posix_model.specs.Types.{World, Process, Description, Target, File, FileEdit, ProcessEdit, TableEdit, Change, OPEN_MAX}
@@ -21,7 +22,7 @@ use Rattle.posix_model.specs.Bytes.{splice, resized}
 use Rattle.posix_model.specs.Numbers.{NumbersRise, StaysSame}
 use Rattle.posix_model.specs.Whole.{EachThere, PipeIsThere, IsWhole}
 use Rattle.posix_model.specs.declared.world.File.TheVariants as file
-use Rattle.posix_model.specs.declared.world.Target.TheVariants as target
+use Rattle.call_types.specs.declared.description.Target.TheVariants as target
 use Rattle.posix_model.proofs.SlotLaws.{test_set, slot_pushed, there_below, stays_as_is, stays_pushed, stays_set, stays_twice, Adds, adds_same, adds_set, adds_edited, adds_push, pushed_there, rises_twice, each_set, each_push}
 
 -- a change that uses no number again and leaves nothing that refers to what is gone

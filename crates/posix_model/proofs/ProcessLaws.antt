@@ -4,7 +4,7 @@ use Rattle.std.specs.Option.{option_map, is_some}
 use Rattle.std.proofs.lemmas.List.Sums.{sum_by-cons, sum_by_push}
 use Rattle.posix_model.specs.Types.{Act, Bounds, World, FileEdit, ProcessEdit, TableEdit, Change, Decided}
 use Rattle.call_types.specs.declared.act.Act.TheVariants as act
-use Rattle.posix_model.specs.Slots.{slot, live}
+use Rattle.slots.specs.Slots.{slot, live}
 use Rattle.posix_model.specs.Descriptors.{with_entry, with_descriptor}
 use Rattle.posix_model.specs.Change.{with_files, process_with, with_processes, with_table, changed}
 use Rattle.posix_model.specs.Step.{given, comes_to, stepped}

@@ -3,12 +3,12 @@ use Rattle.std.specs.Prelude.{is_some, ◌==◌}
 use Rattle.std.specs.List.{count_by}
 use Rattle.std.proofs.lemmas.List.Sums.{sum_by-cons}
 use Rattle.std.proofs.lemmas.Bool.{ltb-true, lt-ltb}
-use Rattle.posix_model.specs.Slots.{slot, kept}
+use Rattle.slots.specs.Slots.{slot, kept}
 use Rattle.call_types.specs.Names.{Entries}
 use Rattle.posix_model.specs.Counts.{links, refs, holds, holders, reads, readers, writes, writers, is_file, is_pipe}
 use Rattle.posix_model.specs.Sweep.{is_referred, is_open, is_wanted, open_pipe, without_gone_pipe}
 use Rattle.posix_model.specs.Types.{World, Description, Target, File, Fifo}
-use Rattle.posix_model.specs.declared.world.Target.TheVariants as target
+use Rattle.call_types.specs.declared.description.Target.TheVariants as target
 use Rattle.posix_model.specs.declared.world.File.TheVariants as file
 use Rattle.posix_model.proofs.SweepLaws.{LeavesThere, sweep_leaves, sweep_leaves_there, slot_mapped, still_there}
 use Rattle.posix_model.specs.Released.{released_descriptions, pipes_after, fifos_after, files_after, IsItsFifo, SweptIsSettled, SweepReleases, SettledStays, NamesRelease, released_file}

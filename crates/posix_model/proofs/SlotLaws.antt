@@ -4,7 +4,7 @@ use Rattle.std.specs.Option.{option_map, is_some, is_none}
 use Rattle.std.specs.List.{count_by}
 use Rattle.std.proofs.lemmas.List.Quantifiers.{position-Some}
 use Rattle.std.proofs.lemmas.List.Sums.{get_or-le-sum_by}
-use Rattle.posix_model.specs.Slots.{slot, lowest, kept, kept_from}
+use Rattle.slots.specs.Slots.{slot, lowest, kept, kept_from}
 use Rattle.posix_model.specs.Whole.{IsThere, EachThere}
 use Rattle.posix_model.specs.Numbers.{Rises, StaysSame, IsLowest}
 

@@ -15,7 +15,7 @@ use Rattle.posix_model.specs.Types.{Call, Reply, Errno, OpenFlags, Whence, Bound
 use Rattle.call_types.specs.declared.act.Act.TheVariants as act
 use Rattle.call_types.specs.declared.call.Call.TheVariants as call
 use Rattle.posix_model.specs.Bytes.{bytes_at}
-use Rattle.posix_model.specs.Slots.{slot, lowest, live}
+use Rattle.slots.specs.Slots.{slot, lowest, live}
 use Rattle.call_types.specs.Names.{Entries, file_of}
 use Rattle.posix_model.specs.Whole.{IsThere, TargetIsThere, is_fifo, is_regular_file, IsWhole}
 use Rattle.posix_model.specs.Descriptors.{opened, opened_number, opened_description, number_of, table_of, bytes_of}
@@ -38,7 +38,7 @@ use Rattle.posix_model.specs.Join.{join, is_full}
 use Rattle.posix_model.specs.Step.{given, decided, can_call}
 use Rattle.posix_model.specs.Turns.{total, took_in, new_turn, data_in}
 use Rattle.posix_model.specs.Sound.{Sound, data_most, CallsAreSound, ActsAreSound, FilesWithin}
-use Rattle.posix_model.specs.declared.world.Target.TheVariants as target
+use Rattle.call_types.specs.declared.description.Target.TheVariants as target
 use Rattle.posix_model.specs.declared.world.File.TheVariants as file
 use Rattle.posix_model.specs.declared.change.FileEdit.TheVariants as on_files
 use Rattle.posix_model.specs.declared.change.ProcessEdit.TheVariants as on_process

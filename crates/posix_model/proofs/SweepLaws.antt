@@ -1,7 +1,7 @@
 -- What a sweep leaves, and that it leaves nothing for the next one.
 use Rattle.std.proofs.Common.{◌≡◌, ℕ, zero, suc, ◌+◌, ◌∙◌, Bool, true, false, ◌&&◌, cond, List, [], ◌∷◌, Option, None, Some, length, map, refl, ap, sym, subst, arith}
 use Rattle.std.specs.Option.{is_some, option_map}
-use Rattle.posix_model.specs.Slots.{slot, kept, kept_from}
+use Rattle.slots.specs.Slots.{slot, kept, kept_from}
 use Rattle.posix_model.specs.Laws.{SweepSettles, StepSettles, SweepLeaves}
 use Rattle.posix_model.specs.Types.{Act, Bounds, World, Description, File, Decided}
 use Rattle.posix_model.specs.Step.{Stepped, stepped, comes_to, given, step}

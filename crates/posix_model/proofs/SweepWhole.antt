@@ -4,7 +4,7 @@ use Rattle.std.specs.Option.{is_some}
 use Rattle.std.specs.List.{count_by}
 use Rattle.std.proofs.lemmas.List.Sums.{get_or-le-sum_by}
 use Rattle.std.proofs.lemmas.Bool.Decides.{nat_tests}
-use Rattle.posix_model.specs.Slots.{slot, kept}
+use Rattle.slots.specs.Slots.{slot, kept}
 use Rattle.call_types.specs.Names.{Entries}
 use Rattle.posix_model.specs.Counts.{links, refs, refs_of, refers, holders, holds, readers, reads, writers, writes, is_file, is_pipe}
 use Rattle.posix_model.specs.Sweep.{is_referred, is_open, is_wanted, open_pipe, without_gone_pipe, sweep}
@@ -12,8 +12,8 @@ use Rattle.posix_model.specs.Whole.{is_fifo, is_regular_file, TargetIsThere, Pip
 use Rattle.posix_model.specs.Numbers.{StaysSame, Rises, NumbersRise}
 use Rattle.posix_model.specs.Types.{World, Process, Description, Target, Mode, File, Fifo}
 use Rattle.posix_model.specs.declared.world.File.TheVariants as file
-use Rattle.posix_model.specs.declared.world.Mode.TheVariants as mode
-use Rattle.posix_model.specs.declared.world.Target.TheVariants as target
+use Rattle.call_types.specs.declared.description.Mode.TheVariants as mode
+use Rattle.call_types.specs.declared.description.Target.TheVariants as target
 use Rattle.posix_model.proofs.SlotLaws.{kept_as_is, stays_thinned, there_below, stands_there, not_there, kept_stood, length_kept, counted}
 use Rattle.posix_model.proofs.ChangeLaws.{Goes}
 use Rattle.posix_model.proofs.SweepLaws.{length_mapped, slot_mapped, sweep_leaves_there}

@@ -1,9 +1,9 @@
 -- The counts of a world, each counted afresh.
-use Rattle.std.specs.Prelude.{ℕ, Bool, true, false, ◌&&◌, ◌==◌, List, Option, None, Some, count_by, sum_by}
+use Rattle.std.specs.Prelude.{ℕ, Bool, false, ◌&&◌, ◌==◌, List, Option, None, Some, count_by, sum_by}
 use Rattle.call_types.specs.Names.{Entries}
-use Rattle.posix_model.specs.Types.{Process, Description, Target, Mode}
-use Rattle.posix_model.specs.declared.world.Target.TheVariants as target
-use Rattle.posix_model.specs.declared.world.Mode.TheVariants as mode
+use Rattle.call_types.specs.Descriptions.{can_read, can_write}
+use Rattle.posix_model.specs.Types.{Process, Description, Target}
+use Rattle.call_types.specs.declared.description.Target.TheVariants as target
 
 -- the number of names that a file has (XBD 3, Link Count)
 abbrev pub links : Entries → ℕ → ℕ
@@ -34,18 +34,6 @@ abbrev pub is_pipe : ℕ → Target → Bool
 is_pipe number (target.Regular file) = false
 is_pipe number (target.Pipe pipe) = pipe == number
 is_pipe number (target.Fifo file pipe) = pipe == number
-
--- whether a mode has reading
-abbrev pub can_read : Mode → Bool
-can_read mode.Read = true
-can_read mode.Write = false
-can_read mode.ReadWrite = true
-
--- whether a mode has writing
-abbrev pub can_write : Mode → Bool
-can_write mode.Read = false
-can_write mode.Write = true
-can_write mode.ReadWrite = true
 
 -- whether a description is live and holds this file
 abbrev pub holds : ℕ → Option Description → Bool

@@ -1,7 +1,8 @@
 -- Descriptors of a process, and the open file descriptions that they lead to.
 use Rattle.std.specs.Prelude.{ℕ, ℤ, pos, negsuc, List, [], Option, None, Some, slice_set, length}
 use Rattle.std.specs.Option.{option_map}
-use Rattle.posix_model.specs.Slots.{slot, edited}
+use Rattle.call_types.specs.Descriptions.{at_offset}
+use Rattle.slots.specs.Slots.{slot, edited}
 use Rattle.posix_model.specs.Types.{World, Process, Parked, Description, File, OpenDescriptor}
 use Rattle.posix_model.specs.declared.world.File.TheVariants as file
 
@@ -41,10 +42,6 @@ with_entry fd entry process = record process { table = slice_set process.table f
 -- the world in which a descriptor of a process refers to this, or is free
 abbrev pub with_descriptor : World → ℕ → ℕ → Option ℕ → World
 with_descriptor w process fd entry = record w { processes = edited process (with_entry fd entry) w.processes }
-
--- a description with this offset
-abbrev pub at_offset : ℕ → Description → Description
-at_offset offset description = record description { offset = offset }
 
 -- the world in which the description of this number has this offset
 abbrev pub with_offset : World → ℕ → ℕ → World

@@ -1,6 +1,6 @@
 -- What a change asks of the world that it is made in.
 use Rattle.std.specs.Prelude.{◌≡◌, ℕ, ◌+◌, ◌≤◌, ◌<◌, Bool, true, false, List, Option, None, Some, length, is_some}
-use Rattle.posix_model.specs.Slots.{slot, live}
+use Rattle.slots.specs.Slots.{slot, live}
 use Rattle.call_types.specs.Names.{file_of}
 use Rattle.posix_model.specs.Whole.{IsThere, is_regular_file, TargetIsThere}
 use Rattle.posix_model.specs.Change.{with_files, with_processes, free_table}

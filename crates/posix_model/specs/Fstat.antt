@@ -5,7 +5,7 @@ use Rattle.call_types.specs.declared.outcome.Kind.TheVariants as kind
 use Rattle.posix_model.specs.Counts.{links}
 use Rattle.posix_model.specs.Pages.{Page, tells}
 use Rattle.posix_model.specs.Descriptors.{bytes_of, held_in}
-use Rattle.posix_model.specs.declared.world.Target.TheVariants as target
+use Rattle.call_types.specs.declared.description.Target.TheVariants as target
 
 -- the greatest number of links that a reply tells, in 32 bits (own)
 abbrev pub LINKS_TOLD_MAX : ℕ

@@ -1,7 +1,7 @@
 -- The page of ftruncate.
 use Rattle.std.specs.Prelude.{ℤ, Bool, not, nat_lt, List, [], ◌∷◌}
 use Rattle.posix_model.specs.Types.{Errno, Bounds, OpenDescriptor, EINVAL, EFBIG, Done}
-use Rattle.posix_model.specs.Counts.{can_write}
+use Rattle.call_types.specs.Descriptions.{can_write}
 use Rattle.posix_model.specs.Positions.{is_before, bytes_before, is_regular, file_at}
 use Rattle.posix_model.specs.Pages.{Page, does}
 use Rattle.posix_model.specs.declared.change.FileEdit.TheVariants as on_files

@@ -1,6 +1,6 @@
 -- A new process (own).
 use Rattle.std.specs.Prelude.{Bool, ◌||◌, nat_le, [], ◌∷◌, length}
-use Rattle.posix_model.specs.Slots.{live}
+use Rattle.slots.specs.Slots.{live}
 use Rattle.posix_model.specs.Pages.{Page, acts}
 use Rattle.posix_model.specs.Change.{free_table}
 use Rattle.posix_model.specs.declared.change.ProcessEdit.TheVariants as on_process

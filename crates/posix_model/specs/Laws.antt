@@ -1,7 +1,7 @@
 -- What holds of every step and history.
 use Rattle.std.specs.Prelude.{◌≡◌, ℕ, ◌+◌, ◌||◌, Bool, List, ◌++◌, None, Some, length, if◌then◌else◌}
 use Rattle.posix_model.specs.Types.{Act, Record, Bounds, World}
-use Rattle.posix_model.specs.Slots.{slot, live}
+use Rattle.slots.specs.Slots.{slot, live}
 use Rattle.posix_model.specs.Whole.{IsWhole}
 use Rattle.posix_model.specs.Numbers.{NumbersRise}
 use Rattle.posix_model.specs.Sweep.{is_referred, is_open, is_wanted, without_gone_pipe, sweep}

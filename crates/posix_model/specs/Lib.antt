@@ -1,6 +1,5 @@
 pub mod Types
 pub mod Bytes
-pub mod Slots
 pub mod Counts
 pub mod Sweep
 pub mod Whole

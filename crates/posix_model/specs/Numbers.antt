@@ -1,6 +1,6 @@
 -- Numbers: none is used again, and what stays at one stays what it is.
 use Rattle.std.specs.Prelude.{◌≡◌, ℕ, ◌≤◌, ◌<◌, true, List, Option, None, Some, length, is_some}
-use Rattle.posix_model.specs.Slots.{slot}
+use Rattle.slots.specs.Slots.{slot}
 use Rattle.posix_model.specs.Whole.{is_fifo}
 use Rattle.posix_model.specs.Types.{World}
 

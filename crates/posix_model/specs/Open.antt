@@ -6,13 +6,13 @@ use Rattle.std.specs.Str.{bytes_eq}
 use Rattle.call_types.specs.Flags.{has}
 use Rattle.call_types.specs.Flags as flag
 use Rattle.posix_model.specs.Types.{Errno, OpenFlags, World, Description, Mode, FileEdit, Decided, EINVAL, ENOENT, EEXIST, EMFILE, ENFILE, ENOSPC, ENAMETOOLONG, Number, NAME_MAX, NAMES_MAX, DESCRIPTIONS_MAX}
-use Rattle.posix_model.specs.Slots.{slot, lowest, live}
+use Rattle.slots.specs.Slots.{slot, lowest, live}
 use Rattle.call_types.specs.Names.{file_of}
 use Rattle.posix_model.specs.Whole.{is_fifo}
 use Rattle.posix_model.specs.Pages.{Page, does}
 use Rattle.posix_model.specs.Descriptors.{table_of}
-use Rattle.posix_model.specs.declared.world.Mode.TheVariants as mode
-use Rattle.posix_model.specs.declared.world.Target.TheVariants as target
+use Rattle.call_types.specs.declared.description.Mode.TheVariants as mode
+use Rattle.call_types.specs.declared.description.Target.TheVariants as target
 use Rattle.posix_model.specs.declared.change.FileEdit.TheVariants as on_files
 use Rattle.posix_model.specs.declared.change.TableEdit.TheVariants as on_table
 

@@ -1,7 +1,7 @@
 -- Positions in a file that a call gives, in bytes from its start, and what has positions.
 use Rattle.std.specs.Prelude.{ℕ, ℤ, pos, nat_abs, int_lt, Bool, Option, None, Some, is_some, unwrap_or}
 use Rattle.posix_model.specs.Types.{Target, OpenDescriptor}
-use Rattle.posix_model.specs.declared.world.Target.TheVariants as target
+use Rattle.call_types.specs.declared.description.Target.TheVariants as target
 
 -- whether a position is before the start of a file
 abbrev pub is_before : ℤ → Bool

@@ -2,7 +2,7 @@
 use Rattle.std.specs.Prelude.{ℕ, ℤ, Bool, not, nat_lt, List, [], ◌∷◌}
 use Rattle.posix_model.specs.Types.{Errno, World, OpenDescriptor, EBADF, EINVAL, ESPIPE, Data, TRANSFER_MAX}
 use Rattle.posix_model.specs.Bytes.{bytes_at}
-use Rattle.posix_model.specs.Counts.{can_read}
+use Rattle.call_types.specs.Descriptions.{can_read}
 use Rattle.posix_model.specs.Positions.{is_before, bytes_before, is_regular, file_at}
 use Rattle.posix_model.specs.Pages.{Page, tells}
 use Rattle.posix_model.specs.Descriptors.{bytes_of}

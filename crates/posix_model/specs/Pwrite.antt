@@ -1,7 +1,7 @@
 -- The page of write, pwrite: as write, at a position that the call gives, under append too; the offset stays.
 use Rattle.std.specs.Prelude.{ℕ, ℤ, Bool, not, nat_lt, List, [], ◌∷◌, length}
 use Rattle.posix_model.specs.Types.{Errno, Bounds, OpenDescriptor, EBADF, EINVAL, ESPIPE, EFBIG, TRANSFER_MAX}
-use Rattle.posix_model.specs.Counts.{can_write}
+use Rattle.call_types.specs.Descriptions.{can_write}
 use Rattle.posix_model.specs.Positions.{is_before, bytes_before, is_regular, file_at}
 use Rattle.posix_model.specs.Pages.{Page}
 use Rattle.posix_model.specs.Write.{is_past_limit, fitting, puts}

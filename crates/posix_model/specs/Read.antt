@@ -2,7 +2,7 @@
 use Rattle.std.specs.Prelude.{ℕ, ◌+◌, ◌==◌, Bool, not, nat_lt, List, [], ◌∷◌, length, if◌then◌else◌}
 use Rattle.posix_model.specs.Types.{Errno, World, OpenDescriptor, Decided, EBADF, EINVAL, Data, TRANSFER_MAX}
 use Rattle.posix_model.specs.Bytes.{bytes_at}
-use Rattle.posix_model.specs.Counts.{can_read}
+use Rattle.call_types.specs.Descriptions.{can_read}
 use Rattle.posix_model.specs.Positions.{is_regular, file_at}
 use Rattle.posix_model.specs.Pages.{Page, does, tells}
 use Rattle.posix_model.specs.Descriptors.{bytes_of}

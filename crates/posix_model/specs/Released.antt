@@ -1,12 +1,12 @@
 -- What goes where one description loses a reference: it and what it alone held, and no other.
 use Rattle.std.specs.Prelude.{◌≡◌, ◌≢◌, ℕ, ◌+◌, ◌<◌, true, List, Option, None, Some, is_some, slice_set, if◌then◌else◌}
-use Rattle.posix_model.specs.Slots.{slot}
+use Rattle.slots.specs.Slots.{slot}
 use Rattle.call_types.specs.Names.{Entries}
 use Rattle.posix_model.specs.Counts.{links, refs, holders, readers, writers, is_pipe, is_file}
 use Rattle.posix_model.specs.Sweep.{is_referred, is_open, is_wanted, without_gone_pipe, sweep}
 use Rattle.posix_model.specs.Types.{World, Process, Description, Target, File, Fifo}
 use Rattle.posix_model.specs.declared.world.File.TheVariants as file
-use Rattle.posix_model.specs.declared.world.Target.TheVariants as target
+use Rattle.call_types.specs.declared.description.Target.TheVariants as target
 
 -- a description goes where nothing refers to it
 abbrev pub released_descriptions : List (Option Process) → List (Option Description) → ℕ → List (Option Description)

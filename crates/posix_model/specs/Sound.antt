@@ -5,7 +5,7 @@ use Rattle.call_types.specs.CallTable.{descriptor_of, payload_of}
 use Rattle.posix_model.specs.Types.{Call, Act, Outcome, Errno, Bounds, World, FileEdit, ProcessEdit, TableEdit, Decided, OPEN_MAX, NAMES_MAX, DESCRIPTIONS_MAX, PROCESSES_MAX, OFFSET_MAX, TRANSFER_MAX, Replied, Error, Number}
 use Rattle.call_types.specs.declared.act.Act.TheVariants as act
 use Rattle.call_types.specs.declared.call.Call.TheVariants as call
-use Rattle.posix_model.specs.Slots.{live}
+use Rattle.slots.specs.Slots.{live}
 use Rattle.posix_model.specs.Whole.{IsWhole, EachThere}
 use Rattle.posix_model.specs.Descriptors.{number_of, bytes_of}
 use Rattle.posix_model.specs.Pages.{no_change}

@@ -5,7 +5,7 @@ use Rattle.call_types.specs.CallTable.{payload_of}
 use Rattle.posix_model.specs.Types.{Call, Act, Outcome, Bounds, World, Process, Decided}
 use Rattle.call_types.specs.declared.call.Call.TheVariants as call
 use Rattle.call_types.specs.declared.act.Act.TheVariants as act
-use Rattle.posix_model.specs.Slots.{slot}
+use Rattle.slots.specs.Slots.{slot}
 use Rattle.posix_model.specs.Pages.{decided_by, on_open}
 use Rattle.posix_model.specs.Sweep.{sweep}
 use Rattle.posix_model.specs.Change.{changed}

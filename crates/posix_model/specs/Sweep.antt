@@ -1,6 +1,6 @@
 -- What nothing refers to any more goes (page of close).
 use Rattle.std.specs.Prelude.{ℕ, ◌+◌, Bool, nat_lt, List, Option, None, Some, map, if◌then◌else◌}
-use Rattle.posix_model.specs.Slots.{kept}
+use Rattle.slots.specs.Slots.{kept}
 use Rattle.call_types.specs.Names.{Entries}
 use Rattle.posix_model.specs.Counts.{links, refs, holders, readers, writers}
 use Rattle.posix_model.specs.Types.{World, Process, Description, File}

@@ -6,7 +6,7 @@ use Rattle.posix_model.specs.Types.{Call, Act, Record, Outcome, Bounds, World, P
 use Rattle.call_types.specs.declared.act.Act.TheVariants as act
 use Rattle.call_types.specs.declared.outcome.Outcome.TheVariants as outcome
 use Rattle.call_types.specs.declared.outcome.Reply.TheVariants as reply
-use Rattle.posix_model.specs.Slots.{slot}
+use Rattle.slots.specs.Slots.{slot}
 use Rattle.posix_model.specs.Descriptors.{parked_of}
 use Rattle.posix_model.specs.History.{empty_world, after}
 

@@ -1,7 +1,7 @@
 -- The page of write.
 use Rattle.std.specs.Prelude.{ℕ, ◌+◌, ◌-◌, ◌==◌, ◌&&◌, min, Bool, not, nat_lt, nat_le, List, [], ◌∷◌, length, if◌then◌else◌}
 use Rattle.posix_model.specs.Types.{Errno, Bounds, World, Description, OpenDescriptor, TableEdit, Decided, EBADF, EINVAL, EFBIG, Number, TRANSFER_MAX}
-use Rattle.posix_model.specs.Counts.{can_write}
+use Rattle.call_types.specs.Descriptions.{can_write}
 use Rattle.posix_model.specs.Positions.{is_regular, file_at}
 use Rattle.posix_model.specs.Pages.{Page, does, tells}
 use Rattle.posix_model.specs.Descriptors.{bytes_of}

@@ -2,11 +2,12 @@ ghost use Rattle.std.specs.Prelude.{◌≡◌};
 ghost use Rattle.posix_model.specs.Change.{process_with};
 ghost use Rattle.posix_model.specs.Pages.{tells, does, acts, refused};
 
-use crate::slots::Slots;
-use crate::world::{Description, Process};
+use crate::world::Process;
 use call_types::bounded::Name;
+use call_types::description::Description;
 use call_types::errno::Errno;
 use call_types::outcome::{Outcome, Reply};
+use slots::dense::Slots;
 
 /// What an act changes in files and pipes. All numbers are found already; positions and lengths are in bytes.
 #[derive(Drop)]

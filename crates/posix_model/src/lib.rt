@@ -9,5 +9,4 @@ pub mod names;
 pub mod opened;
 pub mod plain_reader;
 pub mod reader;
-pub mod slots;
 pub mod world;

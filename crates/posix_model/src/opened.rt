@@ -1,4 +1,4 @@
-use crate::world::Description;
+use call_types::description::Description;
 
 /// An open descriptor of a process: its number, the number of the open file description, and that description.
 #[derive(Clone, Copy)]

@@ -1,15 +1,15 @@
 //! The plain world can be read as itself.
 
 ghost use Rattle.std.specs.Prelude.{◌≡◌};
-ghost use Rattle.posix_model.specs.Slots.{slot};
+ghost use Rattle.slots.specs.Slots.{slot};
 ghost use Rattle.posix_model.specs.Descriptors.{opened_number, bytes_of, table_of};
 
 use crate::counts::links;
 use crate::opened::OpenDescriptor;
 use crate::reader::Reader;
-use crate::slots::Slots;
 use crate::world::{File, Parked, Process, World};
 use call_types::bounded::Content;
+use slots::dense::Slots;
 use std::alloc::{AllocError, Global};
 
 /// The number of the description that a descriptor of a process refers to, if it is open.

@@ -2,7 +2,7 @@
 
 ghost use Rattle.std.specs.Prelude.{◌≡◌, ◌≤◌, ◌<◌, ◌^◌, length, IfOk};
 ghost use Rattle.std.specs.Option.{option_copied};
-ghost use Rattle.posix_model.specs.Slots.{slot, lowest, live};
+ghost use Rattle.slots.specs.Slots.{slot, lowest, live};
 ghost use Rattle.call_types.specs.Names.{file_of};
 ghost use Rattle.posix_model.specs.Bytes.{bytes_at};
 ghost use Rattle.posix_model.specs.Descriptors.{opened, bytes_of, table_of, parked_of, held_in};

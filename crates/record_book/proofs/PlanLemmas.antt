@@ -8,7 +8,7 @@ use Rattle.call_types.specs.declared.act.Act.{Act}
 use Rattle.call_types.specs.declared.act.Act.TheVariants as act
 use Rattle.call_types.specs.declared.call.Call.{Call}
 use Rattle.call_types.specs.declared.refusal.Refusal.{Refusal}
-use Rattle.posix_model.specs.Slots.{slot, live}
+use Rattle.slots.specs.Slots.{slot, live}
 use Rattle.posix_model.specs.Join.{is_full, join}
 use Rattle.posix_model.specs.Pages.{decided_by}
 use Rattle.posix_model.specs.Step.{is_here, is_parked, can_call, decided, Stepped, given, comes_to, stepped, step}

@@ -1,7 +1,7 @@
 -- What is told of acts in a row.
 use Rattle.std.proofs.Common.{◌≡◌, ℕ, zero, suc, List, [], ◌∷◌, ◌++◌, Option, Some, set, refl, ap, sym, subst, ◌∙◌, append_assoc, append-nil}
 use Rattle.call_types.specs.declared.act.ScriptAct.{ScriptAct}
-use Rattle.posix_model.specs.Slots.{slot}
+use Rattle.slots.specs.Slots.{slot}
 use Rattle.record_book.specs.Book.{BookState}
 use Rattle.record_book.specs.Runs.{Seats, Tells, RunTells}
 use Rattle.record_book.specs.declared.run.Told.{Told}

@@ -4,7 +4,7 @@ use Rattle.std.specs.Option.{option_map}
 use Rattle.call_types.specs.declared.limits.Limits.{Limits}
 use Rattle.call_types.specs.declared.act.Act.{Act}
 use Rattle.call_types.specs.declared.act.Record.{Record}
-use Rattle.posix_model.specs.Slots.{live}
+use Rattle.slots.specs.Slots.{live}
 use Rattle.posix_model.specs.Step.{step}
 use Rattle.posix_model.specs.History.{after_act, world_of}
 use Rattle.posix_model.specs.declared.world.World.{World}

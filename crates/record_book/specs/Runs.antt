@@ -6,7 +6,7 @@ use Rattle.call_types.specs.declared.act.ScriptAct.TheVariants as script
 use Rattle.call_types.specs.declared.call.Call.{Call}
 use Rattle.call_types.specs.declared.refusal.Refusal.{Refusal}
 use Rattle.call_types.specs.declared.refusal.Refusal.TheVariants.{NotHere}
-use Rattle.posix_model.specs.Slots.{slot}
+use Rattle.slots.specs.Slots.{slot}
 use Rattle.posix_model.specs.Join.{is_full}
 use Rattle.record_book.specs.Seat.{Receipted, SeatState}
 use Rattle.record_book.specs.Book.{BookState, world_now, Appends, Receives}

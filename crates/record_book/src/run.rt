@@ -44,7 +44,7 @@ impl Book {
         Ok(self.record_call(alloc, seat, call)?)
     }
 
-    ghost use Rattle.posix_model.specs.Slots.{slot};
+    ghost use Rattle.slots.specs.Slots.{slot};
     ghost use Rattle.record_book.specs.Runs.{JoinRuns, CallRuns, Tells, RunTells};
 
     /// Runs a join of a script; where it makes a process, its seat is put among the others.

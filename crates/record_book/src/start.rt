@@ -1,5 +1,5 @@
 ghost use Rattle.std.specs.Prelude.{◌≡◌, ◌≤◌, ◌+◌, None, Some, false, not, nat_le, length, if◌then◌else◌, IfOk, IfErr, OnOk, OnErr};
-ghost use Rattle.posix_model.specs.Slots.{live as live_in};
+ghost use Rattle.slots.specs.Slots.{live as live_in};
 ghost use Rattle.posix_model.specs.Step.{comes_to};
 ghost use Rattle.record_book.specs.Book.{world_now, Appends, Receives};
 ghost use Rattle.record_book.specs.Refusals.{start_refusal, is_too_full, IsDue};

@@ -1,5 +1,5 @@
 ghost use Rattle.std.specs.Prelude.{◌≡◌, ◌≤◌, IfOk};
-ghost use Rattle.posix_model.specs.Slots.{slot};
+ghost use Rattle.slots.specs.Slots.{slot};
 ghost use Rattle.posix_model.specs.Step.{can_call, decided, comes_to};
 ghost use Rattle.posix_model.specs.Sound.{adds};
 

@@ -7,7 +7,7 @@ use call_types::limits::{OPEN_MAX, PROCESSES_MAX};
 use call_types::outcome::Reply;
 use posix_model::change::{Decided, ProcessEdit, acts, refused};
 use posix_model::reader::Reader;
-use posix_model::slots::Slots;
+use slots::dense::Slots;
 use std::alloc::{AllocError, Global};
 
 /// Whether there may be no further process: there are too many, or the run is closed.

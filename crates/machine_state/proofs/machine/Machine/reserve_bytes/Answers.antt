@@ -1,16 +1,21 @@
-use Rattle.std.proofs.Common.{ap}
+use Rattle.std.proofs.Common.{ap, refl}
+use Rattle.machine_state.specs.Files.{with_bytes}
 use Rattle.machine_state.specs.Held.{stored_in}
-use Rattle.machine_state.proofs.FileLaws.{files_reserved, room_reserved}
+use Rattle.machine_state.proofs.FileLaws.{regular_there, files_same, room_reserved}
 use Rattle.machine_state.proofs.StoredLaws.{after_bytes}
 use Rattle.machine_state.proofs.machine.Machine.reserve_bytes.Goals as goal
+
+pub reserve_bytes-requires : goal.reserve_bytes-requires
+reserve_bytes-requires c = regular_there c.self.inside.files.0 c.args.file (rw (← c.self.view_is) at c.requires)
 
 pub invariant_of-self : goal.invariant_of-self
 invariant_of-self c =
     let room = c.reserve_bytes.ensures.0 in
-    rw c.reserve_bytes.ensures.1 (after_bytes (stored_in c.self.inside) c.self.invariant c.args.file (λ b. (b.0, room)))
+    rw c.reserve_bytes.ensures.1 (after_bytes (stored_in c.self.inside) c.self.invariant c.args.file (with_bytes (λ bytes. bytes) room) (λ _. refl))
 
 pub returns-clause-world : goal.returns-clause-world
-returns-clause-world c = rw (c.reserve_bytes.ensures.1, files_reserved c.self.inside.files.0 c.args.file c.reserve_bytes.ensures.0) (ap (λ m. m.world) c.self.view_is)
+returns-clause-world c =
+    rw (c.reserve_bytes.ensures.1, files_same c.self.inside.files.0 c.args.file (with_bytes (λ bytes. bytes) c.reserve_bytes.ensures.0) (λ _. refl)) (ap (λ m. m.world) c.self.view_is)
 
 pub returns-clause-room : goal.returns-clause-room
 returns-clause-room c =

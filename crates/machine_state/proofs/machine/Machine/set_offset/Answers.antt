@@ -4,11 +4,11 @@ use Rattle.machine_state.proofs.StoredLaws.{after_offset, offset_world, swept}
 use Rattle.machine_state.proofs.machine.Machine.set_offset.Goals as goal
 
 pub invariant_of-self : goal.invariant_of-self
-invariant_of-self c = rw c.set_offset.ensures (after_offset (stored_in c.self.inside) c.self.invariant c.args.number c.args.offset)
+invariant_of-self c = rw c.set_offset.ensures.slots (after_offset (stored_in c.self.inside) c.self.invariant c.args.number c.args.offset)
 
 pub returns : goal.returns
 returns c =
     let s = stored_in c.self.inside in
-    rw (← c.self.view_is, c.set_offset.ensures)
+    rw (← c.self.view_is, c.set_offset.ensures.slots)
     (swept c.sweep_releases.ensures.stays _ (with_offset (world_in s) c.args.number c.args.offset) (after_offset s c.self.invariant c.args.number c.args.offset)
     (offset_world s c.self.invariant c.args.number c.args.offset))

@@ -1,7 +1,7 @@
 use Rattle.std.proofs.Common.{◌≡◌, ℕ, ◌+◌, length, sym, ◌∙◌, ap}
 use Rattle.std.specs.Prelude.{not, nat_le, if◌then◌else◌}
 use Rattle.call_types.specs.declared.act.Act.TheVariants as act
-use Rattle.posix_model.specs.Slots.{live}
+use Rattle.slots.specs.Slots.{live}
 use Rattle.record_book.specs.Book.{world_now, world_after, exits_left}
 use Rattle.record_book.proofs.PlanLemmas.{call_exits}
 use Rattle.record_book.proofs.book.Book.call_overfills.Goals as goal

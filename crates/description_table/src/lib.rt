@@ -1,0 +1,167 @@
+//! The open file descriptions that are live, each under its number and with the count of the descriptors that refer to it.
+#![tactic(auto)]
+
+ghost use Rattle.std.specs.Prelude.{◌≡◌, ◌+◌, ◌<◌, ◌^◌, ◌∷◌, ◌++◌, [], Some, true, is_some, length, option_copied, OnOk};
+ghost use Rattle.std.specs.Option.{option_map};
+ghost use Rattle.slots.specs.Slots.{slot, live, edited};
+ghost use Rattle.slots.specs.Uses.{uses_at, value_at, last_value, used_once, use_added, use_dropped, with_value};
+ghost use Rattle.call_types.specs.Descriptions.{at_offset};
+ghost use Rattle.description_table.specs.Drops.{dropped};
+ghost use Rattle.description_table.specs.Flags.{flag_if, flags_of};
+
+use bitflags::Flags;
+use call_types::description::{Description, Target};
+use call_types::flags::OpenFlags;
+use slots::numbered::Numbered;
+use slots::used::Used;
+use std::alloc::{AllocError, Global};
+use std::marker::Model;
+
+/// What a dropped reference leaves: a description that is still referred to, or nothing but what that one referred to.
+#[derive(Clone, Copy)]
+pub enum Dropped {
+    Still,
+    Gone { target: Target },
+}
+
+/// The flag, if it is set.
+fn flag_if(set: bool, flag: OpenFlags) -> OpenFlags
+    ensures { result.0 ≡ flag_if set flag.0 }
+{
+    if set { flag } else { OpenFlags::empty() }
+}
+
+/// The flags with which a description was opened, of those that stay with it.
+fn flags_of(description: Description) -> OpenFlags
+    ensures { result ≡ flags_of description }
+{
+    let reading = flag_if(description.mode.can_read(), OpenFlags::READ);
+    let writing = flag_if(description.mode.can_write(), OpenFlags::WRITE);
+    let appending = flag_if(description.append, OpenFlags::APPEND);
+    let nonblocking = flag_if(description.nonblock, OpenFlags::NONBLOCK);
+    reading.union(writing).union(appending.union(nonblocking))
+}
+
+/// The live descriptions. Contracts see a slot for each number that was ever given, with its references, and for how many
+/// more descriptions there is room.
+#[derive(Drop)]
+pub struct DescriptionTable {
+    descriptions: Numbered<Used<Description>>,
+}
+
+impl Model for DescriptionTable {
+    ghost use Rattle.std.specs.Prelude.{List, Option, ℕ};
+    ghost use Rattle.slots.specs.declared.used.Used.{Used as Uses};
+    ghost use Rattle.call_types.specs.declared.description.Description.{Description as Descriptions};
+
+    ghost Value = { List (Option (Uses Descriptions)) × ℕ };
+
+    ghost view = { λ table. table.descriptions };
+}
+
+impl DescriptionTable {
+    /// No description yet, and no number given.
+    pub fn new(alloc: Global) -> Self
+        ensures { result.0 ≡ [] }
+    {
+        DescriptionTable {
+            descriptions: Numbered::new(alloc),
+        }
+    }
+
+    /// The number of the next description.
+    pub fn next(&self) -> usize
+        ensures { result ≡ length self.now.0 }
+    {
+        self.descriptions.next()
+    }
+
+    /// How many descriptions are live.
+    pub fn live(&self) -> usize
+        ensures { result ≡ live self.now.0 }
+    {
+        self.descriptions.live()
+    }
+
+    /// The description of a number, if it is live.
+    pub fn get(&self, number: usize) -> Option<&Description>
+        ensures { option_copied result ≡ value_at (slot self.now.0 number) }
+    {
+        match self.descriptions.get(number) {
+            Some(used) => Some(&used.value),
+            None => None,
+        }
+    }
+
+    /// The offset of a description, in bytes, if it is live.
+    pub fn offset(&self, number: usize) -> Option<u64>
+        ensures { result ≡ option_map (λ description. description.offset) (value_at (slot self.now.0 number)) }
+    {
+        match self.get(number) {
+            Some(description) => Some(description.offset),
+            None => None,
+        }
+    }
+
+    /// The flags of a description, of those that stay with it, if it is live.
+    pub fn flags(&self, number: usize) -> Option<OpenFlags>
+        ensures { result ≡ option_map flags_of (value_at (slot self.now.0 number)) }
+    {
+        match self.get(number) {
+            Some(description) => Some(flags_of(*description)),
+            None => None,
+        }
+    }
+
+    /// Makes room for one more description; an error says that memory or numbers ran out.
+    pub fn reserve(&mut self) -> Result<(), AllocError>
+        ensures slots { self.new.0 ≡ self.old.0 }
+        ensures room { OnOk result (0 < self.new.1) }
+    {
+        self.descriptions.reserve()
+    }
+
+    /// Gives the next number to a description, for which there is room, with one reference.
+    pub fn add(&mut self, description: Description)
+        requires { 0 < self.old.1 }
+        ensures { self.new.0 ≡ self.old.0 ++ Some (used_once description) ∷ [] }
+    {
+        self.descriptions.push(Used {
+            value: description,
+            uses: 1,
+        });
+    }
+
+    /// A description has one reference more.
+    pub fn hold(&mut self, number: usize)
+        requires there { is_some (slot self.old.0 number) ≡ true }
+        requires few { uses_at (slot self.old.0 number) < 2 ^ 63 }
+        ensures slots { self.new.0 ≡ use_added number self.old.0 }
+        ensures room { self.new.1 ≡ self.old.1 }
+    {
+        self.descriptions.add_use(number);
+    }
+
+    /// A description has one reference less, and goes with its last one. Of a number that is gone nothing goes.
+    pub fn drop_one(&mut self, number: usize) -> Dropped
+        ensures slots { self.new.0 ≡ use_dropped number self.old.0 }
+        ensures told { result ≡ dropped (last_value (slot self.old.0 number)) }
+    {
+        match self.descriptions.drop_use(number) {
+            Some(description) => Dropped::Gone {
+                target: description.target,
+            },
+            None => Dropped::Still,
+        }
+    }
+
+    /// Gives a description another offset, in bytes; nothing changes where it is gone.
+    pub fn set_offset(&mut self, number: usize, offset: u64)
+        ensures slots { self.new.0 ≡ edited number (with_value (at_offset offset)) self.old.0 }
+        ensures room { self.new.1 ≡ self.old.1 }
+    {
+        if self.descriptions.get(number).is_some() {
+            self.descriptions.value_mut(number).value.offset = offset;
+        }
+    }
+}

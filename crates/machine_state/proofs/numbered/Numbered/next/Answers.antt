@@ -1,6 +1,0 @@
-use Rattle.std.proofs.Common.{refl}
-use Rattle.machine_state.proofs.EntryLaws.{length_slots}
-use Rattle.machine_state.proofs.numbered.Numbered.next.Goals as goal
-
-pub returns : goal.returns
-returns g c = rw (← c.self.view_is, length_slots c.self.inside.next c.self.inside.entries.items) refl

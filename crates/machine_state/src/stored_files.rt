@@ -1,0 +1,104 @@
+//! The files of a machine, each under its number, with the count of its names and holders.
+
+ghost use Rattle.std.specs.Prelude.{◌≡◌, ℕ, ◌+◌, ◌<◌, ◌≤◌, ◌^◌, Some, true, is_some, length, slice_index, OnOk};
+ghost use Rattle.slots.specs.Slots.{slot, edited};
+ghost use Rattle.slots.specs.Uses.{uses_at, value_at, values_in, use_added, use_dropped, with_value};
+ghost use Rattle.posix_model.specs.Bytes.{splice, resized};
+ghost use Rattle.posix_model.specs.Descriptors.{file_bytes};
+ghost use Rattle.machine_state.specs.Uses.{with_use, without_use};
+ghost use Rattle.machine_state.specs.Files.{with_bytes, named, unnamed, file_slots, room_slots, links_at};
+
+use crate::stored_file::StoredFile;
+use slots::numbered::Numbered;
+use slots::used::Used;
+use std::alloc::AllocError;
+
+/// The bytes of a file; none where it is gone.
+pub(crate) fn bytes_of(files: &Numbered<Used<StoredFile>>, number: usize) -> &[u8]
+    ensures { result.now ≡ file_bytes (slot (file_slots (values_in files.now.0)) number) }
+{
+    match files.get(number) {
+        Some(used) => used.value.bytes(),
+        None => &[],
+    }
+}
+
+/// How many names a file has; none where it is gone.
+pub(crate) fn links_of(files: &Numbered<Used<StoredFile>>, number: usize) -> usize
+    ensures { result ≡ links_at (slot (values_in files.now.0) number) }
+{
+    match files.get(number) {
+        Some(used) => used.value.links(),
+        None => 0,
+    }
+}
+
+/// Makes room for `len` bytes in all in a file.
+pub(crate) fn reserve_bytes(
+    files: &mut Numbered<Used<StoredFile>>,
+    number: usize,
+    len: usize,
+) -> Result<(), AllocError>
+    requires { is_some (slot files.old.0 number) ≡ true }
+    ensures { (room : ℕ) × (files.new.0 ≡ edited number (with_value (with_bytes (λ bytes. bytes) room)) files.old.0) × OnOk result (len ≤ room) }
+{
+    files.value_mut(number).value.reserve(len)
+}
+
+/// Writes bytes into a file from the byte `start` on.
+pub(crate) fn write(files: &mut Numbered<Used<StoredFile>>, number: usize, start: usize, new: &[u8])
+    requires there { is_some (slot files.old.0 number) ≡ true }
+    requires room { start + length new.now ≤ slice_index (room_slots (values_in files.old.0)) number }
+    ensures { (room : ℕ) × (files.new.0 ≡ edited number (with_value (with_bytes (λ bytes. splice bytes start new.now) room)) files.old.0) }
+{
+    files.value_mut(number).value.write(start, new);
+}
+
+/// Gives a file its length, in bytes: its first bytes, and zeros where there were fewer.
+pub(crate) fn set_len(files: &mut Numbered<Used<StoredFile>>, number: usize, len: usize)
+    requires there { is_some (slot files.old.0 number) ≡ true }
+    requires room { len ≤ slice_index (room_slots (values_in files.old.0)) number }
+    ensures { (room : ℕ) × (files.new.0 ≡ edited number (with_value (with_bytes (λ bytes. resized bytes len) room)) files.old.0) }
+{
+    files.value_mut(number).value.set_len(len);
+}
+
+/// A file has one holder more, if there is one.
+pub(crate) fn hold_file(files: &mut Numbered<Used<StoredFile>>, file: Option<usize>)
+    requires there { (n : ℕ) → file ≡ Some n → is_some (slot files.old.0 n) ≡ true }
+    requires few { (n : ℕ) → uses_at (slot files.old.0 n) < 2 ^ 63 }
+    ensures { files.new.0 ≡ with_use file files.old.0 }
+{
+    if let Some(number) = file {
+        files.add_use(number);
+    }
+}
+
+/// A file has one holder less, if there is one, and goes with its last name or holder.
+pub(crate) fn drop_file(files: &mut Numbered<Used<StoredFile>>, file: Option<usize>)
+    ensures { files.new.0 ≡ without_use file files.old.0 }
+{
+    if let Some(number) = file {
+        drop(files.drop_use(number));
+    }
+}
+
+/// A file has one name more.
+pub(crate) fn add_link(files: &mut Numbered<Used<StoredFile>>, number: usize)
+    requires there { is_some (slot files.old.0 number) ≡ true }
+    requires few { uses_at (slot files.old.0 number) < 2 ^ 63 }
+    requires few_links { links_at (value_at (slot files.old.0 number)) < 2 ^ 63 }
+    ensures { files.new.0 ≡ use_added number (edited number (with_value named) files.old.0) }
+{
+    files.value_mut(number).value.add_link();
+    files.add_use(number);
+}
+
+/// A file has one name less, and goes with its last name or holder.
+pub(crate) fn drop_link(files: &mut Numbered<Used<StoredFile>>, number: usize)
+    requires { 0 < links_at (value_at (slot files.old.0 number)) }
+    ensures { files.new.0 ≡ use_dropped number (edited number (with_value unnamed) files.old.0) }
+{
+    files.value_mut(number).value.drop_link();
+    drop(files.drop_use(number));
+}

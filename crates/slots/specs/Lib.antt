@@ -1,0 +1,4 @@
+pub mod Slots
+pub mod Entries
+pub mod Lends
+pub mod Uses

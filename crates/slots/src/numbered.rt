@@ -1,0 +1,110 @@
+ghost use Rattle.std.specs.Prelude.{◌≡◌, ℕ, ◌<◌, ◌∷◌, [], ◌++◌, None, Some, true, is_some, length, option_copied, IfOk, IfErr, OnOk};
+ghost use Rattle.slots.specs.Slots.{slot, live};
+ghost use Rattle.slots.specs.Entries.{found, Rises, IsAt};
+
+use std::alloc::{AllocError, Global};
+use std::marker::Model;
+
+/// The index of the entry of a number. As long as no lower entry has gone, it is the number itself.
+pub(crate) fn index_of<T>(entries: &[(usize, T)], number: usize) -> Result<usize, usize>
+    requires { (next : ℕ) × Rises 0 entries.now next }
+    ensures there { IfOk result (IsAt entries.now number) }
+    ensures gone { IfErr result (λ _. found entries.now number ≡ None) }
+{
+    if number < entries.len() && entries[number].0 == number {
+        return Ok(number);
+    }
+    entries.binary_search_by_key(&number, |entry| entry.0)
+}
+
+/// Slots by number, of which only the live ones are stored. Contracts see a slot for each number that was ever given,
+/// and for how many more entries there is room.
+#[derive(Drop)]
+pub struct Numbered<T> {
+    pub(crate) entries: Vec<(usize, T)>,
+    next: usize,
+}
+
+impl<T> Model for Numbered<T> {
+    ghost use Rattle.std.specs.Prelude.{List, Option, ℕ, vec_len, vec_capacity};
+    ghost use Rattle.slots.specs.Entries.{slots_of, room_of, Rises};
+
+    ghost Value = { List (Option T) × ℕ };
+
+    ghost view = { λ n. (slots_of n.next n.entries.items, room_of (vec_capacity n.entries) (vec_len n.entries) n.next) };
+
+    ghost invariant = { λ n. Rises 0 n.entries.items n.next };
+}
+
+impl<T> Numbered<T> {
+    /// No number given yet.
+    pub fn new(alloc: Global) -> Self
+        ensures { result.0 ≡ [] }
+    {
+        Numbered {
+            entries: Vec::new(alloc),
+            next: 0,
+        }
+    }
+
+    /// The next number.
+    pub fn next(&self) -> usize
+        ensures { result ≡ length self.now.0 }
+    {
+        self.next
+    }
+
+    /// How many slots are live.
+    pub fn live(&self) -> usize
+        ensures { result ≡ live self.now.0 }
+    {
+        self.entries.as_slice().len()
+    }
+
+    /// What stands at a number.
+    pub fn get(&self, number: usize) -> Option<&T>
+        ensures { option_copied result ≡ slot self.now.0 number }
+    {
+        match index_of(self.entries.as_slice(), number) {
+            Ok(index) => Some(&self.entries[index].1),
+            Err(_) => None,
+        }
+    }
+
+    ghost use Rattle.std.specs.Borrow.{sem};
+    ghost use Rattle.slots.specs.Lends.{lends_value};
+
+    /// The value at a number, to be edited where it stands.
+    pub fn value_mut(&mut self, number: usize) -> &mut T
+        requires { is_some (slot self.old.0 number) ≡ true }
+        ensures* writes_back { sem 𝓛 (lends_value T.row self.entry number result) }
+        ensures value { slot self.old.0 number ≡ Some result.now }
+    {
+        match index_of(self.entries.as_slice(), number) {
+            Ok(index) => &mut self.entries[index].1,
+            Err(_) => unreachable!(),
+        }
+    }
+
+    /// Makes room for one more entry; an error says that memory or numbers ran out.
+    pub fn reserve(&mut self) -> Result<(), AllocError>
+        ensures slots { self.new.0 ≡ self.old.0 }
+        ensures room { OnOk result (0 < self.new.1) }
+    {
+        if self.next == usize::MAX {
+            return Err(AllocError);
+        }
+        self.entries.reserve(1)
+    }
+}
+
+impl<T: Drop> Numbered<T> {
+    /// Gives the next number to a value, for which there is room.
+    pub fn push(&mut self, value: T)
+        requires { 0 < self.old.1 }
+        ensures { self.new.0 ≡ self.old.0 ++ Some value ∷ [] }
+    {
+        self.entries.push_reserved((self.next, value));
+        self.next += 1;
+    }
+}
