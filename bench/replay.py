@@ -14,7 +14,7 @@ the output going to a file. The growth is the cost of an act over its cost in th
 `churn` makes a file, writes 64 bytes, gives it a second name, takes both away, reads the bytes back through the
 descriptor and closes it, among 300 names of a set of 500. `wide` has 60 processes with 15 descriptors each beside
 1,000 names, and writes, seeks, reads, asks, opens and closes among them. `9,000 files` are made, written one byte at
-their end, unlinked and closed, one after another: what went must not stay in memory.
+their end, unlinked and closed, one after another: what went must not stay in memory, so a peak of 80 MiB fails.
 
 `64 KiB, ..` has writes of 65,536 bytes spread over files of sixteen writes each, since a file holds
 1,048,576 bytes. In the spelling `61*65536` there are 1,000 of them. In the spelling `x6162..` each
@@ -38,6 +38,7 @@ import time
 TOP = os.path.dirname(os.path.dirname(os.path.abspath(__file__)))
 SCRIPT_MOST = 16_777_216
 FILE_MOST = 1_048_576
+GIVEN_BACK_MOST = 80 * 2**20
 RECORDS_MOST = 1_000_000
 BIG = 65_536
 BURST = 40
@@ -305,8 +306,10 @@ def table(program, runs, folder):
     print(f"best of {runs} runs; a peak of {floor / 2**20:.1f} MiB or less is this script's own")
     print(f"{'script':<18} {'acts':>9} {'seconds':>9} {'acts/s':>11} {'us/act':>10} {'growth':>7} {'peak MiB':>9} {'bytes/act':>10}")
 
-    def line(script, before=None):
+    def line(script, before=None, most=None):
         measured = measure(program, script, target, runs)
+        if most is not None and measured.memory >= most:
+            sys.exit(f"{script.name}: a peak of {measured.memory / 2**20:.1f} MiB is {most / 2**20:.0f} MiB or more")
         cost = measured.seconds / script.acts * 1e6
         growth = f"{cost / before:.2f}" if before else "-"
         print(
@@ -324,7 +327,7 @@ def table(program, runs, folder):
         few = line(kind(path, 10_000))
         many = line(kind(path, 999_000), few)
         print(f"an act of it over a small act: {few / costs[0]:.2f} of 10,000, {many / costs[-1]:.2f} of 999,000")
-    line(ends(path, 9_000))
+    line(ends(path, 9_000), most=GIVEN_BACK_MOST)
     line(big(path, "64 KiB, 61*65536", 1_000, counted))
     line(big(path, "64 KiB, x6162..", 127, spelled))
     short = line(scattered(path, 200_000, 1024))

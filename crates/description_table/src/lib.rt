@@ -1,7 +1,7 @@
 //! The open file descriptions that are live, each under its number and with the count of the descriptors that refer to it.
 #![tactic(auto)]
 
-ghost use Rattle.std.specs.Prelude.{◌≡◌, ◌+◌, ◌<◌, ◌^◌, ◌∷◌, ◌++◌, [], Some, true, is_some, length, option_copied, OnOk};
+ghost use Rattle.std.specs.Prelude.{◌≡◌, ◌<◌, ◌≤◌, ◌^◌, ◌∷◌, ◌++◌, [], Some, true, is_some, length, option_copied, OnOk};
 ghost use Rattle.std.specs.Option.{option_map};
 ghost use Rattle.slots.specs.Slots.{slot, live, edited};
 ghost use Rattle.slots.specs.Uses.{uses_at, value_at, last_value, used_once, use_added, use_dropped, with_value};
@@ -17,10 +17,12 @@ use slots::used::Used;
 use std::alloc::{AllocError, Global};
 use std::marker::Model;
 
-/// What a dropped reference leaves: a description that is still referred to, or nothing but what that one referred to.
+/// What becomes of a description that loses a reference (page of close).
 #[derive(Clone, Copy)]
 pub enum Dropped {
+    /// It is still referred to, or was gone before.
     Still,
+    /// It went with its last reference; this is what it referred to.
     Gone { target: Target },
 }
 
@@ -31,7 +33,7 @@ fn flag_if(set: bool, flag: OpenFlags) -> OpenFlags
     if set { flag } else { OpenFlags::empty() }
 }
 
-/// The flags with which a description was opened, of those that stay with it.
+/// The flags with which a description was opened, of those that stay with it (page of fcntl, F_GETFL).
 fn flags_of(description: Description) -> OpenFlags
     ensures { result ≡ flags_of description }
 {
@@ -42,7 +44,7 @@ fn flags_of(description: Description) -> OpenFlags
     reading.union(writing).union(appending.union(nonblocking))
 }
 
-/// The live descriptions. Contracts see a slot for each number that was ever given, with its references, and for how many
+/// The live descriptions (XBD 3, Open File Description). Contracts see a slot for each number that was ever given, with its references, and for how many
 /// more descriptions there is room.
 #[derive(Drop)]
 pub struct DescriptionTable {
@@ -56,7 +58,11 @@ impl Model for DescriptionTable {
 
     ghost Value = { List (Option (Uses Descriptions)) × ℕ };
 
+    ghost use Rattle.description_table.specs.Drops.{Referred};
+
     ghost view = { λ table. table.descriptions };
+
+    ghost invariant = { λ table. Referred table.descriptions.0 };
 }
 
 impl DescriptionTable {
@@ -103,7 +109,7 @@ impl DescriptionTable {
         }
     }
 
-    /// The flags of a description, of those that stay with it, if it is live.
+    /// The flags of a description, of those that stay with it, if it is live (page of fcntl, F_GETFL).
     pub fn flags(&self, number: usize) -> Option<OpenFlags>
         ensures { result ≡ option_map flags_of (value_at (slot self.now.0 number)) }
     {
@@ -142,9 +148,10 @@ impl DescriptionTable {
         self.descriptions.add_use(number);
     }
 
-    /// A description has one reference less, and goes with its last one. Of a number that is gone nothing goes.
+    /// A description has one reference less, and goes with its last one (page of close). Of a number that is gone nothing goes.
     pub fn drop_one(&mut self, number: usize) -> Dropped
         ensures slots { self.new.0 ≡ use_dropped number self.old.0 }
+        ensures room { self.old.1 ≤ self.new.1 }
         ensures told { result ≡ dropped (last_value (slot self.old.0 number)) }
     {
         match self.descriptions.drop_use(number) {
@@ -155,13 +162,12 @@ impl DescriptionTable {
         }
     }
 
-    /// Gives a description another offset, in bytes; nothing changes where it is gone.
+    /// Gives a live description another offset, in bytes, below 2^63 (page of lseek).
     pub fn set_offset(&mut self, number: usize, offset: u64)
+        requires { is_some (slot self.old.0 number) ≡ true }
         ensures slots { self.new.0 ≡ edited number (with_value (at_offset offset)) self.old.0 }
         ensures room { self.new.1 ≡ self.old.1 }
     {
-        if self.descriptions.get(number).is_some() {
-            self.descriptions.value_mut(number).value.offset = offset;
-        }
+        self.descriptions.value_mut(number).value.offset = offset;
     }
 }

@@ -12,7 +12,7 @@ use Rattle.posix_model.specs.Open.{leads_to_fifo}
 use Rattle.machine_state.specs.Types.{Description, File, Used}
 use Rattle.posix_model.specs.declared.world.File.TheVariants as file
 use Rattle.slots.specs.Uses.{value_at, values_in, with_value}
-use Rattle.machine_state.specs.Files.{FileState, with_bytes, file_slot, file_slots, room_slot, room_slots}
+use Rattle.machine_state.specs.Files.{FileState, edited_bytes, file_slot, file_slots, room_slot, room_slots}
 use Rattle.machine_state.specs.Held.{Stored, world_in}
 use Rattle.machine_state.proofs.SlotLaws.{slot_set, is_itself}
 use Rattle.machine_state.proofs.UseLaws.{slot_values, there_values, values_edited}
@@ -39,7 +39,7 @@ module _ (xs : Files) (n : ℕ) where
   bytes_gone is = ap file_bytes (slot_files (values_in xs) n ∙ ap file_slot (slot_values xs n ∙ ap value_at is))
 
 -- a file with other bytes and other room
-pub state_as : (new old : FileState) (edit : List ℕ → List ℕ) → new.bytes ≡ edit old.bytes → new.links ≡ old.links → new ≡ with_bytes edit new.room old
+pub state_as : (new old : FileState) (edit : List ℕ → List ℕ) → new.bytes ≡ edit old.bytes → new.links ≡ old.links → new ≡ edited_bytes edit new.room old
 state_as new old edit bytes links = ap (λ b. record new { bytes = b }) bytes ∙ ap (λ l. record new { bytes = edit old.bytes; links = l }) links
 
 pub file_slots_set : (states : List (Option FileState)) (n : ℕ) (x : Option FileState) → file_slots (set states n x) ≡ set (file_slots states) n (file_slot x)
@@ -83,25 +83,25 @@ files_same xs n f same =
 
 module _ (xs : Files) (n : ℕ) where
   pub room_reserved : (room : ℕ) → is_regular_file (slot (file_slots (values_in xs)) n) ≡ true →
-      slice_index (room_slots (values_in (edited n (with_value (with_bytes (λ bytes. bytes) room)) xs))) n ≡ room
+      slice_index (room_slots (values_in (edited n (with_value (edited_bytes (λ bytes. bytes) room)) xs))) n ≡ room
   room_reserved room there = at (slot xs n) refl (regular_there xs n there)
     where
       at : (x : Option (Used FileState)) → slot xs n ≡ x → is_some (slot xs n) ≡ true →
-          slice_index (room_slots (values_in (edited n (with_value (with_bytes (λ bytes. bytes) room)) xs))) n ≡ room
+          slice_index (room_slots (values_in (edited n (with_value (edited_bytes (λ bytes. bytes) room)) xs))) n ≡ room
       at None is full = let bad : false ≡ true = sym (ap is_some is) ∙ full in cc
       at (Some used) is full =
-          let edit : Used FileState → Used FileState = with_value (with_bytes (λ bytes. bytes) room) in
+          let edit : Used FileState → Used FileState = with_value (edited_bytes (λ bytes. bytes) room) in
           let written : edited n edit xs ≡ set xs n (Some (edit used)) = ap (λ x. set xs n (option_map edit x)) is in
           room_there (edited n edit xs) n (edit used) (ap (λ ys. slot ys n) written ∙ (slot_set xs n used (Some (edit used)) n is ∙ ap (λ b. cond b (Some (edit used)) (slot xs n)) (is_itself n)))
 
   -- a file has other bytes
   pub files_written : (edit : List ℕ → List ℕ) (room : ℕ) → is_regular_file (slot (file_slots (values_in xs)) n) ≡ true →
-      file_slots (values_in (edited n (with_value (with_bytes edit room)) xs)) ≡ set (file_slots (values_in xs)) n (Some (file.Regular (edit (file_bytes (slot (file_slots (values_in xs)) n)))))
+      file_slots (values_in (edited n (with_value (edited_bytes edit room)) xs)) ≡ set (file_slots (values_in xs)) n (Some (file.Regular (edit (file_bytes (slot (file_slots (values_in xs)) n)))))
   files_written edit room there =
-      ap file_slots (values_edited xs n (with_bytes edit room)) ∙ (file_slots_set (values_in xs) n (option_map (with_bytes edit room) (slot (values_in xs) n)) ∙
+      ap file_slots (values_edited xs n (edited_bytes edit room)) ∙ (file_slots_set (values_in xs) n (option_map (edited_bytes edit room) (slot (values_in xs) n)) ∙
       ap (λ y. set (file_slots (values_in xs)) n y) (written (slot (values_in xs) n) (ap is_regular_file (sym (slot_files (values_in xs) n)) ∙ there) ∙ ap (λ y. Some (file.Regular (edit (file_bytes y)))) (sym (slot_files (values_in xs) n))))
     where
-      written : (x : Option FileState) → is_regular_file (file_slot x) ≡ true → file_slot (option_map (with_bytes edit room) x) ≡ Some (file.Regular (edit (file_bytes (file_slot x))))
+      written : (x : Option FileState) → is_regular_file (file_slot x) ≡ true → file_slot (option_map (edited_bytes edit room) x) ≡ Some (file.Regular (edit (file_bytes (file_slot x))))
       written None h = cc
       written (Some state) h = refl
 

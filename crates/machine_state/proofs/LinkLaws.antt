@@ -15,9 +15,6 @@ abbrev pub Linked : List (Option FileState) → (ℕ → ℕ) → Type 0
 Linked xs total = (f : ℕ) → links_at (slot xs f) ≡ total f
 
 module _ (xs : List (Option FileState)) (old new : ℕ → ℕ) (linked : Linked xs old) where
-  pub linked_as : ((f : ℕ) → new f ≡ old f) → Linked xs new
-  linked_as same f = rw (same f) (linked f)
-
   -- one slot has another number
   pub linked_set : (k : ℕ) (x : FileState) (y : Option FileState) → slot xs k ≡ Some x → links_at y ≡ new k → ((f : ℕ) → k ≢ f → new f ≡ old f) → Linked (set xs k y) new
   linked_set k x y is here others f = elim (same_or_not k f) [

@@ -32,7 +32,7 @@ use Rattle.machine_state.proofs.CountLaws.{refs_entry, refs_most, holders_most, 
 -- what holds of a machine, with each count told at its slot
 pub record Facts (s : Stored) : Type 0 where
   pub references : Counted s.descriptions (λ n. refs s.processes n)
-  pub holders : Counted s.files (λ f. links s.names f + holders (values_in s.descriptions) f)
+  pub uses : Counted s.files (λ f. links s.names f + holders (values_in s.descriptions) f)
   pub links : Linked (values_in s.files) (λ f. links s.names f)
   pub tables : EachThere (λ process. length process.table ≡ OPEN_MAX) s.processes
   pub few_processes : live s.processes ≤ PROCESSES_MAX
@@ -42,7 +42,7 @@ pub record Facts (s : Stored) : Type 0 where
 pub facts_of : (s : Stored) → IsConsistent s → Facts s
 facts_of s all = record {
   references = λ n. record { uses = all.references n; some = λ there. all.settled.descriptions n (there_values s.descriptions n ∙ there) };
-  holders = λ f. record { uses = all.holders f; some = λ there. all.settled.files f (files_there s.files f ∙ there) };
+  uses = λ f. record { uses = all.uses f; some = λ there. all.settled.files f (files_there s.files f ∙ there) };
   links = all.links;
   tables = all.tables;
   few_processes = all.few_processes;
@@ -63,13 +63,13 @@ settled s facts = record {
   descriptions = λ n there. (facts.references n).some (sym (there_values s.descriptions n) ∙ there);
   pipes = λ n there. cc;
   fifos = λ n. rw (slot_files (values_in s.files) n) (regular_stays (values_in s.descriptions) (slot (values_in s.files) n));
-  files = λ n there. (facts.holders n).some (sym (files_there s.files n) ∙ there);
+  files = λ n there. (facts.uses n).some (sym (files_there s.files n) ∙ there);
 }
 
 pub consistent_of : (s : Stored) → Facts s → IsConsistent s
 consistent_of s facts = record {
   references = λ n. (facts.references n).uses;
-  holders = λ f. (facts.holders f).uses;
+  uses = λ f. (facts.uses f).uses;
   links = facts.links;
   settled = settled s facts;
   tables = facts.tables;
@@ -88,7 +88,7 @@ pub few_holders : (s : Stored) → IsConsistent s → (f : ℕ) → uses_at (slo
 few_holders s all f =
     let most : live (values_in s.descriptions) ≤ 1024 = all.few_descriptions in
     let names : length s.names ≤ 1024 = all.few_names in
-    omega (arith, most, names, all.holders f, holders_most (values_in s.descriptions) f, count_most (λ entry. entry.1 == f) s.names)
+    omega (arith, most, names, all.uses f, holders_most (values_in s.descriptions) f, count_most (λ entry. entry.1 == f) s.names)
 
 pub few_links : (s : Stored) → IsConsistent s → (f : ℕ) → links_at (slot (values_in s.files) f) ≤ 1024
 few_links s all f =
@@ -105,7 +105,7 @@ module _ (s : Stored) (all : IsConsistent s) where
       let facts = facts_of s all in
       consistent_of (record s { files = edited n (with_value f) s.files }) (record {
         references = facts.references;
-        holders = counted_edited s.files (λ g. links s.names g + holders ds g) n f facts.holders;
+        uses = counted_edited s.files (λ g. links s.names g + holders ds g) n f facts.uses;
         links = rw (values_edited s.files n f) (linked_edited (values_in s.files) (λ g. links s.names g) n f same facts.links);
         tables = facts.tables;
         few_processes = facts.few_processes;
@@ -120,7 +120,7 @@ module _ (s : Stored) (all : IsConsistent s) where
       let facts = facts_of s all in
       consistent_of (record s { files = s.files ++ Some (used_once state) ∷ []; names = with_name name (length s.files) s.names }) (record {
         references = facts.references;
-        holders = counted_added s.files (λ g. links s.names g + holders ds g) (λ g. links (with_name name (length s.files) s.names) g + holders ds g) state facts.holders
+        uses = counted_added s.files (λ g. links s.names g + holders ds g) (λ g. links (with_name name (length s.files) s.names) g + holders ds g) state facts.uses
             (λ g. omega (arith, links_added name (length s.files) g s.names new));
         links = rw (values_added s.files state) (linked_added (values_in s.files) (λ g. links s.names g) (λ g. links (with_name name (length s.files) s.names) g) facts.links state single
             (λ g. rw (length_values s.files) (links_added name (length s.files) g s.names new)));
@@ -149,8 +149,8 @@ module _ (s : Stored) (all : IsConsistent s) where
       let more : (g : ℕ) → links (with_name name file s.names) g ≡ links s.names g + one (file == g) = λ g. links_added name file g s.names new in
       consistent_of (linked name file) (record {
         references = facts.references;
-        holders = counted_more xs (λ g. links s.names g + holders ds g) (λ g. links (with_name name file s.names) g + holders ds g) (Some file)
-            (counted_edited s.files (λ g. links s.names g + holders ds g) file named facts.holders)
+        uses = counted_more xs (λ g. links s.names g + holders ds g) (λ g. links (with_name name file s.names) g + holders ds g) (Some file)
+            (counted_edited s.files (λ g. links s.names g + holders ds g) file named facts.uses)
             (λ n is. let P : ℕ → Type 0 = λ k. is_some (slot xs k) ≡ true in subst P (same_entry file n is) (there_edited s.files file (with_value named) file stored))
             (λ g. omega (arith, more g));
         links = rw values (linked_named (values_in s.files) (λ g. links s.names g) (λ g. links (with_name name file s.names) g) facts.links file (there_values s.files file ∙ stored) more);
@@ -171,7 +171,7 @@ module _ (s : Stored) (all : IsConsistent s) where
       let values : values_in t.descriptions ≡ edited n (at_offset offset) ds = values_edited s.descriptions n (at_offset offset) in
       consistent_of t (record {
         references = counted_edited s.descriptions (λ m. refs s.processes m) n (at_offset offset) facts.references;
-        holders = counted_as s.files (λ f. links s.names f + holders ds f) (λ f. links s.names f + holders (values_in t.descriptions) f) facts.holders
+        uses = counted_as s.files (λ f. links s.names f + holders ds f) (λ f. links s.names f + holders (values_in t.descriptions) f) facts.uses
             (λ f. rw values (ap (λ k. links s.names f + k) (holders_same ds n offset f)));
         links = facts.links;
         tables = facts.tables;
@@ -236,7 +236,7 @@ module _ (s : Stored) (all : IsConsistent s) where
       consistent_of (opened p fd d) (record {
         references = counted_added s.descriptions (λ n. refs s.processes n) (λ n. refs (opened p fd d).processes n) d facts.references
             (λ n. omega (arith, refs_entry s.processes p fd (Some (length s.descriptions)) n within, nothing n));
-        holders = counted_more s.files (λ f. links s.names f + holders ds f) (λ f. links s.names f + holders es f) (file_of_target d.target) facts.holders (target_there d.target can.there)
+        uses = counted_more s.files (λ f. links s.names f + holders ds f) (λ f. links s.names f + holders es f) (file_of_target d.target) facts.uses (target_there d.target can.there)
             (λ f. rw values (omega (arith, holders_added ds d f)));
         links = rw (values_more s.files (file_of_target d.target)) facts.links;
         tables = same_tables p fd (Some (length s.descriptions)) free.process free.process_is;
@@ -282,13 +282,13 @@ module _ (s : Stored) (all : IsConsistent s) where
       let names = without_name name s.names in
       let xs = unnamed_files file in
       let uses : ℕ → ℕ = λ g. links names g + holders ds g in
-      let left = loses_use xs (λ g. links s.names g + holders ds g) uses (Some file) (counted_edited s.files (λ g. links s.names g + holders ds g) file unnamed facts.holders) (λ g. omega (arith, fewer g)) in
+      let left = loses_use xs (λ g. links s.names g + holders ds g) uses (Some file) (counted_edited s.files (λ g. links s.names g + holders ds g) file unnamed facts.uses) (λ g. omega (arith, fewer g)) in
       let law = release (world_in s) names file all.settled (λ g apart some. let none : one (file == g) ≡ 0 = ap one (other_number g file apart) in omega (arith, none, some, fewer g)) in
       let same : file_slots (values_in xs) ≡ file_slots (values_in s.files) = files_same s.files file unnamed (λ _. refl) in
       record {
         consistent = consistent_of (unlinked name file) (record {
           references = facts.references;
-          holders = left.counted;
+          uses = left.counted;
           links = linked_less xs uses (λ g. links names g) (Some file) left.either (λ g. omega arith)
               (rw (values_edited s.files file unnamed) (linked_unnamed (values_in s.files) (λ g. links s.names g) (λ g. links names g) facts.links file fewer));
           tables = facts.tables;
@@ -349,7 +349,7 @@ module _ (s : Stored) (all : IsConsistent s) where
         let values : values_in t.descriptions ≡ ds = stays.values ∙ values_more s.descriptions entry in
         let now : Facts t = record {
           references = loses.counted;
-          holders = rw values facts.holders;
+          uses = rw values facts.uses;
           links = facts.links;
           tables = same_tables p fd entry can.process can.process_is;
           few_processes = omega (arith, facts.few_processes, live_edited s.processes p (with_entry fd entry));
@@ -367,11 +367,11 @@ module _ (s : Stored) (all : IsConsistent s) where
         let is : slot ds last.number ≡ Some last.value = ap (λ es. slot es last.number) (sym (values_more s.descriptions entry)) ∙ last.is in
         let es = set ds last.number None in
         let values : values_in t.descriptions ≡ es = last.values ∙ ap (λ xs. set xs last.number None) (values_more s.descriptions entry) in
-        let left = loses_use s.files (λ f. links s.names f + holders ds f) (λ f. links s.names f + holders es f) (file_of_target last.value.target) facts.holders
+        let left = loses_use s.files (λ f. links s.names f + holders ds f) (λ f. links s.names f + holders es f) (file_of_target last.value.target) facts.uses
         (λ f. omega (arith, holders_gone ds last.number last.value f is)) in
         let now : Facts t = record {
           references = loses.counted;
-          holders = rw values left.counted;
+          uses = rw values left.counted;
           links = linked_less s.files (λ f. links s.names f + holders es f) (λ f. links s.names f) (file_of_target last.value.target) left.either (λ f. omega arith) facts.links;
           tables = same_tables p fd entry can.process can.process_is;
           few_processes = omega (arith, facts.few_processes, live_edited s.processes p (with_entry fd entry));

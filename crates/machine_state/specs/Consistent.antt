@@ -10,10 +10,11 @@ use Rattle.machine_state.specs.Uses.{Counts}
 use Rattle.machine_state.specs.Files.{links_at}
 use Rattle.machine_state.specs.Held.{Stored, world_in}
 
--- each count is that of the world, nothing waits for a sweep, and there is no more than the profile allows
+-- each count is that of the world, nothing waits for a sweep, and there are no more descriptors, processes, live descriptions and names than
+-- the profile allows
 pub record IsConsistent (s : Stored) : Type 0 where
   pub references : Counts s.descriptions (λ n. refs s.processes n)
-  pub holders : Counts s.files (λ f. links s.names f + holders (values_in s.descriptions) f)
+  pub uses : Counts s.files (λ f. links s.names f + holders (values_in s.descriptions) f)
   pub links : (f : ℕ) → links_at (slot (values_in s.files) f) ≡ links s.names f
   pub settled : IsSettled (world_in s)
   pub tables : EachThere (λ process. length process.table ≡ OPEN_MAX) s.processes

@@ -10,8 +10,8 @@ pub record FileState : Type 0 where
   pub links : ℕ
 
 -- a file with other bytes, and with room for so many
-abbrev pub with_bytes : (List ℕ → List ℕ) → ℕ → FileState → FileState
-with_bytes edit room state = record state { bytes = edit state.bytes; room = room }
+abbrev pub edited_bytes : (List ℕ → List ℕ) → ℕ → FileState → FileState
+edited_bytes edit room state = record state { bytes = edit state.bytes; room = room }
 
 -- a file with one name more
 abbrev pub named : FileState → FileState

@@ -4,7 +4,6 @@ pub use Rattle.posix_model.specs.declared.world.Process.{Process}
 pub use Rattle.call_types.specs.declared.description.Description.{Description}
 pub use Rattle.call_types.specs.declared.description.Target.{Target}
 pub use Rattle.posix_model.specs.declared.world.File.{File}
-pub use Rattle.posix_model.specs.declared.opened.OpenDescriptor.{OpenDescriptor}
 pub use Rattle.posix_model.specs.declared.change.FileEdit.{FileEdit}
 pub use Rattle.posix_model.specs.declared.change.ProcessEdit.{ProcessEdit}
 pub use Rattle.posix_model.specs.declared.change.TableEdit.{TableEdit}

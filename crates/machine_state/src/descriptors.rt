@@ -3,6 +3,7 @@ ghost use Rattle.call_types.specs.declared.limits.TheConstants.{DESCRIPTIONS_MAX
 ghost use Rattle.slots.specs.Slots.{live};
 ghost use Rattle.posix_model.specs.Descriptors.{with_descriptor, with_offset};
 ghost use Rattle.posix_model.specs.Change.{with_description};
+ghost use Rattle.posix_model.specs.Whole.{IsThere};
 ghost use Rattle.posix_model.specs.Fits.{CanOpen, CanSet};
 ghost use Rattle.posix_model.specs.Sweep.{sweep};
 ghost use Rattle.machine_state.specs.Targets.{file_of_target, file_of_gone};
@@ -37,6 +38,7 @@ fn file_of_gone(dropped: Dropped) -> Option<usize>
 impl Machine {
     /// Gives a description another offset, in bytes.
     pub(crate) fn set_offset(&mut self, number: usize, offset: u64)
+        requires { IsThere self.old.world.descriptions number }
         ensures { self.new.world ≡ sweep (with_offset self.old.world number offset) }
     {
         sweep_releases();

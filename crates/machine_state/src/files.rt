@@ -18,7 +18,7 @@ use slots::used::Used;
 use std::alloc::AllocError;
 
 impl Machine {
-    /// Makes room for `len` bytes in all in a file.
+    /// Makes room for `len` bytes in all in a file. An error says that memory ran out.
     pub(crate) fn reserve_bytes(&mut self, file: usize, len: usize) -> Result<(), AllocError>
         requires { is_regular_file (slot self.old.world.files file) ≡ true }
         ensures world { self.new.world ≡ self.old.world }

@@ -65,7 +65,7 @@ impl StoredFile {
         self.links -= 1;
     }
 
-    /// Makes room for `len` bytes in all.
+    /// Makes room for `len` bytes in all. An error says that memory ran out.
     pub(crate) fn reserve(&mut self, len: usize) -> Result<(), AllocError>
         ensures bytes { self.new.bytes ≡ self.old.bytes }
         ensures links { self.new.links ≡ self.old.links }

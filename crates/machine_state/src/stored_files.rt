@@ -6,7 +6,7 @@ ghost use Rattle.slots.specs.Uses.{uses_at, value_at, values_in, use_added, use_
 ghost use Rattle.posix_model.specs.Bytes.{splice, resized};
 ghost use Rattle.posix_model.specs.Descriptors.{file_bytes};
 ghost use Rattle.machine_state.specs.Uses.{with_use, without_use};
-ghost use Rattle.machine_state.specs.Files.{with_bytes, named, unnamed, file_slots, room_slots, links_at};
+ghost use Rattle.machine_state.specs.Files.{edited_bytes, named, unnamed, file_slots, room_slots, links_at};
 
 use crate::stored_file::StoredFile;
 use slots::numbered::Numbered;
@@ -33,14 +33,14 @@ pub(crate) fn links_of(files: &Numbered<Used<StoredFile>>, number: usize) -> usi
     }
 }
 
-/// Makes room for `len` bytes in all in a file.
+/// Makes room for `len` bytes in all in a file. An error says that memory ran out.
 pub(crate) fn reserve_bytes(
     files: &mut Numbered<Used<StoredFile>>,
     number: usize,
     len: usize,
 ) -> Result<(), AllocError>
     requires { is_some (slot files.old.0 number) ≡ true }
-    ensures { (room : ℕ) × (files.new.0 ≡ edited number (with_value (with_bytes (λ bytes. bytes) room)) files.old.0) × OnOk result (len ≤ room) }
+    ensures { (room : ℕ) × (files.new.0 ≡ edited number (with_value (edited_bytes (λ bytes. bytes) room)) files.old.0) × OnOk result (len ≤ room) }
 {
     files.value_mut(number).value.reserve(len)
 }
@@ -49,7 +49,7 @@ pub(crate) fn reserve_bytes(
 pub(crate) fn write(files: &mut Numbered<Used<StoredFile>>, number: usize, start: usize, new: &[u8])
     requires there { is_some (slot files.old.0 number) ≡ true }
     requires room { start + length new.now ≤ slice_index (room_slots (values_in files.old.0)) number }
-    ensures { (room : ℕ) × (files.new.0 ≡ edited number (with_value (with_bytes (λ bytes. splice bytes start new.now) room)) files.old.0) }
+    ensures { (room : ℕ) × (files.new.0 ≡ edited number (with_value (edited_bytes (λ bytes. splice bytes start new.now) room)) files.old.0) }
 {
     files.value_mut(number).value.write(start, new);
 }
@@ -58,7 +58,7 @@ pub(crate) fn write(files: &mut Numbered<Used<StoredFile>>, number: usize, start
 pub(crate) fn set_len(files: &mut Numbered<Used<StoredFile>>, number: usize, len: usize)
     requires there { is_some (slot files.old.0 number) ≡ true }
     requires room { len ≤ slice_index (room_slots (values_in files.old.0)) number }
-    ensures { (room : ℕ) × (files.new.0 ≡ edited number (with_value (with_bytes (λ bytes. resized bytes len) room)) files.old.0) }
+    ensures { (room : ℕ) × (files.new.0 ≡ edited number (with_value (edited_bytes (λ bytes. resized bytes len) room)) files.old.0) }
 {
     files.value_mut(number).value.set_len(len);
 }
@@ -90,8 +90,9 @@ pub(crate) fn add_link(files: &mut Numbered<Used<StoredFile>>, number: usize)
     requires few_links { links_at (value_at (slot files.old.0 number)) < 2 ^ 63 }
     ensures { files.new.0 ≡ use_added number (edited number (with_value named) files.old.0) }
 {
-    files.value_mut(number).value.add_link();
-    files.add_use(number);
+    let used = files.value_mut(number);
+    used.value.add_link();
+    used.uses += 1;
 }
 
 /// A file has one name less, and goes with its last name or holder.

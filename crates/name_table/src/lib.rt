@@ -115,6 +115,7 @@ impl NameTable {
     /// Takes a name away, and gives the file that it led to, which has one name less.
     pub fn remove(&mut self, name: &[u8]) -> Option<usize>
         ensures entries { self.new.0 ≡ without_name name.now self.old.0 }
+        ensures room { self.old.1 ≤ self.new.1 }
         ensures file { result ≡ file_of name.now self.old.0 }
         ensures links { IfSome result (λ file. (other : ℕ) → count_by (λ e. e.1 == other) self.new.0 + (if file == other then 1 else 0) ≡ count_by (λ e. e.1 == other) self.old.0) }
     {

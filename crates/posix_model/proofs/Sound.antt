@@ -182,7 +182,7 @@ sound_read bounds w p fd count o is free =
       brief = brief;
       few = omega arith;
       proper = λ _. record { files = tt; process = tt; table = tt };
-      fits = λ _. record { files = tt; process = tt; table = tt; alone = λ h. cc };
+      fits = λ _. record { files = tt; process = tt; table = ap is_some at.description_is; alone = λ h. cc };
       within_files = tt;
       within_table = λ small limits. read_end (bytes_of w (file_at o)) o.description.offset count bounds.file_size OFFSET_MAX (limits.files (file_at o)) small (limits.offsets o.number o.description at.description_is);
     })
@@ -205,7 +205,7 @@ sound_write bounds w p fd bytes start o is free =
       brief = omega arith;
       few = omega (arith, put.0);
       proper = λ small. record { files = (put.0, omega (arith, put.1, small)); process = tt; table = tt };
-      fits = λ whole. record { files = file_there w p o at regular whole; process = tt; table = tt; alone = λ h. cc };
+      fits = λ whole. record { files = file_there w p o at regular whole; process = tt; table = ap is_some at.description_is; alone = λ h. cc };
       within_files = put.1;
       within_table = λ small _. omega (arith, put.1, small);
     })
@@ -249,7 +249,7 @@ sound_lseek bounds w p fd offset from to o is free = record {
   brief = omega arith;
   few = omega arith;
   proper = λ _. record { files = tt; process = tt; table = tt };
-  fits = λ _. record { files = tt; process = tt; table = tt; alone = λ h. cc };
+  fits = λ _. record { files = tt; process = tt; table = ap is_some (opened_stands w p fd o is).description_is; alone = λ h. cc };
   within_files = tt;
   within_table = λ _ _. sought_within to o free;
 }

@@ -44,7 +44,7 @@ ProcessFits (on_process.Add table) = table ≡ free_table
 -- what an edit of descriptors asks to be there
 abbrev pub TableFits : World → TableEdit → Type 0
 TableFits w on_table.Nothing = Unit {0}
-TableFits w (on_table.Offset number offset) = Unit {0}
+TableFits w (on_table.Offset number offset) = IsThere w.descriptions number
 TableFits w (on_table.Open process fd description) = CanOpen w process fd description
 TableFits w (on_table.Entry process fd entry) = CanSet w process fd entry
 

@@ -74,7 +74,7 @@ abbrev pub new_description : ℕ → OpenFlags → Description
 new_description number flags =
     record { target = target.Regular number; offset = 0; mode = mode_of flags; append = has flags flag.appending; nonblock = has flags flag.nonblocking }
 
--- the lowest free descriptor of a process, which is there where there is no fault
+-- the lowest free descriptor of a process (XSH 2.14, File Descriptor Allocation), which is there where there is no fault
 abbrev pub free_descriptor : World → ℕ → ℕ
 free_descriptor w process = unwrap_or (lowest (table_of (slot w.processes process))) 0
 

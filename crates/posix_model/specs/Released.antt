@@ -1,4 +1,4 @@
--- What goes where one description loses a reference: it and what it alone held, and no other.
+-- What goes where one description loses a reference, or one file a name: it and what it alone held, and no other.
 use Rattle.std.specs.Prelude.{◌≡◌, ◌≢◌, ℕ, ◌+◌, ◌<◌, true, List, Option, None, Some, is_some, slice_set, if◌then◌else◌}
 use Rattle.slots.specs.Slots.{slot}
 use Rattle.call_types.specs.Names.{Entries}

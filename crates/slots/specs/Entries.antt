@@ -12,9 +12,9 @@ abbrev pub slots_of : {T : Type 0} → ℕ → List (ℕ × T) → List (Option 
 slots_of next es = map (found es) (range_with_len 0 next)
 
 -- the numbers rise, from the lowest on, below the next one
-abbrev pub Rises : {T : Type 0} → ℕ → List (ℕ × T) → ℕ → Type 0
-Rises low [] high = low ≤ high
-Rises low (e ∷ es) high = (low ≤ e.0) × Rises (suc e.0) es high
+abbrev pub EntriesRise : {T : Type 0} → ℕ → List (ℕ × T) → ℕ → Type 0
+EntriesRise low [] high = low ≤ high
+EntriesRise low (e ∷ es) high = (low ≤ e.0) × EntriesRise (suc e.0) es high
 
 -- the entry at this index has this number
 pub record IsAt {T : Type 0} (es : List (ℕ × T)) (n i : ℕ) : Type 0 where

@@ -10,7 +10,7 @@ slot slots number = slice_index_or slots number None
 abbrev pub edited : {T : Type 0} → ℕ → (T → T) → List (Option T) → List (Option T)
 edited number edit slots = slice_set slots number (option_map edit (slot slots number))
 
--- the least number whose slot is free (XSH 2.14, File Descriptor Allocation)
+-- the least number whose slot is free
 abbrev pub lowest : {T : Type 0} → List (Option T) → Option ℕ
 lowest slots = position is_none slots
 

@@ -1,4 +1,5 @@
-ghost use Rattle.std.specs.Prelude.{◌≡◌, ◌+◌, ◌<◌, ◌∷◌, [], ◌++◌, List, Option, length, replicate, position, count_by, is_some, is_none, slice_set, slice_index_or, IfOk, OnOk, OnErr, None, option_copied, if◌then◌else◌};
+ghost use Rattle.std.specs.Prelude.{◌≡◌, ◌∷◌, [], ◌++◌, List, Option, length, replicate, slice_set, IfOk, OnOk, OnErr, None, option_copied, if◌then◌else◌};
+ghost use Rattle.slots.specs.Slots.{slot, lowest, live};
 
 use std::alloc::{AllocError, Global};
 use std::marker::Model;
@@ -35,7 +36,7 @@ impl<T> Slots<T> {
 
     /// What stands at a number.
     pub fn get(&self, number: usize) -> Option<&T>
-        ensures { option_copied result ≡ slice_index_or self.now number None }
+        ensures { option_copied result ≡ slot self.now number }
     {
         match self.items.get(number) {
             Some(slot) => slot.as_ref(),
@@ -52,14 +53,14 @@ impl<T> Slots<T> {
 
     /// The least number of a slot that is free.
     pub fn lowest_free(&self) -> Option<usize>
-        ensures { result ≡ position is_none self.now }
+        ensures { result ≡ lowest self.now }
     {
         self.items.iter().position(|slot| slot.is_none())
     }
 
     /// How many slots are full.
     pub fn live(&self) -> usize
-        ensures { result ≡ count_by is_some self.now }
+        ensures { result ≡ live self.now }
     {
         self.items.iter().filter(|slot| slot.is_some()).count()
     }
@@ -88,7 +89,7 @@ impl<T: Drop> Slots<T> {
 
     /// Takes the value out of a slot, which is then empty.
     pub fn take(&mut self, number: usize) -> Option<T>
-        ensures value { result ≡ slice_index_or self.old number None }
+        ensures value { result ≡ slot self.old number }
         ensures after { self.new ≡ slice_set self.old number None }
     {
         if number < self.items.len() {
@@ -109,7 +110,7 @@ impl<T: Drop> Slots<T> {
 
     /// Empties a slot that is not to be kept.
     pub fn clear_unless(&mut self, number: usize, keeps: bool)
-        ensures { self.new ≡ slice_set self.old number (if keeps then slice_index_or self.old number None else None) }
+        ensures { self.new ≡ slice_set self.old number (if keeps then slot self.old number else None) }
     {
         if !keeps {
             self.put(number, None);

@@ -1,13 +1,13 @@
 ghost use Rattle.std.specs.Prelude.{◌≡◌, ℕ, ◌<◌, ◌∷◌, [], ◌++◌, None, Some, true, is_some, length, option_copied, IfOk, IfErr, OnOk};
 ghost use Rattle.slots.specs.Slots.{slot, live};
-ghost use Rattle.slots.specs.Entries.{found, Rises, IsAt};
+ghost use Rattle.slots.specs.Entries.{found, EntriesRise, IsAt};
 
 use std::alloc::{AllocError, Global};
 use std::marker::Model;
 
 /// The index of the entry of a number. As long as no lower entry has gone, it is the number itself.
 pub(crate) fn index_of<T>(entries: &[(usize, T)], number: usize) -> Result<usize, usize>
-    requires { (next : ℕ) × Rises 0 entries.now next }
+    requires { (next : ℕ) × EntriesRise 0 entries.now next }
     ensures there { IfOk result (IsAt entries.now number) }
     ensures gone { IfErr result (λ _. found entries.now number ≡ None) }
 {
@@ -27,13 +27,13 @@ pub struct Numbered<T> {
 
 impl<T> Model for Numbered<T> {
     ghost use Rattle.std.specs.Prelude.{List, Option, ℕ, vec_len, vec_capacity};
-    ghost use Rattle.slots.specs.Entries.{slots_of, room_of, Rises};
+    ghost use Rattle.slots.specs.Entries.{slots_of, room_of, EntriesRise};
 
     ghost Value = { List (Option T) × ℕ };
 
     ghost view = { λ n. (slots_of n.next n.entries.items, room_of (vec_capacity n.entries) (vec_len n.entries) n.next) };
 
-    ghost invariant = { λ n. Rises 0 n.entries.items n.next };
+    ghost invariant = { λ n. EntriesRise 0 n.entries.items n.next };
 }
 
 impl<T> Numbered<T> {

@@ -1,4 +1,4 @@
-//! A book by its seats: what a session will call, and a script does not.
+//! A book by its seats: what a server will call, and a script does not.
 use call_types::bounded::Name;
 use call_types::call::Call;
 use call_types::flags::OpenFlags;

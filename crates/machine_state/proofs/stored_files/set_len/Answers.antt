@@ -1,7 +1,7 @@
 use Rattle.std.proofs.Common.{ap}
 use Rattle.posix_model.specs.Bytes.{resized}
 use Rattle.slots.specs.Uses.{with_value}
-use Rattle.machine_state.specs.Files.{with_bytes}
+use Rattle.machine_state.specs.Files.{edited_bytes}
 use Rattle.machine_state.proofs.UseLaws.{edited_as}
 use Rattle.machine_state.proofs.FileLaws.{room_there, state_as}
 use Rattle.machine_state.proofs.stored_files.set_len.Goals as goal
@@ -13,6 +13,6 @@ pub returns : goal.returns
 returns c =
     let new = c.set_len.new.self in (
       new.room,
-      edited_as c.args.files.now.0 c.args.number (with_value (with_bytes (λ bytes. resized bytes c.args.len) new.room)) c.value_mut.result.now _ c.value_mut.ensures.value
+      edited_as c.args.files.now.0 c.args.number (with_value (edited_bytes (λ bytes. resized bytes c.args.len) new.room)) c.value_mut.result.now _ c.value_mut.ensures.value
           (ap (λ state. record c.value_mut.result.now { value = state }) (state_as new c.value_mut.result.now.value (λ bytes. resized bytes c.args.len) c.set_len.ensures.bytes c.set_len.ensures.links)),
     )
