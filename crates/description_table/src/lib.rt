@@ -1,7 +1,7 @@
 //! The open file descriptions that are live, each under its number and with the count of the descriptors that refer to it.
 #![tactic(auto)]
 
-ghost use Rattle.std.specs.Prelude.{◌≡◌, ◌<◌, ◌≤◌, ◌^◌, ◌∷◌, ◌++◌, [], Some, true, is_some, length, option_copied, OnOk};
+ghost use Rattle.std.specs.Prelude.{◌≡◌, ◌+◌, ◌<◌, ◌≤◌, ◌^◌, ◌∷◌, ◌++◌, [], Some, true, is_some, length, option_copied, OnOk};
 ghost use Rattle.std.specs.Option.{option_map};
 ghost use Rattle.slots.specs.Slots.{slot, live, edited};
 ghost use Rattle.slots.specs.Uses.{uses_at, value_at, last_value, used_once, use_added, use_dropped, with_value};
@@ -130,7 +130,8 @@ impl DescriptionTable {
     /// Gives the next number to a description, for which there is room, with one reference.
     pub fn add(&mut self, description: Description)
         requires { 0 < self.old.1 }
-        ensures { self.new.0 ≡ self.old.0 ++ Some (used_once description) ∷ [] }
+        ensures slots { self.new.0 ≡ self.old.0 ++ Some (used_once description) ∷ [] }
+        ensures room { self.new.1 + 1 ≡ self.old.1 }
     {
         self.descriptions.push(Used {
             value: description,
@@ -152,6 +153,7 @@ impl DescriptionTable {
     pub fn drop_one(&mut self, number: usize) -> Dropped
         ensures slots { self.new.0 ≡ use_dropped number self.old.0 }
         ensures room { self.old.1 ≤ self.new.1 }
+        ensures most { self.new.1 ≤ self.old.1 + 1 }
         ensures told { result ≡ dropped (last_value (slot self.old.0 number)) }
     {
         match self.descriptions.drop_use(number) {

@@ -66,7 +66,7 @@ impl Machine {
         }
     }
 
-    /// Makes a change, and sweeps after it. It takes no memory: its room stands reserved.
+    /// Makes a change, and sweeps after it. It cannot fail for want of memory: its room stands reserved.
     #[inline(always)]
     pub fn apply(&mut self, bytes: &[u8], change: Change)
         requires fits { Fits self.old.world bytes.now change }

@@ -231,8 +231,17 @@ module _ {T : Type 0} (next : ℕ) (es : List (ℕ × T)) (n : ℕ) (up : Entrie
 pub same_room : (room : ℕ) → room ≤ room
 same_room room = omega arith
 
-pub more_room : (old_capacity capacity old_live live next : ℕ) → capacity ≡ old_capacity → live + 1 ≡ old_live → room_of old_capacity old_live next ≤ room_of capacity live next
-more_room old_capacity capacity old_live live next same less = grind (arith, common_steps)
+pub one_more_room : (room : ℕ) → room ≤ room + 1
+one_more_room room = omega arith
+
+pub more_room : (old_capacity capacity old_live live next : ℕ) → capacity ≡ old_capacity → live + 1 ≡ old_live →
+    (room_of old_capacity old_live next ≤ room_of capacity live next) × (room_of capacity live next ≤ room_of old_capacity old_live next + 1)
+more_room old_capacity capacity old_live live next same less = (grind (arith, common_steps), grind (arith, common_steps))
+
+-- and less where one is added
+pub less_room : (old_capacity capacity old_live live next : ℕ) → capacity ≡ old_capacity → live ≡ old_live + 1 → 0 < room_of old_capacity old_live next →
+    room_of capacity live (next + 1) + 1 ≡ room_of old_capacity old_live next
+less_room old_capacity capacity old_live live next same more some = grind (arith, common_steps)
 
 -- as many slots are live as there are entries
 pub live_slots : {T : Type 0} (next : ℕ) (es : List (ℕ × T)) → EntriesRise 0 es next → live (slots_of next es) ≡ length es

@@ -1,4 +1,4 @@
-ghost use Rattle.std.specs.Prelude.{◌≡◌, ℕ, ◌<◌, ◌∷◌, [], ◌++◌, None, Some, true, is_some, length, option_copied, IfOk, IfErr, OnOk};
+ghost use Rattle.std.specs.Prelude.{◌≡◌, ℕ, ◌+◌, ◌<◌, ◌∷◌, [], ◌++◌, None, Some, true, is_some, length, option_copied, IfOk, IfErr, OnOk};
 ghost use Rattle.slots.specs.Slots.{slot, live};
 ghost use Rattle.slots.specs.Entries.{found, EntriesRise, IsAt};
 
@@ -102,7 +102,8 @@ impl<T: Drop> Numbered<T> {
     /// Gives the next number to a value, for which there is room.
     pub fn push(&mut self, value: T)
         requires { 0 < self.old.1 }
-        ensures { self.new.0 ≡ self.old.0 ++ Some value ∷ [] }
+        ensures slots { self.new.0 ≡ self.old.0 ++ Some value ∷ [] }
+        ensures room { self.new.1 + 1 ≡ self.old.1 }
     {
         self.entries.push_reserved((self.next, value));
         self.next += 1;

@@ -1,4 +1,4 @@
-ghost use Rattle.std.specs.Prelude.{◌≡◌, ◌<◌, ◌≤◌, ◌^◌, true, is_some};
+ghost use Rattle.std.specs.Prelude.{◌≡◌, ◌+◌, ◌<◌, ◌≤◌, ◌^◌, true, is_some};
 ghost use Rattle.slots.specs.Slots.{slot};
 ghost use Rattle.slots.specs.Uses.{uses_at, last_value, use_added, use_dropped};
 
@@ -26,6 +26,7 @@ impl<T: Drop> Numbered<Used<T>> {
     pub fn drop_use(&mut self, number: usize) -> Option<T>
         ensures slots { self.new.0 ≡ use_dropped number self.old.0 }
         ensures room { self.old.1 ≤ self.new.1 }
+        ensures most { self.new.1 ≤ self.old.1 + 1 }
         ensures last { result ≡ last_value (slot self.old.0 number) }
     {
         let index = match index_of(self.entries.as_slice(), number) {

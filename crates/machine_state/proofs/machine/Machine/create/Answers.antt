@@ -6,4 +6,4 @@ pub invariant_of-self : goal.invariant_of-self
 invariant_of-self c =
     let new = rw (← c.self.view_is) at c.requires.new in
     let few = rw (← c.self.view_is) at c.requires.few in
-    rw (c.push.ensures, c.add.ensures, c.next-file.ensures) (after_create (stored_in c.self.inside) c.self.invariant c.args.name c.new.result c.new.ensures.links new few)
+    rw (c.push.ensures.slots, c.add.ensures, c.next-file.ensures) (after_create (stored_in c.self.inside) c.self.invariant c.args.name c.new.result c.new.ensures.links new few)
