@@ -13,7 +13,8 @@ the output going to a file. The growth is the cost of an act over its cost in th
 
 `churn` makes a file, writes 64 bytes, gives it a second name, takes both away, reads the bytes back through the
 descriptor and closes it, among 300 names of a set of 500. `wide` has 60 processes with 15 descriptors each beside
-1,000 names, and writes, seeks, reads, asks, opens and closes among them. `9,000 files` are made, written one byte at
+1,000 names, and writes, seeks, reads, asks, opens and closes among them. `dups` duplicates descriptors, to the
+lowest free number, to one that is free and over one that is open, and closes them. `9,000 files` are made, written one byte at
 their end, unlinked and closed, one after another: what went must not stay in memory, so a peak of 80 MiB fails.
 
 `64 KiB, ..` has writes of 65,536 bytes spread over files of sixteen writes each, since a file holds
@@ -227,6 +228,18 @@ def wide(path, acts):
     return script.filled(acts)
 
 
+def dups(path, acts):
+    """Descriptors that are duplicated, to free numbers and over open ones, and closed, beside two files that are open."""
+    script = Script(f"dups {acts:,}", path)
+    script.act("join")
+    script.act("p0 open a rw,creat")
+    script.act("p0 open b rw,creat")
+    while script.acts + 6 <= acts:
+        for line in ("dup 0", "dup2 1 3", "dup2 2 3", "dup2 3 3", "close 2", "close 3"):
+            script.act(f"p0 {line}")
+    return script.filled(acts)
+
+
 def ends(path, files):
     """Files that are made, written one byte at their end and unlinked while they are open, one after another."""
     script = Script(f"{files:,} files", path)
@@ -323,7 +336,7 @@ def table(program, runs, folder):
     for acts in (10_000, 100_000, 999_000):
         costs.append(line(mix(path, acts), costs[-1] if costs else None))
     print(f"growth of the cost of an act from 10,000 to 999,000 acts: {costs[-1] / costs[0]:.2f}")
-    for kind in (churn, wide):
+    for kind in (churn, wide, dups):
         few = line(kind(path, 10_000))
         many = line(kind(path, 999_000), few)
         print(f"an act of it over a small act: {few / costs[0]:.2f} of 10,000, {many / costs[-1]:.2f} of 999,000")
