@@ -71,6 +71,12 @@ lseek_entry = record { word = codes "lseek"; byte = 22; fields = a_descriptor �
 abbrev pub ftruncate_entry : Entry
 ftruncate_entry = record { word = codes "ftruncate"; byte = 23; fields = a_descriptor ∷ a_position ∷ []; make = calls.Ftruncate }
 
+abbrev pub dup_entry : Entry
+dup_entry = record { word = codes "dup"; byte = 24; fields = a_descriptor ∷ []; make = calls.Dup }
+
+abbrev pub dup2_entry : Entry
+dup2_entry = record { word = codes "dup2"; byte = 25; fields = a_descriptor ∷ a_descriptor ∷ []; make = calls.Dup2 }
+
 abbrev pub link_entry : Entry
 link_entry = record { word = codes "link"; byte = 28; fields = a_name ∷ a_name ∷ []; make = calls.Link }
 
@@ -86,7 +92,7 @@ position_table = pread_entry ∷ pwrite_entry ∷ lseek_entry ∷ ftruncate_entr
 
 -- the calls
 abbrev pub call_table : List Entry
-call_table = open_entry ∷ close_entry ∷ read_entry ∷ write_entry ∷ link_entry ∷ unlink_entry ∷ fstat_entry ∷ position_table
+call_table = open_entry ∷ close_entry ∷ read_entry ∷ write_entry ∷ dup_entry ∷ dup2_entry ∷ link_entry ∷ unlink_entry ∷ fstat_entry ∷ position_table
 
 -- an entry, and fields for it
 pub record Parts : Type 0 where
@@ -106,6 +112,8 @@ parts (calls.Pread fd start count) = of pread_entry (fd, (start, (count, tt)))
 parts (calls.Pwrite fd start bytes) = of pwrite_entry (fd, (start, (bytes, tt)))
 parts (calls.Lseek fd offset whence) = of lseek_entry (fd, (offset, (whence, tt)))
 parts (calls.Ftruncate fd len) = of ftruncate_entry (fd, (len, tt))
+parts (calls.Dup fd) = of dup_entry (fd, tt)
+parts (calls.Dup2 fd to) = of dup2_entry (fd, (to, tt))
 parts (calls.Link old new) = of link_entry (old, (new, tt))
 parts (calls.Unlink name) = of unlink_entry (name, tt)
 parts (calls.Fstat fd) = of fstat_entry (fd, tt)

@@ -47,6 +47,15 @@ pub enum Call {
         fd: i32,
         len: i64,
     },
+    /// A second descriptor of the same open file description (page of dup).
+    Dup {
+        fd: i32,
+    },
+    /// Lets descriptor `to` refer to the open file description of `fd` (page of dup2).
+    Dup2 {
+        fd: i32,
+        to: i32,
+    },
     /// Gives a file one more name (page of link).
     Link {
         old: Name,

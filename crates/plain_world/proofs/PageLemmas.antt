@@ -14,10 +14,14 @@ pub page_has : (Has : Decided → Type 0) (page : Page) → ((error : Errno) →
 page_has Has page refuses all = unless_has Has (first_fault page.faults) page.effect refuses all
 
 -- the same of a call on a descriptor
+pub open_free_has : (Has : Decided → Type 0) (o : Option OpenDescriptor) (page : OpenDescriptor → Page) → ((error : Errno) → Has (refused error)) →
+    ((x : OpenDescriptor) → o ≡ Some x → first_fault (page x).faults ≡ None → Has (page x).effect) → Has (on_open o page)
+open_free_has Has None page refuses all = refuses EBADF
+open_free_has Has (Some o) page refuses all = page_has Has (page o) refuses (all o refl)
+
 pub on_open_has : (Has : Decided → Type 0) (o : Option OpenDescriptor) (page : OpenDescriptor → Page) → ((error : Errno) → Has (refused error)) →
     ((x : OpenDescriptor) → o ≡ Some x → Has (page x).effect) → Has (on_open o page)
-on_open_has Has None page refuses all = refuses EBADF
-on_open_has Has (Some o) page refuses all = page_has Has (page o) refuses (λ _. all o refl)
+on_open_has Has o page refuses all = open_free_has Has o page refuses (λ x is _. all x is)
 
 -- the same of a call on a descriptor that is open
 pub opened_has : (Has : Decided → Type 0) (o : Option OpenDescriptor) (x : OpenDescriptor) (page : OpenDescriptor → Page) → o ≡ Some x → ((error : Errno) → Has (refused error)) →

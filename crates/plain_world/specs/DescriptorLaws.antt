@@ -1,11 +1,12 @@
 -- What holds of the descriptors of processes, in words that the pages use.
-use Rattle.std.specs.Prelude.{◌≡◌, ◌≢◌, ℕ, ℤ, List, None, Some}
+use Rattle.std.specs.Prelude.{◌≡◌, ◌≢◌, ℕ, ℤ, pos, true, List, None, Some, is_some, length}
 use Rattle.call_types.specs.CallTable.{descriptor_of}
-use Rattle.plain_world.specs.Types.{Call, OpenFlags, Bounds, World, EBADF, Replied, Number, Done, Error}
+use Rattle.plain_world.specs.Types.{Call, OpenFlags, Bounds, World, OPEN_MAX, EBADF, Replied, Number, Done, Error}
 use Rattle.call_types.specs.declared.call.Call.TheVariants as call
 use Rattle.slots.specs.Slots.{slot}
+use Rattle.posix_model.specs.Whole.{EachThere}
 use Rattle.posix_model.specs.Numbers.{IsLowest}
-use Rattle.posix_model.specs.Descriptors.{opened, table_of}
+use Rattle.posix_model.specs.Descriptors.{opened, number_of, table_of}
 use Rattle.plain_world.specs.Calls.{outcome_of, before_sweep}
 
 -- an open that is not refused tells the least descriptor that is free (page of open)
@@ -17,6 +18,27 @@ OpenGivesLowest = (bounds : Bounds) (w : World) (process : ℕ) (name : List ℕ
 abbrev pub CloseCloses : Type 0
 CloseCloses = (bounds : Bounds) (w : World) (process : ℕ) (fd : ℤ) → outcome_of bounds w process (call.Close fd) ≡ Replied Done →
     opened (before_sweep bounds w process (call.Close fd)) process fd ≡ None
+
+-- a descriptor leads to the description that another one led to, and every other one leads where it led
+pub record Leads (w v : World) (process fd : ℕ) (from : ℤ) : Type 0 where
+  pub there : is_some (number_of w process from) ≡ true
+  pub leads : number_of v process (pos fd) ≡ number_of w process from
+  pub others : (other : ℤ) → other ≢ pos fd → opened v process other ≡ opened w process other
+
+-- a dup that is not refused tells the least descriptor that is free, and lets it lead to the same description (page of dup)
+abbrev pub DupLeads : Type 0
+DupLeads = (bounds : Bounds) (w : World) (process : ℕ) (fd : ℤ) (told : ℕ) → outcome_of bounds w process (call.Dup fd) ≡ Replied (Number told) →
+    IsLowest (table_of (slot w.processes process)) told × Leads w (before_sweep bounds w process (call.Dup fd)) process told fd
+
+-- a dup2 that is not refused tells its second number, and lets it lead to the description of the first, in a world in which each
+-- process has its descriptors, as it has in a history (page of dup2)
+abbrev pub Dup2Leads : Type 0
+Dup2Leads = (bounds : Bounds) (w : World) (process : ℕ) (fd to : ℤ) (told : ℕ) → EachThere (λ x. length x.table ≡ OPEN_MAX) w.processes →
+    outcome_of bounds w process (call.Dup2 fd to) ≡ Replied (Number told) → (pos told ≡ to) × Leads w (before_sweep bounds w process (call.Dup2 fd to)) process told fd
+
+-- of equal numbers nothing changes (page of dup2)
+abbrev pub Dup2KeepsEqual : Type 0
+Dup2KeepsEqual = (bounds : Bounds) (w : World) (process : ℕ) (fd : ℤ) → before_sweep bounds w process (call.Dup2 fd fd) ≡ w
 
 -- a call on a descriptor that is not open is EBADF, whatever else is wrong with it (EBADF of each page)
 abbrev pub NotOpenIsBad : Type 0

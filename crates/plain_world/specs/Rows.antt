@@ -1,7 +1,7 @@
 -- Worked runs: what each act answers, and the bytes that each run takes and gives.
 use Rattle.std.specs.Prelude.{◌≡◌, ℕ, pos, negsuc, List, [], ◌∷◌, codes}
 use Rattle.plain_world.specs.Types.{Call, Record, Reply, OpenFlags, Bounds, EBADF, EINVAL, EFBIG, EOVERFLOW, ENOENT, EEXIST}
-use Rattle.call_types.specs.declared.call.Call.TheVariants.{Open, Close, Read, Write, Pread, Pwrite, Lseek, Ftruncate, Link, Unlink, Fstat}
+use Rattle.call_types.specs.declared.call.Call.TheVariants.{Open, Close, Read, Write, Pread, Pwrite, Lseek, Ftruncate, Dup, Dup2, Link, Unlink, Fstat}
 use Rattle.call_types.specs.declared.whence.Whence.TheVariants.{Set, Cur, End}
 use Rattle.call_types.specs.declared.act.Act.TheVariants as act
 use Rattle.call_types.specs.declared.outcome.Outcome.TheVariants as outcome
@@ -115,6 +115,28 @@ deferred_removal =
     ∷ answers (Fstat (pos 1)) (reply.Stat (record { kind = Regular; size = 0; links = 2 }))
     ∷ answers (Close (pos 0)) reply.Done
     ∷ answers (Unlink (codes "v")) (reply.Error ENOENT)
+    ∷ []
+
+-- descriptors of one description share its offset; dup2 replaces what was open, and refuses numbers that can be no descriptor
+abbrev pub duplicates : List Record
+duplicates =
+    joins
+    ∷ answers (Open (codes "d") (bits 7)) (reply.Number 0)
+    ∷ answers (Dup (pos 0)) (reply.Number 1)
+    ∷ answers (Write (pos 1) (codes "ab")) (reply.Number 2)
+    ∷ answers (Lseek (pos 0) (pos 0) Cur) (reply.Number 2)
+    ∷ answers (Dup2 (pos 0) (pos 31)) (reply.Number 31)
+    ∷ answers (Dup2 (pos 31) (pos 31)) (reply.Number 31)
+    ∷ answers (Lseek (pos 31) (pos 0) Set) (reply.Number 0)
+    ∷ answers (Read (pos 1) 9) (reply.Data (codes "ab"))
+    ∷ answers (Close (pos 0)) reply.Done
+    ∷ answers (Dup (pos 0)) (reply.Error EBADF)
+    ∷ answers (Dup2 (pos 1) (pos 32)) (reply.Error EBADF)
+    ∷ answers (Dup2 (pos 1) (negsuc 0)) (reply.Error EBADF)
+    ∷ answers (Dup2 (pos 0) (pos 1)) (reply.Error EBADF)
+    ∷ answers (Open (codes "e") (bits 7)) (reply.Number 0)
+    ∷ answers (Dup2 (pos 1) (pos 0)) (reply.Number 0)
+    ∷ answers (Fstat (pos 0)) (reply.Stat (record { kind = Regular; size = 2; links = 1 }))
     ∷ []
 
 -- flags and names of open, each with its refusal

@@ -1,12 +1,20 @@
 //! Laws of the descriptors of processes. Each function does nothing; its contract is the law.
 
-ghost use Rattle.plain_world.specs.DescriptorLaws.{OpenGivesLowest, CloseCloses, NotOpenIsBad, ProcessesAreApart};
+ghost use Rattle.plain_world.specs.DescriptorLaws.{OpenGivesLowest, DupLeads, Dup2Leads, Dup2KeepsEqual, CloseCloses, NotOpenIsBad, ProcessesAreApart};
 
 use posix_model::laws::calls_are_sound;
 
 /// An open gives the least descriptor of the process that is free (page of open).
 pub fn open_gives_the_lowest()
     ensures { OpenGivesLowest }
+{}
+
+/// A dup gives the least descriptor that is free, and a dup2 the one that is asked: it leads to the description that the first one
+/// leads to, and no other descriptor is changed. A dup2 of equal numbers changes nothing (pages of dup and dup2).
+pub fn duplicates_lead_to_one()
+    ensures dup { DupLeads }
+    ensures dup2 { Dup2Leads }
+    ensures equal { Dup2KeepsEqual }
 {}
 
 /// A descriptor that was closed is not open, and a call on one that is not open is EBADF, whatever else is wrong with it

@@ -1,7 +1,7 @@
 //! Laws of steps and histories, and worked runs. None of these functions does anything; each contract is its law.
 
 ghost use Rattle.plain_world.specs.Laws.{RefusedStepKeepsWorld, RefusedNextKeepsWorld, JoinAdds, FullJoinRefused, LowestIsLeast, NoLowestIsFull, OffsetsAreApart, OffsetsStayApart, TakesFew, StepKeepsLimits, LimitsHold, HistoryKeepsExactly, LegalIsAnswered, AnsweredIsLegal};
-ghost use Rattle.plain_world.specs.Rows.{Runs, standard, small, path, hole, greatest_offset, size_limit, pwrite_under_append, opening, deferred_removal};
+ghost use Rattle.plain_world.specs.Rows.{Runs, standard, small, path, hole, greatest_offset, size_limit, pwrite_under_append, opening, deferred_removal, duplicates};
 
 use posix_model::laws::{
     acts_are_sound, numbers_rise, sweep_leaves_wanted, sweep_releases, sweep_settles,
@@ -84,4 +84,5 @@ pub fn worked_runs()
     ensures pwrite_under_append { Runs standard pwrite_under_append 5 4 }
     ensures opening { Runs standard opening 2 3 }
     ensures deferred_removal { Runs standard deferred_removal 3 3 }
+    ensures duplicates { Runs standard duplicates 2 2 }
 {}

@@ -1,5 +1,5 @@
 -- Changes of a world that use no number again and leave nothing that refers to what is gone.
-use Rattle.std.proofs.Common.{◌≡◌, ◌∙◌, zero, suc, replicate, take, ℕ, true, false, not, cond, List, [], ◌∷◌, ◌++◌, Option, None, Some, length, set, get_or, refl, ap, sym, subst}
+use Rattle.std.proofs.Common.{◌≡◌, ◌∙◌, zero, suc, replicate, take, ℕ, true, false, not, cond, List, [], ◌∷◌, ◌++◌, Option, None, Some, length, length-set, set, get_or, refl, ap, sym, subst}
 use Rattle.std.specs.Option.{option_map, is_some}
 use Rattle.std.specs.List.{All}
 use Rattle.std.proofs.lemmas.List.Elements.{All-cons, All-head, All-tail}
@@ -128,6 +128,7 @@ offset_goes w n k whole =
             (λ d h. offset_edited (TargetIsThere w.files w.pipes) k (slot ds n) d (whole.descriptions n) h);
         fifos = whole.fifos;
         processes = λ p process at m x h. adds.there x (whole.processes p process at m x h);
+        tables = whole.tables;
       };
     }
 
@@ -148,6 +149,7 @@ files_go w files whole add fifos = record {
     descriptions = λ n d h. target_stays w.files files w.pipes add d.target (whole.descriptions n d h);
     fifos = fifos;
     processes = whole.processes;
+    tables = whole.tables;
   };
 }
 
@@ -187,7 +189,7 @@ names_go w names whole all =
     let same = same_rises w in
     record {
       rises = record { files = same.files; pipes = same.pipes; descriptions = same.descriptions; processes = same.processes; kinds = same.kinds; targets = same.targets; modes = same.modes };
-      whole = record { names = all; descriptions = whole.descriptions; fifos = whole.fifos; processes = whole.processes };
+      whole = record { names = all; descriptions = whole.descriptions; fifos = whole.fifos; processes = whole.processes; tables = whole.tables };
     }
 
 pub created_goes : (w : World) (name : List ℕ) → IsWhole w → Goes w (created w name)
@@ -201,6 +203,7 @@ created_goes w name whole =
         descriptions = moved.whole.descriptions;
         fifos = moved.whole.fifos;
         processes = moved.whole.processes;
+        tables = moved.whole.tables;
       };
     }
 
@@ -214,6 +217,16 @@ entry_edited ds fd entry None x new all h = cc
 entry_edited ds fd entry (Some y) x new all h =
     let e : with_entry fd entry y ≡ x = cc in
     subst (Refers ds) e (each_set (IsThere ds) y.table fd entry (all y refl) new)
+
+-- a process has so many descriptors
+abbrev pub HasAll : Process → Type 0
+HasAll process = length process.table ≡ OPEN_MAX
+
+entry_keeps : (fd : ℕ) (entry : Option ℕ) (old : Option Process) (x : Process) → ((y : Process) → old ≡ Some y → HasAll y) → option_map (with_entry fd entry) old ≡ Some x → HasAll x
+entry_keeps fd entry None x all h = cc
+entry_keeps fd entry (Some y) x all h =
+    let e : with_entry fd entry y ≡ x = cc in
+    subst HasAll e (length-set y.table fd entry ∙ all y refl)
 
 -- a descriptor refers to what is there, or is free
 pub descriptor_goes : (w : World) (process fd : ℕ) (entry : Option ℕ) → IsWhole w → ((n : ℕ) → entry ≡ Some n → IsThere w.descriptions n) →
@@ -237,6 +250,7 @@ descriptor_goes w process fd entry whole new =
         fifos = whole.fifos;
         processes = each_set (Refers w.descriptions) w.processes process edited whole.processes
             (λ x h. entry_edited w.descriptions fd entry (slot w.processes process) x new (whole.processes process) h);
+        tables = each_set HasAll w.processes process edited whole.tables (λ x h. entry_keeps fd entry (slot w.processes process) x (whole.tables process) h);
       };
     }
 
@@ -259,6 +273,7 @@ described_goes w d whole there =
         descriptions = each_push (λ x. TargetIsThere w.files w.pipes x.target) w.descriptions d whole.descriptions there;
         fifos = whole.fifos;
         processes = λ p process at n x h. adds.there x (whole.processes p process at n x h);
+        tables = whole.tables;
       };
     }
 
@@ -283,6 +298,7 @@ added_goes w table whole new = rw new (record {
     descriptions = whole.descriptions;
     fifos = whole.fifos;
     processes = each_push (Refers w.descriptions) w.processes (process_with free_table) whole.processes (λ n x h. none_replicated OPEN_MAX n x (IsThere w.descriptions x) h);
+    tables = each_push HasAll w.processes (process_with free_table) whole.tables refl;
   };
 })
 

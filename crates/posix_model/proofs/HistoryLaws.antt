@@ -48,6 +48,7 @@ empty_whole = record {
   descriptions = λ n d h. cc;
   fifos = λ n x h. cc;
   processes = λ n p h. cc;
+  tables = λ n p h. cc;
 }
 
 goes_from : (bounds : Bounds) (w : World) (rs : List Record) → IsWhole w → Goes w (world_from bounds w rs)

@@ -11,7 +11,7 @@ use Rattle.std.proofs.lemmas.Bool.Decides.{nat_tests}
 use Rattle.call_types.specs.CallTable.{payload_of}
 use Rattle.call_types.specs.Flags.{has}
 use Rattle.call_types.specs.Flags as flag
-use Rattle.posix_model.specs.Types.{Call, Reply, Errno, OpenFlags, Whence, Bounds, World, Process, Description, Target, File, OpenDescriptor, Decided, OFFSET_MAX, NAMES_MAX, DESCRIPTIONS_MAX, PROCESSES_MAX, TRANSFER_MAX, EAGAIN, Replied, Number, Data, Error, Told}
+use Rattle.posix_model.specs.Types.{Call, Reply, Errno, OpenFlags, Whence, Bounds, World, Process, Description, Target, File, OpenDescriptor, Decided, OFFSET_MAX, OPEN_MAX, NAMES_MAX, DESCRIPTIONS_MAX, PROCESSES_MAX, TRANSFER_MAX, EAGAIN, Replied, Number, Data, Error, Told}
 use Rattle.call_types.specs.declared.act.Act.TheVariants as act
 use Rattle.call_types.specs.declared.call.Call.TheVariants as call
 use Rattle.posix_model.specs.Bytes.{bytes_at}
@@ -30,6 +30,8 @@ use Rattle.posix_model.specs.Pread.{pread_faults, pread}
 use Rattle.posix_model.specs.Pwrite.{pwrite_faults, pwrite}
 use Rattle.posix_model.specs.Lseek.{lseek_faults, lseek_to, base_of, lseek}
 use Rattle.posix_model.specs.Ftruncate.{ftruncate_faults, ftruncate}
+use Rattle.posix_model.specs.Dup.{dup}
+use Rattle.posix_model.specs.Dup2.{is_no_descriptor, dup2}
 use Rattle.posix_model.specs.Link.{link_at, link}
 use Rattle.posix_model.specs.Unlink.{unlink_faults, unlink}
 use Rattle.posix_model.specs.Fstat.{fstat, stat_of}
@@ -304,6 +306,75 @@ free_is : (w : World) (p : ℕ) (low : Option ℕ) → lowest (table_of (slot w.
 free_is w p None e some = cc
 free_is w p (Some fd) e some = rw e (free_in w p fd (slot w.processes p) refl e)
 
+sound_dup : (bounds : Bounds) (w : World) (p : ℕ) (fd : ℤ) (o : OpenDescriptor) → IsOpenAt w p o → first_fault (dup w p o).faults ≡ None → Answers bounds w p (call.Dup fd) (dup w p o).effect
+sound_dup bounds w p fd o at free =
+    let low = lowest (table_of (slot w.processes p)) in
+    let is = free_is w p low refl (unmet (dup w p o).faults free (is_none low) (search rules)) in
+    record {
+      refusal = λ _ _ h. cc;
+      told = refl;
+      planned = refl;
+      own = λ n h. cc;
+      contents = λ _. refl;
+      brief = omega arith;
+      few = omega arith;
+      proper = λ _. record { files = tt; process = tt; table = tt };
+      fits = λ _. record {
+        files = tt;
+        process = tt;
+        table = record { process = is.process; process_is = is.process_is; within = is.within; there = λ n h. let same : o.number ≡ n = cc in subst (IsThere w.descriptions) same (ap is_some at.description_is) };
+        alone = λ h. cc;
+      };
+      within_files = tt;
+      within_table = λ _ _. tt;
+    }
+
+-- a number that may be a descriptor
+may_be_one : (to : ℤ) → is_no_descriptor to ≡ false → nat_abs to < OPEN_MAX
+may_be_one (pos fd) h = not_at_most OPEN_MAX fd h
+may_be_one (negsuc n) h = cc
+
+sound_dup2 : (bounds : Bounds) (w : World) (p : ℕ) (fd to : ℤ) (o : OpenDescriptor) → IsOpenAt w p o → first_fault (dup2 p to o).faults ≡ None → Answers bounds w p (call.Dup2 fd to) (dup2 p to o).effect
+sound_dup2 bounds w p fd to o at free =
+    let few = may_be_one to (unmet (dup2 p to o).faults free (is_no_descriptor to) (search rules)) in
+    if_has (Answers bounds w p (call.Dup2 fd to)) (eqb (nat_abs to) o.fd) (tells (Number (nat_abs to))) (does (Number (nat_abs to)) on_files.Nothing (on_table.Entry p (nat_abs to) (Some o.number)))
+    (λ _. record {
+      refusal = λ _ _ h. cc;
+      told = refl;
+      planned = refl;
+      own = λ n h. cc;
+      contents = λ _. refl;
+      brief = omega arith;
+      few = omega arith;
+      proper = λ _. record { files = tt; process = tt; table = tt };
+      fits = λ _. record { files = tt; process = tt; table = tt; alone = λ h. cc };
+      within_files = tt;
+      within_table = λ _ _. tt;
+    })
+    (λ _. record {
+      refusal = λ _ _ h. cc;
+      told = refl;
+      planned = refl;
+      own = λ n h. cc;
+      contents = λ _. refl;
+      brief = omega arith;
+      few = omega arith;
+      proper = λ _. record { files = tt; process = tt; table = tt };
+      fits = λ whole. record {
+        files = tt;
+        process = tt;
+        table = record {
+          process = at.process;
+          process_is = at.process_is;
+          within = omega (arith, few, whole.tables p at.process at.process_is);
+          there = λ n h. let same : o.number ≡ n = cc in subst (IsThere w.descriptions) same (ap is_some at.description_is);
+        };
+        alone = λ h. cc;
+      };
+      within_files = tt;
+      within_table = λ _ _. tt;
+    })
+
 -- a free descriptor stays so where files change
 free_stays : (w v : World) (p fd : ℕ) → v.processes ≡ w.processes → IsFree w p fd → IsFree v p fd
 free_stays w v p fd same f = record { process = f.process; process_is = ap (λ ps. slot ps p) same ∙ f.process_is; within = f.within; free = f.free }
@@ -441,6 +512,10 @@ calls_are_sound bounds w p (call.Lseek fd offset from) =
 calls_are_sound bounds w p (call.Ftruncate fd len) =
     on_open_has (Answers bounds w p (call.Ftruncate fd len)) (opened w p fd) (ftruncate bounds len) (sound_refused bounds w p (call.Ftruncate fd len))
     (λ o is free. sound_ftruncate bounds w p fd len o (opened_stands w p fd o is) free)
+calls_are_sound bounds w p (call.Dup fd) =
+    on_open_has (Answers bounds w p (call.Dup fd)) (opened w p fd) (dup w p) (sound_refused bounds w p (call.Dup fd)) (λ o is free. sound_dup bounds w p fd o (opened_stands w p fd o is) free)
+calls_are_sound bounds w p (call.Dup2 fd to) =
+    on_open_has (Answers bounds w p (call.Dup2 fd to)) (opened w p fd) (dup2 p to) (sound_refused bounds w p (call.Dup2 fd to)) (λ o is free. sound_dup2 bounds w p fd to o (opened_stands w p fd o is) free)
 calls_are_sound bounds w p (call.Link old new) =
     page_has (Answers bounds w p (call.Link old new)) (link w old new) (sound_refused bounds w p (call.Link old new)) (λ free. sound_link bounds w p old new (file_of old w.names) refl free)
 calls_are_sound bounds w p (call.Unlink name) =

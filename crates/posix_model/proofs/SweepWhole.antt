@@ -164,6 +164,7 @@ sweep_whole w whole =
           fifo_kept w (slot w.files n) x (file_stood w n x h) (whole.fifos n);
       processes = λ p process h fd n k.
           stays (is_some (slot ds n)) (is_some (slot w.descriptions n)) (is_referred w.processes n) ((sweep_leaves_there w).descriptions n) (whole.processes p process h fd n k) (descriptor_counted w.processes p process fd n h k);
+      tables = whole.tables;
     }
 
 -- a sweep from a world in which nothing refers to what is gone

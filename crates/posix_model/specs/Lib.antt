@@ -16,6 +16,8 @@ pub mod Pread
 pub mod Pwrite
 pub mod Lseek
 pub mod Ftruncate
+pub mod Dup
+pub mod Dup2
 pub mod Link
 pub mod Unlink
 pub mod Fstat

@@ -19,6 +19,8 @@ use Rattle.posix_model.specs.Pread.{pread}
 use Rattle.posix_model.specs.Pwrite.{pwrite}
 use Rattle.posix_model.specs.Lseek.{lseek}
 use Rattle.posix_model.specs.Ftruncate.{ftruncate}
+use Rattle.posix_model.specs.Dup.{dup}
+use Rattle.posix_model.specs.Dup2.{dup2}
 use Rattle.posix_model.specs.Link.{link}
 use Rattle.posix_model.specs.Unlink.{unlink}
 use Rattle.posix_model.specs.Fstat.{fstat}
@@ -47,6 +49,8 @@ decided bounds w process (call.Pread fd start count) = on_open (opened w process
 decided bounds w process (call.Pwrite fd start bytes) = on_open (opened w process fd) (pwrite bounds start bytes)
 decided bounds w process (call.Lseek fd offset from) = on_open (opened w process fd) (lseek w offset from)
 decided bounds w process (call.Ftruncate fd len) = on_open (opened w process fd) (ftruncate bounds len)
+decided bounds w process (call.Dup fd) = on_open (opened w process fd) (dup w process)
+decided bounds w process (call.Dup2 fd to) = on_open (opened w process fd) (dup2 process to)
 decided bounds w process (call.Link old new) = decided_by (link w old new)
 decided bounds w process (call.Unlink name) = decided_by (unlink w name)
 decided bounds w process (call.Fstat fd) = on_open (opened w process fd) (fstat w)

@@ -1,7 +1,7 @@
--- What is there: nothing refers to what is gone.
-use Rattle.std.specs.Prelude.{◌≡◌, ℕ, Bool, true, false, All, List, Option, None, Some, is_some}
+-- What is there: nothing refers to what is gone, and each process has its descriptors.
+use Rattle.std.specs.Prelude.{◌≡◌, ℕ, Bool, true, false, All, List, Option, None, Some, is_some, length}
 use Rattle.slots.specs.Slots.{slot}
-use Rattle.posix_model.specs.Types.{World, Target, File}
+use Rattle.posix_model.specs.Types.{World, Target, File, OPEN_MAX}
 use Rattle.call_types.specs.declared.description.Target.TheVariants as target
 use Rattle.posix_model.specs.declared.world.File.TheVariants as file
 
@@ -36,9 +36,10 @@ abbrev pub PipeIsThere : List (Option (List ℕ)) → File → Type 0
 PipeIsThere pipes (file.Regular bytes) = Unit {0}
 PipeIsThere pipes (file.Fifo fifo) = (pipe : ℕ) → fifo.pipe ≡ Some pipe → IsThere pipes pipe
 
--- nothing refers to what is gone: no name, no description, no FIFO and no descriptor (own)
+-- nothing refers to what is gone: no name, no description, no FIFO and no descriptor; and each process has so many descriptors (own)
 pub record IsWhole (w : World) : Type 0 where
   pub names : All (λ entry. IsThere w.files entry.1) w.names
   pub descriptions : EachThere (λ description. TargetIsThere w.files w.pipes description.target) w.descriptions
   pub fifos : EachThere (PipeIsThere w.pipes) w.files
   pub processes : EachThere (λ process. EachThere (IsThere w.descriptions) process.table) w.processes
+  pub tables : EachThere (λ process. length process.table ≡ OPEN_MAX) w.processes

@@ -25,6 +25,8 @@ call_rows =
     record { line = codes "p7 pwrite 3 4 x6869"; byte = 21; call = calls.Pwrite (pos 3) (pos 4) (codes "hi") } ∷
     record { line = codes "p7 lseek 3 -1 cur"; byte = 22; call = calls.Lseek (pos 3) (negsuc 0) whences.Cur } ∷
     record { line = codes "p7 ftruncate 3 4"; byte = 23; call = calls.Ftruncate (pos 3) (pos 4) } ∷
+    record { line = codes "p7 dup 3"; byte = 24; call = calls.Dup (pos 3) } ∷
+    record { line = codes "p7 dup2 3 4"; byte = 25; call = calls.Dup2 (pos 3) (pos 4) } ∷
     record { line = codes "p7 link a b"; byte = 28; call = calls.Link (codes "a") (codes "b") } ∷
     record { line = codes "p7 unlink a"; byte = 29; call = calls.Unlink (codes "a") } ∷
     record { line = codes "p7 fstat 3"; byte = 30; call = calls.Fstat (pos 3) } ∷ []

@@ -3,7 +3,7 @@
 
 ghost use Rattle.std.specs.Prelude.{◌≡◌};
 ghost use Rattle.std.specs.Option.{option_copied};
-ghost use Rattle.call_types.specs.CallTable.{open_entry, close_entry, read_entry, write_entry, pread_entry, pwrite_entry, lseek_entry, ftruncate_entry, link_entry, unlink_entry, fstat_entry, position_table};
+ghost use Rattle.call_types.specs.CallTable.{open_entry, close_entry, read_entry, write_entry, pread_entry, pwrite_entry, lseek_entry, ftruncate_entry, dup_entry, dup2_entry, link_entry, unlink_entry, fstat_entry, position_table};
 ghost use Rattle.script_text.specs.Reading.{Gives, Word};
 ghost use Rattle.script_text.specs.ReadingCalls.{entry_at, one_of, named_call};
 ghost use Rattle.script_text.specs.Writing.{Appends};
@@ -198,6 +198,45 @@ fn put_ftruncate(out: &mut Vec<u8>, fd: i32, len: i64) -> Result<(), AllocError>
     Ok(())
 }
 
+/// `dup FD`
+fn dup_call(left: Left<'_>) -> Result<Call, WordFault>
+    ensures { Gives (λ x. x) result (entry_at dup_entry (option_copied left.entry)) }
+{
+    let (fd, left) = fields::descriptor(left)?;
+    line_end(left)?;
+    Ok(Call::Dup { fd })
+}
+
+/// Appends a dup.
+fn put_dup(out: &mut Vec<u8>, fd: i32) -> Result<(), AllocError>
+    ensures { Appends result out.old.items out.new.items (call_text (Call.Dup fd)) }
+{
+    put(out, b"dup ")?;
+    put_descriptor(out, fd)?;
+    Ok(())
+}
+
+/// `dup2 FD FD`
+fn dup2_call(left: Left<'_>) -> Result<Call, WordFault>
+    ensures { Gives (λ x. x) result (entry_at dup2_entry (option_copied left.entry)) }
+{
+    let (fd, left) = fields::descriptor(left)?;
+    let (to, left) = fields::descriptor(left)?;
+    line_end(left)?;
+    Ok(Call::Dup2 { fd, to })
+}
+
+/// Appends a dup2.
+fn put_dup2(out: &mut Vec<u8>, fd: i32, to: i32) -> Result<(), AllocError>
+    ensures { Appends result out.old.items out.new.items (call_text (Call.Dup2 fd to)) }
+{
+    put(out, b"dup2 ")?;
+    put_descriptor(out, fd)?;
+    put(out, b" ")?;
+    put_descriptor(out, to)?;
+    Ok(())
+}
+
 /// `link NAME NAME`
 fn link_call(alloc: Global, left: Left<'_>) -> Result<Call, WordFault>
     ensures { Gives (λ x. x) result (entry_at link_entry (option_copied left.entry)) }
@@ -267,6 +306,10 @@ pub(crate) fn call(alloc: Global, word: Next<'_>) -> Result<Call, WordFault>
         read_call(word.after)
     } else if word.is(b"write") {
         write_call(alloc, word.after)
+    } else if word.is(b"dup") {
+        dup_call(word.after)
+    } else if word.is(b"dup2") {
+        dup2_call(word.after)
     } else if word.is(b"link") {
         link_call(alloc, word.after)
     } else if word.is(b"unlink") {
@@ -311,6 +354,8 @@ pub(crate) fn put_call(out: &mut Vec<u8>, call: &Call) -> Result<(), AllocError>
         Call::Pwrite { fd, start, bytes } => put_pwrite(out, *fd, *start, bytes),
         Call::Lseek { fd, offset, whence } => put_lseek(out, *fd, *offset, *whence),
         Call::Ftruncate { fd, len } => put_ftruncate(out, *fd, *len),
+        Call::Dup { fd } => put_dup(out, *fd),
+        Call::Dup2 { fd, to } => put_dup2(out, *fd, *to),
         Call::Link { old, new } => put_link(out, old, new),
         Call::Unlink { name } => put_unlink(out, name),
         Call::Fstat { fd } => put_fstat(out, *fd),

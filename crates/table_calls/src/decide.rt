@@ -3,6 +3,8 @@ ghost use Rattle.slots.specs.Slots.{slot};
 ghost use Rattle.posix_model.specs.Step.{can_call, decided, comes_to};
 ghost use Rattle.posix_model.specs.Sound.{adds};
 
+use crate::dup::decide_dup;
+use crate::dup2::decide_dup2;
 use crate::join::{decide_join, is_full};
 use crate::link::decide_link;
 use crate::unlink::decide_unlink;
@@ -56,6 +58,8 @@ pub fn decide_call<R: Reader>(
             Ok(decide_lseek(state, process, *fd, *offset, *whence))
         }
         Call::Ftruncate { fd, len } => Ok(decide_ftruncate(state, bounds, process, *fd, *len)),
+        Call::Dup { fd } => Ok(decide_dup(state, process, *fd)),
+        Call::Dup2 { fd, to } => Ok(decide_dup2(state, process, *fd, *to)),
         Call::Link { old, new } => decide_link(state, old, new),
         Call::Unlink { name } => decide_unlink(state, name),
         Call::Fstat { fd } => Ok(decide_fstat(state, process, *fd)),

@@ -2,6 +2,8 @@
 #![tactic(auto)]
 
 pub mod decide;
+pub mod dup;
+pub mod dup2;
 pub mod given;
 pub mod join;
 pub mod link;

@@ -1,0 +1,18 @@
+-- The page of dup.
+use Rattle.std.specs.Prelude.{ℕ, [], ◌∷◌, Some, is_none}
+use Rattle.posix_model.specs.Types.{World, OpenDescriptor, EMFILE, Number}
+use Rattle.slots.specs.Slots.{slot, lowest}
+use Rattle.posix_model.specs.Descriptors.{table_of}
+use Rattle.posix_model.specs.Open.{free_descriptor}
+use Rattle.posix_model.specs.Pages.{Page, does}
+use Rattle.posix_model.specs.declared.change.FileEdit.TheVariants as on_files
+use Rattle.posix_model.specs.declared.change.TableEdit.TheVariants as on_table
+
+-- dup(fd): the lowest free descriptor refers to the same description
+abbrev pub dup : World → ℕ → OpenDescriptor → Page
+dup w process o =
+    let fd = free_descriptor w process in
+    record {
+      faults = (is_none (lowest (table_of (slot w.processes process))), EMFILE) ∷ [];
+      effect = does (Number fd) on_files.Nothing (on_table.Entry process fd (Some o.number));
+    }
