@@ -53,7 +53,6 @@ fn offset_and_flags_are_told_while_it_lives(rt: HostRuntime) -> Result<(), Fail>
                 .union(OpenFlags::APPEND)
         )
     );
-    table.set_offset(1, 4);
     assert_eq!(rt; (table.offset(0), table.offset(1)), (Some(9), None));
     Ok(())
 }
