@@ -164,7 +164,7 @@ impl DescriptionTable {
         }
     }
 
-    /// Gives a live description another offset, in bytes, below 2^63 (page of lseek).
+    /// Gives a live description another offset, in bytes, below 2^63.
     pub fn set_offset(&mut self, number: usize, offset: u64)
         requires { is_some (slot self.old.0 number) ≡ true }
         ensures slots { self.new.0 ≡ edited number (with_value (at_offset offset)) self.old.0 }
