@@ -1,4 +1,4 @@
-ghost use Rattle.std.specs.Prelude.{◌≡◌, ℕ, ◌+◌, ◌<◌, ◌∷◌, [], ◌++◌, None, Some, true, is_some, length, option_copied, IfOk, IfErr, OnOk};
+ghost use Rattle.std.specs.Prelude.{◌≡◌, ℕ, ◌+◌, ◌<◌, ◌≤◌, ◌∷◌, [], ◌++◌, None, Some, true, is_some, length, slice_set, option_copied, IfOk, IfErr, OnOk};
 ghost use Rattle.slots.specs.Slots.{slot, live};
 ghost use Rattle.slots.specs.Entries.{found, EntriesRise, IsAt};
 
@@ -83,6 +83,19 @@ impl<T> Numbered<T> {
         match index_of(self.entries.as_slice(), number) {
             Ok(index) => &mut self.entries[index].1,
             Err(_) => unreachable!(),
+        }
+    }
+
+    /// Takes the value of a number away, and gives it back; the number is not given again.
+    pub fn remove(&mut self, number: usize) -> Option<T>
+        ensures value { result ≡ slot self.old.0 number }
+        ensures slots { self.new.0 ≡ slice_set self.old.0 number None }
+        ensures room { self.old.1 ≤ self.new.1 }
+        ensures most { self.new.1 ≤ self.old.1 + 1 }
+    {
+        match index_of(self.entries.as_slice(), number) {
+            Ok(index) => Some(self.entries.remove(index).1),
+            Err(_) => None,
         }
     }
 
