@@ -1,0 +1,44 @@
+use Rattle.std.proofs.Common.{◌≡◌, ℕ, zero, suc, ◌+◌, ◌-◌, ◌∙◌, List, [], ◌∷◌, Option, None, Some, length, set, take, drop, refl, ap, sym, arith}
+use Rattle.std.specs.Prelude.{is_none}
+use Rattle.std.specs.Option.{option_map}
+use Rattle.std.specs.List.{position_from}
+use Rattle.std.proofs.lemmas.List.{take_rest}
+use Rattle.std.proofs.lemmas.Iterator.Adapters.{position_from-zero}
+use Rattle.slots.specs.Slots.{lowest}
+
+-- a search that counts from a number finds what one from zero does, so much higher
+counted_from : (start k : ℕ) (xs : List (Option ℕ)) → position_from is_none (start + k) xs ≡ option_map (λ n. start + n) (position_from is_none k xs)
+counted_from start k [] = refl
+counted_from start k (None ∷ xs) = refl
+counted_from start k (Some x ∷ xs) =
+    let next : start + k + 1 ≡ start + (k + 1) = omega arith in
+    rw next (counted_from start (k + 1) xs)
+
+-- once the first free slot is taken, the search goes on after it
+after_first : (start first : ℕ) (xs : List (Option ℕ)) → position_from is_none start xs ≡ Some (start + first) →
+    position_from is_none start (set xs first (Some 0)) ≡ position_from is_none (start + (first + 1)) (drop (first + 1) xs)
+after_first start first [] is = cc
+after_first start zero (x ∷ xs) is = refl
+after_first start (suc first) (None ∷ xs) is = let same : start ≡ start + suc first = cc in absurd (omega (arith, same))
+after_first start (suc first) (Some x ∷ xs) is =
+    let found : start + suc first ≡ start + 1 + first = omega arith in
+    let next : start + (suc first + 1) ≡ start + 1 + (first + 1) = omega arith in
+    let behind : suc first + 1 ≡ suc (first + 1) = omega arith in
+    rw (next, behind) (after_first (start + 1) first xs (rw found at is))
+
+next_lowest : (xs : List (Option ℕ)) (first : ℕ) → lowest xs ≡ Some first → lowest (set xs first (Some 0)) ≡ option_map (λ n. first + 1 + n) (lowest (drop (first + 1) xs))
+next_lowest xs first is =
+    let rest = drop (first + 1) xs in
+    let from_zero : first ≡ 0 + first = omega arith in
+    let here : 0 + (first + 1) ≡ first + 1 + 0 = omega arith in
+    let found : position_from is_none 0 xs ≡ Some (0 + first) = sym (position_from-zero is_none xs) ∙ (is ∙ ap Some from_zero) in
+    let counted : position_from is_none (0 + (first + 1)) rest ≡ option_map (λ n. first + 1 + n) (position_from is_none 0 rest) =
+    ap (λ k. position_from is_none k rest) here ∙ counted_from (first + 1) 0 rest in
+    position_from-zero is_none (set xs first (Some 0)) ∙ (after_first 0 first xs found ∙ (counted ∙ ap (λ r. option_map (λ n. first + 1 + n) r) (sym (position_from-zero is_none rest))))
+
+-- the same of all slots of a table, of which those after the first free one are searched
+pub next_found : (xs slots : List (Option ℕ)) (first : ℕ) → slots ≡ xs → lowest xs ≡ Some first → (found : Option ℕ) →
+    found ≡ lowest (take (length slots - (first + 1)) (drop (first + 1) slots)) → option_map (λ n. first + 1 + n) found ≡ lowest (set xs first (Some 0))
+next_found xs slots first same is found behind =
+    let rest = rw (same, take_rest xs (first + 1)) at behind in
+    rw rest (sym (next_lowest xs first is))

@@ -1,0 +1,172 @@
+ghost use Rattle.std.specs.Prelude.{◌≡◌, ◌+◌, ◌<◌, ◌≤◌, ◌∷◌, ◌++◌, [], Some, None, true, is_some, length, slice_set, option_copied, IfOk, OnOk};
+ghost use Rattle.slots.specs.Slots.{slot, live, lowest, edited};
+ghost use Rattle.process_table.specs.Tables.{two_lowest};
+ghost use Rattle.process_table.specs.Processes.{table_of, copied_table, parked_of, with_entry, with_connection, is_here, awaits};
+
+use crate::process::{Parked, Process};
+use crate::table::DescriptorTable;
+use slots::numbered::Numbered;
+use std::alloc::{AllocError, Global};
+use std::marker::Model;
+
+/// The live processes. Contracts see a slot for each number that was ever given, and for how many more processes there is room.
+#[derive(Drop)]
+pub struct ProcessTable {
+    processes: Numbered<Process>,
+}
+
+impl Model for ProcessTable {
+    ghost use Rattle.std.specs.Prelude.{List, Option, ℕ};
+    ghost use Rattle.process_table.specs.declared.process.Process.{Process as Processes};
+
+    ghost Value = { List (Option Processes) × ℕ };
+
+    ghost view = { λ table. table.processes };
+}
+
+impl ProcessTable {
+    /// No process yet, and no number given.
+    pub fn new(alloc: Global) -> Self
+        ensures { result.0 ≡ [] }
+    {
+        ProcessTable {
+            processes: Numbered::new(alloc),
+        }
+    }
+
+    /// The number of the next process.
+    pub fn next(&self) -> usize
+        ensures { result ≡ length self.now.0 }
+    {
+        self.processes.next()
+    }
+
+    /// How many processes are live.
+    pub fn live(&self) -> usize
+        ensures { result ≡ live self.now.0 }
+    {
+        self.processes.live()
+    }
+
+    /// The process of a number, if it is live.
+    pub fn get(&self, process: usize) -> Option<&Process>
+        ensures { option_copied result ≡ slot self.now.0 process }
+    {
+        self.processes.get(process)
+    }
+
+    /// Whether a process is live and has a connection.
+    pub fn is_here(&self, process: usize) -> bool
+        ensures { result ≡ is_here (slot self.now.0 process) }
+    {
+        match self.get(process) {
+            Some(process) => process.attached,
+            None => false,
+        }
+    }
+
+    /// Whether a process is live and has no connection yet.
+    pub fn awaits(&self, process: usize) -> bool
+        ensures { result ≡ awaits (slot self.now.0 process) }
+    {
+        match self.get(process) {
+            Some(process) => !process.attached,
+            None => false,
+        }
+    }
+
+    /// The call that a process waits in.
+    pub fn parked(&self, process: usize) -> Option<&Parked>
+        ensures { option_copied result ≡ parked_of (slot self.now.0 process) }
+    {
+        match self.get(process) {
+            Some(process) => process.parked.as_ref(),
+            None => None,
+        }
+    }
+
+    /// The lowest free descriptor of a process (XSH 2.14, File Descriptor Allocation).
+    pub fn lowest_free(&self, process: usize) -> Option<usize>
+        ensures { result ≡ lowest (table_of (slot self.now.0 process)) }
+    {
+        match self.get(process) {
+            Some(process) => process.table.lowest_free(),
+            None => None,
+        }
+    }
+
+    /// The two lowest free descriptors of a process (page of pipe).
+    pub fn two_lowest_free(&self, process: usize) -> Option<(usize, usize)>
+        ensures { result ≡ two_lowest (table_of (slot self.now.0 process)) }
+    {
+        match self.get(process) {
+            Some(process) => process.table.two_lowest_free(),
+            None => None,
+        }
+    }
+
+    /// What a descriptor of a process refers to, if it is open.
+    pub fn descriptor(&self, process: usize, fd: usize) -> Option<usize>
+        ensures { result ≡ slot (table_of (slot self.now.0 process)) fd }
+    {
+        match self.get(process) {
+            Some(process) => process.table.get(fd),
+            None => None,
+        }
+    }
+
+    /// A copy of the descriptors of a process (page of fork); of one that is not live none is open.
+    pub fn copy_table(&self, alloc: Global, process: usize) -> Result<DescriptorTable, AllocError>
+        ensures { IfOk result (λ table. table ≡ copied_table (slot self.now.0 process)) }
+    {
+        match self.get(process) {
+            Some(process) => process.table.clone(),
+            None => DescriptorTable::free(alloc),
+        }
+    }
+
+    /// Makes room for one more process; an error says that memory or numbers ran out.
+    pub fn reserve(&mut self) -> Result<(), AllocError>
+        ensures slots { self.new.0 ≡ self.old.0 }
+        ensures room { OnOk result (0 < self.new.1) }
+    {
+        self.processes.reserve()
+    }
+
+    /// Gives the next number to a process, for which there is room.
+    pub fn add(&mut self, process: Process)
+        requires { 0 < self.old.1 }
+        ensures slots { self.new.0 ≡ self.old.0 ++ Some process ∷ [] }
+        ensures room { self.new.1 + 1 ≡ self.old.1 }
+    {
+        self.processes.push(process);
+    }
+
+    /// Lets a descriptor of a live process refer to a description, or frees it; what it referred to before.
+    pub fn set_fd(&mut self, process: usize, fd: usize, entry: Option<usize>) -> Option<usize>
+        requires { is_some (slot self.old.0 process) ≡ true }
+        ensures slots { self.new.0 ≡ edited process (with_entry fd entry) self.old.0 }
+        ensures room { self.new.1 ≡ self.old.1 }
+        ensures old { result ≡ slot (table_of (slot self.old.0 process)) fd }
+    {
+        self.processes.value_mut(process).table.replace(fd, entry)
+    }
+
+    /// A live process has its connection.
+    pub fn attach(&mut self, process: usize)
+        requires { is_some (slot self.old.0 process) ≡ true }
+        ensures slots { self.new.0 ≡ edited process with_connection self.old.0 }
+        ensures room { self.new.1 ≡ self.old.1 }
+    {
+        self.processes.value_mut(process).attached = true;
+    }
+
+    /// A process goes, and its number is not given again. Of a number that is gone nothing goes.
+    pub fn remove(&mut self, process: usize)
+        ensures slots { self.new.0 ≡ slice_set self.old.0 process None }
+        ensures room { self.old.1 ≤ self.new.1 }
+        ensures most { self.new.1 ≤ self.old.1 + 1 }
+    {
+        self.processes.remove(process);
+    }
+}

@@ -1,0 +1,123 @@
+ghost use Rattle.std.specs.Prelude.{◌≡◌, None, Some, length, replicate, slice_set, IfOk};
+ghost use Rattle.slots.specs.Slots.{slot, lowest};
+ghost use Rattle.process_table.specs.Tables.{two_lowest};
+
+use call_types::limits::OPEN_MAX;
+use slots::dense::Slots;
+use std::alloc::{AllocError, Global};
+use std::marker::Model;
+
+/// The first slot that is free.
+fn first_free(slots: &[Option<usize>]) -> Option<usize>
+    ensures { result ≡ lowest slots.now }
+{
+    slots.iter().position(|slot| slot.is_none())
+}
+
+/// The descriptors of a process (XBD 3, File Descriptor), each with the number of the description that it refers to, or free.
+/// Contracts see the list of them, by number.
+#[derive(Drop)]
+pub struct DescriptorTable {
+    slots: Slots<usize>,
+}
+
+impl Model for DescriptorTable {
+    ghost use Rattle.std.specs.Prelude.{List, Option, ℕ};
+
+    ghost Value = { List (Option ℕ) };
+
+    ghost view = { λ table. table.slots };
+}
+
+impl DescriptorTable {
+    /// All descriptors that a process may have, none of them open.
+    pub fn free(alloc: Global) -> Result<Self, AllocError>
+        ensures { IfOk result (λ table. table ≡ replicate OPEN_MAX None) }
+    {
+        Ok(DescriptorTable {
+            slots: Slots::free(alloc, OPEN_MAX)?,
+        })
+    }
+
+    /// How many descriptors there are, open or not.
+    pub fn len(&self) -> usize
+        ensures { result ≡ length self.now }
+    {
+        self.slots.len()
+    }
+
+    /// All descriptors, in the order of their numbers.
+    pub fn entries(&self) -> &[Option<usize>]
+        ensures { result.now ≡ self.now }
+    {
+        self.slots.all()
+    }
+
+    /// What a descriptor refers to, if it is open.
+    pub fn get(&self, fd: usize) -> Option<usize>
+        ensures { result ≡ slot self.now fd }
+    {
+        self.slots.get(fd).copied()
+    }
+
+    /// The lowest free descriptor (XSH 2.14, File Descriptor Allocation).
+    pub fn lowest_free(&self) -> Option<usize>
+        ensures { result ≡ lowest self.now }
+    {
+        self.slots.lowest_free()
+    }
+
+    /// The lowest free descriptor once the lowest one is taken.
+    fn next_free(&self, first: usize) -> Option<usize>
+        requires { lowest self.now ≡ Some first }
+        ensures { result ≡ lowest (slice_set self.now first (Some 0)) }
+    {
+        let behind = first_free(&self.slots.all()[first + 1..])?;
+        Some(first + 1 + behind)
+    }
+
+    /// The two lowest free descriptors, as a call that opens two of them takes them (page of pipe).
+    pub fn two_lowest_free(&self) -> Option<(usize, usize)>
+        ensures { result ≡ two_lowest self.now }
+    {
+        let first = self.lowest_free()?;
+        let second = self.next_free(first)?;
+        Some((first, second))
+    }
+
+    /// Lets a descriptor refer to this description, or frees it; what it referred to before. Past the last descriptor it does nothing.
+    pub fn replace(&mut self, fd: usize, entry: Option<usize>) -> Option<usize>
+        ensures old { result ≡ slot self.old fd }
+        ensures table { self.new ≡ slice_set self.old fd entry }
+    {
+        let old = self.get(fd);
+        self.slots.put(fd, entry);
+        old
+    }
+
+    /// Lets a descriptor refer to this description.
+    pub fn set(&mut self, fd: usize, number: usize)
+        ensures { self.new ≡ slice_set self.old fd (Some number) }
+    {
+        self.slots.put(fd, Some(number));
+    }
+
+    /// Frees a descriptor (page of close); what it referred to.
+    pub fn clear(&mut self, fd: usize) -> Option<usize>
+        ensures old { result ≡ slot self.old fd }
+        ensures table { self.new ≡ slice_set self.old fd None }
+    {
+        self.replace(fd, None)
+    }
+}
+
+/// The copy refers to the same descriptions (page of fork).
+impl Clone for DescriptorTable {
+    ghost is_clone = { λ old new. new ≡ old };
+
+    fn clone(&self) -> Result<Self, AllocError> {
+        Ok(DescriptorTable {
+            slots: self.slots.clone()?,
+        })
+    }
+}
