@@ -86,13 +86,16 @@ unlink_entry = record { word = codes "unlink"; byte = 29; fields = a_name ∷ []
 abbrev pub fstat_entry : Entry
 fstat_entry = record { word = codes "fstat"; byte = 30; fields = a_descriptor ∷ []; make = calls.Fstat }
 
+abbrev pub fork_entry : Entry
+fork_entry = record { word = codes "fork"; byte = 31; fields = []; make = calls.Fork }
+
 -- the calls that name a position, an offset or a length
 abbrev pub position_table : List Entry
 position_table = pread_entry ∷ pwrite_entry ∷ lseek_entry ∷ ftruncate_entry ∷ []
 
 -- the calls
 abbrev pub call_table : List Entry
-call_table = open_entry ∷ close_entry ∷ read_entry ∷ write_entry ∷ dup_entry ∷ dup2_entry ∷ link_entry ∷ unlink_entry ∷ fstat_entry ∷ position_table
+call_table = open_entry ∷ close_entry ∷ read_entry ∷ write_entry ∷ dup_entry ∷ dup2_entry ∷ link_entry ∷ unlink_entry ∷ fstat_entry ∷ fork_entry ∷ position_table
 
 -- an entry, and fields for it
 pub record Parts : Type 0 where
@@ -117,6 +120,7 @@ parts (calls.Dup2 fd to) = of dup2_entry (fd, (to, tt))
 parts (calls.Link old new) = of link_entry (old, (new, tt))
 parts (calls.Unlink name) = of unlink_entry (name, tt)
 parts (calls.Fstat fd) = of fstat_entry (fd, tt)
+parts calls.Fork = of fork_entry tt
 
 -- an entry makes the calls that have it in their parts
 abbrev pub Parted : Entry → Type 0

@@ -32,11 +32,17 @@ pub struct Record {
     pub outcome: Outcome,
 }
 
-/// An act as a script gives it; a join has no actor yet.
+/// An act as a script gives it; a join has no actor yet, and the actor of a closing is the house.
 #[derive(Clone, Debug, Drop)]
 pub enum ScriptAct {
     /// A new process.
     Join,
+    /// The process of this number, a child that waits, is attached.
+    Attach { process: u32 },
     /// The call of a process, by its number.
     Call { process: u32, call: Call },
+    /// The process of this number ends.
+    Exit { process: u32 },
+    /// The run is closed.
+    CloseRun,
 }

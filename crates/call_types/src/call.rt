@@ -69,6 +69,8 @@ pub enum Call {
     Fstat {
         fd: i32,
     },
+    /// Makes a child with the same descriptors (page of fork).
+    Fork,
 }
 
 impl Call {

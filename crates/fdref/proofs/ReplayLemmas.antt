@@ -9,10 +9,10 @@ use Rattle.std.specs.Io.KnownBytes.{Appends}
 use Rattle.call_types.specs.declared.act.ScriptAct.{ScriptAct}
 use Rattle.call_types.specs.declared.limits.Limits.{Limits}
 use Rattle.posix_model.specs.History.{legal}
-use Rattle.record_book.specs.Book.{BookState}
+use Rattle.record_book.specs.Book.{BookState, new_book}
 use Rattle.record_book.specs.Runs.{RunTells, Seats}
 use Rattle.record_book.specs.declared.run.Told.{Told}
-use Rattle.fdref.specs.Output.{AppendsFront, closing_line, told_lines}
+use Rattle.fdref.specs.Output.{AppendsFront, last_line, told_lines}
 use Rattle.fdref.specs.Replay.{IsOutput, RunsActs, StopsShort, OfInput}
 use Rattle.fdref.specs.declared.ended.Ended.{Ended}
 use Rattle.fdref.specs.declared.ended.Ended.TheVariants as ended
@@ -46,8 +46,8 @@ read_whole (Some input) most old text limit empty is = λ short.
 
 -- the lines of what is told of the acts in a new book are an output
 pub output_of_run : (limits : Limits) (acts : List ScriptAct) (start book : BookState) (tolds : List Told)
-    → start ≡ record { limits = limits; history = [] } → (seats : Seats) × RunTells start book [] seats acts tolds → book.limits ≡ start.limits
-    → legal book.limits.bounds book.history → IsOutput limits acts (told_lines tolds ++ closing_line book)
+    → start ≡ new_book limits → (seats : Seats) × RunTells start book [] seats acts tolds → book.limits ≡ start.limits
+    → legal book.limits.bounds book.history → IsOutput limits acts (told_lines tolds ++ last_line book)
 output_of_run limits acts start book tolds new run kept sound =
     let same : book.limits ≡ limits = kept ∙ ap (λ b. b.limits) new in
     record {

@@ -3,23 +3,30 @@ use Rattle.std.specs.Prelude.{◌≡◌, ℕ, List, ◌++◌, Option, length}
 use Rattle.std.specs.List.{flat_map}
 use Rattle.std.specs.Io.KnownBytes.{Appends}
 use Rattle.posix_model.specs.Turns.{bytes_in, bytes_out}
-use Rattle.script_text.specs.Lines.{record_line, refused_line, totals_line}
+use Rattle.script_text.specs.Lines.{record_line, refused_line, still_line, totals_line}
+use Rattle.record_book.specs.Seat.{Receipted}
 use Rattle.record_book.specs.Book.{BookState}
 use Rattle.record_book.specs.declared.run.Told.{Told}
-use Rattle.record_book.specs.declared.run.Told.TheVariants.{Recorded, Refused}
+use Rattle.record_book.specs.declared.run.Told.TheVariants.{Recorded, Closed, Still, Refused}
 
--- the line of what is told of an act
+-- the line of a receipt
+abbrev pub receipt_line : Receipted → List ℕ
+receipt_line receipt = record_line receipt.place receipt.record_is
+
+-- the lines of what is told of an act: one, but a line for each record of a closing
 abbrev pub told_line : Told → List ℕ
-told_line (Recorded receipt) = record_line receipt.place receipt.record_is
+told_line (Recorded receipt) = receipt_line receipt
+told_line (Closed house) = flat_map receipt_line house.receipts
+told_line (Still actor act) = still_line actor act.now
 told_line (Refused actor act refusal) = refused_line actor act.now refusal
 
 -- the lines of all that is told
 abbrev pub told_lines : List Told → List ℕ
 told_lines told = flat_map told_line told
 
--- the closing line of a book
-abbrev pub closing_line : BookState → List ℕ
-closing_line b = totals_line (length b.history) (bytes_in b.limits.bounds b.history) (bytes_out b.limits.bounds b.history)
+-- the last line of a run: the totals of its book
+abbrev pub last_line : BookState → List ℕ
+last_line b = totals_line (length b.history) (bytes_in b.limits.bounds b.history) (bytes_out b.limits.bounds b.history)
 
 -- a front of the text was given to a writer, and nothing else
 pub record AppendsFront (old new : Option (List ℕ)) (text : List ℕ) : Type 0 where

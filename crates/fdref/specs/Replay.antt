@@ -8,22 +8,22 @@ use Rattle.script_text.specs.Spellings.{SpellsScript}
 use Rattle.script_text.specs.ReadingScripts.{script}
 use Rattle.script_text.specs.declared.fault.ScriptFault.{ScriptFault}
 use Rattle.script_text.specs.declared.fault.ScriptFault.TheVariants as faults
-use Rattle.record_book.specs.Book.{BookState}
+use Rattle.record_book.specs.Book.{BookState, new_book}
 use Rattle.record_book.specs.Runs.{RunTells, Seats}
 use Rattle.record_book.specs.declared.run.Told.{Told}
-use Rattle.fdref.specs.Output.{AppendsFront, closing_line, told_lines}
+use Rattle.fdref.specs.Output.{AppendsFront, last_line, told_lines}
 use Rattle.fdref.specs.declared.ended.Ended.{Ended}
 use Rattle.fdref.specs.declared.ended.Ended.TheVariants as ended
 
--- the output is the lines of what is told of the acts in a new book, and the closing line; the book's records are a run of
+-- the output is the lines of what is told of the acts in a new book, and the line of totals; the book's records are a run of
 -- the model
 pub record IsOutput (limits : Limits) (acts : List ScriptAct) (output : List ℕ) : Type 0 where
   pub told : List Told
   pub book : BookState
   pub seats : Seats
-  pub runs : RunTells (record { limits = limits; history = [] }) book [] seats acts told
+  pub runs : RunTells (new_book limits) book [] seats acts told
   pub is_legal : legal limits.bounds book.history
-  pub output_is : output ≡ told_lines told ++ closing_line book
+  pub output_is : output ≡ told_lines told ++ last_line book
 
 -- such an output was written, and nothing else
 abbrev pub RunsActs : Limits → List ScriptAct → Option (List ℕ) → Option (List ℕ) → Type 0

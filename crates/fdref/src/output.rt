@@ -1,13 +1,15 @@
 //! The lines of a run, written in pieces of one buffer.
 ghost use Rattle.std.specs.Prelude.{◌≡◌, ◌≤◌, ◌++◌, ◌⊎◌, [], length, take, IfOk, IfErr, OnErr, OnOk};
+ghost use Rattle.std.specs.List.{flat_map};
 ghost use Rattle.std.specs.Io.KnownBytes.{Appends, Keeps};
 ghost use Rattle.script_text.specs.Lines.{totals_line};
-ghost use Rattle.fdref.specs.Output.{AppendsFront, Puts, told_line, told_lines};
+ghost use Rattle.fdref.specs.Output.{AppendsFront, Puts, receipt_line, told_line, told_lines};
 
 use crate::ended::Ended;
 use record_book::book::Counts;
 use record_book::run::Told;
-use script_text::lines::{write_record, write_refused, write_totals};
+use record_book::seat::Receipt;
+use script_text::lines::{write_record, write_refused, write_still, write_totals};
 use std::alloc::{AllocError, Global};
 use std::io::{ErrorKind, Write};
 
@@ -49,12 +51,24 @@ fn write_whole<W: Write>(writer: &mut W, text: &[u8]) -> Result<(), Ended>
     Err(Ended::CannotWrite)
 }
 
-/// Gathers the line of what is told of an act.
+/// Gathers the lines of receipts.
+fn put_receipts(out: &mut Vec<u8>, receipts: &[Receipt]) -> Result<(), AllocError>
+    ensures { OnOk result (out.new.items ≡ out.old.items ++ flat_map receipt_line receipts.now) }
+{
+    for receipt in receipts {
+        write_record(out, receipt.place(), receipt.record())?;
+    }
+    Ok(())
+}
+
+/// Gathers the lines of what is told of an act.
 fn put_line(out: &mut Vec<u8>, told: &Told<'_>) -> Result<(), AllocError>
     ensures { OnOk result (out.new.items ≡ out.old.items ++ told_line told.now) }
 {
     match told {
         Told::Recorded(receipt) => write_record(out, receipt.place(), receipt.record()),
+        Told::Closed(house) => put_receipts(out, house.receipts()),
+        Told::Still { actor, act } => write_still(out, *actor, act),
         Told::Refused {
             actor,
             act,
@@ -100,7 +114,7 @@ fn put_all<W: Write>(writer: &mut W, out: &mut Vec<u8>, told: &[Told<'_>]) -> Re
     Ok(())
 }
 
-/// Writes what is gathered with the closing line after it.
+/// Writes what is gathered with the line of totals after it.
 fn write_last<W: Write>(writer: &mut W, out: &mut Vec<u8>, counts: Counts) -> Result<(), Ended>
     ensures output { OnOk result (Appends (W.contents writer.old) (W.contents writer.new) (out.old.items ++ totals_line counts.records counts.bytes_in counts.bytes_out)) }
     ensures front { OnErr result (AppendsFront (W.contents writer.old) (W.contents writer.new) (out.old.items ++ totals_line counts.records counts.bytes_in counts.bytes_out)) }
@@ -114,7 +128,7 @@ fn write_last<W: Write>(writer: &mut W, out: &mut Vec<u8>, counts: Counts) -> Re
     Ok(())
 }
 
-/// Writes all lines of a run, with the closing line, in pieces of one buffer. Where that fails, a front of them is written,
+/// Writes all lines of a run, with the line of totals, in pieces of one buffer. Where that fails, a front of them is written,
 /// and nothing else.
 pub fn write_lines<W: Write>(
     alloc: Global,

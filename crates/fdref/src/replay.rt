@@ -48,7 +48,7 @@ fn run_acts<W: Write>(
 }
 
 /// Reads a script, runs its acts in their order in a new book, and writes a line for each record and each act that is
-/// not recorded, and a closing line. The whole script is read before the first act runs.
+/// not recorded, and a line of totals. The whole script is read before the first act runs.
 pub fn replay<R: Read + Drop, W: Write>(
     alloc: Global,
     reader: R,

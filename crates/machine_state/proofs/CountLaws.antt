@@ -11,7 +11,7 @@ use Rattle.slots.specs.Slots.{slot, live, edited}
 use Rattle.call_types.specs.Names.{Entries, file_of, with_name, without_name}
 use Rattle.posix_model.specs.Counts.{links, refers, refs, refs_of, holds, holders}
 use Rattle.call_types.specs.Descriptions.{at_offset}
-use Rattle.posix_model.specs.Descriptors.{with_entry, table_of}
+use Rattle.process_table.specs.Processes.{with_entry, with_connection, table_of}
 use Rattle.posix_model.specs.Whole.{EachThere}
 use Rattle.machine_state.specs.Types.{Process, Description, Target}
 use Rattle.machine_state.specs.Targets.{file_of_target}
@@ -28,6 +28,23 @@ refs_entry (Some process ∷ ps) zero fd entry d within =
     omega (arith, sum_by-set (λ x. one (refers d x)) process.table fd entry None within, sum_by-cons (refs_of d) (Some process) ps, sum_by-cons (refs_of d) (Some (with_entry fd entry process)) ps)
 refs_entry (x ∷ ps) (suc p) fd entry d within =
     omega (arith, refs_entry ps p fd entry d within, sum_by-cons (refs_of d) x ps, sum_by-cons (refs_of d) x (edited p (with_entry fd entry) ps))
+
+-- what the descriptors of a new process add to the references
+pub refs_added : (ps : List (Option Process)) (process : Process) (d : ℕ) → refs (ps ++ Some process ∷ []) d ≡ refs ps d + count_by (refers d) process.table
+refs_added ps process d = omega (arith, sum_by-append (refs_of d) ps (Some process ∷ []))
+
+-- a connection is no matter to the references
+pub refs_connected : (ps : List (Option Process)) (p d : ℕ) → refs (edited p with_connection ps) d ≡ refs ps d
+refs_connected [] p d = refl
+refs_connected (None ∷ ps) zero d = refl
+refs_connected (Some x ∷ ps) zero d = omega (arith, sum_by-cons (refs_of d) (Some x) ps, sum_by-cons (refs_of d) (Some (with_connection x)) ps)
+refs_connected (x ∷ ps) (suc p) d = omega (arith, refs_connected ps p d, sum_by-cons (refs_of d) x ps, sum_by-cons (refs_of d) x (edited p with_connection ps))
+
+-- and neither is a process that goes and has none
+pub refs_without : (ps : List (Option Process)) (p d : ℕ) → refs_of d (slot ps p) ≡ 0 → refs (set ps p None) d ≡ refs ps d
+refs_without [] p d bare = refl
+refs_without (x ∷ ps) zero d bare = omega (arith, bare, sum_by-cons (refs_of d) x ps, sum_by-cons (refs_of d) None ps)
+refs_without (x ∷ ps) (suc p) d bare = omega (arith, refs_without ps p d bare, sum_by-cons (refs_of d) x ps, sum_by-cons (refs_of d) x (set ps p None))
 
 -- a count is at most how many there are
 pub count_most : {X : Type 0} (p : X → Bool) (xs : List X) → count_by p xs ≤ length xs
@@ -133,3 +150,12 @@ live_edited [] n f = refl
 live_edited {T} (None ∷ xs) zero f = refl
 live_edited {T} (Some x ∷ xs) zero f = omega (arith, sum_by-cons (λ (x : Option T). one (is_some x)) (Some x) xs, sum_by-cons (λ (x : Option T). one (is_some x)) (Some (f x)) xs)
 live_edited {T} (x ∷ xs) (suc n) f = omega (arith, live_edited xs n f, sum_by-cons (λ (x : Option T). one (is_some x)) x xs, sum_by-cons (λ (x : Option T). one (is_some x)) x (edited n f xs))
+
+pub live_without : {T : Type 0} (xs : List (Option T)) (n : ℕ) → live (set xs n None) ≤ live xs
+live_without [] n = omega arith
+live_without {T} (x ∷ xs) zero =
+    let none : Option T = None in
+    omega (arith, sum_by-cons (λ (x : Option T). one (is_some x)) x xs, sum_by-cons (λ (x : Option T). one (is_some x)) none xs)
+live_without {T} (x ∷ xs) (suc n) =
+    let none : Option T = None in
+    omega (arith, live_without xs n, sum_by-cons (λ (x : Option T). one (is_some x)) x xs, sum_by-cons (λ (x : Option T). one (is_some x)) x (set xs n none))

@@ -1,33 +1,35 @@
-use Rattle.std.proofs.Common.{◌≡◌, ℕ, ◌+◌, ◌≤◌, ◌<◌, ◌∙◌, true, false, cond, List, [], ◌∷◌, ◌++◌, Option, None, Some, length, length-set, set, refl, ap, sym, subst, arith, ltb, ◌⊎◌, inl, inr}
+use Rattle.std.proofs.Common.{◌≡◌, ℕ, zero, suc, ◌+◌, ◌≤◌, ◌<◌, ◌∙◌, Bool, true, false, cond, List, [], ◌∷◌, ◌++◌, Option, None, Some, length, length-set, set, refl, ap, sym, subst, arith, ltb, ◌⊎◌, inl, inr}
 use Rattle.std.specs.Prelude.{is_some, ◌==◌}
 use Rattle.std.specs.Option.{option_map}
 use Rattle.std.proofs.lemmas.Bool.{lt-ltb}
 use Rattle.call_types.specs.declared.limits.TheConstants.{OPEN_MAX, NAMES_MAX, DESCRIPTIONS_MAX, PROCESSES_MAX}
 use Rattle.slots.specs.Slots.{slot, live, edited}
 use Rattle.call_types.specs.Names.{file_of, with_name, without_name}
-use Rattle.posix_model.specs.Counts.{links, refers, refs, holders}
+use Rattle.posix_model.specs.Counts.{links, refers, refs, refs_of, holders}
 use Rattle.posix_model.specs.Sweep.{sweep, is_open, is_referred}
 use Rattle.call_types.specs.Descriptions.{at_offset}
-use Rattle.posix_model.specs.Descriptors.{with_entry, with_descriptor, with_offset, table_of}
-use Rattle.posix_model.specs.Change.{with_description}
+use Rattle.process_table.specs.Processes.{with_entry, table_of, process_with, with_connection}
+use Rattle.posix_model.specs.Descriptors.{with_descriptor, with_offset}
+use Rattle.posix_model.specs.Change.{with_processes, with_description}
 use Rattle.posix_model.specs.Whole.{EachThere, is_fifo, IsThere, TargetIsThere}
-use Rattle.posix_model.specs.Fits.{CanOpen, CanSet}
+use Rattle.posix_model.specs.Fits.{CanAdd, CanOpen, CanSet}
 use Rattle.posix_model.specs.Released.{IsSettled, IsItsFifo, StaysBut, SettledStays, SweepReleases, NamesRelease, released, files_after, fifos_after, pipes_after}
 use Rattle.machine_state.specs.Types.{World, Process, Description, Target, File, Used}
 use Rattle.posix_model.specs.declared.world.File.TheVariants as file
+use Rattle.posix_model.specs.declared.change.ProcessEdit.TheVariants as on_process
 use Rattle.call_types.specs.declared.description.Target.TheVariants as target
 use Rattle.slots.specs.Uses.{uses_at, value_at, values_in, used_once, use_added, use_dropped, with_value}
 use Rattle.description_table.specs.Drops.{dropped}
-use Rattle.machine_state.specs.Uses.{with_use, without_use, lost}
+use Rattle.machine_state.specs.Uses.{with_use, with_uses, without_use, lost}
 use Rattle.machine_state.specs.Targets.{file_of_target, file_of_gone}
 use Rattle.machine_state.specs.Files.{FileState, named, unnamed, file_slot, file_slots, links_at}
 use Rattle.machine_state.specs.Held.{Stored, world_in}
 use Rattle.machine_state.specs.Consistent.{IsConsistent}
 use Rattle.machine_state.proofs.SlotLaws.{one, other_number, is_itself, slot_set}
-use Rattle.machine_state.proofs.UseLaws.{Counted, slot_values, there_edited, there_values, counted_as, counted_more, values_more, counted_added, values_added, length_values, counted_edited, values_edited, StaysUsed, Goes, LosesUse, loses_use}
+use Rattle.machine_state.proofs.UseLaws.{Counted, slot_values, there_edited, there_values, counted_as, counted_more, values_more, counted_uses, values_uses, counted_added, values_added, length_values, counted_edited, values_edited, StaysUsed, Goes, LosesUse, loses_use}
 use Rattle.machine_state.proofs.FileLaws.{Files, slot_files, regular_there, regular_stays, fifo_stays, file_slots_set, files_there, files_same}
 use Rattle.machine_state.proofs.LinkLaws.{Linked, linked_named, linked_unnamed, linked_added, linked_edited, linked_less}
-use Rattle.machine_state.proofs.CountLaws.{refs_entry, refs_most, holders_most, count_most, holders_gone, holders_added, holders_same, links_added, names_longer, names_shorter, live_set, live_added, live_edited}
+use Rattle.machine_state.proofs.CountLaws.{refs_entry, refs_added, refs_connected, refs_without, refs_most, holders_most, count_most, holders_gone, holders_added, holders_same, links_added, names_longer, names_shorter, live_set, live_added, live_edited, live_without}
 
 -- what holds of a machine, with each count told at its slot
 pub record Facts (s : Stored) : Type 0 where
@@ -77,6 +79,23 @@ consistent_of s facts = record {
   few_descriptions = facts.few_descriptions;
   few_names = facts.few_names;
 }
+
+-- each process has its descriptors, also where one is added or written
+abbrev HaveAll : List (Option Process) → Type 0
+HaveAll ps = EachThere (λ process. length process.table ≡ OPEN_MAX) ps
+
+each_set : (ps : List (Option Process)) (p : ℕ) (y : Option Process) → HaveAll ps → ((x : Process) → y ≡ Some x → length x.table ≡ OPEN_MAX) → HaveAll (set ps p y)
+each_set [] p y each new n x h = each n x h
+each_set (z ∷ ps) zero y each new zero x h = new x h
+each_set (z ∷ ps) zero y each new (suc n) x h = each (suc n) x h
+each_set (z ∷ ps) (suc p) y each new zero x h = each zero x h
+each_set (z ∷ ps) (suc p) y each new (suc n) x h = each_set ps p y (λ k. each (suc k)) new n x h
+
+each_added : (ps : List (Option Process)) (y : Process) → HaveAll ps → length y.table ≡ OPEN_MAX → HaveAll (ps ++ Some y ∷ [])
+each_added [] y each new zero x h = let same : y ≡ x = cc in ap (λ (x : Process). length x.table) (sym same) ∙ new
+each_added [] y each new (suc n) x h = cc
+each_added (z ∷ ps) y each new zero x h = each zero x h
+each_added (z ∷ ps) y each new (suc n) x h = each_added ps y (λ k. each (suc k)) new n x h
 
 -- no count comes near the end of its numbers
 pub few_references : (s : Stored) → IsConsistent s → (n : ℕ) → uses_at (slot s.descriptions n) ≤ 2048
@@ -393,6 +412,86 @@ module _ (s : Stored) (all : IsConsistent s) where
       | inr last ↦ rw last.lost (goes last)
     ]
 
+  -- a new process refers to what is there
+  abbrev pub added : List (Option ℕ) → Bool → Stored
+  added table attached = record s { descriptions = with_uses table s.descriptions; processes = s.processes ++ Some (process_with table attached) ∷ [] }
+
+  pub after_add : (table : List (Option ℕ)) (attached : Bool) → CanAdd (world_in s) table → live s.processes < PROCESSES_MAX → IsConsistent (added table attached)
+  after_add table attached can few =
+      let facts = facts_of s all in
+      let child = process_with table attached in
+      let values : values_in (with_uses table s.descriptions) ≡ ds = values_uses table s.descriptions in
+      consistent_of (added table attached) (record {
+        references = counted_uses table s.descriptions (λ n. refs s.processes n) (λ n. refs (added table attached).processes n) facts.references
+            (λ k n is. sym (there_values s.descriptions n) ∙ can.there k n is) (λ n. refs_added s.processes child n);
+        uses = rw values facts.uses;
+        links = facts.links;
+        tables = each_added s.processes child facts.tables can.all;
+        few_processes = omega (arith, few, live_added s.processes child);
+        few_descriptions = rw values facts.few_descriptions;
+        few_names = facts.few_names;
+      })
+
+  pub added_world : (table : List (Option ℕ)) (attached : Bool) → world_in (added table attached) ≡ with_processes (world_in s) (on_process.Add table attached)
+  added_world table attached = rw (values_uses table s.descriptions) refl
+
+  -- a process has its connection
+  pub after_attach : (p : ℕ) → IsConsistent (record s { processes = edited p with_connection s.processes })
+  after_attach p =
+      let facts = facts_of s all in
+      let ps = edited p with_connection s.processes in
+      consistent_of (record s { processes = ps }) (record {
+        references = counted_as s.descriptions (λ n. refs s.processes n) (λ n. refs ps n) facts.references (λ n. refs_connected s.processes p n);
+        uses = facts.uses;
+        links = facts.links;
+        tables = each_set s.processes p (option_map with_connection (slot s.processes p)) facts.tables (λ x h. connected (slot s.processes p) x (facts.tables p) h);
+        few_processes = omega (arith, facts.few_processes, live_edited s.processes p with_connection);
+        few_descriptions = facts.few_descriptions;
+        few_names = facts.few_names;
+      })
+    where
+      connected : (old : Option Process) (x : Process) → ((y : Process) → old ≡ Some y → length y.table ≡ OPEN_MAX) → option_map with_connection old ≡ Some x → length x.table ≡ OPEN_MAX
+      connected None x before h = cc
+      connected (Some y) x before h = let same : with_connection y ≡ x = cc in ap (λ (x : Process). length x.table) (sym same) ∙ before y refl
+
+  -- a process that has no open descriptor goes
+  pub after_remove : (p : ℕ) → ((n : ℕ) → refs_of n (slot s.processes p) ≡ 0) → IsConsistent (record s { processes = set s.processes p None })
+  after_remove p bare =
+      let facts = facts_of s all in
+      let ps = set s.processes p None in
+      consistent_of (record s { processes = ps }) (record {
+        references = counted_as s.descriptions (λ n. refs s.processes n) (λ n. refs ps n) facts.references (λ n. refs_without s.processes p n (bare n));
+        uses = facts.uses;
+        links = facts.links;
+        tables = each_set s.processes p None facts.tables (λ x h. cc);
+        few_processes = omega (arith, facts.few_processes, live_without s.processes p);
+        few_descriptions = facts.few_descriptions;
+        few_names = facts.few_names;
+      })
+
 -- a machine's world is its own sweep
 pub swept : SettledStays → (t : Stored) (v : World) → IsConsistent t → world_in t ≡ v → world_in t ≡ sweep v
 swept settled_stays t v all same = same ∙ sym (settled_stays v (subst IsSettled same all.settled))
+
+-- a descriptor of a process that is there can be closed
+pub can_close : (w : World) (p fd : ℕ) → EachThere (λ process. length process.table ≡ OPEN_MAX) w.processes → IsThere w.processes p → fd < OPEN_MAX → CanSet w p fd None
+can_close w p fd tables there below = by_slot (slot w.processes p) refl there
+  where
+    by_slot : (x : Option Process) → slot w.processes p ≡ x → is_some x ≡ true → CanSet w p fd None
+    by_slot None is some = cc
+    by_slot (Some process) is some = record { process = process; process_is = is; within = omega (arith, below, tables p process is); there = λ n h. cc }
+
+-- a process has no more descriptors than there may be
+pub table_most : (w : World) (p : ℕ) → EachThere (λ process. length process.table ≡ OPEN_MAX) w.processes → length (table_of (slot w.processes p)) ≤ OPEN_MAX
+table_most w p tables = by_slot (slot w.processes p) refl
+  where
+    by_slot : (x : Option Process) → slot w.processes p ≡ x → length (table_of x) ≤ OPEN_MAX
+    by_slot None is = omega arith
+    by_slot (Some process) is = omega (arith, tables p process is)
+
+-- an entry that is written leaves its process where it is
+pub still_there : (ps : List (Option Process)) (p fd : ℕ) (entry : Option ℕ) → IsThere ps p → IsThere (edited p (with_entry fd entry) ps) p
+still_there [] p fd entry there = cc
+still_there (None ∷ ps) zero fd entry there = cc
+still_there (Some x ∷ ps) zero fd entry there = refl
+still_there (x ∷ ps) (suc p) fd entry there = still_there ps p fd entry there

@@ -1,7 +1,9 @@
-use Rattle.std.proofs.Common.{◌≡◌, ◌≢◌, ℕ, zero, suc, ◌+◌, ◌-◌, ◌<◌, ◌∙◌, true, false, List, [], ◌∷◌, ◌++◌, Option, None, Some, length, set, refl, ap, sym, subst, arith, cond, ltb, eqb, ◌⊎◌, inl, inr}
+use Rattle.std.proofs.Common.{◌≡◌, ◌≢◌, ℕ, zero, suc, ◌+◌, ◌-◌, ◌<◌, ◌≤◌, ◌∙◌, true, false, List, [], ◌∷◌, ◌++◌, Option, None, Some, length, set, refl, ap, sym, subst, arith, cond, ltb, eqb, ◌⊎◌, inl, inr}
 use Rattle.std.specs.Prelude.{is_some, ◌==◌}
 use Rattle.std.specs.Option.{option_map}
+use Rattle.std.specs.List.{count_by}
 use Rattle.std.proofs.lemmas.List.{map-set}
+use Rattle.std.proofs.lemmas.List.Sums.{sum_by-cons}
 use Rattle.std.proofs.Math.Seq.{map-set_same}
 use Rattle.std.proofs.Math.ListN.{get_or-map, get_or-eq_default}
 use Rattle.std.proofs.lemmas.Bool.{lt-ltb, ltb-true}
@@ -9,7 +11,7 @@ use Rattle.slots.specs.Slots.{slot, edited}
 use Rattle.posix_model.specs.Counts.{refers}
 use Rattle.machine_state.specs.Types.{Used}
 use Rattle.slots.specs.Uses.{uses_at, value_at, values_in, used_once, one_more, one_less, with_value}
-use Rattle.machine_state.specs.Uses.{with_use, without_use, lost}
+use Rattle.machine_state.specs.Uses.{with_use, with_uses, without_use, lost}
 use Rattle.machine_state.proofs.SlotLaws.{one, same_or_not, is_itself, slot_set, slot_added, set_none}
 
 -- a count is that of a total, and what is there is used
@@ -92,6 +94,47 @@ module _ {T : Type 0} where
       alike : (x : Option (Used T)) → value_at (option_map one_more x) ≡ value_at x
       alike None = refl
       alike (Some used) = refl
+
+  -- something refers to each of these
+  pub there_use : (xs : List (Option (Used T))) (entry : Option ℕ) (n : ℕ) → is_some (slot xs n) ≡ true → is_some (slot (with_use entry xs) n) ≡ true
+  there_use xs None n there = there
+  there_use xs (Some k) n there = there_edited xs k one_more n there
+
+  pub there_uses : (es : List (Option ℕ)) (xs : List (Option (Used T))) (n : ℕ) → is_some (slot xs n) ≡ true → is_some (slot (with_uses es xs) n) ≡ true
+  there_uses [] xs n there = there
+  there_uses (e ∷ es) xs n there = there_uses es (with_use e xs) n (there_use xs e n there)
+
+  pub most_use : (xs : List (Option (Used T))) (entry : Option ℕ) (n : ℕ) → uses_at (slot (with_use entry xs) n) ≤ uses_at (slot xs n) + 1
+  most_use xs None n = omega arith
+  most_use xs (Some k) n = by_slot (slot xs k) refl
+    where
+      by_slot : (x : Option (Used T)) → slot xs k ≡ x → uses_at (slot (edited k one_more xs) n) ≤ uses_at (slot xs n) + 1
+      by_slot None is = rw (is, set_none xs k is) (omega arith)
+      by_slot (Some used) is = elim (same_or_not k n) [
+        | inl same ↦
+            let here : uses_at (slot xs n) ≡ used.uses = let P : ℕ → Type 0 = λ m. uses_at (slot xs m) ≡ used.uses in subst P same.0 (ap uses_at is) in
+            rw (is, slot_set xs k used (Some (one_more used)) n is, same.1) (omega (arith, here))
+        | inr other ↦ rw (is, slot_set xs k used (Some (one_more used)) n is, other.1) (omega arith)
+      ]
+
+  pub most_uses : (es : List (Option ℕ)) (xs : List (Option (Used T))) (n : ℕ) → uses_at (slot (with_uses es xs) n) ≤ uses_at (slot xs n) + length es
+  most_uses [] xs n = omega arith
+  most_uses (e ∷ es) xs n = omega (arith, most_uses es (with_use e xs) n, most_use xs e n)
+
+  pub uses_push : (es : List (Option ℕ)) (e : Option ℕ) (xs : List (Option (Used T))) → with_uses (es ++ e ∷ []) xs ≡ with_use e (with_uses es xs)
+  uses_push [] e xs = refl
+  uses_push (x ∷ es) e xs = uses_push es e (with_use x xs)
+
+  pub counted_uses : (es : List (Option ℕ)) (xs : List (Option (Used T))) (old new : ℕ → ℕ) → Counted xs old → ((k n : ℕ) → slot es k ≡ Some n → is_some (slot xs n) ≡ true) →
+      ((n : ℕ) → new n ≡ old n + count_by (refers n) es) → Counted (with_uses es xs) new
+  counted_uses [] xs old new counted there more = counted_as xs old new counted (λ n. omega (arith, more n))
+  counted_uses (e ∷ es) xs old new counted there more =
+      counted_uses es (with_use e xs) (λ n. old n + one (refers n e)) new (counted_more xs old (λ n. old n + one (refers n e)) e counted (λ n is. there 0 n is) (λ n. refl))
+      (λ k n is. there_use xs e n (there (suc k) n is)) (λ n. omega (arith, more n, sum_by-cons (λ x. one (refers n x)) e es))
+
+  pub values_uses : (es : List (Option ℕ)) (xs : List (Option (Used T))) → values_in (with_uses es xs) ≡ values_in xs
+  values_uses [] xs = refl
+  values_uses (e ∷ es) xs = values_uses es (with_use e xs) ∙ values_more xs e
 
   -- a value is added, with one use
   pub counted_added : (xs : List (Option (Used T))) (old new : ℕ → ℕ) (value : T) → Counted xs old → ((n : ℕ) → new n ≡ old n + one (length xs == n)) →

@@ -16,8 +16,8 @@ HasFileRoom room other = Unit {0}
 
 -- the room of an edit of processes stands reserved, where there is room for so many more
 abbrev pub HasProcessRoom : ℕ → ProcessEdit → Type 0
-HasProcessRoom processes on_process.Nothing = Unit {0}
-HasProcessRoom processes (on_process.Add table) = 0 < processes
+HasProcessRoom processes (on_process.Add table attached) = 0 < processes
+HasProcessRoom processes other = Unit {0}
 
 -- the room of an edit of descriptors stands reserved, where there is room for so many more descriptions
 abbrev pub HasTableRoom : ℕ → TableEdit → Type 0

@@ -1,6 +1,6 @@
 -- The types that definitions and proofs name, in one place.
 pub use Rattle.posix_model.specs.declared.world.World.{World}
-pub use Rattle.posix_model.specs.declared.world.Process.{Process}
+pub use Rattle.process_table.specs.declared.process.Process.{Process}
 pub use Rattle.call_types.specs.declared.description.Description.{Description}
 pub use Rattle.call_types.specs.declared.description.Target.{Target}
 pub use Rattle.posix_model.specs.declared.world.File.{File}

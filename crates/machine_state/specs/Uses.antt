@@ -1,5 +1,5 @@
 -- Uses by entries, of which one that is free uses nothing.
-use Rattle.std.specs.Prelude.{◌≡◌, ℕ, List, Option, None, Some}
+use Rattle.std.specs.Prelude.{◌≡◌, ℕ, List, [], ◌∷◌, Option, None, Some}
 use Rattle.slots.specs.Slots.{slot}
 use Rattle.slots.specs.Uses.{uses_at, last_value, use_added, use_dropped}
 use Rattle.machine_state.specs.Types.{Used}
@@ -12,6 +12,11 @@ Counts slots total = (n : ℕ) → uses_at (slot slots n) ≡ total n
 abbrev pub with_use : {T : Type 0} → Option ℕ → List (Option (Used T)) → List (Option (Used T))
 with_use None slots = slots
 with_use (Some n) slots = use_added n slots
+
+-- the slots after something refers to each of these
+abbrev pub with_uses : {T : Type 0} → List (Option ℕ) → List (Option (Used T)) → List (Option (Used T))
+with_uses [] slots = slots
+with_uses (entry ∷ entries) slots = with_uses entries (with_use entry slots)
 
 -- the slots after something refers to this no more, if it did to any
 abbrev pub without_use : {T : Type 0} → Option ℕ → List (Option (Used T)) → List (Option (Used T))

@@ -1,11 +1,11 @@
 ghost use Rattle.std.specs.Prelude.{◌≡◌, false};
 ghost use Rattle.posix_model.specs.Change.{with_files, with_processes, with_table, changed};
-ghost use Rattle.posix_model.specs.Fits.{FilesFit, ProcessFits, TableFits, removes, Fits, FilesProper, ProcessProper, TableProper, IsProper};
+ghost use Rattle.posix_model.specs.Fits.{FilesFit, ProcessFits, TableFits, removes, ends, Fits, FilesProper, ProcessProper, TableProper, IsProper};
 ghost use Rattle.posix_model.specs.Sweep.{sweep};
 ghost use Rattle.machine_state.specs.Room.{HasFileRoom, HasProcessRoom, HasTableRoom, HasRoom, KeepsTableRoom};
 
 use crate::machine::Machine;
-use posix_model::change::{Change, FileEdit, ProcessEdit, TableEdit, process_with};
+use posix_model::change::{Change, FileEdit, ProcessEdit, TableEdit};
 use posix_model::laws::sweep_releases;
 
 impl Machine {
@@ -30,17 +30,21 @@ impl Machine {
         }
     }
 
-    /// Makes an edit of processes.
+    /// Makes an edit of processes that ends none. Nothing waits for a sweep after it.
     fn apply_process(&mut self, edit: ProcessEdit)
-        requires fits { ProcessFits edit }
+        requires fits { ProcessFits self.old.world edit }
         requires proper { ProcessProper self.old.world edit }
         requires room { HasProcessRoom self.old.room.processes edit }
+        requires stays { ends edit ≡ false }
         ensures world { self.new.world ≡ with_processes self.old.world edit }
         ensures descriptions { self.new.room.descriptions ≡ self.old.room.descriptions }
     {
         match edit {
             ProcessEdit::Nothing => {}
-            ProcessEdit::Add { table } => self.processes.push(process_with(table)),
+            ProcessEdit::Add { table, attached } => self.add_process(table, attached),
+            ProcessEdit::Attach { process } => self.attach(process),
+            ProcessEdit::Exit { .. } => unreachable!(),
+            ProcessEdit::Close => self.close_run(),
         }
     }
 
@@ -81,6 +85,10 @@ impl Machine {
         } = change;
         if let FileEdit::RemoveName { name } = &files {
             self.unlink(name.as_slice());
+            return;
+        }
+        if let ProcessEdit::Exit { process } = process {
+            self.exit(process);
             return;
         }
         self.apply_files(bytes, files);

@@ -8,7 +8,7 @@ ghost use Rattle.posix_model.specs.Fits.{CanOpen, CanSet};
 ghost use Rattle.posix_model.specs.Sweep.{sweep};
 ghost use Rattle.machine_state.specs.Targets.{file_of_target, file_of_gone};
 
-use crate::entries::{drop_entry, hold_entry, replace_entry};
+use crate::entries::{drop_entry, hold_entry};
 use crate::machine::Machine;
 use crate::stored_files::{drop_file, hold_file};
 use call_types::description::{Description, Target};
@@ -56,7 +56,7 @@ impl Machine {
         let number = self.descriptions.next();
         hold_file(&mut self.files, file_of_target(description.target));
         self.descriptions.add(description);
-        replace_entry(&mut self.processes, process, fd, Some(number));
+        self.processes.set_fd(process, fd, Some(number));
     }
 
     /// Lets a descriptor refer to a description that is there, or frees it. The description that it referred to before
@@ -67,7 +67,7 @@ impl Machine {
     {
         sweep_releases();
         hold_entry(&mut self.descriptions, entry);
-        let old = replace_entry(&mut self.processes, process, fd, entry);
+        let old = self.processes.set_fd(process, fd, entry);
         let dropped = drop_entry(&mut self.descriptions, old);
         drop_file(&mut self.files, file_of_gone(dropped));
     }

@@ -1,50 +1,35 @@
 //! What the entries of descriptor tables refer to.
 
-ghost use Rattle.std.specs.Prelude.{◌≡◌, ℕ, ◌<◌, ◌^◌, Some, true, is_some, length};
-ghost use Rattle.slots.specs.Slots.{slot, edited};
+ghost use Rattle.std.specs.Prelude.{◌≡◌, ℕ, ◌+◌, ◌<◌, ◌^◌, Some, true, is_some, length};
+ghost use Rattle.slots.specs.Slots.{slot};
 ghost use Rattle.slots.specs.Uses.{uses_at};
-ghost use Rattle.posix_model.specs.Descriptors.{table_of, with_entry};
+ghost use Rattle.posix_model.specs.Whole.{IsThere, EachThere};
 ghost use Rattle.description_table.specs.Drops.{dropped};
-ghost use Rattle.machine_state.specs.Uses.{with_use, without_use, lost};
+ghost use Rattle.machine_state.specs.Uses.{with_use, with_uses, without_use, lost};
 
 use description_table::{DescriptionTable, Dropped};
-use posix_model::world::Process;
-use slots::numbered::Numbered;
-
-/// Lets a descriptor refer to a description, or frees it; what it referred to before.
-fn replace_in(process: &mut Process, fd: usize, entry: Option<usize>) -> Option<usize>
-    requires { fd < length process.old.table }
-    ensures process { process.new ≡ with_entry fd entry process.old }
-    ensures old { result ≡ slot process.old.table fd }
-{
-    let old = process.table.get(fd).copied();
-    process.table.put(fd, entry);
-    old
-}
-
-/// Lets a descriptor of a process refer to a description, or frees it; what it referred to before.
-pub(crate) fn replace_entry(
-    processes: &mut Numbered<Process>,
-    process: usize,
-    fd: usize,
-    entry: Option<usize>,
-) -> Option<usize>
-    requires { fd < length (table_of (slot processes.old.0 process)) }
-    ensures slots { processes.new.0 ≡ edited process (with_entry fd entry) processes.old.0 }
-    ensures room { processes.new.1 ≡ processes.old.1 }
-    ensures old { result ≡ slot (table_of (slot processes.old.0 process)) fd }
-{
-    replace_in(processes.value_mut(process), fd, entry)
-}
 
 /// What an entry refers to has one reference more; a free entry refers to nothing.
 pub(crate) fn hold_entry(table: &mut DescriptionTable, entry: Option<usize>)
     requires there { (n : ℕ) → entry ≡ Some n → is_some (slot table.old.0 n) ≡ true }
     requires few { (n : ℕ) → uses_at (slot table.old.0 n) < 2 ^ 63 }
-    ensures { table.new.0 ≡ with_use entry table.old.0 }
+    ensures slots { table.new.0 ≡ with_use entry table.old.0 }
+    ensures room { table.new.1 ≡ table.old.1 }
 {
     if let Some(number) = entry {
         table.hold(number);
+    }
+}
+
+/// What each of these entries refers to has one reference more.
+pub(crate) fn hold_entries(table: &mut DescriptionTable, entries: &[Option<usize>])
+    requires there { EachThere (IsThere table.old.0) entries.now }
+    requires few { (n : ℕ) → uses_at (slot table.old.0 n) + length entries.now < 2 ^ 63 }
+    ensures slots { table.new.0 ≡ with_uses entries.now table.old.0 }
+    ensures room { table.new.1 ≡ table.old.1 }
+{
+    for entry in entries {
+        hold_entry(table, *entry);
     }
 }
 

@@ -6,6 +6,7 @@ mod descriptors;
 mod entries;
 mod files;
 pub mod machine;
+mod processes;
 mod reader;
 mod reserve;
 mod stored_file;

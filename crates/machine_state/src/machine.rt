@@ -4,7 +4,7 @@ ghost use Rattle.posix_model.specs.History.{empty_world};
 use crate::stored_file::StoredFile;
 use description_table::DescriptionTable;
 use name_table::NameTable;
-use posix_model::world::Process;
+use process_table::processes::ProcessTable;
 use slots::numbered::Numbered;
 use slots::used::Used;
 use std::alloc::Global;
@@ -16,7 +16,7 @@ pub struct Machine {
     pub(crate) alloc: Global,
     pub(crate) files: Numbered<Used<StoredFile>>,
     pub(crate) descriptions: DescriptionTable,
-    pub(crate) processes: Numbered<Process>,
+    pub(crate) processes: ProcessTable,
     pub(crate) names: NameTable,
     pub(crate) closed: bool,
 }
@@ -41,7 +41,7 @@ impl Machine {
             alloc,
             files: Numbered::new(alloc),
             descriptions: DescriptionTable::new(alloc),
-            processes: Numbered::new(alloc),
+            processes: ProcessTable::new(alloc),
             names: NameTable::new(alloc),
             closed: false,
         }

@@ -4,7 +4,8 @@ use call_types::bounded::Content;
 use posix_model::contents::bytes_at;
 use posix_model::opened::OpenDescriptor;
 use posix_model::reader::Reader;
-use posix_model::world::Parked;
+use process_table::process::Parked;
+use process_table::table::DescriptorTable;
 use std::alloc::{AllocError, Global};
 
 impl Reader for Machine {
@@ -12,7 +13,7 @@ impl Reader for Machine {
 
     fn opened(&self, process: usize, fd: i32) -> Option<OpenDescriptor> {
         let fd = usize::try_from(fd).ok()?;
-        let number = *self.processes.get(process)?.table.get(fd)?;
+        let number = self.processes.descriptor(process, fd)?;
         let description = *self.descriptions.get(number)?;
         Some(OpenDescriptor {
             fd,
@@ -22,10 +23,7 @@ impl Reader for Machine {
     }
 
     fn lowest_free(&self, process: usize) -> Option<usize> {
-        match self.processes.get(process) {
-            Some(process) => process.table.lowest_free(),
-            None => None,
-        }
+        self.processes.lowest_free(process)
     }
 
     fn length_of(&self, file: usize) -> usize {
@@ -85,17 +83,23 @@ impl Reader for Machine {
     }
 
     fn is_here(&self, process: usize) -> bool {
-        match self.processes.get(process) {
-            Some(process) => process.attached,
-            None => false,
-        }
+        self.processes.is_here(process)
+    }
+
+    fn is_live(&self, process: usize) -> bool {
+        self.processes.get(process).is_some()
+    }
+
+    fn awaits(&self, process: usize) -> bool {
+        self.processes.awaits(process)
+    }
+
+    fn copied_table(&self, alloc: Global, process: usize) -> Result<DescriptorTable, AllocError> {
+        self.processes.copy_table(alloc, process)
     }
 
     fn parked(&self, process: usize) -> Option<&Parked> {
-        match self.processes.get(process) {
-            Some(process) => process.parked.as_ref(),
-            None => None,
-        }
+        self.processes.parked(process)
     }
 
     fn is_closed(&self) -> bool {

@@ -25,8 +25,11 @@ impl Machine {
         ensures descriptions { self.new.room.descriptions ≡ self.old.room.descriptions }
     {
         match edit {
-            ProcessEdit::Nothing => Ok(()),
             ProcessEdit::Add { .. } => self.processes.reserve(),
+            ProcessEdit::Nothing
+            | ProcessEdit::Attach { .. }
+            | ProcessEdit::Exit { .. }
+            | ProcessEdit::Close => Ok(()),
         }
     }
 

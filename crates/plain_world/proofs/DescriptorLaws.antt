@@ -1,18 +1,19 @@
 -- What calls do to descriptors.
-use Rattle.std.proofs.Common.{rules, ◌≡◌, ◌≢◌, ◌∙◌, ℕ, ℤ, Bool, cond, List, [], Option, None, Some, length, refl, ap, sym, subst}
+use Rattle.std.proofs.Common.{rules, ◌≡◌, ◌≢◌, ◌∙◌, ◌<◌, ℕ, ℤ, Bool, cond, List, [], Option, None, Some, length, refl, ap, sym, subst}
+use Rattle.std.proofs.lemmas.List.{get_or-set_other}
 use Rattle.std.specs.Option.{option_map}
 use Rattle.call_types.specs.declared.act.Act.TheVariants as act
 use Rattle.call_types.specs.declared.call.Call.TheVariants as call
 use Rattle.slots.specs.Slots.{slot}
 use Rattle.posix_model.specs.Numbers.{IsLowest}
 use Rattle.call_types.specs.Names.{file_of}
-use Rattle.posix_model.specs.Descriptors.{opened, opened_number, table_of, with_entry}
+use Rattle.process_table.specs.Processes.{table_of, process_with, with_connection, with_entry}
+use Rattle.posix_model.specs.Descriptors.{opened, opened_number}
 use Rattle.posix_model.specs.Change.{with_files, with_processes, with_table, changed}
-use Rattle.posix_model.specs.Pages.{Page, refused, does, on_open}
+use Rattle.posix_model.specs.Pages.{Page, refused, does, acts, decided_by, on_open}
 use Rattle.posix_model.specs.Open.{open_found, open_file}
 use Rattle.posix_model.specs.Close.{close}
 use Rattle.posix_model.specs.Step.{given, decided}
-use Rattle.posix_model.specs.Sound.{makes, CallsAreSound}
 use Rattle.plain_world.specs.Types.{Call, Reply, Errno, OpenFlags, Bounds, World, Process, OpenDescriptor, FileEdit, ProcessEdit, TableEdit, Change, Decided, EBADF, Replied, Number, Done, Error}
 use Rattle.posix_model.specs.declared.change.FileEdit.TheVariants as on_files
 use Rattle.posix_model.specs.declared.change.ProcessEdit.TheVariants as on_process
@@ -23,7 +24,7 @@ use Rattle.plain_world.proofs.OpenedLemmas.{IsOpenAt, opened_stands}
 use Rattle.plain_world.proofs.ChangeLemmas.{files_leave}
 use Rattle.plain_world.proofs.OpenLaws.{told_lowest}
 use Rattle.plain_world.proofs.StepLaws.{lowest_is_least}
-use Rattle.plain_world.proofs.SlotLemmas.{slot_edited, slot_freed, other_slot}
+use Rattle.plain_world.proofs.SlotLemmas.{slot_pushed, slot_edited, slot_freed, other_slot}
 
 pub open_gives_lowest : OpenGivesLowest
 open_gives_lowest bounds w p name flags fd told =
@@ -58,6 +59,7 @@ pub not_open_is_bad : NotOpenIsBad
 not_open_is_bad bounds w p fd (call.Open name flags) free is = cc
 not_open_is_bad bounds w p fd (call.Link old new) free is = cc
 not_open_is_bad bounds w p fd (call.Unlink name) free is = cc
+not_open_is_bad bounds w p fd call.Fork free is = cc
 not_open_is_bad bounds w p fd other free is = refused_as_bad w p fd _ _ free is
 
 -- the process whose descriptors an edit changes
@@ -73,28 +75,44 @@ other_process w (on_table.Offset number offset) q other = refl
 other_process w (on_table.Open p fd d) q other = other_slot w.processes p q (with_entry fd (Some (length w.descriptions))) (λ same. other (ap Some (sym same)))
 other_process w (on_table.Entry p fd entry) q other = other_slot w.processes p q (with_entry fd entry) (λ same. other (ap Some (sym same)))
 
--- an edit that makes no process changes none
-none_made : (w : World) (e : ProcessEdit) → makes e ≡ 0 → (with_processes w e).processes ≡ w.processes
-none_made w on_process.Nothing none = refl
-none_made w (on_process.Add table) none = cc
+-- the process that an edit attaches or ends
+abbrev turned_process : ProcessEdit → Option ℕ
+turned_process (on_process.Attach process) = Some process
+turned_process (on_process.Exit process) = Some process
+turned_process other = None
 
-process_stays : (w : World) (bytes : List ℕ) (c : Change) (q : ℕ) → makes c.process ≡ 0 → edited_process c.table ≢ Some q → slot (changed w bytes c).processes q ≡ slot w.processes q
-process_stays w bytes c q none other =
+-- it leaves each other process that is there
+other_turned : (w : World) (e : ProcessEdit) (q : ℕ) → q < length w.processes → turned_process e ≢ Some q → slot (with_processes w e).processes q ≡ slot w.processes q
+other_turned w on_process.Nothing q below other = refl
+other_turned w (on_process.Add table attached) q below other = slot_pushed w.processes (Some (process_with table attached)) q below
+other_turned w (on_process.Attach p) q below other = other_slot w.processes p q with_connection (λ same. other (ap Some (sym same)))
+other_turned w (on_process.Exit p) q below other = get_or-set_other w.processes p q None None (λ same. other (ap Some (sym same)))
+other_turned w on_process.Close q below other = refl
+
+process_stays : (w : World) (bytes : List ℕ) (c : Change) (q : ℕ) → q < length w.processes → turned_process c.process ≢ Some q → edited_process c.table ≢ Some q →
+    slot (changed w bytes c).processes q ≡ slot w.processes q
+process_stays w bytes c q below turned other =
     let v = with_files w bytes c.files in
-    other_process (with_processes v c.process) c.table q other ∙ ap (λ ps. slot ps q) (none_made v c.process none ∙ (files_leave w bytes c.files).1)
+    let same = (files_leave w bytes c.files).1 in
+    let there : q < length v.processes = subst (λ (ps : List (Option Process)). q < length ps) (sym same) below in
+    other_process (with_processes v c.process) c.table q other ∙ (other_turned v c.process q there turned ∙ ap (λ ps. slot ps q) same)
 
--- what is decided changes descriptors of this process alone
+-- what is decided changes this process alone, and its descriptors
 record Own (p : ℕ) (d : Decided) : Type 0 where
+  turned : (q : ℕ) → turned_process d.change.process ≡ Some q → q ≡ p
   own : (q : ℕ) → edited_process d.change.table ≡ Some q → q ≡ p
 
 own_nothing : (p : ℕ) (reply : Reply) (files : FileEdit) → Own p (does reply files on_table.Nothing)
-own_nothing p reply files = record { own = λ q h. cc }
+own_nothing p reply files = record { turned = λ q h. cc; own = λ q h. cc }
 
 own_offset : (p : ℕ) (reply : Reply) (files : FileEdit) (number offset : ℕ) → Own p (does reply files (on_table.Offset number offset))
-own_offset p reply files number offset = record { own = λ q h. cc }
+own_offset p reply files number offset = record { turned = λ q h. cc; own = λ q h. cc }
 
 own_entry : (p : ℕ) (reply : Reply) (files : FileEdit) (fd : ℕ) (entry : Option ℕ) → Own p (does reply files (on_table.Entry p fd entry))
-own_entry p reply files fd entry = record { own = λ q h. cc }
+own_entry p reply files fd entry = record { turned = λ q h. cc; own = λ q h. cc }
+
+own_added : (p : ℕ) (reply : Reply) (table : List (Option ℕ)) (attached : Bool) → Own p (acts reply (on_process.Add table attached))
+own_added p reply table attached = record { turned = λ q h. cc; own = λ q h. cc }
 
 own_if : (p : ℕ) (b : Bool) (d e : Decided) → Own p d → Own p e → Own p (cond b d e)
 own_if p b d e h k = if_has (Own p) b d e (λ _. h) (λ _. k)
@@ -102,21 +120,25 @@ own_if p b d e h k = if_has (Own p) b d e (λ _. h) (λ _. k)
 own_refused : (p : ℕ) (error : Errno) → Own p (refused error)
 own_refused p error = own_nothing p (Error error) on_files.Nothing
 
+own_page : (p : ℕ) (page : Page) → Own p page.effect → Own p (decided_by page)
+own_page p page h = page_has (Own p) page (own_refused p) (λ _. h)
+
 own_on_open : (p : ℕ) (o : Option OpenDescriptor) (page : OpenDescriptor → Page) → ((x : OpenDescriptor) → Own p (page x).effect) → Own p (on_open o page)
 own_on_open p o page all = on_open_has (Own p) o page (own_refused p) (λ x _. all x)
 
 open_own : (w : World) (p : ℕ) (name : List ℕ) (flags : OpenFlags) (found : Option ℕ) → Own p (open_found w p name flags found)
-open_own w p name flags None = record { own = λ q h. cc }
-open_own w p name flags (Some n) = record { own = λ q h. cc }
+open_own w p name flags None = record { turned = λ q h. cc; own = λ q h. cc }
+open_own w p name flags (Some n) = record { turned = λ q h. cc; own = λ q h. cc }
 
--- what the page of a call on a descriptor is made of
-ruleset own_rules = (own_on_open, own_if, own_nothing, own_offset, own_entry)
+-- what the page of a call is made of
+ruleset own_rules = (own_page, own_on_open, own_if, own_nothing, own_offset, own_entry, own_added)
 
--- so a call changes descriptors of its own process alone
+-- so a call changes its own process and its descriptors alone
 calls_own : (bounds : Bounds) (w : World) (p : ℕ) (c : Call) → Own p (decided bounds w p c)
 calls_own bounds w p (call.Open name flags) = page_has (Own p) (open_file w p name flags) (own_refused p) (λ _. open_own w p name flags (file_of name w.names))
 calls_own bounds w p other = search (rules, own_rules)
 
-pub processes_are_apart : CallsAreSound → ProcessesAreApart
-processes_are_apart sound bounds w p c q other =
-    process_stays w (given (act.Call c)) (decided bounds w p c).change q (sound bounds w p c).planned (λ h. other ((calls_own bounds w p c).own q h))
+pub processes_are_apart : ProcessesAreApart
+processes_are_apart bounds w p c q other below =
+    let own = calls_own bounds w p c in
+    process_stays w (given (act.Call c)) (decided bounds w p c).change q below (λ h. other (own.turned q h)) (λ h. other (own.own q h))

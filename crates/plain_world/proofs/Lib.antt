@@ -9,6 +9,7 @@ pub mod NameLaws
 pub mod OpenLaws
 pub mod DupLaws
 pub mod DescriptorLaws
+pub mod ProcessLaws
 pub mod StepLaws
 pub mod LimitLaws
 pub mod KeptLaws

@@ -8,19 +8,22 @@ use Rattle.std.specs.Ordering.{nat_cmp, eq_by_cmp}
 use Rattle.std.specs.Cmp.Lexicographic.{slice_cmp}
 use Rattle.std.specs.FinMap.Entries.{by_order}
 use Rattle.std.specs.declared.cmp.Ordering.TheVariants.{Less, Equal, Greater}
-use Rattle.plain_world.specs.Types.{Act, Record, Bounds, World, Process, Description, File, FileEdit, ProcessEdit, TableEdit, Change, Decided, OPEN_MAX, NAMES_MAX, DESCRIPTIONS_MAX, OFFSET_MAX, EAGAIN}
+use Rattle.plain_world.specs.Types.{Act, Record, Bounds, World, Process, Description, File, FileEdit, ProcessEdit, TableEdit, Change, Decided, OPEN_MAX, NAMES_MAX, DESCRIPTIONS_MAX, OFFSET_MAX}
 use Rattle.call_types.specs.declared.act.Act.TheVariants as act
+use Rattle.call_types.specs.declared.call.Call.TheVariants as call
 use Rattle.posix_model.specs.Bytes.{splice, resized}
-use Rattle.slots.specs.Slots.{slot, live, kept_from}
+use Rattle.slots.specs.Slots.{slot, edited, live, kept_from}
 use Rattle.call_types.specs.Names.{Entries, with_name, without_name}
 use Rattle.call_types.specs.Descriptions.{at_offset}
-use Rattle.posix_model.specs.Descriptors.{with_entry, with_descriptor, with_offset, file_bytes, bytes_of}
-use Rattle.posix_model.specs.Change.{with_bytes, created, with_files, free_table, process_with, with_processes, with_table, changed}
-use Rattle.posix_model.specs.Fits.{FilesProper, ProcessProper, ProcessFits, TableProper, IsProper}
+use Rattle.process_table.specs.Processes.{free_table, copied_table, process_with, with_connection, with_entry}
+use Rattle.posix_model.specs.Descriptors.{with_descriptor, with_offset, file_bytes, bytes_of}
+use Rattle.posix_model.specs.Change.{with_bytes, created, with_files, with_processes, with_table, changed}
+use Rattle.posix_model.specs.Fits.{FilesProper, ProcessProper, TableProper, IsProper}
 use Rattle.posix_model.specs.Sweep.{is_referred, is_wanted, without_gone_pipe, sweep}
-use Rattle.posix_model.specs.Step.{given, comes_to, step}
-use Rattle.posix_model.specs.Pages.{unless, decided_by}
-use Rattle.posix_model.specs.Join.{is_full, join}
+use Rattle.posix_model.specs.Step.{can_call, given, comes_to, step}
+use Rattle.posix_model.specs.Pages.{decided_by}
+use Rattle.posix_model.specs.Join.{join}
+use Rattle.posix_model.specs.Fork.{fork}
 use Rattle.posix_model.specs.Sound.{Sound, makes, ActsAreSound, WithinLimits, FilesWithin, TableWithin}
 use Rattle.posix_model.specs.Laws.{SweepLeaves}
 use Rattle.posix_model.specs.History.{empty_world, after, world_from}
@@ -29,7 +32,7 @@ use Rattle.posix_model.specs.declared.change.FileEdit.TheVariants as on_files
 use Rattle.posix_model.specs.declared.change.ProcessEdit.TheVariants as on_process
 use Rattle.posix_model.specs.declared.change.TableEdit.TheVariants as on_table
 use Rattle.plain_world.specs.Laws.{StepKeepsLimits, LimitsHold}
-use Rattle.plain_world.proofs.PageLemmas.{where_may, step_parts, stepped_or_not}
+use Rattle.plain_world.proofs.PageLemmas.{page_has, where_may, step_parts, stepped_or_not}
 use Rattle.plain_world.proofs.ChangeLemmas.{files_leave, same_descriptions}
 use Rattle.plain_world.proofs.SlotLemmas.{at_set, at_push, stood}
 
@@ -45,6 +48,12 @@ live_set : {T : Type 0} (xs : List (Option T)) (n : ℕ) (y : Option T) → is_s
 live_set [] n y e = refl
 live_set (x ∷ xs) zero y e = rw (live_cons y xs, live_cons x xs) (ap (λ b. cond b 1 0 + live xs) e)
 live_set (x ∷ xs) (suc n) y e = rw (live_cons x (set xs n y), live_cons x xs) (ap (λ k. cond (is_some x) 1 0 + k) (live_set xs n y e))
+
+-- a slot is emptied
+live_freed : {T : Type 0} (xs : List (Option T)) (n : ℕ) → live (set xs n None) ≤ live xs
+live_freed [] n = omega arith
+live_freed (x ∷ xs) zero = rw (live_cons None xs, live_cons x xs) (omega arith)
+live_freed (x ∷ xs) (suc n) = rw (live_cons x (set xs n None), live_cons x xs) (let fewer = live_freed xs n in omega arith)
 
 some_mapped : {T : Type 0} (f : T → T) (x : Option T) → is_some (option_map f x) ≡ is_some x
 some_mapped f None = refl
@@ -123,20 +132,51 @@ files_within bounds w bytes (on_files.AddName name f) h proper within = names_wi
 files_within bounds w bytes (on_files.RemoveName name) h proper within = names_within bounds w (without_name name w.names) h (let few = no_more_names name w.names in omega (arith, few, h.names))
 files_within bounds w bytes (on_files.MakeFile name) h proper within = created_within bounds w name h proper.1
 
-new_table : (table : List (Option ℕ)) → table ≡ free_table → length table ≡ OPEN_MAX
-new_table table new = ap (λ (t : List (Option ℕ)). length t) new ∙ (let free : Option ℕ = None in length-replicate OPEN_MAX free)
+-- a process that has as many descriptors after it is edited as before
+process_within : (bounds : Bounds) (w : World) (p : ℕ) (f : Process → Process) → ((x : Process) → length (f x).table ≡ length x.table) → WithinLimits bounds w →
+    WithinLimits bounds (record w { processes = edited p f w.processes })
+process_within bounds w p f as_long h =
+    let new = option_map f (slot w.processes p) in
+    record {
+      files = h.files;
+      offsets = h.offsets;
+      tables = λ n. at_set (λ o. (x : Process) → o ≡ Some x → length x.table ≡ OPEN_MAX) w.processes p new n h.tables (λ x e. all (slot w.processes p) x (h.tables p) e);
+      names = h.names;
+      descriptions = h.descriptions;
+      processes = rw (live_set w.processes p new (some_mapped f (slot w.processes p))) h.processes;
+    }
+  where
+    all : (old : Option Process) (x : Process) → ((y : Process) → old ≡ Some y → length y.table ≡ OPEN_MAX) → option_map f old ≡ Some x → length x.table ≡ OPEN_MAX
+    all None x before e = cc
+    all (Some y) x before e = let same : f y ≡ x = cc in subst (λ (z : Process). length z.table ≡ OPEN_MAX) same (as_long y ∙ before y refl)
 
-processes_within : (bounds : Bounds) (w : World) (e : ProcessEdit) → WithinLimits bounds w → ProcessProper w e → ProcessFits e → WithinLimits bounds (with_processes w e)
-processes_within bounds w on_process.Nothing h proper fits = h
-processes_within bounds w (on_process.Add table) h proper fits = let p = process_with table in record {
+-- a table that is added has all descriptors
+abbrev HasAll : ProcessEdit → Type 0
+HasAll (on_process.Add table attached) = length table ≡ OPEN_MAX
+HasAll other = Unit {0}
+
+processes_within : (bounds : Bounds) (w : World) (e : ProcessEdit) → WithinLimits bounds w → ProcessProper w e → HasAll e → WithinLimits bounds (with_processes w e)
+processes_within bounds w on_process.Nothing h proper all = h
+processes_within bounds w (on_process.Add table attached) h proper all = let p = process_with table attached in record {
   files = h.files;
   offsets = h.offsets;
   tables = λ n. at_push (λ o. (x : Process) → o ≡ Some x → length x.table ≡ OPEN_MAX) w.processes (Some p) n h.tables
-      (λ x e. let same : p ≡ x = cc in subst (λ (x : Process). length x.table ≡ OPEN_MAX) same (new_table table fits));
+      (λ x e. let same : p ≡ x = cc in subst (λ (x : Process). length x.table ≡ OPEN_MAX) same all);
   names = h.names;
   descriptions = h.descriptions;
   processes = let more = live_push w.processes p in omega (arith, more, proper);
 }
+processes_within bounds w (on_process.Attach p) h proper all = process_within bounds w p with_connection (λ x. refl) h
+processes_within bounds w (on_process.Exit p) h proper all = record {
+  files = h.files;
+  offsets = h.offsets;
+  tables = λ n. at_set (λ o. (x : Process) → o ≡ Some x → length x.table ≡ OPEN_MAX) w.processes p None n h.tables (λ x e. cc);
+  names = h.names;
+  descriptions = h.descriptions;
+  processes = let fewer = live_freed w.processes p in let few = h.processes in omega (arith, fewer, few);
+}
+processes_within bounds w on_process.Close h proper all =
+    record { files = h.files; offsets = h.offsets; tables = h.tables; names = h.names; descriptions = h.descriptions; processes = h.processes }
 
 -- the offset of a description is written
 offset_within : (bounds : Bounds) (w : World) (n k : ℕ) → WithinLimits bounds w → k ≤ OFFSET_MAX → WithinLimits bounds (with_offset w n k)
@@ -156,22 +196,7 @@ offset_within bounds w n k h small =
     as_small (Some x) d e = let same : at_offset k x ≡ d = cc in subst (λ (y : Description). y.offset ≤ OFFSET_MAX) same small
 
 descriptor_within : (bounds : Bounds) (w : World) (p fd : ℕ) (entry : Option ℕ) → WithinLimits bounds w → WithinLimits bounds (with_descriptor w p fd entry)
-descriptor_within bounds w p fd entry h =
-    let written = option_map (with_entry fd entry) (slot w.processes p) in
-    record {
-      files = h.files;
-      offsets = h.offsets;
-      tables = λ n. at_set (λ o. (x : Process) → o ≡ Some x → length x.table ≡ OPEN_MAX) w.processes p written n h.tables (λ x e. as_long (slot w.processes p) x (h.tables p) e);
-      names = h.names;
-      descriptions = h.descriptions;
-      processes = rw (live_set w.processes p written (some_mapped (with_entry fd entry) (slot w.processes p))) h.processes;
-    }
-  where
-    as_long : (old : Option Process) (x : Process) → ((y : Process) → old ≡ Some y → length y.table ≡ OPEN_MAX) → option_map (with_entry fd entry) old ≡ Some x → length x.table ≡ OPEN_MAX
-    as_long None x all e = cc
-    as_long (Some y) x all e =
-        let same : with_entry fd entry y ≡ x = cc in
-        subst (λ (z : Process). length z.table ≡ OPEN_MAX) same (length-set y.table fd entry ∙ all y refl)
+descriptor_within bounds w p fd entry h = process_within bounds w p (with_entry fd entry) (λ x. length-set x.table fd entry) h
 
 -- one more description
 described_within : (bounds : Bounds) (w : World) (d : Description) → WithinLimits bounds w → d.offset ≤ OFFSET_MAX → live w.descriptions < DESCRIPTIONS_MAX →
@@ -195,8 +220,8 @@ table_within bounds w (on_table.Entry p fd entry) h proper within = descriptor_w
 
 -- room stays where the parts that it is in stay
 process_room : (w v : World) (e : ProcessEdit) → v.processes ≡ w.processes → ProcessProper w e → ProcessProper v e
-process_room w v on_process.Nothing same proper = tt
-process_room w v (on_process.Add table) same proper = rw same proper
+process_room w v (on_process.Add table attached) same proper = rw same proper
+process_room w v other same proper = tt
 
 table_room : (w v : World) (e : TableEdit) → v.descriptions ≡ w.descriptions → TableProper w e → TableProper v e
 table_room w v on_table.Nothing same proper = tt
@@ -204,28 +229,37 @@ table_room w v (on_table.Offset n k) same proper = tt
 table_room w v (on_table.Open p fd d) same proper = rw same proper
 table_room w v (on_table.Entry p fd entry) same proper = tt
 
-change_within : (bounds : Bounds) (w : World) (bytes : List ℕ) (c : Change) → WithinLimits bounds w → IsProper w bytes c → ProcessFits c.process →
+change_within : (bounds : Bounds) (w : World) (bytes : List ℕ) (c : Change) → WithinLimits bounds w → IsProper w bytes c → HasAll c.process →
     FilesWithin bounds c.files → TableWithin c.table → WithinLimits bounds (changed w bytes c)
-change_within bounds w bytes c h proper new files table =
+change_within bounds w bytes c h proper all files table =
     let u = with_files w bytes c.files in
     let v = with_processes u c.process in
     let same = same_descriptions w bytes c in
     let first = files_within bounds w bytes c.files h proper.files files in
-    let second = processes_within bounds u c.process first (process_room w u c.process (files_leave w bytes c.files).1 proper.process) new in
+    let second = processes_within bounds u c.process first (process_room w u c.process (files_leave w bytes c.files).1 proper.process) all in
     table_within bounds v c.table second (table_room w v c.table same proper.table) table
 
--- a process that is added is a new one
-none_made : (e : ProcessEdit) → makes e ≡ 0 → ProcessFits e
-none_made on_process.Nothing none = tt
-none_made (on_process.Add table) none = cc
+none_made : (e : ProcessEdit) → makes e ≡ 0 → HasAll e
+none_made (on_process.Add table attached) none = cc
+none_made other none = tt
 
-joined_new : (w : World) (full : Bool) → ProcessFits (unless (cond full (Some EAGAIN) None) (join w).effect).change.process
-joined_new w true = tt
-joined_new w false = refl
+free_all : length free_table ≡ OPEN_MAX
+free_all = let free : Option ℕ = None in length-replicate OPEN_MAX free
 
-adds_new : (bounds : Bounds) (w : World) (actor : ℕ) (act : Act) (d : Decided) → Sound bounds w actor act d → comes_to bounds w actor act ≡ Some d → ProcessFits d.change.process
-adds_new bounds w actor act.Join d sound is = subst (λ (x : Decided). ProcessFits x.change.process) (where_may (eqb actor (length w.processes)) (decided_by (join w)) d is) (joined_new w (is_full w))
-adds_new bounds w actor other d sound is = none_made d.change.process sound.planned
+copied_all : (parent : Option Process) → ((x : Process) → parent ≡ Some x → length x.table ≡ OPEN_MAX) → length (copied_table parent) ≡ OPEN_MAX
+copied_all None all = free_all
+copied_all (Some parent) all = all parent refl
+
+-- a process that is added has all descriptors
+adds_all : (bounds : Bounds) (w : World) (actor : ℕ) (act : Act) (d : Decided) → WithinLimits bounds w → Sound bounds w actor act d → comes_to bounds w actor act ≡ Some d → HasAll d.change.process
+adds_all bounds w actor act.Join d h sound is =
+    let Has : Decided → Type 0 = λ x. HasAll x.change.process in
+    subst Has (where_may (eqb actor (length w.processes)) (decided_by (join w)) d is) (page_has Has (join w) (λ _. tt) (λ _. free_all))
+adds_all bounds w actor (act.Call call.Fork) d h sound is =
+    let Has : Decided → Type 0 = λ x. HasAll x.change.process in
+    let parent = slot w.processes actor in
+    subst Has (where_may (can_call parent) (decided_by (fork w actor)) d is) (page_has Has (fork w actor) (λ _. tt) (λ _. copied_all parent (h.tables actor)))
+adds_all bounds w actor other d h sound is = none_made d.change.process sound.processes.planned
 
 -- what a sweep leaves of a file is no longer
 left_of_file : (ds : List (Option Description)) (b : Bool) (x : Option File) (most : ℕ) → length (file_bytes x) ≤ most → length (file_bytes (cond b (without_gone_pipe ds x) None)) ≤ most
@@ -255,7 +289,7 @@ step_keeps_limits sound leaves bounds w actor act s small within h =
     let x = sound bounds w actor act d is in
     let v = changed w (given act) d.change in
     sweep_within leaves bounds v
-    (change_within bounds w (given act) d.change within (x.proper small) (adds_new bounds w actor act d x is) x.within_files (x.within_table small within))) h
+    (change_within bounds w (given act) d.change within (x.proper small) (adds_all bounds w actor act d within x is) x.within_files (x.within_table small within))) h
 
 empty_within : (bounds : Bounds) → WithinLimits bounds empty_world
 empty_within bounds = record {

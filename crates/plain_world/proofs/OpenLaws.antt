@@ -8,7 +8,8 @@ use Rattle.call_types.specs.Flags as flag
 use Rattle.plain_world.specs.Types.{Errno, OpenFlags, World, Process, Description, File, EMFILE, Replied, Number}
 use Rattle.slots.specs.Slots.{slot, lowest, edited}
 use Rattle.call_types.specs.Names.{file_of}
-use Rattle.posix_model.specs.Descriptors.{opened, opened_number, opened_description, table_of, with_entry, file_bytes}
+use Rattle.process_table.specs.Processes.{table_of, with_entry}
+use Rattle.posix_model.specs.Descriptors.{opened, opened_number, opened_description, file_bytes}
 use Rattle.posix_model.specs.Change.{with_files, with_description, changed}
 use Rattle.posix_model.specs.Pages.{first_fault}
 use Rattle.posix_model.specs.Open.{flag_faults, name_faults, found_faults, room_faults, open_faults, new_description, free_descriptor, emptied, open_found, open_file}

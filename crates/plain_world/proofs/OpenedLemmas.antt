@@ -2,7 +2,8 @@
 use Rattle.std.proofs.Common.{◌≡◌, ℕ, ℤ, pos, negsuc, Option, None, Some, refl, subst}
 use Rattle.plain_world.specs.Types.{World, Description, OpenDescriptor}
 use Rattle.slots.specs.Slots.{slot}
-use Rattle.posix_model.specs.Descriptors.{opened, opened_number, opened_description, table_of}
+use Rattle.process_table.specs.Processes.{table_of}
+use Rattle.posix_model.specs.Descriptors.{opened, opened_number, opened_description}
 
 -- its number stands in the table of its process, and its description under its number
 pub record IsOpenAt (w : World) (process : ℕ) (fd : ℤ) (o : OpenDescriptor) : Type 0 where

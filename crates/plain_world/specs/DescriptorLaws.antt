@@ -1,12 +1,13 @@
 -- What holds of the descriptors of processes, in words that the pages use.
-use Rattle.std.specs.Prelude.{◌≡◌, ◌≢◌, ℕ, ℤ, pos, true, List, None, Some, is_some, length}
+use Rattle.std.specs.Prelude.{◌≡◌, ◌≢◌, ◌<◌, ℕ, ℤ, pos, true, List, None, Some, is_some, length}
 use Rattle.call_types.specs.CallTable.{descriptor_of}
 use Rattle.plain_world.specs.Types.{Call, OpenFlags, Bounds, World, OPEN_MAX, EBADF, Replied, Number, Done, Error}
 use Rattle.call_types.specs.declared.call.Call.TheVariants as call
 use Rattle.slots.specs.Slots.{slot}
 use Rattle.posix_model.specs.Whole.{EachThere}
 use Rattle.posix_model.specs.Numbers.{IsLowest}
-use Rattle.posix_model.specs.Descriptors.{opened, number_of, table_of}
+use Rattle.process_table.specs.Processes.{table_of}
+use Rattle.posix_model.specs.Descriptors.{opened, number_of}
 use Rattle.plain_world.specs.Calls.{outcome_of, before_sweep}
 
 -- an open that is not refused tells the least descriptor that is free (page of open)
@@ -45,7 +46,7 @@ abbrev pub NotOpenIsBad : Type 0
 NotOpenIsBad = (bounds : Bounds) (w : World) (process : ℕ) (fd : ℤ) (c : Call) → opened w process fd ≡ None → descriptor_of c ≡ Some fd →
     outcome_of bounds w process c ≡ Replied (Error EBADF)
 
--- a call leaves each other process as it was, and so its descriptors (XBD 3, File Descriptor)
+-- a call leaves each other process that was there before as it was, and so its descriptors (XBD 3, File Descriptor)
 abbrev pub ProcessesAreApart : Type 0
-ProcessesAreApart = (bounds : Bounds) (w : World) (process : ℕ) (c : Call) (other : ℕ) → other ≢ process →
+ProcessesAreApart = (bounds : Bounds) (w : World) (process : ℕ) (c : Call) (other : ℕ) → other ≢ process → other < length w.processes →
     slot (before_sweep bounds w process c).processes other ≡ slot w.processes other

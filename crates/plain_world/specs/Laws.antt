@@ -7,7 +7,8 @@ use Rattle.slots.specs.Slots.{slot, lowest}
 use Rattle.posix_model.specs.Whole.{IsThere}
 use Rattle.posix_model.specs.Numbers.{IsLowest}
 use Rattle.posix_model.specs.Counts.{links, refs, holders, readers, writers}
-use Rattle.posix_model.specs.Change.{changed, new_process}
+use Rattle.process_table.specs.Processes.{new_process}
+use Rattle.posix_model.specs.Change.{changed}
 use Rattle.posix_model.specs.Join.{is_full}
 use Rattle.posix_model.specs.Sweep.{sweep}
 use Rattle.posix_model.specs.Step.{given, comes_to, Stepped, step}

@@ -5,4 +5,5 @@ pub mod Calls
 pub mod FileLaws
 pub mod DescriptorLaws
 pub mod NameLaws
+pub mod ProcessLaws
 pub mod Laws

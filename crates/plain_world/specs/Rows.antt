@@ -1,8 +1,9 @@
 -- Worked runs: what each act answers, and the bytes that each run takes and gives.
 use Rattle.std.specs.Prelude.{◌≡◌, ℕ, pos, negsuc, List, [], ◌∷◌, codes}
-use Rattle.plain_world.specs.Types.{Call, Record, Reply, OpenFlags, Bounds, EBADF, EINVAL, EFBIG, EOVERFLOW, ENOENT, EEXIST}
-use Rattle.call_types.specs.declared.call.Call.TheVariants.{Open, Close, Read, Write, Pread, Pwrite, Lseek, Ftruncate, Dup, Dup2, Link, Unlink, Fstat}
+use Rattle.plain_world.specs.Types.{Call, Record, Reply, OpenFlags, Bounds, Act, EAGAIN, EBADF, EINVAL, EFBIG, EOVERFLOW, ENOENT, EEXIST, ESRCH}
+use Rattle.call_types.specs.declared.call.Call.TheVariants.{Open, Close, Read, Write, Pread, Pwrite, Lseek, Ftruncate, Dup, Dup2, Link, Unlink, Fstat, Fork}
 use Rattle.call_types.specs.declared.whence.Whence.TheVariants.{Set, Cur, End}
+use Rattle.call_types.specs.declared.act.TheConstants.{HOUSE}
 use Rattle.call_types.specs.declared.act.Act.TheVariants as act
 use Rattle.call_types.specs.declared.outcome.Outcome.TheVariants as outcome
 use Rattle.call_types.specs.declared.outcome.Reply.TheVariants as reply
@@ -24,13 +25,17 @@ pub record Runs (bounds : Bounds) (h : List Record) (taken given : ℕ) : Type 0
   pub takes : bytes_in bounds h ≡ taken
   pub gives : bytes_out bounds h ≡ given
 
+-- an act of this actor, and the answer
+abbrev pub acts : ℕ → Act → Reply → Record
+acts actor a r = record { actor = actor; act = a; outcome = outcome.Reply r }
+
 -- the first process joins
 abbrev pub joins : Record
-joins = record { actor = 0; act = act.Join; outcome = outcome.Reply (reply.Number 0) }
+joins = acts 0 act.Join (reply.Number 0)
 
 -- its call, and the answer
 abbrev pub answers : Call → Reply → Record
-answers c r = record { actor = 0; act = act.Call c; outcome = outcome.Reply r }
+answers c r = acts 0 (act.Call c) r
 
 -- flags by their bits: r 1, w 2, creat 4, excl 8, trunc 16, append 32
 abbrev pub bits : ℕ → OpenFlags
@@ -137,6 +142,36 @@ duplicates =
     ∷ answers (Open (codes "e") (bits 7)) (reply.Number 0)
     ∷ answers (Dup2 (pos 1) (pos 0)) (reply.Number 0)
     ∷ answers (Fstat (pos 0)) (reply.Stat (record { kind = Regular; size = 2; links = 1 }))
+    ∷ []
+
+-- a child reads on where its parent's offset stands, the parent after it, and the offset is still there when the child is gone
+abbrev pub shared_offset : List Record
+shared_offset =
+    joins
+    ∷ answers (Open (codes "s") (bits 7)) (reply.Number 0)
+    ∷ answers (Write (pos 0) (codes "abcd")) (reply.Number 4)
+    ∷ answers (Lseek (pos 0) (pos 0) Set) (reply.Number 0)
+    ∷ answers Fork (reply.Number 1)
+    ∷ acts 1 act.Attach reply.Done
+    ∷ acts 1 (act.Call (Read (pos 0) 2)) (reply.Data (codes "ab"))
+    ∷ answers (Read (pos 0) 2) (reply.Data (codes "cd"))
+    ∷ acts 1 act.Exit reply.Done
+    ∷ answers (Lseek (pos 0) (pos 0) Cur) (reply.Number 4)
+    ∷ []
+
+-- a child is attached once, one may end before it is attached, and after the closing there is no new process
+abbrev pub closing : List Record
+closing =
+    joins
+    ∷ answers Fork (reply.Number 1)
+    ∷ acts 1 act.Attach reply.Done
+    ∷ acts 1 act.Attach (reply.Error ESRCH)
+    ∷ acts 9 act.Attach (reply.Error ESRCH)
+    ∷ answers Fork (reply.Number 2)
+    ∷ acts 2 act.Exit reply.Done
+    ∷ acts HOUSE act.CloseRun reply.Done
+    ∷ answers Fork (reply.Error EAGAIN)
+    ∷ acts 3 act.Join (reply.Error EAGAIN)
     ∷ []
 
 -- flags and names of open, each with its refusal

@@ -8,7 +8,7 @@ pub use Rattle.call_types.specs.declared.errno.Errno.{Errno}
 pub use Rattle.call_types.specs.declared.flags.OpenFlags.{OpenFlags}
 pub use Rattle.call_types.specs.declared.limits.Bounds.{Bounds}
 pub use Rattle.posix_model.specs.declared.world.World.{World}
-pub use Rattle.posix_model.specs.declared.world.Process.{Process}
+pub use Rattle.process_table.specs.declared.process.Process.{Process}
 pub use Rattle.call_types.specs.declared.description.Description.{Description}
 pub use Rattle.call_types.specs.declared.description.Target.{Target}
 pub use Rattle.call_types.specs.declared.description.Mode.{Mode}
@@ -19,7 +19,7 @@ pub use Rattle.posix_model.specs.declared.change.ProcessEdit.{ProcessEdit}
 pub use Rattle.posix_model.specs.declared.change.TableEdit.{TableEdit}
 pub use Rattle.posix_model.specs.declared.change.Change.{Change}
 pub use Rattle.posix_model.specs.declared.change.Decided.{Decided}
-pub use Rattle.call_types.specs.declared.errno.Errno.TheVariants.{EAGAIN, EBADF, EEXIST, EFBIG, EINVAL, EMFILE, ENOENT, EOVERFLOW}
+pub use Rattle.call_types.specs.declared.errno.Errno.TheVariants.{EAGAIN, EBADF, EEXIST, EFBIG, EINVAL, EMFILE, ENOENT, EOVERFLOW, ESRCH}
 pub use Rattle.call_types.specs.declared.limits.TheConstants.{DESCRIPTIONS_MAX, NAMES_MAX, OFFSET_MAX, OPEN_MAX}
 pub use Rattle.call_types.specs.declared.outcome.Outcome.TheVariants.{Reply as Replied}
 pub use Rattle.call_types.specs.declared.outcome.Reply.TheVariants.{Done, Error, Number}

@@ -4,7 +4,8 @@ ghost use Rattle.posix_model.specs.Counts.{refers, refs_of, is_file, is_pipe, ho
 ghost use Rattle.plain_world.specs.Ends.{is_end};
 
 use call_types::description::{Description, Target};
-use posix_model::world::Process;
+use process_table::process::Process;
+use process_table::table::DescriptorTable;
 use slots::dense::Slots;
 
 /// Whether a descriptor refers to the description of a number.
@@ -18,11 +19,11 @@ fn refers(number: usize, entry: Option<usize>) -> bool
 }
 
 /// How many descriptors of a table refer to the description of a number.
-fn entries_of(number: usize, table: &Slots<usize>) -> usize
+fn entries_of(number: usize, table: &DescriptorTable) -> usize
     ensures { result ≡ count_by (refers number) table.now }
 {
     table
-        .all()
+        .entries()
         .iter()
         .filter(|entry| refers(number, **entry))
         .count()

@@ -2,8 +2,6 @@
 
 ghost use Rattle.plain_world.specs.DescriptorLaws.{OpenGivesLowest, DupLeads, Dup2Leads, Dup2KeepsEqual, CloseCloses, NotOpenIsBad, ProcessesAreApart};
 
-use posix_model::laws::calls_are_sound;
-
 /// An open gives the least descriptor of the process that is free (page of open).
 pub fn open_gives_the_lowest()
     ensures { OpenGivesLowest }
@@ -24,9 +22,7 @@ pub fn closed_is_not_open()
     ensures not_open { NotOpenIsBad }
 {}
 
-/// A call of one process leaves every other process, with its descriptors, as it was (XBD 3, File Descriptor).
+/// A call of one process leaves every other process that was there, with its descriptors, as it was (XBD 3, File Descriptor).
 pub fn processes_are_apart()
     ensures { ProcessesAreApart }
-{
-    calls_are_sound();
-}
+{}

@@ -1,7 +1,7 @@
 //! Laws of steps and histories, and worked runs. None of these functions does anything; each contract is its law.
 
 ghost use Rattle.plain_world.specs.Laws.{RefusedStepKeepsWorld, RefusedNextKeepsWorld, JoinAdds, FullJoinRefused, LowestIsLeast, NoLowestIsFull, OffsetsAreApart, OffsetsStayApart, TakesFew, StepKeepsLimits, LimitsHold, HistoryKeepsExactly, LegalIsAnswered, AnsweredIsLegal};
-ghost use Rattle.plain_world.specs.Rows.{Runs, standard, small, path, hole, greatest_offset, size_limit, pwrite_under_append, opening, deferred_removal, duplicates};
+ghost use Rattle.plain_world.specs.Rows.{Runs, standard, small, path, hole, greatest_offset, size_limit, pwrite_under_append, opening, deferred_removal, duplicates, shared_offset, closing};
 
 use posix_model::laws::{
     acts_are_sound, numbers_rise, sweep_leaves_wanted, sweep_releases, sweep_settles,
@@ -85,4 +85,6 @@ pub fn worked_runs()
     ensures opening { Runs standard opening 2 3 }
     ensures deferred_removal { Runs standard deferred_removal 3 3 }
     ensures duplicates { Runs standard duplicates 2 2 }
+    ensures shared_offset { Runs standard shared_offset 4 4 }
+    ensures closing { Runs standard closing 0 0 }
 {}

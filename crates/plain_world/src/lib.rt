@@ -9,5 +9,6 @@ pub mod history;
 pub mod laws;
 mod make;
 pub mod name_laws;
+pub mod process_laws;
 pub mod step;
 mod sweep;

@@ -5,15 +5,17 @@ ghost use Rattle.posix_model.specs.Bytes.{splice, resized};
 ghost use Rattle.slots.specs.Slots.{slot, edited};
 ghost use Rattle.call_types.specs.Names.{file_of};
 ghost use Rattle.call_types.specs.Descriptions.{at_offset};
-ghost use Rattle.posix_model.specs.Descriptors.{file_bytes, with_entry};
+ghost use Rattle.process_table.specs.Processes.{with_connection, with_entry};
+ghost use Rattle.posix_model.specs.Descriptors.{file_bytes};
 ghost use Rattle.posix_model.specs.Change.{created, with_files, with_processes, with_description, with_table, changed};
 ghost use Rattle.posix_model.specs.Fits.{FilesProper, IsProper};
 
 use call_types::bounded::Name;
 use call_types::description::Description;
-use posix_model::change::{Change, FileEdit, ProcessEdit, TableEdit, process_with};
+use posix_model::change::{Change, FileEdit, ProcessEdit, TableEdit};
 use posix_model::contents::Contents;
-use posix_model::world::{File, Process, World};
+use posix_model::world::{File, World};
+use process_table::process::Process;
 use slots::dense::Slots;
 use std::alloc::{AllocError, Global};
 
@@ -92,14 +94,31 @@ fn make_files(
     }
 }
 
+#[tactic(auto, using(crate::proofs::SlotLemmas::set_twice))]
+/// Gives a process its connection.
+fn connect(processes: &mut Slots<Process>, number: usize)
+    ensures { processes.new ≡ edited number with_connection processes.old }
+{
+    if let Some(mut process) = processes.take(number) {
+        process.attached = true;
+        processes.put(number, Some(process));
+    }
+}
+
 /// Makes an edit of processes.
 fn make_processes(world: &mut World, edit: ProcessEdit) -> Result<(), AllocError>
     ensures { OnOk result (world.new ≡ with_processes world.old edit) }
 {
     match edit {
-        ProcessEdit::Nothing => Ok(()),
-        ProcessEdit::Add { table } => world.processes.push(process_with(table)),
+        ProcessEdit::Nothing => {}
+        ProcessEdit::Add { table, attached } => {
+            world.processes.push(Process::new(table, attached))?;
+        }
+        ProcessEdit::Attach { process } => connect(&mut world.processes, process),
+        ProcessEdit::Exit { process } => world.processes.put(process, None),
+        ProcessEdit::Close => world.closed = true,
     }
+    Ok(())
 }
 
 #[tactic(auto, using(crate::proofs::SlotLemmas::set_twice))]
@@ -108,7 +127,7 @@ fn set_descriptor(processes: &mut Slots<Process>, number: usize, fd: usize, entr
     ensures { processes.new ≡ edited number (with_entry fd entry) processes.old }
 {
     if let Some(mut process) = processes.take(number) {
-        process.table.put(fd, entry);
+        process.table.replace(fd, entry);
         processes.put(number, Some(process));
     }
 }

@@ -5,11 +5,12 @@ ghost use Rattle.posix_model.specs.Step.{given, stepped, step};
 
 use crate::make::make;
 use crate::sweep::sweep;
-use call_types::act::Act;
+use call_types::act::{Act, HOUSE};
 use call_types::limits::Limits;
 use call_types::outcome::Outcome;
 use posix_model::change::Decided;
 use posix_model::laws::acts_are_sound;
+use posix_model::reader::Reader;
 use posix_model::world::World;
 use std::alloc::{AllocError, Global};
 use table_calls::decide::{can_call, decide};
@@ -18,8 +19,9 @@ use table_calls::given::given;
 /// Why there was no step. The world is as it was.
 #[derive(Clone, Copy, Debug, PartialEq, Eq)]
 pub enum StepFault {
-    /// The rules record no such act here: the actor is not live and attached, it waits in a call, or a join has
-    /// another number than the next.
+    /// The rules record no such act here: a join under another number than the next, a call of a process that is not live
+    /// and attached or that waits in one, an exit of a process that is not live, a closing by another than the house or of
+    /// a run that is closed, or a resume, of which there is none yet.
     NotReady,
     /// Memory ran out.
     NoMemory,
@@ -42,8 +44,11 @@ fn is_step(world: &World, actor: usize, act: &Act) -> bool
 {
     match act {
         Act::Join => actor == world.processes.len(),
+        Act::Attach => true,
         Act::Call(_) => can_call(world, actor),
-        _ => false,
+        Act::Resume => false,
+        Act::Exit => world.is_live(actor),
+        Act::CloseRun => actor == HOUSE as usize && !world.closed,
     }
 }
 

@@ -7,7 +7,8 @@ use call_types::description::Description;
 use posix_model::contents::Contents;
 use posix_model::counts::links;
 use posix_model::names::Names;
-use posix_model::world::{Fifo, File, Process, World};
+use posix_model::world::{Fifo, File, World};
+use process_table::process::Process;
 use slots::dense::Slots;
 
 /// Whether an open file description stays: while a descriptor refers to it.

@@ -1,5 +1,5 @@
 -- Changes of a world that use no number again and leave nothing that refers to what is gone.
-use Rattle.std.proofs.Common.{◌≡◌, ◌∙◌, zero, suc, replicate, take, ℕ, true, false, not, cond, List, [], ◌∷◌, ◌++◌, Option, None, Some, length, length-set, set, get_or, refl, ap, sym, subst}
+use Rattle.std.proofs.Common.{◌≡◌, ◌∙◌, take, ℕ, Bool, true, false, not, cond, List, [], ◌∷◌, ◌++◌, Option, None, Some, length, length-set, set, get_or, refl, ap, sym, subst}
 use Rattle.std.specs.Option.{option_map, is_some}
 use Rattle.std.specs.List.{All}
 use Rattle.std.proofs.lemmas.List.Elements.{All-cons, All-head, All-tail}
@@ -11,19 +11,20 @@ use Rattle.posix_model.specs.Whole.{IsThere, TargetIsThere, is_fifo, is_regular_
 use Rattle.slots.specs.Slots.{slot}
 use Rattle.call_types.specs.Names.{Entries, with_name, without_name}
 use Rattle.call_types.specs.Descriptions.{at_offset}
-use Rattle.posix_model.specs.Descriptors.{with_entry, with_descriptor, with_offset, bytes_of}
-use Rattle.posix_model.specs.Change.{with_files, with_processes, with_table, changed, with_bytes, created, free_table, process_with, with_description}
-use Rattle.posix_model.specs.Fits.{FilesFit, ProcessFits, TableFits, Fits}
+use Rattle.process_table.specs.Processes.{with_entry, process_with, with_connection}
+use Rattle.posix_model.specs.Descriptors.{with_descriptor, with_offset, bytes_of}
+use Rattle.posix_model.specs.Change.{with_files, with_processes, with_table, changed, with_bytes, created, with_description}
+use Rattle.posix_model.specs.Fits.{CanAdd, FilesFit, ProcessFits, TableFits, Fits}
 use Rattle.posix_model.specs.Types.{World, Process, Description, Target, File, FileEdit, ProcessEdit, TableEdit, Change, OPEN_MAX}
 use Rattle.posix_model.specs.declared.change.FileEdit.TheVariants as on_files
 use Rattle.posix_model.specs.declared.change.ProcessEdit.TheVariants as on_process
 use Rattle.posix_model.specs.declared.change.TableEdit.TheVariants as on_table
 use Rattle.posix_model.specs.Bytes.{splice, resized}
-use Rattle.posix_model.specs.Numbers.{NumbersRise, StaysSame}
+use Rattle.posix_model.specs.Numbers.{Rises, NumbersRise, StaysSame}
 use Rattle.posix_model.specs.Whole.{EachThere, PipeIsThere, IsWhole}
 use Rattle.posix_model.specs.declared.world.File.TheVariants as file
 use Rattle.call_types.specs.declared.description.Target.TheVariants as target
-use Rattle.posix_model.proofs.SlotLaws.{test_set, slot_pushed, there_below, stays_as_is, stays_pushed, stays_set, stays_twice, Adds, adds_same, adds_set, adds_edited, adds_push, pushed_there, rises_twice, each_set, each_push}
+use Rattle.posix_model.proofs.SlotLaws.{test_set, slot_pushed, there_below, stays_as_is, stays_pushed, stays_set, stays_twice, Adds, adds_same, adds_set, adds_edited, adds_push, pushed_there, rises_twice, rises_emptied, each_set, each_push}
 
 -- a change that uses no number again and leaves nothing that refers to what is gone
 pub record Goes (w v : World) : Type 0 where
@@ -277,30 +278,46 @@ described_goes w d whole there =
       };
     }
 
-none_replicated : (m n x : ℕ) (P : Type 0) → slot (replicate m None) n ≡ Some x → P
-none_replicated zero n x P h = cc
-none_replicated (suc m) zero x P h = cc
-none_replicated (suc m) (suc n) x P h = none_replicated m n x P h
+-- the processes of a world are others, of which each refers to what is there and has all its descriptors
+processes_go : (w : World) (ps : List (Option Process)) → IsWhole w → Rises w.processes ps → EachThere (Refers w.descriptions) ps → EachThere HasAll ps → Goes w (record w { processes = ps })
+processes_go w ps whole rises refers all =
+    let same = same_rises w in
+    record {
+      rises = record { files = same.files; pipes = same.pipes; descriptions = same.descriptions; processes = rises; kinds = same.kinds; targets = same.targets; modes = same.modes };
+      whole = record { names = whole.names; descriptions = whole.descriptions; fifos = whole.fifos; processes = refers; tables = all };
+    }
 
-added_goes : (w : World) (table : List (Option ℕ)) → IsWhole w → table ≡ free_table → Goes w (with_processes w (on_process.Add table))
-added_goes w table whole new = rw new (record {
-  rises = record {
-    files = (adds_same w.files).rises;
-    pipes = (adds_same w.pipes).rises;
-    descriptions = (adds_same w.descriptions).rises;
-    processes = (adds_push w.processes (Some (process_with free_table))).rises;
-    kinds = stays_as_is (λ f. is_fifo (Some f)) w.files;
-    targets = stays_as_is (λ d. d.target) w.descriptions;
-    modes = stays_as_is (λ d. d.mode) w.descriptions;
-  };
-  whole = record {
-    names = whole.names;
-    descriptions = whole.descriptions;
-    fifos = whole.fifos;
-    processes = each_push (Refers w.descriptions) w.processes (process_with free_table) whole.processes (λ n x h. none_replicated OPEN_MAX n x (IsThere w.descriptions x) h);
-    tables = each_push HasAll w.processes (process_with free_table) whole.tables refl;
-  };
-})
+added_goes : (w : World) (table : List (Option ℕ)) (attached : Bool) → IsWhole w → CanAdd w table → Goes w (with_processes w (on_process.Add table attached))
+added_goes w table attached whole can =
+    let child = process_with table attached in
+    processes_go w (w.processes ++ Some child ∷ []) whole (adds_push w.processes (Some child)).rises
+    (each_push (Refers w.descriptions) w.processes child whole.processes can.there) (each_push HasAll w.processes child whole.tables can.all)
+
+-- what holds of the table of a process holds of it when it has its connection
+connected : (Has : Process → Type 0) (old : Option Process) (x : Process) → ((y : Process) → Has y → Has (with_connection y)) → ((y : Process) → old ≡ Some y → Has y) →
+    option_map with_connection old ≡ Some x → Has x
+connected Has None x keeps all h = cc
+connected Has (Some y) x keeps all h = let e : with_connection y ≡ x = cc in subst Has e (keeps y (all y refl))
+
+attached_goes : (w : World) (p : ℕ) → IsWhole w → Goes w (with_processes w (on_process.Attach p))
+attached_goes w p whole =
+    let new = option_map with_connection (slot w.processes p) in
+    processes_go w (set w.processes p new) whole (adds_edited w.processes p with_connection).rises
+    (each_set (Refers w.descriptions) w.processes p new whole.processes (λ x h. connected (Refers w.descriptions) (slot w.processes p) x (λ y has. has) (whole.processes p) h))
+    (each_set HasAll w.processes p new whole.tables (λ x h. connected HasAll (slot w.processes p) x (λ y has. has) (whole.tables p) h))
+
+exited_goes : (w : World) (p : ℕ) → IsWhole w → Goes w (with_processes w (on_process.Exit p))
+exited_goes w p whole =
+    processes_go w (set w.processes p None) whole (rises_emptied w.processes p)
+    (each_set (Refers w.descriptions) w.processes p None whole.processes (λ x h. cc)) (each_set HasAll w.processes p None whole.tables (λ x h. cc))
+
+closed_goes : (w : World) → IsWhole w → Goes w (with_processes w on_process.Close)
+closed_goes w whole =
+    let same = same_rises w in
+    record {
+      rises = record { files = same.files; pipes = same.pipes; descriptions = same.descriptions; processes = same.processes; kinds = same.kinds; targets = same.targets; modes = same.modes };
+      whole = record { names = whole.names; descriptions = whole.descriptions; fifos = whole.fifos; processes = whole.processes; tables = whole.tables };
+    }
 
 opened_goes : (w : World) (process fd : ℕ) (d : Description) → IsWhole w → TargetIsThere w.files w.pipes d.target → Goes w (with_description w process fd d)
 opened_goes w process fd d whole there =
@@ -318,9 +335,12 @@ files_go_on w bytes (on_files.AddName name f) whole fits = names_go w (with_name
 files_go_on w bytes (on_files.RemoveName name) whole fits = names_go w (without_name name w.names) whole (names_without w.files name w.names whole.names)
 files_go_on w bytes (on_files.MakeFile name) whole fits = created_goes w name whole
 
-processes_go_on : (w : World) (e : ProcessEdit) → IsWhole w → ProcessFits e → Goes w (with_processes w e)
+processes_go_on : (w : World) (e : ProcessEdit) → IsWhole w → ProcessFits w e → Goes w (with_processes w e)
 processes_go_on w on_process.Nothing whole fits = goes_nowhere w whole
-processes_go_on w (on_process.Add table) whole fits = added_goes w table whole fits
+processes_go_on w (on_process.Add table attached) whole fits = added_goes w table attached whole fits
+processes_go_on w (on_process.Attach p) whole fits = attached_goes w p whole
+processes_go_on w (on_process.Exit p) whole fits = exited_goes w p whole
+processes_go_on w on_process.Close whole fits = closed_goes w whole
 
 table_goes_on : (w : World) (e : TableEdit) → IsWhole w → TableFits w e → Goes w (with_table w e)
 table_goes_on w on_table.Nothing whole fits = goes_nowhere w whole

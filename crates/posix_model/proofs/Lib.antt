@@ -3,6 +3,7 @@ pub mod SweepLaws
 pub mod ChangeLaws
 pub mod SweepWhole
 pub mod ReleaseLaws
+pub mod DropLaws
 pub mod PageLaws
 pub mod Sound
 pub mod ProcessLaws

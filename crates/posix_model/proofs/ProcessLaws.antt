@@ -1,15 +1,16 @@
--- How many processes changes make.
-use Rattle.std.proofs.Common.{◌≡◌, ◌∙◌, ℕ, zero, suc, ◌+◌, Bool, false, cond, List, [], ◌∷◌, ◌++◌, Option, None, Some, length, set, refl, ap, arith, length-set, length-append}
+-- How many processes changes make and end.
+use Rattle.std.proofs.Common.{◌≡◌, ◌∙◌, ℕ, zero, suc, ◌+◌, Bool, true, ◌||◌, cond, List, [], ◌∷◌, ◌++◌, Option, None, Some, length, set, refl, ap, sym, subst, arith, length-set, length-append}
 use Rattle.std.specs.Option.{option_map, is_some}
 use Rattle.std.proofs.lemmas.List.Sums.{sum_by-cons, sum_by_push}
-use Rattle.posix_model.specs.Types.{Act, Bounds, World, FileEdit, ProcessEdit, TableEdit, Change, Decided}
-use Rattle.call_types.specs.declared.act.Act.TheVariants as act
+use Rattle.posix_model.specs.Types.{Act, World, Process, FileEdit, ProcessEdit, TableEdit, Change, Decided}
 use Rattle.slots.specs.Slots.{slot, live}
-use Rattle.posix_model.specs.Descriptors.{with_entry, with_descriptor}
-use Rattle.posix_model.specs.Change.{with_files, process_with, with_processes, with_table, changed}
-use Rattle.posix_model.specs.Step.{given, comes_to, stepped}
+use Rattle.posix_model.specs.Whole.{IsThere}
+use Rattle.process_table.specs.Processes.{with_entry, process_with, with_connection}
+use Rattle.posix_model.specs.Descriptors.{with_descriptor}
+use Rattle.posix_model.specs.Change.{with_files, with_processes, with_table, changed}
+use Rattle.posix_model.specs.Step.{given, stepped}
 use Rattle.posix_model.specs.Sweep.{sweep}
-use Rattle.posix_model.specs.Sound.{makes, added, adds, ended, closes}
+use Rattle.posix_model.specs.Sound.{makes, ended_by, closed_by, added, adds, ended, closes, IsTold}
 use Rattle.posix_model.specs.Laws.{Counts, StepTellsProcesses, StepPlansProcesses}
 use Rattle.posix_model.specs.declared.change.FileEdit.TheVariants as on_files
 use Rattle.posix_model.specs.declared.change.ProcessEdit.TheVariants as on_process
@@ -51,51 +52,66 @@ table_keeps w (on_table.Open process fd d) =
     record { all = same.all; living = same.living; closed = same.closed }
 table_keeps w (on_table.Entry process fd entry) = descriptor_keeps w process fd entry
 
-processes_count : (w : World) (e : ProcessEdit) → Counts w (with_processes w e) (makes e) 0 false
-processes_count w on_process.Nothing = record { all = omega arith; living = omega arith; closed = refl }
-processes_count w (on_process.Add table) = record {
-  all = length-append w.processes (Some (process_with table) ∷ []);
-  living = let more = sum_by_push (λ p. cond (is_some p) 1 0) w.processes (Some (process_with table)) in omega (arith, more);
+-- a process that is there and goes is one less
+live_emptied : {T : Type 0} (slots : List (Option T)) (n : ℕ) → is_some (slot slots n) ≡ true → live (set slots n None) + 1 ≡ live slots
+live_emptied [] n h = cc
+live_emptied (None ∷ slots) zero h = cc
+live_emptied (Some x ∷ slots) zero h = omega (arith, sum_by-cons (λ p. cond (is_some p) 1 0) (Some x) slots, sum_by-cons (λ p. cond (is_some p) 1 0) None slots)
+live_emptied {T} (first ∷ slots) (suc n) h =
+    let none : Option T = None in
+    omega (arith, live_emptied slots n h, sum_by-cons (λ p. cond (is_some p) 1 0) first slots, sum_by-cons (λ p. cond (is_some p) 1 0) first (set slots n none))
+
+processes_count : (w : World) (e : ProcessEdit) → ((p : ℕ) → e ≡ on_process.Exit p → IsThere w.processes p) → Counts w (with_processes w e) (makes e) (ended_by e) (closed_by e)
+processes_count w on_process.Nothing there = record { all = omega arith; living = omega arith; closed = refl }
+processes_count w (on_process.Add table attached) there = record {
+  all = length-append w.processes (Some (process_with table attached) ∷ []);
+  living = let more = sum_by_push (λ p. cond (is_some p) 1 0) w.processes (Some (process_with table attached)) in omega (arith, more);
   closed = refl;
 }
+processes_count w (on_process.Attach p) there = record {
+  all = omega (arith, length-set w.processes p (option_map with_connection (slot w.processes p)));
+  living = omega (arith, live_edited with_connection w.processes p);
+  closed = refl;
+}
+processes_count w (on_process.Exit p) there = record {
+  all = omega (arith, length-set w.processes p None);
+  living = omega (arith, live_emptied w.processes p (there p refl));
+  closed = refl;
+}
+processes_count w on_process.Close there = record { all = omega arith; living = omega arith; closed = refl }
 
-pub change_counts : (w : World) (bytes : List ℕ) (c : Change) → Counts w (changed w bytes c) (makes c.process) 0 false
-change_counts w bytes c =
+pub change_counts : (w : World) (bytes : List ℕ) (c : Change) → ((p : ℕ) → c.process ≡ on_process.Exit p → IsThere w.processes p) →
+    Counts w (changed w bytes c) (makes c.process) (ended_by c.process) (closed_by c.process)
+change_counts w bytes c there =
     let u = with_files w bytes c.files in
     let files = files_keep w bytes c.files in
-    let count = processes_count u c.process in
+    let count = processes_count u c.process (λ p e. subst (λ (ps : List (Option Process)). IsThere ps p) (sym files.0) (there p e)) in
     let table = table_keeps (with_processes u c.process) c.table in
     record {
       all = table.all ∙ (count.all ∙ ap (λ ps. length ps + makes c.process) files.0);
       living = let same : live u.processes ≡ live w.processes = ap live files.0 in omega (arith, table.living, count.living, same);
-      closed = table.closed ∙ (count.closed ∙ files.1);
+      closed = table.closed ∙ (count.closed ∙ ap (λ b. closed_by c.process || b) files.1);
     }
 
--- no act that comes to something ends a process yet, or closes the run
-ends_none : (bounds : Bounds) (w : World) (actor : ℕ) (act : Act) (d : Decided) → comes_to bounds w actor act ≡ Some d → (ended act ≡ 0) × (closes act ≡ false)
-ends_none bounds w actor act.Exit d h = cc
-ends_none bounds w actor act.CloseRun d h = cc
-ends_none bounds w actor other d h = (refl, refl)
-
-counted_as : (w v : World) (m n ends : ℕ) (closing : Bool) → m ≡ n → (ends ≡ 0) × (closing ≡ false) → Counts w v m 0 false → Counts w v n ends closing
-counted_as w v m n ends closing same none c = record { all = rw (← same) c.all; living = rw (← same, none.0) c.living; closed = rw none.1 c.closed }
-
 -- the sweep after a change leaves the processes
-swept_counts : (w v : World) (n : ℕ) → Counts w v n 0 false → Counts w (sweep v) n 0 false
-swept_counts w v n c = record { all = c.all; living = c.living; closed = c.closed }
+swept_counts : (w v : World) (more ends : ℕ) (closing : Bool) → Counts w v more ends closing → Counts w (sweep v) more ends closing
+swept_counts w v more ends closing c = record { all = c.all; living = c.living; closed = c.closed }
 
-stepped_counts : (w : World) (act : Act) (d : Decided) (n : ℕ) → makes d.change.process ≡ n → (ended act ≡ 0) × (closes act ≡ false) →
-    Counts w (stepped w (given act) d).world n (ended act) (closes act)
-stepped_counts w act d n same none =
-    counted_as w (stepped w (given act) d).world (makes d.change.process) n (ended act) (closes act) same none
-    (swept_counts w (changed w (given act) d.change) (makes d.change.process) (change_counts w (given act) d.change))
+counted_as : (w v : World) (m n e f : ℕ) (b c : Bool) → m ≡ n → e ≡ f → b ≡ c → Counts w v m e b → Counts w v n f c
+counted_as w v m n e f b c more ends closing counts = record { all = rw (← more) counts.all; living = rw (← more, ← ends) counts.living; closed = rw (← closing) counts.closed }
+
+stepped_counts : (w : World) (act : Act) (d : Decided) (n : ℕ) → IsTold w act d.outcome d.change.process → makes d.change.process ≡ n → Counts w (stepped w (given act) d).world n (ended act) (closes act)
+stepped_counts w act d n told same =
+    let e = d.change.process in
+    counted_as w (stepped w (given act) d).world (makes e) n (ended_by e) (ended act) (closed_by e) (closes act) same told.ended told.closed
+    (swept_counts w (changed w (given act) d.change) (makes e) (ended_by e) (closed_by e) (change_counts w (given act) d.change told.there))
 
 pub step_tells_processes : StepTellsProcesses
 step_tells_processes bounds w actor act s h =
     step_parts (λ t. Counts w t.world (added act t.outcome) (ended act) (closes act)) bounds w actor act s
-    (λ d is. stepped_counts w act d (added act d.outcome) (acts_are_sound bounds w actor act d is).told (ends_none bounds w actor act d is)) h
+    (λ d is. let told = (acts_are_sound bounds w actor act d is).processes in stepped_counts w act d (added act d.outcome) told told.added) h
 
 pub step_plans_processes : StepPlansProcesses
 step_plans_processes bounds w actor act s h =
     step_parts (λ t. Counts w t.world (adds w act) (ended act) (closes act)) bounds w actor act s
-    (λ d is. stepped_counts w act d (adds w act) (acts_are_sound bounds w actor act d is).planned (ends_none bounds w actor act d is)) h
+    (λ d is. let told = (acts_are_sound bounds w actor act d is).processes in stepped_counts w act d (adds w act) told told.planned) h

@@ -107,6 +107,20 @@ rises_twice xs ys zs r s =
     let second = s.longer in
     record { longer = omega arith; gone = λ n below h. s.gone n (omega arith) (r.gone n below h) }
 
+-- a place that is emptied stays so, and so do all that were empty
+emptied_stays : {T : Type 0} (xs : List (Option T)) (m n : ℕ) → slot xs n ≡ None → slot (set xs m None) n ≡ None
+emptied_stays [] m n h = h
+emptied_stays (x ∷ xs) zero zero h = refl
+emptied_stays (x ∷ xs) zero (suc n) h = h
+emptied_stays (x ∷ xs) (suc m) zero h = h
+emptied_stays (x ∷ xs) (suc m) (suc n) h = emptied_stays xs m n h
+
+pub rises_emptied : {T : Type 0} (xs : List (Option T)) (m : ℕ) → Rises xs (set xs m None)
+rises_emptied {T} xs m =
+    let none : Option T = None in
+    let long : length (set xs m none) ≡ length xs = length-set xs m none in
+    record { longer = omega arith; gone = λ n below h. emptied_stays xs m n h }
+
 -- what holds of all that is there holds of all that is there after a place is written
 pub each_set : {T : Type 0} (Has : T → Type 0) (xs : List (Option T)) (m : ℕ) (y : Option T) →
     EachThere Has xs → ((x : T) → y ≡ Some x → Has x) → EachThere Has (set xs m y)

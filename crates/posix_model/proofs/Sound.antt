@@ -1,5 +1,5 @@
 -- What acts come to is sound: one lemma for each call.
-use Rattle.std.proofs.Common.{rules, ◌≡◌, ◌∙◌, ℕ, ℤ, pos, negsuc, nat_abs, ◌+◌, ◌-◌, ◌<◌, ◌≤◌, Bool, true, false, not, ◌&&◌, ◌||◌, cond, List, [], ◌∷◌, ◌++◌, Option, None, Some, length, refl, ap, sym, subst, arith, leb, ltb, eqb}
+use Rattle.std.proofs.Common.{rules, ◌≡◌, ◌∙◌, ℕ, zero, suc, replicate, ℤ, pos, negsuc, nat_abs, ◌+◌, ◌-◌, ◌<◌, ◌≤◌, Bool, true, false, not, ◌&&◌, ◌||◌, cond, List, [], ◌∷◌, ◌++◌, Option, None, Some, length, refl, ap, sym, subst, arith, leb, ltb, eqb}
 use Rattle.std.specs.Prelude.{◌+ℤ◌}
 use Rattle.std.specs.Option.{option_map, is_some, is_none, unwrap_or}
 use Rattle.std.specs.List.{All}
@@ -11,17 +11,18 @@ use Rattle.std.proofs.lemmas.Bool.Decides.{nat_tests}
 use Rattle.call_types.specs.CallTable.{payload_of}
 use Rattle.call_types.specs.Flags.{has}
 use Rattle.call_types.specs.Flags as flag
-use Rattle.posix_model.specs.Types.{Call, Reply, Errno, OpenFlags, Whence, Bounds, World, Process, Description, Target, File, OpenDescriptor, Decided, OFFSET_MAX, OPEN_MAX, NAMES_MAX, DESCRIPTIONS_MAX, PROCESSES_MAX, TRANSFER_MAX, EAGAIN, Replied, Number, Data, Error, Told}
+use Rattle.posix_model.specs.Types.{Call, Act, Outcome, ProcessEdit, Reply, Errno, OpenFlags, Whence, Bounds, World, Process, Description, Target, File, OpenDescriptor, Decided, OFFSET_MAX, OPEN_MAX, NAMES_MAX, DESCRIPTIONS_MAX, PROCESSES_MAX, TRANSFER_MAX, EAGAIN, Replied, Number, Data, Done, Error, Told}
 use Rattle.call_types.specs.declared.act.Act.TheVariants as act
 use Rattle.call_types.specs.declared.call.Call.TheVariants as call
 use Rattle.posix_model.specs.Bytes.{bytes_at}
 use Rattle.slots.specs.Slots.{slot, lowest, live}
 use Rattle.call_types.specs.Names.{Entries, file_of}
-use Rattle.posix_model.specs.Whole.{IsThere, TargetIsThere, is_fifo, is_regular_file, IsWhole}
-use Rattle.posix_model.specs.Descriptors.{opened, opened_number, opened_description, number_of, table_of, bytes_of}
+use Rattle.posix_model.specs.Whole.{IsThere, EachThere, TargetIsThere, is_fifo, is_regular_file, IsWhole}
+use Rattle.process_table.specs.Processes.{table_of, free_table, copied_table, awaits}
+use Rattle.posix_model.specs.Descriptors.{opened, opened_number, opened_description, number_of, bytes_of}
 use Rattle.posix_model.specs.Positions.{bytes_before, regular_file, is_regular, file_at}
-use Rattle.posix_model.specs.Change.{with_bytes, created, free_table}
-use Rattle.posix_model.specs.Fits.{IsFree, Fits, IsProper}
+use Rattle.posix_model.specs.Change.{with_bytes, created}
+use Rattle.posix_model.specs.Fits.{IsFree, CanAdd, ProcessFits, ProcessProper, Fits, IsProper}
 use Rattle.posix_model.specs.Pages.{first_fault, unless, refused, tells, does, acts, decided_by}
 use Rattle.posix_model.specs.Close.{close}
 use Rattle.posix_model.specs.Read.{read_faults, read}
@@ -37,9 +38,12 @@ use Rattle.posix_model.specs.Unlink.{unlink_faults, unlink}
 use Rattle.posix_model.specs.Fstat.{fstat, stat_of}
 use Rattle.posix_model.specs.Open.{open_faults, leads_to_fifo, open_found, opens, emptied, new_description, free_descriptor, open_file}
 use Rattle.posix_model.specs.Join.{join, is_full}
+use Rattle.posix_model.specs.Attach.{attach}
+use Rattle.posix_model.specs.Exit.{exit, close_run}
+use Rattle.call_types.specs.declared.act.TheConstants.{HOUSE}
 use Rattle.posix_model.specs.Step.{given, decided, can_call}
-use Rattle.posix_model.specs.Turns.{total, took_in, new_turn, data_in}
-use Rattle.posix_model.specs.Sound.{Sound, data_most, CallsAreSound, ActsAreSound, FilesWithin}
+use Rattle.posix_model.specs.Turns.{total, took_in, new_turn, took, data_in}
+use Rattle.posix_model.specs.Sound.{added, ended, closes, adds, IsTold, Sound, data_most, CallsAreSound, ActsAreSound, FilesWithin}
 use Rattle.call_types.specs.declared.description.Target.TheVariants as target
 use Rattle.posix_model.specs.declared.world.File.TheVariants as file
 use Rattle.posix_model.specs.declared.change.FileEdit.TheVariants as on_files
@@ -56,26 +60,34 @@ Answers bounds w process c d = Sound bounds w process (act.Call c) d
 none_taken : (c : Call) (most : ℕ) → took_in 0 (new_turn c) ≤ most
 none_taken c most = elim (is_some (payload_of c)) as (λ b. cond b (0 - 0) 0 ≤ most) [ true ↦ omega arith | false ↦ omega arith ]
 
+-- no process comes or goes, and the run stays open
+as_before : {act : Act} {outcome : Outcome} (w : World) → added act outcome ≡ 0 → adds w act ≡ 0 → ended act ≡ 0 → closes act ≡ false → IsTold w act outcome on_process.Nothing
+as_before w adds_none plans_none ends_none stays_open = record { added = sym adds_none; planned = sym plans_none; ended = sym ends_none; closed = sym stays_open; there = λ p h. cc }
+
 -- what only tells, and no bytes taken
-sound_tells : (bounds : Bounds) (w : World) (process : ℕ) (c : Call) (reply : Reply) → total (Replied reply) ≡ 0 → length (data_in (Replied reply)) ≤ data_most (act.Call c) →
-    Answers bounds w process c (tells reply)
-sound_tells bounds w process c reply none brief = record {
+sound_tells : (bounds : Bounds) (w : World) (process : ℕ) (c : Call) (reply : Reply) → added (act.Call c) (Replied reply) ≡ 0 → adds w (act.Call c) ≡ 0 → total (Replied reply) ≡ 0 →
+    length (data_in (Replied reply)) ≤ data_most (act.Call c) → Answers bounds w process c (tells reply)
+sound_tells bounds w process c reply adds_none plans_none none brief = record {
   refusal = λ _ _ _. refl;
-  told = refl;
-  planned = refl;
+  processes = as_before w adds_none plans_none refl refl;
   own = λ n h. cc;
   contents = λ _. refl;
   brief = brief;
   few = subst (λ n. took_in n (new_turn c) ≤ length (given (act.Call c))) (sym none) (none_taken c (length (given (act.Call c))));
   proper = λ _. record { files = tt; process = tt; table = tt };
-  fits = λ _. record { files = tt; process = tt; table = tt; alone = λ h. cc };
+  fits = λ _. record { files = tt; process = tt; table = tt; alone = λ h. cc; goes_alone = λ h. cc };
   within_files = tt;
   within_table = λ _ _. tt;
 }
 
--- a refusal
-pub sound_refused : (bounds : Bounds) (w : World) (process : ℕ) (c : Call) (error : Errno) → Answers bounds w process c (refused error)
-sound_refused bounds w process c error = sound_tells bounds w process c (Error error) refl (omega arith)
+-- a refusal adds no process
+refused_adds : (c : Call) (error : Errno) → added (act.Call c) (Replied (Error error)) ≡ 0
+refused_adds call.Fork error = refl
+refused_adds other error = refl
+
+-- a refusal, of a call that is to add no process
+pub sound_refused : (bounds : Bounds) (w : World) (process : ℕ) (c : Call) → adds w (act.Call c) ≡ 0 → (error : Errno) → Answers bounds w process c (refused error)
+sound_refused bounds w process c plans_none error = sound_tells bounds w process c (Error error) (refused_adds c error) plans_none refl (omega arith)
 
 -- an open descriptor of a process stands in its table, and its description under its number
 pub record IsOpenAt (w : World) (p : ℕ) (o : OpenDescriptor) : Type 0 where
@@ -146,14 +158,13 @@ put_below bounds start bytes clear some =
 sound_close : (bounds : Bounds) (w : World) (p : ℕ) (fd : ℤ) (o : OpenDescriptor) → IsOpenAt w p o → Answers bounds w p (call.Close fd) (close p o).effect
 sound_close bounds w p fd o at = record {
   refusal = λ _ _ h. cc;
-  told = refl;
-  planned = refl;
+  processes = as_before w refl refl refl refl;
   own = λ n h. cc;
   contents = λ _. refl;
   brief = omega arith;
   few = omega arith;
   proper = λ _. record { files = tt; process = tt; table = tt };
-  fits = λ _. record { files = tt; process = tt; table = record { process = at.process; process_is = at.process_is; within = at.within; there = λ n h. cc }; alone = λ h. cc };
+  fits = λ _. record { files = tt; process = tt; table = record { process = at.process; process_is = at.process_is; within = at.within; there = λ n h. cc }; alone = λ h. cc; goes_alone = λ h. cc };
   within_files = tt;
   within_table = λ _ _. tt;
 }
@@ -174,17 +185,16 @@ sound_read bounds w p fd count o is free =
     let got = bytes_at (bytes_of w (file_at o)) o.description.offset count in
     let at = opened_stands w p fd o is in
     if_has (Answers bounds w p (call.Read fd count)) (eqb (length got) 0) (tells (Data got)) (does (Data got) on_files.Nothing (on_table.Offset o.number (o.description.offset + length got)))
-    (λ _. sound_tells bounds w p (call.Read fd count) (Data got) refl brief)
+    (λ _. sound_tells bounds w p (call.Read fd count) (Data got) refl refl refl brief)
     (λ _. record {
       refusal = λ _ _ h. cc;
-      told = refl;
-      planned = refl;
+      processes = as_before w refl refl refl refl;
       own = λ n h. own_offset w p fd o n is h;
       contents = λ _. refl;
       brief = brief;
       few = omega arith;
       proper = λ _. record { files = tt; process = tt; table = tt };
-      fits = λ _. record { files = tt; process = tt; table = ap is_some at.description_is; alone = λ h. cc };
+      fits = λ _. record { files = tt; process = tt; table = ap is_some at.description_is; alone = λ h. cc; goes_alone = λ h. cc };
       within_files = tt;
       within_table = λ small limits. read_end (bytes_of w (file_at o)) o.description.offset count bounds.file_size OFFSET_MAX (limits.files (file_at o)) small (limits.offsets o.number o.description at.description_is);
     })
@@ -197,17 +207,16 @@ sound_write bounds w p fd bytes start o is free =
     let below_limit = unmet (write_faults bounds start bytes o) free (is_past_limit bounds start bytes) (search rules) in
     let n = fitting bounds start bytes in
     if_has (Answers bounds w p (call.Write fd bytes)) (eqb (length bytes) 0) (tells (Number 0)) (does (Number n) (on_files.Bytes (file_at o) start n) (on_table.Offset o.number (start + n)))
-    (λ _. sound_tells bounds w p (call.Write fd bytes) (Number 0) refl (omega arith))
+    (λ _. sound_tells bounds w p (call.Write fd bytes) (Number 0) refl refl refl (omega arith))
     (λ some. let put = put_below bounds start bytes below_limit some in record {
       refusal = λ _ _ h. cc;
-      told = refl;
-      planned = refl;
+      processes = as_before w refl refl refl refl;
       own = λ n h. own_offset w p fd o n is h;
       contents = λ h. cc;
       brief = omega arith;
       few = omega (arith, put.0);
       proper = λ small. record { files = (put.0, omega (arith, put.1, small)); process = tt; table = tt };
-      fits = λ whole. record { files = file_there w p o at regular whole; process = tt; table = ap is_some at.description_is; alone = λ h. cc };
+      fits = λ whole. record { files = file_there w p o at regular whole; process = tt; table = ap is_some at.description_is; alone = λ h. cc; goes_alone = λ h. cc };
       within_files = put.1;
       within_table = λ small _. omega (arith, put.1, small);
     })
@@ -220,17 +229,16 @@ sound_pwrite bounds w p fd start bytes o is free =
     let below_limit = unmet (pwrite_faults bounds start bytes o) free (is_past_limit bounds (bytes_before start) bytes) (search rules) in
     let n = fitting bounds (bytes_before start) bytes in
     if_has (Answers bounds w p (call.Pwrite fd start bytes)) (eqb (length bytes) 0) (tells (Number 0)) (does (Number n) (on_files.Bytes (file_at o) (bytes_before start) n) on_table.Nothing)
-    (λ _. sound_tells bounds w p (call.Pwrite fd start bytes) (Number 0) refl (omega arith))
+    (λ _. sound_tells bounds w p (call.Pwrite fd start bytes) (Number 0) refl refl refl (omega arith))
     (λ some. let put = put_below bounds (bytes_before start) bytes below_limit some in record {
       refusal = λ _ _ h. cc;
-      told = refl;
-      planned = refl;
+      processes = as_before w refl refl refl refl;
       own = λ n h. cc;
       contents = λ h. cc;
       brief = omega arith;
       few = omega (arith, put.0);
       proper = λ small. record { files = (put.0, omega (arith, put.1, small)); process = tt; table = tt };
-      fits = λ whole. record { files = file_there w p o at regular whole; process = tt; table = tt; alone = λ h. cc };
+      fits = λ whole. record { files = file_there w p o at regular whole; process = tt; table = tt; alone = λ h. cc; goes_alone = λ h. cc };
       within_files = put.1;
       within_table = λ _ _. tt;
     })
@@ -244,14 +252,13 @@ sound_lseek : (bounds : Bounds) (w : World) (p : ℕ) (fd offset : ℤ) (from : 
     Answers bounds w p (call.Lseek fd offset from) (lseek_to to o).effect
 sound_lseek bounds w p fd offset from to o is free = record {
   refusal = λ _ _ h. cc;
-  told = refl;
-  planned = refl;
+  processes = as_before w refl refl refl refl;
   own = λ n h. own_offset w p fd o n is h;
   contents = λ _. refl;
   brief = omega arith;
   few = omega arith;
   proper = λ _. record { files = tt; process = tt; table = tt };
-  fits = λ _. record { files = tt; process = tt; table = ap is_some (opened_stands w p fd o is).description_is; alone = λ h. cc };
+  fits = λ _. record { files = tt; process = tt; table = ap is_some (opened_stands w p fd o is).description_is; alone = λ h. cc; goes_alone = λ h. cc };
   within_files = tt;
   within_table = λ _ _. sought_within to o free;
 }
@@ -263,14 +270,13 @@ sound_ftruncate bounds w p fd len o at free =
     let short = not_below bounds.file_size (bytes_before len) (unmet (ftruncate_faults bounds len o) free (ltb bounds.file_size (bytes_before len)) (search rules)) in
     record {
       refusal = λ _ _ h. cc;
-      told = refl;
-      planned = refl;
+      processes = as_before w refl refl refl refl;
       own = λ n h. cc;
       contents = λ h. cc;
       brief = omega arith;
       few = omega arith;
       proper = λ small. record { files = omega (arith, short, small); process = tt; table = tt };
-      fits = λ whole. record { files = file_there w p o at regular whole; process = tt; table = tt; alone = λ h. cc };
+      fits = λ whole. record { files = file_there w p o at regular whole; process = tt; table = tt; alone = λ h. cc; goes_alone = λ h. cc };
       within_files = short;
       within_table = λ _ _. tt;
     }
@@ -312,8 +318,7 @@ sound_dup bounds w p fd o at free =
     let is = free_is w p low refl (unmet (dup w p o).faults free (is_none low) (search rules)) in
     record {
       refusal = λ _ _ h. cc;
-      told = refl;
-      planned = refl;
+      processes = as_before w refl refl refl refl;
       own = λ n h. cc;
       contents = λ _. refl;
       brief = omega arith;
@@ -324,6 +329,7 @@ sound_dup bounds w p fd o at free =
         process = tt;
         table = record { process = is.process; process_is = is.process_is; within = is.within; there = λ n h. let same : o.number ≡ n = cc in subst (IsThere w.descriptions) same (ap is_some at.description_is) };
         alone = λ h. cc;
+        goes_alone = λ h. cc;
       };
       within_files = tt;
       within_table = λ _ _. tt;
@@ -340,21 +346,19 @@ sound_dup2 bounds w p fd to o at free =
     if_has (Answers bounds w p (call.Dup2 fd to)) (eqb (nat_abs to) o.fd) (tells (Number (nat_abs to))) (does (Number (nat_abs to)) on_files.Nothing (on_table.Entry p (nat_abs to) (Some o.number)))
     (λ _. record {
       refusal = λ _ _ h. cc;
-      told = refl;
-      planned = refl;
+      processes = as_before w refl refl refl refl;
       own = λ n h. cc;
       contents = λ _. refl;
       brief = omega arith;
       few = omega arith;
       proper = λ _. record { files = tt; process = tt; table = tt };
-      fits = λ _. record { files = tt; process = tt; table = tt; alone = λ h. cc };
+      fits = λ _. record { files = tt; process = tt; table = tt; alone = λ h. cc; goes_alone = λ h. cc };
       within_files = tt;
       within_table = λ _ _. tt;
     })
     (λ _. record {
       refusal = λ _ _ h. cc;
-      told = refl;
-      planned = refl;
+      processes = as_before w refl refl refl refl;
       own = λ n h. cc;
       contents = λ _. refl;
       brief = omega arith;
@@ -370,6 +374,7 @@ sound_dup2 bounds w p fd to o at free =
           there = λ n h. let same : o.number ≡ n = cc in subst (IsThere w.descriptions) same (ap is_some at.description_is);
         };
         alone = λ h. cc;
+        goes_alone = λ h. cc;
       };
       within_files = tt;
       within_table = λ _ _. tt;
@@ -400,29 +405,27 @@ can_open w p name flags found h =
 fits_emptied : (w : World) (p f : ℕ) (flags : OpenFlags) → IsFree w p (free_descriptor w p) → is_regular_file (slot w.files f) ≡ true → Fits w [] (opens w p (emptied f flags) (new_description f flags)).change
 fits_emptied w p f flags free there =
     elim (has flags flag.trunc) as (λ b. Fits w [] (opens w p (cond b (on_files.Resize f 0) on_files.Nothing) (new_description f flags)).change) [
-      | true ↦ record { files = there; process = tt; table = record { free = free_stays w (with_bytes w f []) p (free_descriptor w p) refl free; there = test_set is_regular_file w.files f (Some (file.Regular [])) f (sym there) ∙ there }; alone = λ h. cc }
-      | false ↦ record { files = tt; process = tt; table = record { free = free; there = there }; alone = λ h. cc }
+      | true ↦ record { files = there; process = tt; table = record { free = free_stays w (with_bytes w f []) p (free_descriptor w p) refl free; there = test_set is_regular_file w.files f (Some (file.Regular [])) f (sym there) ∙ there }; alone = λ h. cc; goes_alone = λ h. cc }
+      | false ↦ record { files = tt; process = tt; table = record { free = free; there = there }; alone = λ h. cc; goes_alone = λ h. cc }
     ]
 
 sound_open : (bounds : Bounds) (w : World) (p : ℕ) (name : List ℕ) (flags : OpenFlags) (found : Option ℕ) → file_of name w.names ≡ found → CanOpenFound w p found →
     Answers bounds w p (call.Open name flags) (open_found w p name flags found)
 sound_open bounds w p name flags None is can = record {
   refusal = λ _ _ h. cc;
-  told = refl;
-  planned = refl;
+  processes = as_before w refl refl refl refl;
   own = λ n h. cc;
   contents = λ h. cc;
   brief = omega arith;
   few = omega arith;
   proper = λ _. record { files = (is, can.name refl); process = tt; table = can.descriptions };
-  fits = λ _. record { files = tt; process = tt; table = record { free = free_stays w (created w name) p (free_descriptor w p) refl can.free; there = regular_pushed w.files }; alone = λ h. cc };
+  fits = λ _. record { files = tt; process = tt; table = record { free = free_stays w (created w name) p (free_descriptor w p) refl can.free; there = regular_pushed w.files }; alone = λ h. cc; goes_alone = λ h. cc };
   within_files = tt;
   within_table = λ _ _. omega arith;
 }
 sound_open bounds w p name flags (Some f) is can = record {
   refusal = λ _ _ h. cc;
-  told = refl;
-  planned = refl;
+  processes = as_before w refl refl refl refl;
   own = λ n h. cc;
   contents = λ h. cc;
   brief = omega arith;
@@ -448,8 +451,7 @@ sound_link bounds w p old new (Some f) is free =
     let faults = (link_at w old new (Some f)).faults in
     record {
       refusal = λ _ _ h. cc;
-      told = refl;
-      planned = refl;
+      processes = as_before w refl refl refl refl;
       own = λ n h. cc;
       contents = λ h. cc;
       brief = omega arith;
@@ -459,7 +461,7 @@ sound_link bounds w p old new (Some f) is free =
         process = tt;
         table = tt;
       };
-      fits = λ whole. record { files = found_there (IsThere w.files) old w.names f whole.names is; process = tt; table = tt; alone = λ h. cc };
+      fits = λ whole. record { files = found_there (IsThere w.files) old w.names f whole.names is; process = tt; table = tt; alone = λ h. cc; goes_alone = λ h. cc };
       within_files = tt;
       within_table = λ _ _. tt;
     }
@@ -472,95 +474,170 @@ some_there (Some n) h = refl
 sound_unlink : (bounds : Bounds) (w : World) (p : ℕ) (name : List ℕ) → first_fault (unlink_faults w name) ≡ None → Answers bounds w p (call.Unlink name) (unlink w name).effect
 sound_unlink bounds w p name free = record {
   refusal = λ _ _ h. cc;
-  told = refl;
-  planned = refl;
+  processes = as_before w refl refl refl refl;
   own = λ n h. cc;
   contents = λ h. cc;
   brief = omega arith;
   few = omega arith;
   proper = λ _. record { files = tt; process = tt; table = tt };
-  fits = λ _. record { files = some_there (file_of name w.names) (unmet (unlink_faults w name) free (is_none (file_of name w.names)) (search rules)); process = tt; table = tt; alone = λ _. (refl, refl) };
+  fits = λ _. record { files = some_there (file_of name w.names) (unmet (unlink_faults w name) free (is_none (file_of name w.names)) (search rules)); process = tt; table = tt; alone = λ _. (refl, refl); goes_alone = λ h. cc };
   within_files = tt;
   within_table = λ _ _. tt;
 }
 
--- one case for each call
-pub calls_are_sound : CallsAreSound
-calls_are_sound bounds w p (call.Open name flags) =
-    let found = file_of name w.names in
-    page_has (Answers bounds w p (call.Open name flags)) (open_file w p name flags) (sound_refused bounds w p (call.Open name flags))
-    (λ free. sound_open bounds w p name flags found refl (can_open w p name flags found free))
-calls_are_sound bounds w p (call.Close fd) =
-    on_open_has (Answers bounds w p (call.Close fd)) (opened w p fd) (close p) (sound_refused bounds w p (call.Close fd)) (λ o is _. sound_close bounds w p fd o (opened_stands w p fd o is))
-calls_are_sound bounds w p (call.Read fd count) =
-    on_open_has (Answers bounds w p (call.Read fd count)) (opened w p fd) (read w count) (sound_refused bounds w p (call.Read fd count)) (λ o is free. sound_read bounds w p fd count o is free)
-calls_are_sound bounds w p (call.Write fd bytes) =
-    on_open_has (Answers bounds w p (call.Write fd bytes)) (opened w p fd) (write bounds w bytes) (sound_refused bounds w p (call.Write fd bytes))
-    (λ o is free. sound_write bounds w p fd bytes (write_start o.description (length (bytes_of w (file_at o)))) o is free)
-calls_are_sound bounds w p (call.Pread fd start count) =
-    on_open_has (Answers bounds w p (call.Pread fd start count)) (opened w p fd) (pread w start count) (sound_refused bounds w p (call.Pread fd start count))
-    (λ o is free.
-    let asked = not_below TRANSFER_MAX count (unmet (pread_faults start count o) free (ltb TRANSFER_MAX count) (search rules)) in
-    let there = bytes_of w (file_at o) in
-    sound_tells bounds w p (call.Pread fd start count) (Data (bytes_at there (bytes_before start) count)) refl (read_few there (bytes_before start) count TRANSFER_MAX asked))
-calls_are_sound bounds w p (call.Pwrite fd start bytes) =
-    on_open_has (Answers bounds w p (call.Pwrite fd start bytes)) (opened w p fd) (pwrite bounds start bytes) (sound_refused bounds w p (call.Pwrite fd start bytes))
-    (λ o is free. sound_pwrite bounds w p fd start bytes o is free)
-calls_are_sound bounds w p (call.Lseek fd offset from) =
-    on_open_has (Answers bounds w p (call.Lseek fd offset from)) (opened w p fd) (lseek w offset from) (sound_refused bounds w p (call.Lseek fd offset from))
-    (λ o is free. sound_lseek bounds w p fd offset from (pos (base_of w o from) +ℤ offset) o is free)
-calls_are_sound bounds w p (call.Ftruncate fd len) =
-    on_open_has (Answers bounds w p (call.Ftruncate fd len)) (opened w p fd) (ftruncate bounds len) (sound_refused bounds w p (call.Ftruncate fd len))
-    (λ o is free. sound_ftruncate bounds w p fd len o (opened_stands w p fd o is) free)
-calls_are_sound bounds w p (call.Dup fd) =
-    on_open_has (Answers bounds w p (call.Dup fd)) (opened w p fd) (dup w p) (sound_refused bounds w p (call.Dup fd)) (λ o is free. sound_dup bounds w p fd o (opened_stands w p fd o is) free)
-calls_are_sound bounds w p (call.Dup2 fd to) =
-    on_open_has (Answers bounds w p (call.Dup2 fd to)) (opened w p fd) (dup2 p to) (sound_refused bounds w p (call.Dup2 fd to)) (λ o is free. sound_dup2 bounds w p fd to o (opened_stands w p fd o is) free)
-calls_are_sound bounds w p (call.Link old new) =
-    page_has (Answers bounds w p (call.Link old new)) (link w old new) (sound_refused bounds w p (call.Link old new)) (λ free. sound_link bounds w p old new (file_of old w.names) refl free)
-calls_are_sound bounds w p (call.Unlink name) =
-    page_has (Answers bounds w p (call.Unlink name)) (unlink w name) (sound_refused bounds w p (call.Unlink name)) (λ free. sound_unlink bounds w p name free)
-calls_are_sound bounds w p (call.Fstat fd) =
-    on_open_has (Answers bounds w p (call.Fstat fd)) (opened w p fd) (fstat w) (sound_refused bounds w p (call.Fstat fd))
-    (λ o is _. sound_tells bounds w p (call.Fstat fd) (Told (stat_of w o.description.target)) refl (omega arith))
+-- an act that adds a process, where there may be a further one
+record AddsOne (w : World) (actor : ℕ) (a : Act) : Type 0 where
+  told : (n : ℕ) → added a (Replied (Number n)) ≡ 1
+  refused : (error : Errno) → added a (Replied (Error error)) ≡ 0
+  planned : adds w a ≡ cond (is_full w) 0 1
+  ended : ended a ≡ 0
+  closed : closes a ≡ false
+  few : (o : Outcome) → took w (record { actor = actor; act = a; outcome = o }) ≤ length (given a)
 
--- a join, refused or not
-sound_join : (bounds : Bounds) (w : World) (actor : ℕ) → Sound bounds w actor act.Join (decided_by (join w))
-sound_join bounds w actor = by_room (is_full w) refl
+-- it is refused or not
+sound_adds : (bounds : Bounds) (w : World) (actor : ℕ) (a : Act) (table : List (Option ℕ)) (attached : Bool) → AddsOne w actor a → (IsWhole w → CanAdd w table) →
+    Sound bounds w actor a (decided_by (record { faults = (is_full w, EAGAIN) ∷ []; effect = acts (Number (length w.processes)) (on_process.Add table attached) }))
+sound_adds bounds w actor a table attached one can = by_room (is_full w) refl
   where
-    by_room : (b : Bool) → is_full w ≡ b → Sound bounds w actor act.Join (unless (cond b (Some EAGAIN) None) (acts (Number (length w.processes)) (on_process.Add free_table)))
+    by_room : (b : Bool) → is_full w ≡ b → Sound bounds w actor a (unless (cond b (Some EAGAIN) None) (acts (Number (length w.processes)) (on_process.Add table attached)))
     by_room true e = record {
       refusal = λ _ _ _. refl;
-      told = refl;
-      planned = rw e refl;
+      processes = as_before w (one.refused EAGAIN) (rw e at one.planned) one.ended one.closed;
       own = λ n h. cc;
       contents = λ _. refl;
       brief = omega arith;
-      few = omega arith;
+      few = one.few (Replied (Error EAGAIN));
       proper = λ _. record { files = tt; process = tt; table = tt };
-      fits = λ _. record { files = tt; process = tt; table = tt; alone = λ h. cc };
+      fits = λ _. record { files = tt; process = tt; table = tt; alone = λ h. cc; goes_alone = λ h. cc };
       within_files = tt;
       within_table = λ _ _. tt;
     }
     by_room false e = record {
       refusal = λ _ _ h. cc;
-      told = refl;
-      planned = rw e refl;
+      processes = record { added = sym (one.told (length w.processes)); planned = sym (rw e at one.planned); ended = sym one.ended; closed = sym one.closed; there = λ p h. cc };
       own = λ n h. cc;
       contents = λ _. refl;
       brief = omega arith;
-      few = omega arith;
+      few = one.few (Replied (Number (length w.processes)));
       proper = λ _. record { files = tt; process = not_at_most PROCESSES_MAX (live w.processes) (second_of_either w.closed (leb PROCESSES_MAX (live w.processes)) e); table = tt };
-      fits = λ _. record { files = tt; process = refl; table = tt; alone = λ h. cc };
+      fits = λ whole. record { files = tt; process = can whole; table = tt; alone = λ h. cc; goes_alone = λ h. cc };
       within_files = tt;
       within_table = λ _ _. tt;
     }
 
-where_may : (Has : Decided → Type 0) (b : Bool) (x d : Decided) → Has x → cond b (Some x) None ≡ Some d → Has d
-where_may Has true x d has h = let is : x ≡ d = cc in subst Has is has
+-- a table of which no descriptor is open refers to nothing
+none_replicated : (m n x : ℕ) (P : Type 0) → slot (replicate m None) n ≡ Some x → P
+none_replicated zero n x P h = cc
+none_replicated (suc m) zero x P h = cc
+none_replicated (suc m) (suc n) x P h = none_replicated m n x P h
+
+free_can : (w : World) → CanAdd w free_table
+free_can w = record { there = λ n x h. none_replicated OPEN_MAX n x (IsThere w.descriptions x) h; all = refl }
+
+-- the descriptors of a parent refer to what is there
+copied_can : (w : World) (parent : Option Process) → ((x : Process) → parent ≡ Some x → EachThere (IsThere w.descriptions) x.table) → ((x : Process) → parent ≡ Some x → length x.table ≡ OPEN_MAX) →
+    CanAdd w (copied_table parent)
+copied_can w None there all = free_can w
+copied_can w (Some x) there all = record { there = there x refl; all = all x refl }
+
+-- one case for each call
+pub calls_are_sound : CallsAreSound
+calls_are_sound bounds w p (call.Open name flags) =
+    let found = file_of name w.names in
+    page_has (Answers bounds w p (call.Open name flags)) (open_file w p name flags) (sound_refused bounds w p (call.Open name flags) refl)
+    (λ free. sound_open bounds w p name flags found refl (can_open w p name flags found free))
+calls_are_sound bounds w p (call.Close fd) =
+    on_open_has (Answers bounds w p (call.Close fd)) (opened w p fd) (close p) (sound_refused bounds w p (call.Close fd) refl) (λ o is _. sound_close bounds w p fd o (opened_stands w p fd o is))
+calls_are_sound bounds w p (call.Read fd count) =
+    on_open_has (Answers bounds w p (call.Read fd count)) (opened w p fd) (read w count) (sound_refused bounds w p (call.Read fd count) refl) (λ o is free. sound_read bounds w p fd count o is free)
+calls_are_sound bounds w p (call.Write fd bytes) =
+    on_open_has (Answers bounds w p (call.Write fd bytes)) (opened w p fd) (write bounds w bytes) (sound_refused bounds w p (call.Write fd bytes) refl)
+    (λ o is free. sound_write bounds w p fd bytes (write_start o.description (length (bytes_of w (file_at o)))) o is free)
+calls_are_sound bounds w p (call.Pread fd start count) =
+    on_open_has (Answers bounds w p (call.Pread fd start count)) (opened w p fd) (pread w start count) (sound_refused bounds w p (call.Pread fd start count) refl)
+    (λ o is free.
+    let asked = not_below TRANSFER_MAX count (unmet (pread_faults start count o) free (ltb TRANSFER_MAX count) (search rules)) in
+    let there = bytes_of w (file_at o) in
+    sound_tells bounds w p (call.Pread fd start count) (Data (bytes_at there (bytes_before start) count)) refl refl refl (read_few there (bytes_before start) count TRANSFER_MAX asked))
+calls_are_sound bounds w p (call.Pwrite fd start bytes) =
+    on_open_has (Answers bounds w p (call.Pwrite fd start bytes)) (opened w p fd) (pwrite bounds start bytes) (sound_refused bounds w p (call.Pwrite fd start bytes) refl)
+    (λ o is free. sound_pwrite bounds w p fd start bytes o is free)
+calls_are_sound bounds w p (call.Lseek fd offset from) =
+    on_open_has (Answers bounds w p (call.Lseek fd offset from)) (opened w p fd) (lseek w offset from) (sound_refused bounds w p (call.Lseek fd offset from) refl)
+    (λ o is free. sound_lseek bounds w p fd offset from (pos (base_of w o from) +ℤ offset) o is free)
+calls_are_sound bounds w p (call.Ftruncate fd len) =
+    on_open_has (Answers bounds w p (call.Ftruncate fd len)) (opened w p fd) (ftruncate bounds len) (sound_refused bounds w p (call.Ftruncate fd len) refl)
+    (λ o is free. sound_ftruncate bounds w p fd len o (opened_stands w p fd o is) free)
+calls_are_sound bounds w p (call.Dup fd) =
+    on_open_has (Answers bounds w p (call.Dup fd)) (opened w p fd) (dup w p) (sound_refused bounds w p (call.Dup fd) refl) (λ o is free. sound_dup bounds w p fd o (opened_stands w p fd o is) free)
+calls_are_sound bounds w p (call.Dup2 fd to) =
+    on_open_has (Answers bounds w p (call.Dup2 fd to)) (opened w p fd) (dup2 p to) (sound_refused bounds w p (call.Dup2 fd to) refl) (λ o is free. sound_dup2 bounds w p fd to o (opened_stands w p fd o is) free)
+calls_are_sound bounds w p (call.Link old new) =
+    page_has (Answers bounds w p (call.Link old new)) (link w old new) (sound_refused bounds w p (call.Link old new) refl) (λ free. sound_link bounds w p old new (file_of old w.names) refl free)
+calls_are_sound bounds w p (call.Unlink name) =
+    page_has (Answers bounds w p (call.Unlink name)) (unlink w name) (sound_refused bounds w p (call.Unlink name) refl) (λ free. sound_unlink bounds w p name free)
+calls_are_sound bounds w p (call.Fstat fd) =
+    on_open_has (Answers bounds w p (call.Fstat fd)) (opened w p fd) (fstat w) (sound_refused bounds w p (call.Fstat fd) refl)
+    (λ o is _. sound_tells bounds w p (call.Fstat fd) (Told (stat_of w o.description.target)) refl refl refl (omega arith))
+calls_are_sound bounds w p call.Fork =
+    sound_adds bounds w p (act.Call call.Fork) (copied_table (slot w.processes p)) false (record { told = λ _. refl; refused = λ _. refl; planned = refl; ended = refl; closed = refl; few = λ _. omega arith })
+    (λ whole. copied_can w (slot w.processes p) (whole.processes p) (whole.tables p))
+
+-- what is of one process alone
+alone_sound : (bounds : Bounds) (w : World) (actor : ℕ) (a : Act) (edit : ProcessEdit) → IsTold w a (Replied Done) edit → took w (record { actor = actor; act = a; outcome = Replied Done }) ≤ length (given a) →
+    ProcessProper w edit → (IsWhole w → ProcessFits w edit) → Sound bounds w actor a (acts Done edit)
+alone_sound bounds w actor a edit told few proper fits = record {
+  refusal = λ _ _ h. cc;
+  processes = told;
+  own = λ n h. cc;
+  contents = λ _. refl;
+  brief = omega arith;
+  few = few;
+  proper = λ _. record { files = tt; process = proper; table = tt };
+  fits = λ whole. record { files = tt; process = fits whole; table = tt; alone = λ h. cc; goes_alone = λ _. (refl, refl) };
+  within_files = tt;
+  within_table = λ _ _. tt;
+}
+
+sound_attach : (bounds : Bounds) (w : World) (actor : ℕ) → Sound bounds w actor act.Attach (decided_by (attach w actor))
+sound_attach bounds w actor = page_has (Sound bounds w actor act.Attach) (attach w actor)
+    (λ error. record {
+      refusal = λ _ _ _. refl;
+      processes = as_before w refl refl refl refl;
+      own = λ n h. cc;
+      contents = λ _. refl;
+      brief = omega arith;
+      few = omega arith;
+      proper = λ _. record { files = tt; process = tt; table = tt };
+      fits = λ _. record { files = tt; process = tt; table = tt; alone = λ h. cc; goes_alone = λ h. cc };
+      within_files = tt;
+      within_table = λ _ _. tt;
+    })
+    (λ free. alone_sound bounds w actor act.Attach (on_process.Attach actor) (record { added = refl; planned = refl; ended = refl; closed = refl; there = λ p h. cc }) (omega arith) tt
+    (λ _. there_if (slot w.processes actor) (not_false (awaits (slot w.processes actor)) (unmet (attach w actor).faults free (not (awaits (slot w.processes actor))) (search rules)))))
+  where
+    there_if : (x : Option Process) → awaits x ≡ true → is_some x ≡ true
+    there_if None h = cc
+    there_if (Some x) h = refl
+
+sound_exit : (bounds : Bounds) (w : World) (actor : ℕ) → IsThere w.processes actor → Sound bounds w actor act.Exit (exit actor)
+sound_exit bounds w actor there = alone_sound bounds w actor act.Exit (on_process.Exit actor)
+    (record { added = refl; planned = refl; ended = refl; closed = refl; there = λ p h. let same : actor ≡ p = cc in subst (IsThere w.processes) same there }) (omega arith) tt (λ _. there)
+
+sound_close_run : (bounds : Bounds) (w : World) (actor : ℕ) → Sound bounds w actor act.CloseRun close_run
+sound_close_run bounds w actor = alone_sound bounds w actor act.CloseRun on_process.Close (record { added = refl; planned = refl; ended = refl; closed = refl; there = λ p h. cc }) (omega arith) tt (λ _. tt)
+
+where_may : (Has : Decided → Type 0) (b : Bool) (x d : Decided) → (b ≡ true → Has x) → cond b (Some x) None ≡ Some d → Has d
+where_may Has true x d has h = let is : x ≡ d = cc in subst Has is (has refl)
 where_may Has false x d has h = cc
 
 pub acts_are_sound : ActsAreSound
-acts_are_sound bounds w actor act.Join d h = where_may (Sound bounds w actor act.Join) (eqb actor (length w.processes)) (decided_by (join w)) d (sound_join bounds w actor) h
-acts_are_sound bounds w actor (act.Call c) d h = where_may (Answers bounds w actor c) (can_call (slot w.processes actor)) (decided bounds w actor c) d (calls_are_sound bounds w actor c) h
-acts_are_sound bounds w actor other d h = cc
+acts_are_sound bounds w actor act.Join d h =
+    where_may (Sound bounds w actor act.Join) (eqb actor (length w.processes)) (decided_by (join w)) d
+    (λ _. sound_adds bounds w actor act.Join free_table true (record { told = λ _. refl; refused = λ _. refl; planned = refl; ended = refl; closed = refl; few = λ _. omega arith }) (λ _. free_can w)) h
+acts_are_sound bounds w actor act.Attach d h = where_may (Sound bounds w actor act.Attach) true (decided_by (attach w actor)) d (λ _. sound_attach bounds w actor) h
+acts_are_sound bounds w actor (act.Call c) d h = where_may (Answers bounds w actor c) (can_call (slot w.processes actor)) (decided bounds w actor c) d (λ _. calls_are_sound bounds w actor c) h
+acts_are_sound bounds w actor act.Resume d h = cc
+acts_are_sound bounds w actor act.Exit d h = where_may (Sound bounds w actor act.Exit) (is_some (slot w.processes actor)) (exit actor) d (λ there. sound_exit bounds w actor there) h
+acts_are_sound bounds w actor act.CloseRun d h =
+    where_may (Sound bounds w actor act.CloseRun) (eqb actor HOUSE && not w.closed) close_run d (λ _. sound_close_run bounds w actor) h

@@ -1,53 +1,97 @@
--- What a sweep leaves, and that it leaves nothing for the next one.
-use Rattle.std.proofs.Common.{◌≡◌, ℕ, zero, suc, ◌+◌, ◌∙◌, Bool, true, false, ◌&&◌, cond, List, [], ◌∷◌, Option, None, Some, length, map, refl, ap, sym, subst, arith}
+-- What a sweep leaves, that it leaves nothing for the next one, and that one more before it makes no difference.
+use Rattle.std.proofs.Common.{◌≡◌, ℕ, zero, suc, ◌+◌, ◌≤◌, ◌<◌, ◌∙◌, Bool, true, false, ◌&&◌, cond, ltb, List, [], ◌∷◌, Option, None, Some, length, map, refl, ap, sym, subst, arith}
 use Rattle.std.specs.Option.{is_some, option_map}
+use Rattle.std.specs.List.{count_by}
+use Rattle.std.proofs.lemmas.Bool.{lt-ltb, ltb-true}
+use Rattle.std.proofs.lemmas.List.Sums.{sum_by-cons}
 use Rattle.slots.specs.Slots.{slot, kept, kept_from}
 use Rattle.posix_model.specs.Laws.{SweepSettles, StepSettles, SweepLeaves}
-use Rattle.posix_model.specs.Types.{Act, Bounds, World, Description, File, Decided}
+use Rattle.posix_model.specs.Types.{Act, Bounds, World, Process, Description, File, Decided}
 use Rattle.posix_model.specs.Step.{Stepped, stepped, comes_to, given, step}
 use Rattle.posix_model.specs.Change.{changed}
+use Rattle.posix_model.specs.Counts.{links, refs, holds, holders, reads, readers, writes, writers}
 use Rattle.posix_model.specs.Sweep.{is_referred, is_open, is_wanted, open_pipe, without_gone_pipe, sweep}
 use Rattle.posix_model.specs.declared.world.File.TheVariants as file
 use Rattle.posix_model.proofs.SlotLaws.{length_kept}
 
-kept_from_again : {T : Type 0} (keeps : ℕ → Bool) (m : ℕ) (xs : List (Option T)) → kept_from keeps m (kept_from keeps m xs) ≡ kept_from keeps m xs
-kept_from_again keeps m [] = refl
-kept_from_again keeps m (x ∷ xs) =
-    let tail = kept_from_again keeps (suc m) xs in
-    elim (keeps m) as (λ b. cond b (cond b x None) None ∷ kept_from keeps (suc m) (kept_from keeps (suc m) xs) ≡ cond b x None ∷ kept_from keeps (suc m) xs) [
-      | true ↦ ap (λ ys. x ∷ ys) tail
-      | false ↦ ap (λ ys. None ∷ ys) tail
-    ]
+-- what the second test passes, the first has passed
+abbrev Narrows : (ℕ → Bool) → (ℕ → Bool) → Type 0
+Narrows first second = (n : ℕ) → second n ≡ true → first n ≡ true
 
-mapped_from_again : {T : Type 0} (f : Option T → Option T) → f None ≡ None → ((x : Option T) → f (f x) ≡ f x) →
-    (keeps : ℕ → Bool) (m : ℕ) (xs : List (Option T)) →
-    kept_from keeps m (map f (kept_from keeps m (map f xs))) ≡ kept_from keeps m (map f xs)
-mapped_from_again f none twice keeps m [] = refl
-mapped_from_again f none twice keeps m (x ∷ xs) =
-    let tail = mapped_from_again f none twice keeps (suc m) xs in
-    elim (keeps m) as (λ b. cond b (f (cond b (f x) None)) None ∷ kept_from keeps (suc m) (map f (kept_from keeps (suc m) (map f xs))) ≡ cond b (f x) None ∷ kept_from keeps (suc m) (map f xs)) [
-      | true ↦ rw (twice x, tail)
-      | false ↦ ap (λ ys. None ∷ ys) tail
-    ]
+fails_too : (b c : Bool) → (c ≡ true → b ≡ true) → b ≡ false → c ≡ false
+fails_too b true h fails = sym (h refl) ∙ fails
+fails_too b false h fails = refl
 
-open_pipe_again : (ds : List (Option Description)) (pipe : ℕ) (b : Bool) → is_open ds pipe ≡ b → open_pipe ds (cond b (Some pipe) None) ≡ cond b (Some pipe) None
-open_pipe_again ds pipe true e = rw e
-open_pipe_again ds pipe false e = refl
+-- what is kept of what a wider test kept is what is kept
+kept_twice : {T : Type 0} (p q : ℕ → Bool) → Narrows p q → (m : ℕ) (xs : List (Option T)) → kept_from q m (kept_from p m xs) ≡ kept_from q m xs
+kept_twice p q narrows m [] = refl
+kept_twice p q narrows m (x ∷ xs) =
+    let tail = kept_twice p q narrows (suc m) xs in
+    elim (p m) as (λ b. p m ≡ b → cond (q m) (cond b x None) None ∷ kept_from q (suc m) (kept_from p (suc m) xs) ≡ cond (q m) x None ∷ kept_from q (suc m) xs) [
+      | true ↦ λ _. ap (λ ys. cond (q m) x None ∷ ys) tail
+      | false ↦ λ fails. rw (fails_too (p m) (q m) (narrows m) fails, tail) refl
+    ] refl
 
-forgets_once : (ds : List (Option Description)) (f : Option File) → without_gone_pipe ds (without_gone_pipe ds f) ≡ without_gone_pipe ds f
-forgets_once ds None = refl
-forgets_once ds (Some (file.Regular bytes)) = refl
-forgets_once ds (Some (file.Fifo fifo)) = ap (λ pipe. Some (file.Fifo (record fifo { pipe = pipe }))) (once fifo.pipe)
+mapped_twice : {T : Type 0} (f g : Option T → Option T) → g None ≡ None → ((x : Option T) → g (f x) ≡ g x) →
+    (p q : ℕ → Bool) → Narrows p q → (m : ℕ) (xs : List (Option T)) →
+    kept_from q m (map g (kept_from p m (map f xs))) ≡ kept_from q m (map g xs)
+mapped_twice f g none same p q narrows m [] = refl
+mapped_twice f g none same p q narrows m (x ∷ xs) =
+    let tail = mapped_twice f g none same p q narrows (suc m) xs in
+    elim (p m) as (λ b. p m ≡ b → cond (q m) (g (cond b (f x) None)) None ∷ kept_from q (suc m) (map g (kept_from p (suc m) (map f xs))) ≡ cond (q m) (g x) None ∷ kept_from q (suc m) (map g xs)) [
+      | true ↦ λ _. rw (same x, tail) refl
+      | false ↦ λ fails. rw (fails_too (p m) (q m) (narrows m) fails, tail) refl
+    ] refl
+
+-- a pipe that is gone is forgotten, sooner or later
+forgets_later : (ds es : List (Option Description)) → Narrows (is_open ds) (is_open es) → (f : Option File) → without_gone_pipe es (without_gone_pipe ds f) ≡ without_gone_pipe es f
+forgets_later ds es narrows None = refl
+forgets_later ds es narrows (Some (file.Regular bytes)) = refl
+forgets_later ds es narrows (Some (file.Fifo fifo)) = ap (λ pipe. Some (file.Fifo (record fifo { pipe = pipe }))) (later fifo.pipe)
   where
-    once : (pipe : Option ℕ) → open_pipe ds (open_pipe ds pipe) ≡ open_pipe ds pipe
-    once None = refl
-    once (Some pipe) = open_pipe_again ds pipe (is_open ds pipe) refl
+    later : (pipe : Option ℕ) → open_pipe es (open_pipe ds pipe) ≡ open_pipe es pipe
+    later None = refl
+    later (Some pipe) = elim (is_open ds pipe) as (λ b. is_open ds pipe ≡ b → open_pipe es (cond b (Some pipe) None) ≡ open_pipe es (Some pipe)) [
+      | true ↦ λ _. refl
+      | false ↦ λ fails. rw (fails_too (is_open ds pipe) (is_open es pipe) (narrows pipe) fails) refl
+    ] refl
+
+-- what an element that is tested adds to a count
+abbrev pub one : Bool → ℕ
+one b = cond b 1 0
+
+-- a count falls where places are emptied
+count_kept : {T : Type 0} (t : Option T → Bool) → t None ≡ false → (keeps : ℕ → Bool) (m : ℕ) (xs : List (Option T)) → count_by t (kept_from keeps m xs) ≤ count_by t xs
+count_kept t none keeps m [] = omega arith
+count_kept t none keeps m (x ∷ xs) =
+    let tail = count_kept t none keeps (suc m) xs in
+    let nothing : one (t None) ≡ 0 = rw none refl in
+    elim (keeps m) as (λ b. count_by t (cond b x None ∷ kept_from keeps (suc m) xs) ≤ count_by t (x ∷ xs)) [
+      | true ↦ omega (arith, tail, sum_by-cons (λ x. one (t x)) x xs, sum_by-cons (λ x. one (t x)) x (kept_from keeps (suc m) xs))
+      | false ↦ omega (arith, tail, nothing, sum_by-cons (λ x. one (t x)) x xs, sum_by-cons (λ x. one (t x)) None (kept_from keeps (suc m) xs))
+    ]
+
+above : (a b : ℕ) → (0 < a → 0 < b) → ltb 0 a ≡ true → ltb 0 b ≡ true
+above a b more h = lt-ltb 0 b (more (ltb-true 0 a h))
+
+-- where references only fall, sweeping first makes no difference
+pub sweep_first : (w : World) (ps : List (Option Process)) → ((n : ℕ) → 0 < refs ps n → 0 < refs w.processes n) →
+    sweep (record (sweep w) { processes = ps }) ≡ sweep (record w { processes = ps })
+sweep_first w ps falls =
+    let ds = kept (is_referred w.processes) w.descriptions in
+    let es = kept (is_referred ps) ds in
+    let referred : Narrows (is_referred w.processes) (is_referred ps) = λ n. above (refs ps n) (refs w.processes n) (falls n) in
+    let fewer = λ (t : Option Description → Bool) (none : t None ≡ false). count_kept t none (is_referred ps) 0 ds in
+    let opened : Narrows (is_open ds) (is_open es) = λ n. above (readers es n + writers es n) (readers ds n + writers ds n) (λ more. omega (arith, more, fewer (reads n) refl, fewer (writes n) refl)) in
+    let wanted : Narrows (is_wanted w.names ds) (is_wanted w.names es) = λ n. above (links w.names n + holders es n) (links w.names n + holders ds n) (λ more. omega (arith, more, fewer (holds n) refl)) in
+    rw (
+      ← kept_twice (is_referred w.processes) (is_referred ps) referred 0 w.descriptions,
+      kept_twice (is_open ds) (is_open es) opened 0 w.pipes,
+      mapped_twice (without_gone_pipe ds) (without_gone_pipe es) refl (forgets_later ds es opened) (is_wanted w.names ds) (is_wanted w.names es) wanted 0 w.files,
+    ) refl
 
 pub sweep_settles : SweepSettles
-sweep_settles w =
-    let ds = kept (is_referred w.processes) w.descriptions in
-    let descriptions : kept (is_referred w.processes) ds ≡ ds = kept_from_again (is_referred w.processes) 0 w.descriptions in
-    rw (descriptions, kept_from_again (is_open ds) 0 w.pipes, mapped_from_again (without_gone_pipe ds) refl (forgets_once ds) (is_wanted w.names ds) 0 w.files)
+sweep_settles w = sweep_first w w.processes (λ n more. more)
 
 -- a step, by what its act comes to
 pub step_parts : (Has : Stepped → Type 0) (bounds : Bounds) (w : World) (actor : ℕ) (act : Act) (s : Stepped) →

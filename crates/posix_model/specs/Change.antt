@@ -1,10 +1,12 @@
 -- What an act changes in a world, as data: one edit at most of files and pipes, of processes, and of descriptors and
 -- open file descriptions.
-use Rattle.std.specs.Prelude.{ℕ, true, Option, List, [], ◌∷◌, ◌++◌, None, Some, length, take, slice_set, replicate}
+use Rattle.std.specs.Prelude.{ℕ, true, List, [], ◌∷◌, ◌++◌, None, Some, length, take, slice_set}
 use Rattle.posix_model.specs.Bytes.{splice, resized}
 use Rattle.call_types.specs.Names.{with_name, without_name}
+use Rattle.slots.specs.Slots.{edited}
+use Rattle.process_table.specs.Processes.{process_with, with_connection}
 use Rattle.posix_model.specs.Descriptors.{with_descriptor, with_offset, bytes_of}
-use Rattle.posix_model.specs.Types.{World, Process, Description, FileEdit, ProcessEdit, TableEdit, Change, OPEN_MAX}
+use Rattle.posix_model.specs.Types.{World, Description, FileEdit, ProcessEdit, TableEdit, Change}
 use Rattle.posix_model.specs.declared.world.File.TheVariants as file
 use Rattle.posix_model.specs.declared.change.FileEdit.TheVariants as on_files
 use Rattle.posix_model.specs.declared.change.ProcessEdit.TheVariants as on_process
@@ -27,22 +29,13 @@ with_files w bytes (on_files.AddName name file) = record w { names = with_name n
 with_files w bytes (on_files.RemoveName name) = record w { names = without_name name w.names }
 with_files w bytes (on_files.MakeFile name) = created w name
 
--- a table of which no descriptor is open
-abbrev pub free_table : List (Option ℕ)
-free_table = replicate OPEN_MAX None
-
--- a process with this table and its connection, that waits in no call
-abbrev pub process_with : List (Option ℕ) → Process
-process_with table = record { table = table; parked = None; attached = true }
-
--- a process without open descriptors, with its connection
-abbrev pub new_process : Process
-new_process = process_with free_table
-
 -- the world after an edit of processes
 abbrev pub with_processes : World → ProcessEdit → World
 with_processes w on_process.Nothing = w
-with_processes w (on_process.Add table) = record w { processes = w.processes ++ Some (process_with table) ∷ [] }
+with_processes w (on_process.Add table attached) = record w { processes = w.processes ++ Some (process_with table attached) ∷ [] }
+with_processes w (on_process.Attach process) = record w { processes = edited process with_connection w.processes }
+with_processes w (on_process.Exit process) = record w { processes = slice_set w.processes process None }
+with_processes w on_process.Close = record w { closed = true }
 
 -- the world in which a descriptor refers to a new description
 abbrev pub with_description : World → ℕ → ℕ → Description → World

@@ -1,20 +1,11 @@
 -- Descriptors of a process, and the open file descriptions that they lead to.
-use Rattle.std.specs.Prelude.{ℕ, ℤ, pos, negsuc, List, [], Option, None, Some, slice_set, length}
+use Rattle.std.specs.Prelude.{ℕ, ℤ, pos, negsuc, List, [], Option, None, Some, length}
 use Rattle.std.specs.Option.{option_map}
 use Rattle.call_types.specs.Descriptions.{at_offset}
 use Rattle.slots.specs.Slots.{slot, edited}
-use Rattle.posix_model.specs.Types.{World, Process, Parked, Description, File, OpenDescriptor}
+use Rattle.process_table.specs.Processes.{table_of, with_entry}
+use Rattle.posix_model.specs.Types.{World, Description, File, OpenDescriptor}
 use Rattle.posix_model.specs.declared.world.File.TheVariants as file
-
--- the descriptors of a process, with what each refers to
-abbrev pub table_of : Option Process → List (Option ℕ)
-table_of None = []
-table_of (Some process) = process.table
-
--- the call that a process waits in
-abbrev pub parked_of : Option Process → Option Parked
-parked_of None = None
-parked_of (Some process) = process.parked
 
 -- the description of this number, with the descriptor that refers to it
 abbrev pub opened_description : ℕ → ℕ → Option Description → Option OpenDescriptor
@@ -34,10 +25,6 @@ opened w process (negsuc n) = None
 -- the number of the open file description that a descriptor leads to, if it is open (XBD 3, File Descriptor)
 abbrev pub number_of : World → ℕ → ℤ → Option ℕ
 number_of w process fd = option_map (λ o. o.number) (opened w process fd)
-
--- a process whose descriptor refers to this, or is free
-abbrev pub with_entry : ℕ → Option ℕ → Process → Process
-with_entry fd entry process = record process { table = slice_set process.table fd entry }
 
 -- the world in which a descriptor of a process refers to this, or is free
 abbrev pub with_descriptor : World → ℕ → ℕ → Option ℕ → World

@@ -2,7 +2,7 @@
 use Rattle.std.specs.Prelude.{ℕ, [], ◌∷◌, Some, is_none}
 use Rattle.posix_model.specs.Types.{World, OpenDescriptor, EMFILE, Number}
 use Rattle.slots.specs.Slots.{slot, lowest}
-use Rattle.posix_model.specs.Descriptors.{table_of}
+use Rattle.process_table.specs.Processes.{table_of}
 use Rattle.posix_model.specs.Open.{free_descriptor}
 use Rattle.posix_model.specs.Pages.{Page, does}
 use Rattle.posix_model.specs.declared.change.FileEdit.TheVariants as on_files

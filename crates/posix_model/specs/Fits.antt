@@ -2,9 +2,9 @@
 use Rattle.std.specs.Prelude.{◌≡◌, ℕ, ◌+◌, ◌≤◌, ◌<◌, Bool, true, false, List, Option, None, Some, length, is_some}
 use Rattle.slots.specs.Slots.{slot, live}
 use Rattle.call_types.specs.Names.{file_of}
-use Rattle.posix_model.specs.Whole.{IsThere, is_regular_file, TargetIsThere}
-use Rattle.posix_model.specs.Change.{with_files, with_processes, free_table}
-use Rattle.posix_model.specs.Types.{World, Process, Description, FileEdit, ProcessEdit, TableEdit, Change, OFFSET_MAX, NAMES_MAX, DESCRIPTIONS_MAX, PROCESSES_MAX}
+use Rattle.posix_model.specs.Whole.{IsThere, EachThere, is_regular_file, TargetIsThere}
+use Rattle.posix_model.specs.Change.{with_files, with_processes}
+use Rattle.posix_model.specs.Types.{World, Process, Description, FileEdit, ProcessEdit, TableEdit, Change, OPEN_MAX, OFFSET_MAX, NAMES_MAX, DESCRIPTIONS_MAX, PROCESSES_MAX}
 use Rattle.posix_model.specs.declared.change.FileEdit.TheVariants as on_files
 use Rattle.posix_model.specs.declared.change.ProcessEdit.TheVariants as on_process
 use Rattle.posix_model.specs.declared.change.TableEdit.TheVariants as on_table
@@ -36,10 +36,18 @@ FilesFit w (on_files.AddName name file) = IsThere w.files file
 FilesFit w (on_files.RemoveName name) = is_some (file_of name w.names) ≡ true
 FilesFit w other = Unit {0}
 
--- what an edit of processes asks
-abbrev pub ProcessFits : ProcessEdit → Type 0
-ProcessFits on_process.Nothing = Unit {0}
-ProcessFits (on_process.Add table) = table ≡ free_table
+-- a new process has as many descriptors as any, and they refer to what is there
+pub record CanAdd (w : World) (table : List (Option ℕ)) : Type 0 where
+  pub there : EachThere (IsThere w.descriptions) table
+  pub all : length table ≡ OPEN_MAX
+
+-- what an edit of processes asks to be there
+abbrev pub ProcessFits : World → ProcessEdit → Type 0
+ProcessFits w on_process.Nothing = Unit {0}
+ProcessFits w (on_process.Add table attached) = CanAdd w table
+ProcessFits w (on_process.Attach process) = IsThere w.processes process
+ProcessFits w (on_process.Exit process) = IsThere w.processes process
+ProcessFits w on_process.Close = Unit {0}
 
 -- what an edit of descriptors asks to be there
 abbrev pub TableFits : World → TableEdit → Type 0
@@ -53,12 +61,19 @@ abbrev pub removes : FileEdit → Bool
 removes (on_files.RemoveName name) = true
 removes other = false
 
--- what a change asks to be there, each edit in the world after the one before it; a name is taken away alone
+-- whether an edit ends a process, with which its descriptions may go
+abbrev pub ends : ProcessEdit → Bool
+ends (on_process.Exit process) = true
+ends other = false
+
+-- what a change asks to be there, each edit in the world after the one before it; a name is taken away alone, and a process
+-- goes alone
 pub record Fits (w : World) (bytes : List ℕ) (c : Change) : Type 0 where
   pub files : FilesFit w c.files
-  pub process : ProcessFits c.process
+  pub process : ProcessFits (with_files w bytes c.files) c.process
   pub table : TableFits (with_processes (with_files w bytes c.files) c.process) c.table
   pub alone : removes c.files ≡ true → (c.process ≡ on_process.Nothing) × (c.table ≡ on_table.Nothing)
+  pub goes_alone : ends c.process ≡ true → (c.files ≡ on_files.Nothing) × (c.table ≡ on_table.Nothing)
 
 -- what an edit of files asks of its numbers: no more bytes than the act gives, no position past the greatest offset, and
 -- room for a name that is new
@@ -73,7 +88,8 @@ FilesProper w bytes (on_files.MakeFile name) = (file_of name w.names ≡ None) �
 -- what an edit of processes asks: room for one more
 abbrev pub ProcessProper : World → ProcessEdit → Type 0
 ProcessProper w on_process.Nothing = Unit {0}
-ProcessProper w (on_process.Add table) = live w.processes < PROCESSES_MAX
+ProcessProper w (on_process.Add table attached) = live w.processes < PROCESSES_MAX
+ProcessProper w other = Unit {0}
 
 -- what an edit of descriptors asks: room for one more description
 abbrev pub TableProper : World → TableEdit → Type 0

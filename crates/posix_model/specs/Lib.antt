@@ -22,6 +22,9 @@ pub mod Link
 pub mod Unlink
 pub mod Fstat
 pub mod Join
+pub mod Fork
+pub mod Attach
+pub mod Exit
 pub mod Step
 pub mod History
 pub mod Turns
@@ -29,4 +32,5 @@ pub mod Fits
 pub mod Sound
 pub mod Lengths
 pub mod Released
+pub mod Drops
 pub mod Laws

@@ -10,7 +10,7 @@ use Rattle.slots.specs.Slots.{slot, lowest, live}
 use Rattle.call_types.specs.Names.{file_of}
 use Rattle.posix_model.specs.Whole.{is_fifo}
 use Rattle.posix_model.specs.Pages.{Page, does}
-use Rattle.posix_model.specs.Descriptors.{table_of}
+use Rattle.process_table.specs.Processes.{table_of}
 use Rattle.call_types.specs.declared.description.Mode.TheVariants as mode
 use Rattle.call_types.specs.declared.description.Target.TheVariants as target
 use Rattle.posix_model.specs.declared.change.FileEdit.TheVariants as on_files

@@ -6,7 +6,7 @@ use Rattle.posix_model.specs.Types.{Call, Act, Outcome, Errno, Bounds, World, Fi
 use Rattle.call_types.specs.declared.act.Act.TheVariants as act
 use Rattle.call_types.specs.declared.call.Call.TheVariants as call
 use Rattle.slots.specs.Slots.{live}
-use Rattle.posix_model.specs.Whole.{IsWhole, EachThere}
+use Rattle.posix_model.specs.Whole.{IsThere, IsWhole, EachThere}
 use Rattle.posix_model.specs.Descriptors.{number_of, bytes_of}
 use Rattle.posix_model.specs.Pages.{no_change}
 use Rattle.posix_model.specs.Join.{is_full}
@@ -19,12 +19,23 @@ use Rattle.posix_model.specs.declared.change.TableEdit.TheVariants as on_table
 
 -- how many processes an edit makes
 abbrev pub makes : ProcessEdit → ℕ
-makes on_process.Nothing = 0
-makes (on_process.Add table) = 1
+makes (on_process.Add table attached) = 1
+makes other = 0
 
--- how many processes an act adds, by its outcome: a join that is not refused adds one
+-- how many processes an edit ends
+abbrev pub ended_by : ProcessEdit → ℕ
+ended_by (on_process.Exit process) = 1
+ended_by other = 0
+
+-- whether an edit closes the run
+abbrev pub closed_by : ProcessEdit → Bool
+closed_by on_process.Close = true
+closed_by other = false
+
+-- how many processes an act adds, by its outcome: a join or a fork that is not refused adds one
 abbrev pub added : Act → Outcome → ℕ
 added act.Join (Replied (Number n)) = 1
+added (act.Call call.Fork) (Replied (Number n)) = 1
 added other outcome = 0
 
 -- how many processes an act ends
@@ -50,7 +61,16 @@ data_most other = 0
 -- how many processes an act is to add, before its outcome is known
 abbrev pub adds : World → Act → ℕ
 adds w act.Join = if is_full w then 0 else 1
+adds w (act.Call call.Fork) = if is_full w then 0 else 1
 adds w other = 0
+
+-- what an edit of processes adds, ends and closes is what its act tells, and what it ends is there
+pub record IsTold (w : World) (act : Act) (outcome : Outcome) (edit : ProcessEdit) : Type 0 where
+  pub added : makes edit ≡ added act outcome
+  pub planned : makes edit ≡ adds w act
+  pub ended : ended_by edit ≡ ended act
+  pub closed : closed_by edit ≡ closes act
+  pub there : (process : ℕ) → edit ≡ on_process.Exit process → IsThere w.processes process
 
 -- the number of the description whose offset an edit moves
 abbrev pub moved_offset : TableEdit → Option ℕ
@@ -94,13 +114,12 @@ TableWithin (on_table.Offset number offset) = offset ≤ OFFSET_MAX
 TableWithin (on_table.Open process fd description) = description.offset ≤ OFFSET_MAX
 TableWithin other = Unit {0}
 
--- what an act comes to: a refusal changes nothing, but for that of a resume; it adds as many processes as it tells; it moves no offset but that of its
+-- what an act comes to: a refusal changes nothing, but for that of a resume; it adds and ends as many processes as it tells; it moves no offset but that of its
 -- own descriptor; it changes no file, name or pipe where it may not; it takes no more bytes than it gives, and is told no more
 -- than it may be; and its change can be made, within all limits. The limit of sizes is at most the greatest offset
 pub record Sound (bounds : Bounds) (w : World) (actor : ℕ) (act : Act) (d : Decided) : Type 0 where
   pub refusal : is_resume act ≡ false → (error : Errno) → d.outcome ≡ Replied (Error error) → d.change ≡ no_change
-  pub told : makes d.change.process ≡ added act d.outcome
-  pub planned : makes d.change.process ≡ adds w act
+  pub processes : IsTold w act d.outcome d.change.process
   pub own : (n : ℕ) → moved_offset d.change.table ≡ Some n → number_at w actor act ≡ Some n
   pub contents : may_change_contents act ≡ false → d.change.files ≡ on_files.Nothing
   pub brief : length (data_in d.outcome) ≤ data_most act

@@ -2,15 +2,19 @@
 use Rattle.std.specs.Prelude.{ℕ, List, [], Bool, false, ◌&&◌, ◌==◌, Option, None, Some, length, is_some, not, unwrap_or, if◌then◌else◌}
 use Rattle.std.specs.Option.{option_map}
 use Rattle.call_types.specs.CallTable.{payload_of}
+use Rattle.call_types.specs.declared.act.TheConstants.{HOUSE}
 use Rattle.posix_model.specs.Types.{Call, Act, Outcome, Bounds, World, Process, Decided}
 use Rattle.call_types.specs.declared.call.Call.TheVariants as call
 use Rattle.call_types.specs.declared.act.Act.TheVariants as act
 use Rattle.slots.specs.Slots.{slot}
+use Rattle.process_table.specs.Processes.{is_here}
 use Rattle.posix_model.specs.Pages.{decided_by, on_open}
 use Rattle.posix_model.specs.Sweep.{sweep}
 use Rattle.posix_model.specs.Change.{changed}
 use Rattle.posix_model.specs.Descriptors.{opened}
 use Rattle.posix_model.specs.Join.{join}
+use Rattle.posix_model.specs.Attach.{attach}
+use Rattle.posix_model.specs.Exit.{exit, close_run}
 use Rattle.posix_model.specs.Open.{open_file}
 use Rattle.posix_model.specs.Close.{close}
 use Rattle.posix_model.specs.Read.{read}
@@ -24,11 +28,7 @@ use Rattle.posix_model.specs.Dup2.{dup2}
 use Rattle.posix_model.specs.Link.{link}
 use Rattle.posix_model.specs.Unlink.{unlink}
 use Rattle.posix_model.specs.Fstat.{fstat}
-
--- whether a process is live and attached
-abbrev pub is_here : Option Process → Bool
-is_here None = false
-is_here (Some process) = process.attached
+use Rattle.posix_model.specs.Fork.{fork}
 
 -- whether a process waits in a call
 abbrev pub is_parked : Option Process → Bool
@@ -54,13 +54,18 @@ decided bounds w process (call.Dup2 fd to) = on_open (opened w process fd) (dup2
 decided bounds w process (call.Link old new) = decided_by (link w old new)
 decided bounds w process (call.Unlink name) = decided_by (unlink w name)
 decided bounds w process (call.Fstat fd) = on_open (opened w process fd) (fstat w)
+decided bounds w process call.Fork = decided_by (fork w process)
 
 -- what an act comes to, or nothing where the rules record none: a join under another number than the next, a call of a
--- process that is not live and attached or that waits in one, and the acts that are not in this profile yet
+-- process that is not live and attached or that waits in one, an exit of a process that is not live, a closing by another
+-- than the house or of a run that is closed, and a resume, of which this profile has none yet
 abbrev pub comes_to : Bounds → World → ℕ → Act → Option Decided
 comes_to bounds w actor act.Join = if actor == length w.processes then Some (decided_by (join w)) else None
+comes_to bounds w actor act.Attach = Some (decided_by (attach w actor))
 comes_to bounds w actor (act.Call c) = if can_call (slot w.processes actor) then Some (decided bounds w actor c) else None
-comes_to bounds w actor other = None
+comes_to bounds w actor act.Resume = None
+comes_to bounds w actor act.Exit = if is_some (slot w.processes actor) then Some (exit actor) else None
+comes_to bounds w actor act.CloseRun = if actor == HOUSE && not w.closed then Some close_run else None
 
 -- the bytes that an act gives: the data of a call that writes
 abbrev pub given : Act → List ℕ

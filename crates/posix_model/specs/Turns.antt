@@ -7,7 +7,7 @@ use Rattle.call_types.specs.declared.act.Act.TheVariants as act
 use Rattle.call_types.specs.declared.outcome.Outcome.TheVariants as outcome
 use Rattle.call_types.specs.declared.outcome.Reply.TheVariants as reply
 use Rattle.slots.specs.Slots.{slot}
-use Rattle.posix_model.specs.Descriptors.{parked_of}
+use Rattle.process_table.specs.Processes.{parked_of}
 use Rattle.posix_model.specs.History.{empty_world, after}
 
 -- the call that an act is about, and how many bytes it moved before: a new call, or the one that its process waits in

@@ -10,8 +10,8 @@ pub use Rattle.call_types.specs.declared.flags.OpenFlags.{OpenFlags}
 pub use Rattle.call_types.specs.declared.whence.Whence.{Whence}
 pub use Rattle.call_types.specs.declared.limits.Bounds.{Bounds}
 pub use Rattle.posix_model.specs.declared.world.World.{World}
-pub use Rattle.posix_model.specs.declared.world.Process.{Process}
-pub use Rattle.posix_model.specs.declared.world.Parked.{Parked}
+pub use Rattle.process_table.specs.declared.process.Process.{Process}
+pub use Rattle.process_table.specs.declared.process.Parked.{Parked}
 pub use Rattle.call_types.specs.declared.description.Description.{Description}
 pub use Rattle.call_types.specs.declared.description.Target.{Target}
 pub use Rattle.call_types.specs.declared.description.Mode.{Mode}
@@ -23,7 +23,7 @@ pub use Rattle.posix_model.specs.declared.change.ProcessEdit.{ProcessEdit}
 pub use Rattle.posix_model.specs.declared.change.TableEdit.{TableEdit}
 pub use Rattle.posix_model.specs.declared.change.Change.{Change}
 pub use Rattle.posix_model.specs.declared.change.Decided.{Decided}
-pub use Rattle.call_types.specs.declared.errno.Errno.TheVariants.{EAGAIN, EBADF, EEXIST, EFBIG, EINVAL, EMFILE, EMLINK, ENAMETOOLONG, ENFILE, ENOENT, ENOSPC, EOVERFLOW, ESPIPE}
+pub use Rattle.call_types.specs.declared.errno.Errno.TheVariants.{EAGAIN, EBADF, EEXIST, EFBIG, EINVAL, EMFILE, EMLINK, ENAMETOOLONG, ENFILE, ENOENT, ENOSPC, EOVERFLOW, ESPIPE, ESRCH}
 pub use Rattle.call_types.specs.declared.limits.TheConstants.{DESCRIPTIONS_MAX, LINK_MAX, NAMES_MAX, NAME_MAX, OFFSET_MAX, OPEN_MAX, PROCESSES_MAX, RECORD_LENGTH_MAX, TRANSFER_MAX}
 pub use Rattle.call_types.specs.declared.outcome.Outcome.TheVariants.{Reply as Replied}
 pub use Rattle.call_types.specs.declared.outcome.Reply.TheVariants.{Data, Done, Error, Number, Stat as Told}

@@ -1,13 +1,11 @@
 ghost use Rattle.std.specs.Prelude.{◌≡◌};
-ghost use Rattle.posix_model.specs.Change.{process_with};
 ghost use Rattle.posix_model.specs.Pages.{tells, does, acts, refused};
 
-use crate::world::Process;
 use call_types::bounded::Name;
 use call_types::description::Description;
 use call_types::errno::Errno;
 use call_types::outcome::{Outcome, Reply};
-use slots::dense::Slots;
+use process_table::table::DescriptorTable;
 
 /// What an act changes in files and pipes. All numbers are found already; positions and lengths are in bytes.
 #[derive(Drop)]
@@ -45,8 +43,21 @@ pub enum FileEdit {
 pub enum ProcessEdit {
     /// Nothing.
     Nothing,
-    /// The next process has this table and its connection, and waits in no call.
-    Add { table: Slots<usize> },
+    /// The next process has this table, with or without a connection, and waits in no call.
+    Add {
+        table: DescriptorTable,
+        attached: bool,
+    },
+    /// A process has its connection.
+    Attach {
+        process: usize,
+    },
+    /// A process is gone.
+    Exit {
+        process: usize,
+    },
+    /// The run is closed.
+    Close,
 }
 
 /// What an act changes in descriptors and open file descriptions. All numbers are found already.
@@ -71,17 +82,6 @@ pub enum TableEdit {
         fd: usize,
         entry: Option<usize>,
     },
-}
-
-/// A process with this table and its connection, that waits in no call.
-pub fn process_with(table: Slots<usize>) -> Process
-    ensures { result ≡ process_with table }
-{
-    Process {
-        table,
-        parked: None,
-        attached: true,
-    }
 }
 
 /// What an act changes, before the sweep: first files and pipes, then processes, then descriptors.

@@ -3,6 +3,7 @@
 ghost use Rattle.posix_model.specs.Sound.{CallsAreSound, ActsAreSound};
 ghost use Rattle.posix_model.specs.Lengths.{StepIsShort};
 ghost use Rattle.posix_model.specs.Released.{SweptIsSettled, SettledStays, SweepReleases, NamesRelease};
+ghost use Rattle.posix_model.specs.Drops.{ExitCloses, ClosedIsBare, CloseThenSet};
 ghost use Rattle.posix_model.specs.Laws.{StepRaisesNumbers, StepKeepsWhole, HistoryIsWhole, HistoryRaisesNumbers, SweepSettles, StepSettles, HistorySettles, SweepLeaves, StepTellsProcesses, StepPlansProcesses};
 
 /// What each act comes to can be made, within all limits; a refusal changes nothing, and no act moves an offset but that
@@ -43,6 +44,13 @@ pub fn sweep_releases()
     ensures stays { SettledStays }
     ensures releases { SweepReleases }
     ensures names { NamesRelease }
+{}
+
+/// A process that goes closes its descriptors in turn; and a descriptor that is set over an open one closes that first.
+pub fn exits_close()
+    ensures exit { ExitCloses }
+    ensures bare { ClosedIsBare }
+    ensures set { CloseThenSet }
 {}
 
 /// No record is longer than a record may be where it is sent, as long as no field of its act is longer than a call may

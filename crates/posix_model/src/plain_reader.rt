@@ -2,13 +2,16 @@
 
 ghost use Rattle.std.specs.Prelude.{◌≡◌};
 ghost use Rattle.slots.specs.Slots.{slot};
-ghost use Rattle.posix_model.specs.Descriptors.{opened_number, bytes_of, table_of};
+ghost use Rattle.posix_model.specs.Descriptors.{opened_number, bytes_of};
+ghost use Rattle.process_table.specs.Processes.{table_of};
 
 use crate::counts::links;
 use crate::opened::OpenDescriptor;
 use crate::reader::Reader;
-use crate::world::{File, Parked, Process, World};
+use crate::world::{File, World};
 use call_types::bounded::Content;
+use process_table::process::{Parked, Process};
+use process_table::table::DescriptorTable;
 use slots::dense::Slots;
 use std::alloc::{AllocError, Global};
 
@@ -17,7 +20,7 @@ fn entry_of(processes: &Slots<Process>, process: usize, fd: usize) -> Option<usi
     ensures { result ≡ slot (table_of (slot processes.now process)) fd }
 {
     match processes.get(process) {
-        Some(process) => process.table.get(fd).copied(),
+        Some(process) => process.table.get(fd),
         None => None,
     }
 }
@@ -126,6 +129,24 @@ impl Reader for World {
         match self.processes.get(process) {
             Some(process) => process.attached,
             None => false,
+        }
+    }
+
+    fn is_live(&self, process: usize) -> bool {
+        self.processes.get(process).is_some()
+    }
+
+    fn awaits(&self, process: usize) -> bool {
+        match self.processes.get(process) {
+            Some(process) => !process.attached,
+            None => false,
+        }
+    }
+
+    fn copied_table(&self, alloc: Global, process: usize) -> Result<DescriptorTable, AllocError> {
+        match self.processes.get(process) {
+            Some(parent) => parent.table.clone(),
+            None => DescriptorTable::free(alloc),
         }
     }
 

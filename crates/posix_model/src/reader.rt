@@ -1,20 +1,21 @@
 //! What can be read as a world of the model. Calls are decided of any such state, by one body for all of them.
 
-ghost use Rattle.std.specs.Prelude.{◌≡◌, ◌≤◌, ◌<◌, ◌^◌, length, IfOk};
+ghost use Rattle.std.specs.Prelude.{◌≡◌, ◌≤◌, ◌<◌, ◌^◌, is_some, length, IfOk};
 ghost use Rattle.std.specs.Option.{option_copied};
 ghost use Rattle.slots.specs.Slots.{slot, lowest, live};
+ghost use Rattle.process_table.specs.Processes.{table_of, copied_table, parked_of, is_here, awaits};
 ghost use Rattle.call_types.specs.Names.{file_of};
 ghost use Rattle.posix_model.specs.Bytes.{bytes_at};
-ghost use Rattle.posix_model.specs.Descriptors.{opened, bytes_of, table_of, parked_of, held_in};
+ghost use Rattle.posix_model.specs.Descriptors.{opened, bytes_of, held_in};
 ghost use Rattle.posix_model.specs.Open.{leads_to_fifo};
 ghost use Rattle.posix_model.specs.Counts.{links};
-ghost use Rattle.posix_model.specs.Step.{is_here};
 ghost use Rattle.posix_model.specs.declared.world.World.{World as Worlds};
 
 use crate::opened::OpenDescriptor;
-use crate::world::Parked;
 use call_types::bounded::Content;
 use call_types::limits::TRANSFER_MAX;
+use process_table::process::Parked;
+use process_table::table::DescriptorTable;
 use std::alloc::{AllocError, Global};
 
 /// A state that can be read as a world.
@@ -85,6 +86,18 @@ pub trait Reader {
     /// Whether a process is live and attached.
     fn is_here(&self, process: usize) -> bool
         ensures { result ≡ is_here (slot (world self.now).processes process) };
+
+    /// Whether a process is live.
+    fn is_live(&self, process: usize) -> bool
+        ensures { result ≡ is_some (slot (world self.now).processes process) };
+
+    /// Whether a process is live and has no connection yet.
+    fn awaits(&self, process: usize) -> bool
+        ensures { result ≡ awaits (slot (world self.now).processes process) };
+
+    /// The descriptors of a child of a process. An error says that memory ran out.
+    fn copied_table(&self, alloc: Global, process: usize) -> Result<DescriptorTable, AllocError>
+        ensures { IfOk result (λ table. table ≡ copied_table (slot (world self.now).processes process)) };
 
     /// The call that a process waits in.
     fn parked(&self, process: usize) -> Option<&Parked>

@@ -1,3 +1,4 @@
+pub mod ExitLemmas
 pub mod HistoryLemmas
 pub mod GrowLemmas
 pub mod PlanLemmas

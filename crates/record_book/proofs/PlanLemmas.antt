@@ -7,11 +7,13 @@ use Rattle.call_types.specs.declared.limits.TheConstants.{OFFSET_MAX}
 use Rattle.call_types.specs.declared.act.Act.{Act}
 use Rattle.call_types.specs.declared.act.Act.TheVariants as act
 use Rattle.call_types.specs.declared.call.Call.{Call}
+use Rattle.call_types.specs.declared.call.Call.TheVariants as call
 use Rattle.call_types.specs.declared.refusal.Refusal.{Refusal}
 use Rattle.slots.specs.Slots.{slot, live}
 use Rattle.posix_model.specs.Join.{is_full, join}
 use Rattle.posix_model.specs.Pages.{decided_by}
-use Rattle.posix_model.specs.Step.{is_here, is_parked, can_call, decided, Stepped, given, comes_to, stepped, step}
+use Rattle.process_table.specs.Processes.{is_here}
+use Rattle.posix_model.specs.Step.{is_parked, can_call, decided, Stepped, given, comes_to, stepped, step}
 use Rattle.posix_model.specs.Sound.{ActsAreSound, adds}
 use Rattle.posix_model.specs.Laws.{Counts, StepPlansProcesses, HistoryIsWhole}
 use Rattle.posix_model.specs.declared.change.Decided.{Decided}
@@ -21,28 +23,36 @@ use Rattle.record_book.specs.Seat.{SeatState}
 use Rattle.record_book.specs.Refusals.{first_refusal, start_refusal, is_too_full}
 use Rattle.record_book.specs.Planned.{IsPlanned}
 
--- what is left of exits after an act that ends no process
-exits_of : (w v : World) (more : ℕ) → Counts w v more 0 false → exits_left v ≡ cond w.closed (live w.processes + more) (live w.processes + more + 1)
+-- what is left of exits after an act that ends no process and does not close the run
+pub exits_of : (w v : World) (more : ℕ) → Counts w v more 0 false → exits_left v ≡ cond w.closed (live w.processes + more) (live w.processes + more + 1)
 exits_of w v more c = let living : live v.processes ≡ live w.processes + more = omega (arith, c.living) in rw (c.closed, living) refl
 
--- after a call there are as many as before it, whether it is a step or not
-pub call_exits : StepPlansProcesses → (b : BookState) (p : ℕ) (c : Call) → exits_left (world_after b p (act.Call c)) ≡ exits_left (world_now b)
-call_exits planned b p c = by_step (step b.limits.bounds w p (act.Call c)) (λ s is. planned b.limits.bounds w p (act.Call c) s is)
-  where
-    w : World
-    w = world_now b
+-- the world after an act that comes to something
+pub after_step : (b : BookState) (actor : ℕ) (a : Act) (d : Decided) → comes_to b.limits.bounds (world_now b) actor a ≡ Some d → world_after b actor a ≡ (stepped (world_now b) (given a) d).world
+after_step b actor a d is = rw is refl
 
-    by_step : (s : Option Stepped) → ((t : Stepped) → s ≡ Some t → Counts w t.world 0 0 false) → exits_left (option_map_or (λ t. t.world) s w) ≡ exits_left w
-    by_step None all = refl
-    by_step (Some t) all = let c = all t refl in let living : live t.world.processes ≡ live w.processes = omega (arith, c.living) in rw (c.closed, living) refl
+-- after a call there are as many exits left as before it and as many more as it adds processes
+pub call_exits : StepPlansProcesses → (b : BookState) (p : ℕ) (c : Call) → can_call (slot (world_now b).processes p) ≡ true →
+    exits_left (world_after b p (act.Call c)) ≡
+    cond (world_now b).closed (live (world_now b).processes + adds (world_now b) (act.Call c)) (live (world_now b).processes + adds (world_now b) (act.Call c) + 1)
+call_exits planned b p c may =
+    let w = world_now b in
+    let d = decided b.limits.bounds w p c in
+    let comes : comes_to b.limits.bounds w p (act.Call c) ≡ Some d = rw may refl in
+    let v = (stepped w (given (act.Call c)) d).world in
+    let P : World → Type 0 = λ u. exits_left u ≡ cond w.closed (live w.processes + adds w (act.Call c)) (live w.processes + adds w (act.Call c) + 1) in
+    subst P (sym (after_step b p (act.Call c) d comes))
+    (exits_of w v (adds w (act.Call c)) (planned b.limits.bounds w p (act.Call c) (stepped w (given (act.Call c)) d) (ap (option_map (stepped w (given (act.Call c)))) comes)))
 
 -- a join under the next number is a step
 pub join_comes : (b : BookState) → comes_to b.limits.bounds (world_now b) (length (world_now b).processes) act.Join ≡ Some (decided_by (join (world_now b)))
 join_comes b = let n = length (world_now b).processes in let same : eqb n n ≡ true = eq-eqb n n refl in rw same refl
 
--- no act that comes to something ends a process yet, and each adds one at most
-few_added : (w : World) (a : Act) → adds w a ≤ 1
+-- each act adds one process at most
+pub few_added : (w : World) (a : Act) → adds w a ≤ 1
 few_added w act.Join = elim (is_full w) as (λ b. cond b 0 1 ≤ 1) [ true ↦ omega arith | false ↦ omega arith ]
+few_added w (act.Call call.Fork) = elim (is_full w) as (λ b. cond b 0 1 ≤ 1) [ true ↦ omega arith | false ↦ omega arith ]
+few_added w (act.Call other) = omega arith
 few_added w other = omega arith
 
 pub plans : ActsAreSound → StepPlansProcesses → HistoryIsWhole → (b : BookState) (actor : ℕ) (a : Act) (d : Decided) → b.limits.bounds.file_size ≤ OFFSET_MAX →
@@ -57,6 +67,8 @@ plans sound planned whole b actor a d small is roomy =
       comes_to_is = is;
       fits = stands.fits (whole b.limits.bounds b.history);
       proper = stands.proper small;
+      counts = counts;
+      told = stands.processes;
       roomy = roomy;
       processes =
           let P : Option Stepped → Type 0 = λ t. length (option_map_or (λ t. t.world) t w).processes ≤ length w.processes + 1 in

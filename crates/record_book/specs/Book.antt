@@ -1,5 +1,5 @@
 -- What contracts see of a book, and what acts do to it.
-use Rattle.std.specs.Prelude.{◌≡◌, ℕ, ◌+◌, Bool, nat_le, List, ◌∷◌, [], ◌++◌, Some, length, if◌then◌else◌}
+use Rattle.std.specs.Prelude.{◌≡◌, ℕ, ◌+◌, Bool, nat_le, List, ◌∷◌, [], ◌++◌, Option, Some, length, if◌then◌else◌}
 use Rattle.std.specs.Option.{option_map}
 use Rattle.call_types.specs.declared.limits.Limits.{Limits}
 use Rattle.call_types.specs.declared.act.Act.{Act}
@@ -10,10 +10,15 @@ use Rattle.posix_model.specs.History.{after_act, world_of}
 use Rattle.posix_model.specs.declared.world.World.{World}
 use Rattle.record_book.specs.Seat.{Receipted, SeatState}
 
--- the limits of a run, and its records so far
+-- the limits of a run, its records so far, and the receipts of the house, which it holds until the run is closed
 pub record BookState : Type 0 where
   pub limits : Limits
   pub history : List Record
+  pub house : Option (List Receipted)
+
+-- a book without records
+abbrev pub new_book : Limits → BookState
+new_book limits = record { limits = limits; history = []; house = Some [] }
 
 -- the world after the records so far
 abbrev pub world_now : BookState → World
@@ -39,6 +44,7 @@ pub record Appends (old new : BookState) (actor : ℕ) (act : Act) (receipt : Re
   pub place : receipt.place ≡ length old.history
   pub history : new.history ≡ old.history ++ receipt.record_is ∷ []
   pub limits : new.limits ≡ old.limits
+  pub house : new.house ≡ old.house
 
 -- the seat has one more receipt, and has seen all records up to it
 pub record Receives (old new : SeatState) (receipt : Receipted) : Type 0 where

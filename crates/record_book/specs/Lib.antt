@@ -1,7 +1,10 @@
 pub mod Seat
 pub mod Book
+pub mod Exits
+pub mod House
 pub mod Refusals
 pub mod Planned
 pub mod Inside
-pub mod Joins
+pub mod Openings
+pub mod Ends
 pub mod Runs

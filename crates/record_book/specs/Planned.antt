@@ -2,7 +2,9 @@
 use Rattle.std.specs.Prelude.{◌≡◌, ℕ, ◌+◌, ◌≤◌, false, Some, length}
 use Rattle.call_types.specs.declared.act.Act.{Act}
 use Rattle.posix_model.specs.Fits.{Fits, IsProper}
-use Rattle.posix_model.specs.Step.{given, comes_to}
+use Rattle.posix_model.specs.Step.{given, comes_to, stepped}
+use Rattle.posix_model.specs.Sound.{adds, ended, closes, IsTold}
+use Rattle.posix_model.specs.Laws.{Counts}
 use Rattle.posix_model.specs.Turns.{took}
 use Rattle.posix_model.specs.declared.change.Decided.{Decided}
 use Rattle.record_book.specs.Book.{BookState, world_now, world_after}
@@ -13,6 +15,8 @@ pub record IsPlanned (b : BookState) (actor : ℕ) (act : Act) (d : Decided) : T
   pub comes_to_is : comes_to b.limits.bounds (world_now b) actor act ≡ Some d
   pub fits : Fits (world_now b) (given act) d.change
   pub proper : IsProper (world_now b) (given act) d.change
+  pub counts : Counts (world_now b) (stepped (world_now b) (given act) d).world (adds (world_now b) act) (ended act) (closes act)
+  pub told : IsTold (world_now b) act d.outcome d.change.process
   pub roomy : is_too_full b actor act ≡ false
   pub processes : length (world_after b actor act).processes ≤ length (world_now b).processes + 1
   pub few : took (world_now b) (record { actor = actor; act = act; outcome = d.outcome }) ≤ length (given act)

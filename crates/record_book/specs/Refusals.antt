@@ -6,7 +6,8 @@ use Rattle.call_types.specs.declared.call.Call.{Call}
 use Rattle.call_types.specs.declared.refusal.Refusal.{Refusal}
 use Rattle.call_types.specs.declared.refusal.Refusal.TheVariants.{NoMemory, RunFull, Waiting, NotHere, Foreign}
 use Rattle.slots.specs.Slots.{slot}
-use Rattle.posix_model.specs.Step.{is_here, is_parked}
+use Rattle.process_table.specs.Processes.{is_here}
+use Rattle.posix_model.specs.Step.{is_parked}
 use Rattle.record_book.specs.Seat.{SeatState}
 use Rattle.record_book.specs.Book.{BookState, world_now, world_after, has_reserve}
 
@@ -36,6 +37,15 @@ start_refusal b s call = first_refusal (start_refusals b s call)
 -- the one refusal of a join: the run is full
 abbrev pub join_refusal : BookState → Option Refusal
 join_refusal b = first_refusal ((is_too_full b (length (world_now b).processes) act.Join, RunFull) ∷ [])
+
+-- the one refusal of an attach: the run is full
+abbrev pub attach_refusal : BookState → ℕ → Option Refusal
+attach_refusal b process = first_refusal ((is_too_full b process act.Attach, RunFull) ∷ [])
+
+-- the refusals of an exit: the seat has seen more records than there are, or its process is not live and attached
+abbrev pub exit_refusal : BookState → SeatState → Option Refusal
+exit_refusal b s =
+    first_refusal ((nat_lt (length b.history) s.seen, Foreign s.seen (length b.history)) ∷ (not (is_here (slot (world_now b).processes s.pid)), NotHere) ∷ [])
 
 -- a refusal is the first that is due; where none is, only memory can be wanting
 abbrev pub IsDue : Option Refusal → Refusal → Type 0

@@ -1,19 +1,22 @@
 -- What is told of the acts of a script, one after another (own).
-use Rattle.std.specs.Prelude.{◌≡◌, ℕ, ◌-◌, nat_lt, Bool, true, false, List, [], ◌∷◌, ◌++◌, Option, None, Some, Result, Ok, Err, length, replicate, slice_set, if◌then◌else◌}
+use Rattle.std.specs.Prelude.{◌≡◌, ℕ, ◌-◌, nat_lt, not, Bool, true, false, List, [], ◌∷◌, ◌++◌, Option, None, Some, Result, Ok, Err, length, replicate, slice_set, if◌then◌else◌}
 use Rattle.call_types.specs.declared.act.Act.TheVariants as act
+use Rattle.call_types.specs.declared.act.TheConstants.{HOUSE}
 use Rattle.call_types.specs.declared.act.ScriptAct.{ScriptAct}
 use Rattle.call_types.specs.declared.act.ScriptAct.TheVariants as script
 use Rattle.call_types.specs.declared.call.Call.{Call}
 use Rattle.call_types.specs.declared.refusal.Refusal.{Refusal}
 use Rattle.call_types.specs.declared.refusal.Refusal.TheVariants.{NotHere}
 use Rattle.slots.specs.Slots.{slot}
+use Rattle.process_table.specs.Processes.{awaits}
 use Rattle.posix_model.specs.Join.{is_full}
 use Rattle.record_book.specs.Seat.{Receipted, SeatState}
 use Rattle.record_book.specs.Book.{BookState, world_now, Appends, Receives}
-use Rattle.record_book.specs.Refusals.{start_refusal, join_refusal, IsDue}
-use Rattle.record_book.specs.Joins.{next_pid, first_seat}
+use Rattle.record_book.specs.Refusals.{start_refusal, join_refusal, attach_refusal, exit_refusal, IsDue}
+use Rattle.record_book.specs.Openings.{next_pid, first_seat}
+use Rattle.record_book.specs.Ends.{Closes}
 use Rattle.record_book.specs.declared.run.Told.{Told}
-use Rattle.record_book.specs.declared.run.Told.TheVariants.{Recorded, Refused}
+use Rattle.record_book.specs.declared.run.Told.TheVariants.{Recorded, Closed, Still, Refused}
 
 -- the seats that a script opened: that of a process stands at the process's number
 abbrev pub Seats : Type 0
@@ -25,16 +28,16 @@ with_seat process s seats =
     if nat_lt process (length seats) then slice_set seats process (Some s)
     else seats ++ replicate (process - length seats) None ++ Some s ∷ []
 
--- the seats after a join that is recorded: one more, where there was room for a process
-abbrev pub seats_after : BookState → Receipted → Seats → Bool → Seats
-seats_after b receipt seats true = seats
-seats_after b receipt seats false = with_seat (next_pid b) (first_seat b receipt) seats
+-- the seats after a join or an attach that is recorded: one more, unless it is the record of an error
+abbrev pub seats_after : ℕ → Receipted → Seats → Bool → Seats
+seats_after process receipt seats true = seats
+seats_after process receipt seats false = with_seat process (first_seat process receipt) seats
 
 -- a join is recorded
 pub record JoinRecorded (old new : BookState) (seats after : Seats) (receipt : Receipted) : Type 0 where
   pub free : join_refusal old ≡ None
   pub appends : Appends old new (next_pid old) act.Join receipt
-  pub seats_are : after ≡ seats_after old receipt seats (is_full (world_now old))
+  pub seats_are : after ≡ seats_after (next_pid old) receipt seats (is_full (world_now old))
 
 -- nothing is recorded, and nothing changes
 pub record Unchanged (old new : BookState) (seats after : Seats) : Type 0 where
@@ -45,6 +48,17 @@ pub record Unchanged (old new : BookState) (seats after : Seats) : Type 0 where
 abbrev pub JoinRuns : BookState → BookState → Seats → Seats → Result Receipted Refusal → Type 0
 JoinRuns old new seats after (Ok receipt) = JoinRecorded old new seats after receipt
 JoinRuns old new seats after (Err refusal) = IsDue (join_refusal old) refusal × Unchanged old new seats after
+
+-- an attach is recorded
+pub record AttachRecorded (old new : BookState) (seats after : Seats) (process : ℕ) (receipt : Receipted) : Type 0 where
+  pub free : attach_refusal old process ≡ None
+  pub appends : Appends old new process act.Attach receipt
+  pub seats_are : after ≡ seats_after process receipt seats (not (awaits (slot (world_now old).processes process)))
+
+-- how an attach of a script goes: recorded, or refused with nothing changed
+abbrev pub AttachRuns : BookState → BookState → Seats → Seats → ℕ → Result Receipted Refusal → Type 0
+AttachRuns old new seats after process (Ok receipt) = AttachRecorded old new seats after process receipt
+AttachRuns old new seats after process (Err refusal) = IsDue (attach_refusal old process) refusal × Unchanged old new seats after
 
 -- a call of a seat's process is recorded, and the seat has its receipt
 pub record CallRecorded (old new : BookState) (seats after : Seats) (process : ℕ) (s : SeatState) (c : Call) (receipt : Receipted) : Type 0 where
@@ -61,19 +75,40 @@ CallRuns old new seats after process c (Err refusal) (Some s) = IsDue (start_ref
 CallRuns old new seats after process c (Ok receipt) None = ⊥
 CallRuns old new seats after process c (Err refusal) None = (refusal ≡ NotHere) × Unchanged old new seats after
 
--- how an act goes
+-- the exit of a seat's process is recorded, and the seat is spent
+pub record ExitRecorded (old new : BookState) (seats after : Seats) (process : ℕ) (s : SeatState) (receipt : Receipted) : Type 0 where
+  pub free : exit_refusal old s ≡ None
+  pub appends : Appends old new s.pid act.Exit receipt
+  pub seats_are : after ≡ slice_set seats process None
+
+-- how an exit of a process with this seat goes: NotHere where the script opened no such process; no want of memory refuses it
+abbrev pub ExitRuns : BookState → BookState → Seats → Seats → ℕ → Result Receipted Refusal → Option SeatState → Type 0
+ExitRuns old new seats after process (Ok receipt) (Some s) = ExitRecorded old new seats after process s receipt
+ExitRuns old new seats after process (Err refusal) (Some s) = (exit_refusal old s ≡ Some refusal) × Unchanged old new seats after
+ExitRuns old new seats after process (Ok receipt) None = ⊥
+ExitRuns old new seats after process (Err refusal) None = (refusal ≡ NotHere) × Unchanged old new seats after
+
+-- how an act other than a closing goes
 abbrev pub Runs : BookState → BookState → Seats → Seats → ScriptAct → Result Receipted Refusal → Type 0
 Runs old new seats after script.Join ran = JoinRuns old new seats after ran
+Runs old new seats after (script.Attach process) ran = AttachRuns old new seats after process ran
 Runs old new seats after (script.Call process c) ran = CallRuns old new seats after process c ran (slot seats process)
+Runs old new seats after (script.Exit process) ran = ExitRuns old new seats after process ran (slot seats process)
+Runs old new seats after script.CloseRun ran = ⊥
 
 -- the process whose act it is, or would be
 abbrev pub actor_of : BookState → ScriptAct → ℕ
 actor_of b script.Join = next_pid b
+actor_of b (script.Attach process) = process
 actor_of b (script.Call process c) = process
+actor_of b (script.Exit process) = process
+actor_of b script.CloseRun = HOUSE
 
--- what is told of an act: one thing, of each that there is now
+-- what is told of an act: its record, the records of a closing, that a closing has nothing to close, or why there is no record
 abbrev pub Tells : BookState → BookState → Seats → Seats → ScriptAct → List Told → Type 0
 Tells old new seats after a (Recorded receipt ∷ []) = Runs old new seats after a (Ok receipt)
+Tells old new seats after a (Closed house ∷ []) = (a ≡ script.CloseRun) × Closes old new (Some house) × (after ≡ seats)
+Tells old new seats after a (Still actor still ∷ []) = (actor ≡ actor_of old a) × (still.now ≡ a) × (a ≡ script.CloseRun) × Closes old new None × (after ≡ seats)
 Tells old new seats after a (Refused actor refused refusal ∷ []) = (actor ≡ actor_of old a) × (refused.now ≡ a) × Runs old new seats after a (Err refusal)
 Tells old new seats after a other = ⊥
 

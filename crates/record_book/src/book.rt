@@ -1,17 +1,20 @@
-ghost use Rattle.std.specs.Prelude.{◌≡◌, ◌≤◌, ◌+◌, [], length, IfOk};
+ghost use Rattle.std.specs.Prelude.{◌≡◌, ◌≤◌, ◌+◌, length, IfOk};
 ghost use Rattle.posix_model.specs.History.{legal};
 ghost use Rattle.posix_model.specs.Turns.{bytes_in, bytes_out};
-ghost use Rattle.record_book.specs.Book.{BookState, world_now, exits_left};
+ghost use Rattle.record_book.specs.Book.{new_book, world_now, exits_left};
 
-use call_types::act::Record;
-use call_types::limits::Limits;
+use crate::house::House;
+use crate::prepared::Prepared;
+use call_types::act::{Act, HOUSE, Record};
+use call_types::limits::{Limits, PROCESSES_MAX};
 use machine_state::machine::Machine;
+use slots::numbered::Numbered;
 use std::alloc::{AllocError, Global};
 use std::marker::Model;
 use std::sync::Arc;
 
-/// The record of a run: its limits, and all that was recorded, in order. Contracts see these two; the world is the one
-/// that the model gives after the records.
+/// The record of a run: its limits, and all that was recorded, in order. Contracts see these two, and the receipts of the
+/// house, which it holds until the run is closed; the world is the one that the model gives after the records.
 #[derive(Drop)]
 pub struct Book {
     pub(crate) machine: Machine,
@@ -19,6 +22,8 @@ pub struct Book {
     pub(crate) limits: Limits,
     pub(crate) bytes_in: u64,
     pub(crate) bytes_out: u64,
+    pub(crate) exits: Numbered<Prepared>,
+    pub(crate) house: Option<House>,
 }
 
 impl Model for Book {
@@ -42,17 +47,23 @@ pub struct Counts {
 }
 
 impl Book {
-    /// A book without records, with room for all of them.
+    /// A book without records, with room for all of them, and with all that its closing will need.
     pub fn new(alloc: Global, limits: Limits) -> Result<Self, AllocError>
-        ensures { IfOk result (λ book. book ≡ record { limits = limits; history = [] }) }
+        ensures { IfOk result (λ book. book ≡ new_book limits) }
     {
         let records = limits.records();
+        let house = House {
+            receipts: Vec::with_capacity(alloc, PROCESSES_MAX + 1)?,
+            closing: Prepared::new(alloc, HOUSE, Act::CloseRun)?,
+        };
         Ok(Book {
             machine: Machine::new(alloc),
             history: Vec::with_capacity(alloc, records as usize)?,
             limits,
             bytes_in: 0,
             bytes_out: 0,
+            exits: Numbered::new(alloc),
+            house: Some(house),
         })
     }
 

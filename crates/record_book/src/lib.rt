@@ -3,8 +3,13 @@
 
 pub mod append;
 pub mod book;
-pub mod join;
+pub mod closing;
+pub mod ending;
+mod exits;
+mod house;
 mod moved;
+pub mod opening;
+mod prepared;
 pub mod run;
 pub mod seat;
 mod seats;

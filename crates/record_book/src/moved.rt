@@ -8,7 +8,7 @@ use call_types::limits::TRANSFER_MAX;
 use call_types::outcome::{Outcome, Reply};
 use machine_state::machine::Machine;
 use posix_model::reader::Reader;
-use posix_model::world::Parked;
+use process_table::process::Parked;
 
 /// The bytes that a call has moved in all, as an outcome tells them.
 fn total(outcome: &Outcome) -> u64

@@ -4,19 +4,25 @@ ghost use Rattle.record_book.specs.Book.{Appends, Receives};
 ghost use Rattle.record_book.specs.Refusals.{start_refusal, IsDue};
 
 use crate::book::Book;
-use crate::join::Opened;
-use crate::seat::{Receipt, Seat};
+use crate::opening::Opened;
+use crate::seat::{Receipt, Seat, SpentSeat};
 use crate::seats::Seats;
-use call_types::act::{Act, ScriptAct};
+use call_types::act::{Act, HOUSE, ScriptAct};
 use call_types::call::Call;
 use call_types::refusal::Refusal;
+use posix_model::reader::Reader;
 use std::alloc::{AllocError, Global};
 
-/// One thing that is told of an act of a script: a record, or that the act is not recorded, with the process whose act it
-/// was or would have been, and why.
+/// What is told of an act of a script: its record; the records of a closing, which the house has; that a closing has nothing
+/// to close; or that the act is not recorded, with the process whose act it was or would have been, and why.
 #[derive(Drop)]
 pub enum Told<'a> {
     Recorded(Receipt),
+    Closed(SpentSeat),
+    Still {
+        actor: u32,
+        act: &'a ScriptAct,
+    },
     Refused {
         actor: u32,
         act: &'a ScriptAct,
@@ -45,7 +51,7 @@ impl Book {
     }
 
     ghost use Rattle.slots.specs.Slots.{slot};
-    ghost use Rattle.record_book.specs.Runs.{JoinRuns, CallRuns, Tells, RunTells};
+    ghost use Rattle.record_book.specs.Runs.{Seats as ScriptSeats, JoinRuns, AttachRuns, CallRuns, ExitRuns, Tells, RunTells};
 
     /// Runs a join of a script; where it makes a process, its seat is put among the others.
     fn run_join(&mut self, alloc: Global, seats: &mut Seats) -> Result<Receipt, Refusal>
@@ -62,6 +68,61 @@ impl Book {
             seats.put(actor as usize, seat);
         }
         Ok(receipt)
+    }
+
+    /// Runs an attach of a script; where it attaches a process, its seat is put among the others.
+    fn run_attach(
+        &mut self,
+        alloc: Global,
+        seats: &mut Seats,
+        process: u32,
+    ) -> Result<Receipt, Refusal>
+        ensures runs { AttachRuns self.old self.new seats.old.0 seats.new.0 process result }
+        ensures limits { self.new.limits ≡ self.old.limits }
+    {
+        if self.attach_overfills(process) {
+            return Err(Refusal::RunFull);
+        }
+        if self.machine.awaits(process as usize) {
+            seats.reserve(process as usize)?;
+        }
+        let (opened, receipt) = self.record_attach(alloc, process)?;
+        if let Opened::Seated(seat) = opened {
+            seats.put(process as usize, seat);
+        }
+        Ok(receipt)
+    }
+
+    /// Runs an exit of a script; its seat is no longer among the others.
+    fn run_exit(&mut self, seats: &mut Seats, process: u32) -> Result<Receipt, Refusal>
+        ensures runs { ExitRuns self.old self.new seats.old.0 seats.new.0 process result (slot seats.old.0 process) }
+        ensures limits { self.new.limits ≡ self.old.limits }
+    {
+        let number = process as usize;
+        if number >= seats.slots.len() {
+            return Err(Refusal::NotHere);
+        }
+        let pid = match &seats.slots[number] {
+            Some(seat) => match self.exit_refusal(seat) {
+                Some(refusal) => return Err(refusal),
+                None => seat.pid(),
+            },
+            None => return Err(Refusal::NotHere),
+        };
+        seats.slots[number] = None;
+        Ok(self.record_exit(pid))
+    }
+
+    /// Runs a closing of a script.
+    fn run_closing<'a>(&mut self, act: &'a ScriptAct) -> Told<'a>
+        requires { act.now ≡ ScriptAct.CloseRun }
+        ensures tells { (seats : ScriptSeats) → Tells self.old self.new seats seats act.now (result ∷ []) }
+        ensures limits { self.new.limits ≡ self.old.limits }
+    {
+        match self.close_run() {
+            Some(house) => Told::Closed(house),
+            None => Told::Still { actor: HOUSE, act },
+        }
     }
 
     /// Runs a call of a script.
@@ -92,9 +153,12 @@ impl Book {
     {
         let (actor, ran) = match act {
             ScriptAct::Join => (self.next_pid(), self.run_join(alloc, seats)),
+            ScriptAct::Attach { process } => (*process, self.run_attach(alloc, seats, *process)),
             ScriptAct::Call { process, call } => {
                 (*process, self.run_call(alloc, seats, *process, call))
             }
+            ScriptAct::Exit { process } => (*process, self.run_exit(seats, *process)),
+            ScriptAct::CloseRun => return self.run_closing(act),
         };
         match ran {
             Ok(receipt) => Told::Recorded(receipt),

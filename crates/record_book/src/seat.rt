@@ -70,17 +70,22 @@ impl Model for Seat {
     ghost Value = { SeatState };
 
     ghost view = { λ s. record { pid = s.pid; seen = s.seen; receipts = s.receipts.items } };
+
+    ghost use Rattle.std.specs.Prelude.{◌<◌, vec_len, vec_capacity};
+
+    ghost invariant = { λ s. vec_len s.receipts < vec_capacity s.receipts };
 }
 
 impl Seat {
-    pub(crate) fn new(alloc: Global, pid: u32) -> Self
-        ensures { result ≡ record { pid = pid; seen = 0; receipts = [] } }
+    /// A seat without receipts, with room for the last one.
+    pub(crate) fn new(alloc: Global, pid: u32) -> Result<Self, AllocError>
+        ensures { IfOk result (λ seat. seat ≡ record { pid = pid; seen = 0; receipts = [] }) }
     {
-        Seat {
+        Ok(Seat {
             pid,
             seen: 0,
-            receipts: Vec::new(alloc),
-        }
+            receipts: Vec::with_capacity(alloc, 2)?,
+        })
     }
 
     /// The number of the seat's process.
@@ -111,23 +116,40 @@ impl Seat {
         self.seen = self.seen.max(seen);
     }
 
-    /// Adds a receipt, or leaves the seat as it is.
+    /// Adds a receipt, with room for the last one kept behind it, or leaves the seat as it is.
     pub(crate) fn receive(&mut self, receipt: Receipt) -> Result<(), AllocError>
         requires { receipt.place + 1 < 2 ^ 64 }
         ensures ok { OnOk result (self.new ≡ record { pid = self.old.pid; seen = receipt.place + 1; receipts = self.old.receipts ++ receipt ∷ [] }) }
         ensures err { OnErr result (self.new ≡ self.old) }
     {
-        let seen = receipt.place() + 1;
-        self.receipts.push(receipt)?;
-        self.seen = seen;
+        self.receipts.reserve(2)?;
+        self.seen = receipt.place() + 1;
+        self.receipts.push_reserved(receipt);
         Ok(())
+    }
+
+    /// Adds the last receipt, for which there is always room.
+    pub(crate) fn spend(self, receipt: Receipt) -> SpentSeat
+        requires { receipt.place + 1 < 2 ^ 64 }
+        ensures { result ≡ record { pid = self.pid; seen = receipt.place + 1; receipts = self.receipts ++ receipt ∷ [] } }
+    {
+        let mut receipts = self.receipts;
+        let seen = receipt.place() + 1;
+        receipts.push_reserved(receipt);
+        SpentSeat {
+            pid: self.pid,
+            seen,
+            receipts,
+        }
     }
 }
 
-/// A seat whose process has no more calls: the same fields.
+/// A seat that gets no more receipts: its process has ended, or its join or attach was refused. Contracts see the same as of a seat.
 #[derive(Drop)]
 pub struct SpentSeat {
-    seat: Seat,
+    pid: u32,
+    seen: u64,
+    receipts: Vec<Receipt>,
 }
 
 impl Model for SpentSeat {
@@ -135,34 +157,49 @@ impl Model for SpentSeat {
 
     ghost Value = { SeatState };
 
-    ghost view = { λ s. s.seat };
+    ghost view = { λ s. record { pid = s.pid; seen = s.seen; receipts = s.receipts.items } };
 }
 
 impl SpentSeat {
-    pub(crate) fn new(seat: Seat) -> Self
-        ensures { result ≡ seat }
+    pub(crate) fn new(pid: u32, seen: u64, receipts: Vec<Receipt>) -> Self
+        ensures { result ≡ record { pid = pid; seen = seen; receipts = receipts.items } }
     {
-        SpentSeat { seat }
+        SpentSeat {
+            pid,
+            seen,
+            receipts,
+        }
     }
 
-    /// The number of the seat's process, or the one that it would have had.
+    /// The same seat, spent.
+    pub(crate) fn of(seat: Seat) -> Self
+        ensures { result ≡ seat }
+    {
+        SpentSeat {
+            pid: seat.pid,
+            seen: seat.seen,
+            receipts: seat.receipts,
+        }
+    }
+
+    /// The number of the seat's process, or the one that was asked for; that of the house is `HOUSE`.
     pub fn pid(&self) -> u32
         ensures { result ≡ self.now.pid }
     {
-        self.seat.pid()
+        self.pid
     }
 
     /// How many records of the book the seat has seen.
     pub fn seen(&self) -> u64
         ensures { result ≡ self.now.seen }
     {
-        self.seat.seen()
+        self.seen
     }
 
     /// The receipts, in the order of their places.
     pub fn receipts(&self) -> &[Receipt]
         ensures { result.now ≡ self.now.receipts }
     {
-        self.seat.receipts()
+        self.receipts.as_slice()
     }
 }

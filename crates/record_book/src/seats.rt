@@ -1,6 +1,6 @@
 ghost use Rattle.std.specs.Prelude.{◌≡◌, ◌<◌, ◌≤◌, ◌-◌, [], ◌++◌, List, Option, ℕ, None, replicate, vec_capacity, vec_len, OnOk};
 ghost use Rattle.record_book.specs.Seat.{SeatState};
-ghost use Rattle.record_book.specs.Runs.{Seats as AllSeats, with_seat};
+ghost use Rattle.record_book.specs.Runs.{with_seat};
 
 use crate::seat::Seat;
 use std::alloc::{AllocError, Global};

@@ -1,6 +1,6 @@
-ghost use Rattle.std.specs.Prelude.{◌≡◌, ◌≤◌, ◌+◌, None, Some, false, not, nat_le, length, if◌then◌else◌, IfOk, IfErr, OnOk, OnErr};
-ghost use Rattle.slots.specs.Slots.{live as live_in};
-ghost use Rattle.posix_model.specs.Step.{comes_to};
+ghost use Rattle.std.specs.Prelude.{◌≡◌, ◌≤◌, ◌+◌, None, Some, true, false, not, nat_le, length, if◌then◌else◌, IfOk, IfErr, OnOk, OnErr};
+ghost use Rattle.slots.specs.Slots.{slot, live as live_in};
+ghost use Rattle.posix_model.specs.Step.{can_call, comes_to};
 ghost use Rattle.record_book.specs.Book.{world_now, Appends, Receives};
 ghost use Rattle.record_book.specs.Refusals.{start_refusal, is_too_full, IsDue};
 ghost use Rattle.record_book.specs.Planned.{IsPlanned};
@@ -14,7 +14,7 @@ use posix_model::change::Decided;
 use posix_model::laws::{acts_are_sound, numbers_rise, processes_are_counted};
 use posix_model::reader::Reader;
 use std::alloc::{AllocError, Global};
-use table_calls::decide::decide_call;
+use table_calls::decide::{call_adds, decide_call};
 
 impl Book {
     /// Whether too few records would be left after one more, with so many live processes.
@@ -30,14 +30,14 @@ impl Book {
         self.history.len() as u64 + 1 + exits > self.limits.records()
     }
 
-    /// Whether the record of a call would leave too few records.
+    /// Whether the record of a call of a process that may make one would leave too few records.
     fn call_overfills(&self, process: u32, call: &Call) -> bool
+        requires { can_call (slot (world_now self.now).processes process) ≡ true }
         ensures { result ≡ is_too_full self.now process (Act.Call call.now) }
     {
-        let _call = call;
         let _process = process;
         processes_are_counted();
-        self.overfills(self.machine.live_processes())
+        self.overfills(self.machine.live_processes() + call_adds(&self.machine, call))
     }
 
     /// The first refusal of a call that is not recorded.

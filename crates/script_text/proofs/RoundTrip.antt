@@ -4,10 +4,11 @@ use Rattle.std.specs.Prelude.{codes}
 use Rattle.std.proofs.lemmas.List.{append_assoc}
 use Rattle.call_types.specs.CallTable.{FieldKind, Values, parts}
 use Rattle.call_types.specs.declared.call.Call.{Call}
+use Rattle.call_types.specs.declared.act.ScriptAct.{ScriptAct}
 use Rattle.call_types.specs.declared.act.ScriptAct.TheVariants as acts
 use Rattle.script_text.specs.ReadingCalls.{reading}
-use Rattle.script_text.specs.Lines.{field_word, fields_text, call_text, process_word}
-use Rattle.script_text.specs.Spellings.{SpellsFields, SpellsCall, FieldsFit, IsScriptCall}
+use Rattle.script_text.specs.Lines.{field_word, fields_text, call_text, process_word, script_line}
+use Rattle.script_text.specs.Spellings.{SpellsFields, SpellsCall, FieldsFit, IsScriptCall, IsScriptAct}
 use Rattle.script_text.proofs.FieldKinds.{value_written}
 use Rattle.script_text.proofs.CallLaws.{reading_again}
 
@@ -24,3 +25,11 @@ pub read_back : (process : ℕ) (call : Call) → process < 2 ^ 32 → IsScriptC
 read_back process call h k =
     reading_again (process_word process ++ codes " " ++ call_text call) (acts.Call process call)
     (call_text call, h, call_written call k, append_assoc (process_word process) (codes " ") (call_text call))
+
+-- an act that is written as a line of a script is read again
+pub act_read_back : (act : ScriptAct) → IsScriptAct act → reading (script_line act) ≡ Ok act
+act_read_back acts.Join h = refl
+act_read_back (acts.Attach process) h = reading_again (script_line (acts.Attach process)) (acts.Attach process) (h, append_assoc (process_word process) (codes " ") (codes "attach"))
+act_read_back (acts.Call process call) h = read_back process call h.0 h.1
+act_read_back (acts.Exit process) h = reading_again (script_line (acts.Exit process)) (acts.Exit process) (h, append_assoc (process_word process) (codes " ") (codes "exit"))
+act_read_back acts.CloseRun h = refl

@@ -29,7 +29,8 @@ call_rows =
     record { line = codes "p7 dup2 3 4"; byte = 25; call = calls.Dup2 (pos 3) (pos 4) } ∷
     record { line = codes "p7 link a b"; byte = 28; call = calls.Link (codes "a") (codes "b") } ∷
     record { line = codes "p7 unlink a"; byte = 29; call = calls.Unlink (codes "a") } ∷
-    record { line = codes "p7 fstat 3"; byte = 30; call = calls.Fstat (pos 3) } ∷ []
+    record { line = codes "p7 fstat 3"; byte = 30; call = calls.Fstat (pos 3) } ∷
+    record { line = codes "p7 fork"; byte = 31; call = calls.Fork } ∷ []
 
 -- each line is read as its call, and each call has its byte
 pub record CallRows : Type 0 where

@@ -169,7 +169,23 @@ record_line place r = decimal place ++ codes " " ++ actor_word r.actor r.act ++ 
 -- an act of a script, after the actor
 abbrev pub script_act_text : ScriptAct → List ℕ
 script_act_text scripts.Join = codes "join"
+script_act_text (scripts.Attach process) = codes "attach"
 script_act_text (scripts.Call process call) = call_text call
+script_act_text (scripts.Exit process) = codes "exit"
+script_act_text scripts.CloseRun = codes "close-run"
+
+-- the actor of an act of a script: only the closing has the house
+abbrev pub script_actor_word : ℕ → ScriptAct → List ℕ
+script_actor_word actor scripts.CloseRun = codes "house"
+script_actor_word actor other = process_word actor
+
+-- the line of a script in which an act is written: its process, where it has one, and the act
+abbrev pub script_line : ScriptAct → List ℕ
+script_line scripts.Join = script_act_text scripts.Join
+script_line (scripts.Attach process) = process_word process ++ codes " " ++ script_act_text (scripts.Attach process)
+script_line (scripts.Call process call) = process_word process ++ codes " " ++ script_act_text (scripts.Call process call)
+script_line (scripts.Exit process) = process_word process ++ codes " " ++ script_act_text (scripts.Exit process)
+script_line scripts.CloseRun = script_act_text scripts.CloseRun
 
 -- the name of a refusal that is not recorded
 abbrev pub refusal_word : Refusal → List ℕ
@@ -181,7 +197,12 @@ refusal_word (refusals.Foreign seen len) = codes "Foreign"
 
 -- the line of an act that isn't recorded: - in place of the place
 abbrev pub refused_line : ℕ → ScriptAct → Refusal → List ℕ
-refused_line actor act refusal = codes "- " ++ process_word actor ++ codes " " ++ script_act_text act ++ codes " = refused " ++ refusal_word refusal ++ codes "\n"
+refused_line actor act refusal =
+    codes "- " ++ script_actor_word actor act ++ codes " " ++ script_act_text act ++ codes " = refused " ++ refusal_word refusal ++ codes "\n"
+
+-- the line of an act that records nothing, since it has nothing to do
+abbrev pub still_line : ℕ → ScriptAct → List ℕ
+still_line actor act = codes "- " ++ script_actor_word actor act ++ codes " " ++ script_act_text act ++ codes " = still\n"
 
 -- the last line: the records, and the bytes in and out
 abbrev pub totals_line : ℕ → ℕ → ℕ → List ℕ

@@ -7,7 +7,7 @@ use Rattle.call_types.specs.declared.whence.Whence.{Whence}
 use Rattle.call_types.specs.declared.whence.Whence.TheVariants as whences
 use Rattle.call_types.specs.declared.act.ScriptAct.{ScriptAct}
 use Rattle.call_types.specs.declared.act.ScriptAct.TheVariants as acts
-use Rattle.script_text.specs.Reading.{◌>>=◌, Left, Word, word_at, valued, field, ended}
+use Rattle.script_text.specs.Reading.{◌>>=◌, Left, Word, word_at, field, ended}
 use Rattle.script_text.specs.ReadingNumbers.{count_of, process_of, descriptor_of, position_of}
 use Rattle.script_text.specs.ReadingNames.{name_of}
 use Rattle.script_text.specs.ReadingData.{data_of}
@@ -49,25 +49,36 @@ one_of (e ∷ es) w = if bytes_eq w.text e.word then entry_at e w.after else one
 abbrev pub named_call : Word → Result Call ℕ
 named_call w = one_of call_table w
 
--- the call of a process, whose word is the first
-abbrev pub process_act : Word → Result ScriptAct ℕ
-process_act w = do
-  process ← valued (process_of w.text) w.remaining w.after
-  word ← word_at process.1
-  call ← named_call word
-  Ok (acts.Call process.0 call)
-
--- join, which is the only word
-abbrev pub join_act : Left → Result ScriptAct ℕ
-join_act left = do
+-- an act whose word is the last of its line
+abbrev pub last_word : ScriptAct → Left → Result ScriptAct ℕ
+last_word act left = do
   end ← ended left
-  Ok acts.Join
+  Ok act
+
+-- a process's act, by the word after the process: attach, exit or a call
+abbrev pub process_act : ℕ → Word → Result ScriptAct ℕ
+process_act process w =
+    if bytes_eq w.text (codes "attach") then last_word (acts.Attach process) w.after
+    else if bytes_eq w.text (codes "exit") then last_word (acts.Exit process) w.after
+    else named_call w >>= λ call. Ok (acts.Call process call)
+
+-- an act that has no process in front: join or close-run; no other word is allowed
+abbrev pub run_act : Word → Result ScriptAct ℕ
+run_act w =
+    if bytes_eq w.text (codes "join") then last_word acts.Join w.after
+    else if bytes_eq w.text (codes "close-run") then last_word acts.CloseRun w.after
+    else Err w.remaining
+
+-- the act of a process, if the first word is one, or else of that word
+abbrev pub act_of : Option ℕ → Word → Result ScriptAct ℕ
+act_of (Some process) w = word_at w.after >>= λ word. process_act process word
+act_of None w = run_act w
 
 -- the act of a line, by its first word
 abbrev pub act_at : Left → Result ScriptAct ℕ
 act_at left = do
   word ← word_at left
-  if bytes_eq word.text (codes "join") then join_act word.after else process_act word
+  act_of (process_of word.text) word
 
 -- a fault where so many bytes remain, as a column
 abbrev pub with_column : ℕ → Result ScriptAct ℕ → Result ScriptAct ℕ

@@ -67,10 +67,13 @@ SpellsParts p text = (rest : List ℕ) × SpellsFields p.entry.fields p.values r
 abbrev pub SpellsCall : Call → List ℕ → Type 0
 SpellsCall call text = SpellsParts (parts call) text
 
--- an act
+-- an act; only join and close-run have no process in front
 abbrev pub SpellsAct : ScriptAct → List ℕ → Type 0
 SpellsAct acts.Join line = line ≡ codes "join"
+SpellsAct (acts.Attach process) line = (process < 2 ^ 32) × (line ≡ process_word process ++ codes " attach")
 SpellsAct (acts.Call process call) line = (text : List ℕ) × (process < 2 ^ 32) × SpellsCall call text × (line ≡ process_word process ++ (codes " " ++ text))
+SpellsAct (acts.Exit process) line = (process < 2 ^ 32) × (line ≡ process_word process ++ codes " exit")
+SpellsAct acts.CloseRun line = line ≡ codes "close-run"
 
 -- bytes, each below 256
 abbrev pub AreBytes : List ℕ → Type 0
@@ -94,6 +97,14 @@ FieldsFit (k ∷ ks) vs = FieldFits k vs.0 × FieldsFit ks vs.1
 -- a call that a script may have, with its fields in range
 abbrev pub IsScriptCall : Call → Type 0
 IsScriptCall call = FieldsFit (parts call).entry.fields (parts call).values
+
+-- an act that a script may have, with its process and its call's fields in range
+abbrev pub IsScriptAct : ScriptAct → Type 0
+IsScriptAct acts.Join = Unit {0}
+IsScriptAct (acts.Attach process) = process < 2 ^ 32
+IsScriptAct (acts.Call process call) = (process < 2 ^ 32) × IsScriptCall call
+IsScriptAct (acts.Exit process) = process < 2 ^ 32
+IsScriptAct acts.CloseRun = Unit {0}
 
 -- a line of a script: it has no act, where it is empty, or the next one
 abbrev pub SpellsLine : List ScriptAct → List ScriptAct → List ℕ → Type 0

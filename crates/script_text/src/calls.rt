@@ -3,7 +3,7 @@
 
 ghost use Rattle.std.specs.Prelude.{◌≡◌};
 ghost use Rattle.std.specs.Option.{option_copied};
-ghost use Rattle.call_types.specs.CallTable.{open_entry, close_entry, read_entry, write_entry, pread_entry, pwrite_entry, lseek_entry, ftruncate_entry, dup_entry, dup2_entry, link_entry, unlink_entry, fstat_entry, position_table};
+ghost use Rattle.call_types.specs.CallTable.{open_entry, close_entry, read_entry, write_entry, pread_entry, pwrite_entry, lseek_entry, ftruncate_entry, dup_entry, dup2_entry, link_entry, unlink_entry, fstat_entry, fork_entry, position_table};
 ghost use Rattle.script_text.specs.Reading.{Gives, Word};
 ghost use Rattle.script_text.specs.ReadingCalls.{entry_at, one_of, named_call};
 ghost use Rattle.script_text.specs.Writing.{Appends};
@@ -294,6 +294,22 @@ fn put_fstat(out: &mut Vec<u8>, fd: i32) -> Result<(), AllocError>
     Ok(())
 }
 
+/// `fork`
+fn fork_call(left: Left<'_>) -> Result<Call, WordFault>
+    ensures { Gives (λ x. x) result (entry_at fork_entry (option_copied left.entry)) }
+{
+    line_end(left)?;
+    Ok(Call::Fork)
+}
+
+/// Appends a fork.
+fn put_fork(out: &mut Vec<u8>) -> Result<(), AllocError>
+    ensures { Appends result out.old.items out.new.items (call_text Call.Fork) }
+{
+    put(out, b"fork")?;
+    Ok(())
+}
+
 /// The call that a first word names.
 pub(crate) fn call(alloc: Global, word: Next<'_>) -> Result<Call, WordFault>
     ensures { Gives (λ x. x) result (named_call (record { text = word.entry.text.now; remaining = word.entry.remaining; after = option_copied word.entry.after })) }
@@ -316,6 +332,8 @@ pub(crate) fn call(alloc: Global, word: Next<'_>) -> Result<Call, WordFault>
         unlink_call(alloc, word.after)
     } else if word.is(b"fstat") {
         fstat_call(word.after)
+    } else if word.is(b"fork") {
+        fork_call(word.after)
     } else {
         position_call(alloc, word)
     }
@@ -359,5 +377,6 @@ pub(crate) fn put_call(out: &mut Vec<u8>, call: &Call) -> Result<(), AllocError>
         Call::Link { old, new } => put_link(out, old, new),
         Call::Unlink { name } => put_unlink(out, name),
         Call::Fstat { fd } => put_fstat(out, *fd),
+        Call::Fork => put_fork(out),
     }
 }

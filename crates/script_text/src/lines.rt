@@ -3,7 +3,7 @@
 
 ghost use Rattle.std.specs.Prelude.{◌≡◌};
 ghost use Rattle.script_text.specs.Writing.{Appends};
-ghost use Rattle.script_text.specs.Lines.{act_text, actor_word, record_line, script_act_text, refusal_word, refused_line, totals_line};
+ghost use Rattle.script_text.specs.Lines.{act_text, actor_word, record_line, script_act_text, script_actor_word, refusal_word, refused_line, still_line, totals_line};
 
 use crate::calls::put_call;
 use crate::outcomes::put_outcome;
@@ -58,7 +58,23 @@ fn put_script_act(out: &mut Vec<u8>, act: &ScriptAct) -> Result<(), AllocError>
 {
     match act {
         ScriptAct::Join => put(out, b"join"),
+        ScriptAct::Attach { .. } => put(out, b"attach"),
         ScriptAct::Call { call, .. } => put_call(out, call),
+        ScriptAct::Exit { .. } => put(out, b"exit"),
+        ScriptAct::CloseRun => put(out, b"close-run"),
+    }
+}
+
+/// Appends the actor of an act of a script.
+fn put_script_actor(out: &mut Vec<u8>, actor: u32, act: &ScriptAct) -> Result<(), AllocError>
+    ensures { Appends result out.old.items out.new.items (script_actor_word actor act.now) }
+{
+    match act {
+        ScriptAct::CloseRun => put(out, b"house"),
+        ScriptAct::Join
+        | ScriptAct::Attach { .. }
+        | ScriptAct::Call { .. }
+        | ScriptAct::Exit { .. } => put_process(out, actor),
     }
 }
 
@@ -75,7 +91,8 @@ fn refusal_text(refusal: Refusal) -> &'static [u8]
     }
 }
 
-/// Appends the line of an act that isn't recorded, with its LF. The actor of a join is the one that it would have had.
+/// Appends the line of an act that isn't recorded, with its LF. The actor of a join is the one that it would have had, and
+/// that of a closing is the house, whatever number is given.
 pub fn write_refused(
     out: &mut Vec<u8>,
     actor: u32,
@@ -86,12 +103,25 @@ pub fn write_refused(
     ensures { Appends result out.old.items out.new.items (refused_line actor act.now refusal) }
 {
     put(out, b"- ")?;
-    put_process(out, actor)?;
+    put_script_actor(out, actor, act)?;
     put(out, b" ")?;
     put_script_act(out, act)?;
     put(out, b" = refused ")?;
     put(out, refusal_text(refusal))?;
     put(out, b"\n")?;
+    Ok(())
+}
+
+/// Appends the line of an act that records nothing, since it has nothing to do, with its LF.
+pub fn write_still(out: &mut Vec<u8>, actor: u32, act: &ScriptAct) -> Result<(), AllocError>
+    // The line stands after the old bytes; where memory runs out these are still the front.
+    ensures { Appends result out.old.items out.new.items (still_line actor act.now) }
+{
+    put(out, b"- ")?;
+    put_script_actor(out, actor, act)?;
+    put(out, b" ")?;
+    put_script_act(out, act)?;
+    put(out, b" = still\n")?;
     Ok(())
 }
 

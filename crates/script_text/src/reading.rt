@@ -1,8 +1,9 @@
 //! Reading one line of a script.
 
 ghost use Rattle.std.specs.Prelude.{Some, Ok, IfOk};
-ghost use Rattle.script_text.specs.Reading.{Gives};
-ghost use Rattle.script_text.specs.ReadingCalls.{act_at, reading};
+ghost use Rattle.std.specs.Option.{option_copied};
+ghost use Rattle.script_text.specs.Reading.{Gives, Word};
+ghost use Rattle.script_text.specs.ReadingCalls.{process_act, run_act, act_at, reading};
 ghost use Rattle.script_text.specs.ReadingResults.{LineGives};
 ghost use Rattle.script_text.specs.Spellings.{SpellsAct};
 ghost use Rattle.call_types.specs.declared.act.ScriptAct.{ScriptAct};
@@ -10,22 +11,52 @@ ghost use Rattle.call_types.specs.declared.act.ScriptAct.{ScriptAct};
 use crate::calls::call;
 use crate::fault::{ReadFault, WordFault};
 use crate::number::process_value;
-use crate::words::{line_end, next_word};
+use crate::words::{Next, line_end, next_word};
 use call_types::act::ScriptAct;
 use std::alloc::Global;
+
+/// The act of a process, by the word after the process.
+fn process_act(alloc: Global, process: u32, word: Next<'_>) -> Result<ScriptAct, WordFault>
+    ensures { Gives (λ x. x) result (process_act process (record { text = word.entry.text.now; remaining = word.entry.remaining; after = option_copied word.entry.after })) }
+{
+    if word.is(b"attach") {
+        line_end(word.after)?;
+        return Ok(ScriptAct::Attach { process });
+    }
+    if word.is(b"exit") {
+        line_end(word.after)?;
+        return Ok(ScriptAct::Exit { process });
+    }
+    let call = call(alloc, word)?;
+    Ok(ScriptAct::Call { process, call })
+}
+
+/// The act that has no process in front, by its word.
+fn run_act(word: Next<'_>) -> Result<ScriptAct, WordFault>
+    ensures { Gives (λ x. x) result (run_act (record { text = word.entry.text.now; remaining = word.entry.remaining; after = option_copied word.entry.after })) }
+{
+    if word.is(b"join") {
+        line_end(word.after)?;
+        return Ok(ScriptAct::Join);
+    }
+    if word.is(b"close-run") {
+        line_end(word.after)?;
+        return Ok(ScriptAct::CloseRun);
+    }
+    Err(WordFault::At {
+        remaining: word.remaining,
+    })
+}
 
 /// The act of a line.
 fn act(alloc: Global, line: &[u8]) -> Result<ScriptAct, WordFault>
     ensures { Gives (λ x. x) result (act_at (Some line.now)) }
 {
     let word = next_word(Some(line))?;
-    if word.is(b"join") {
-        line_end(word.after)?;
-        return Ok(ScriptAct::Join);
+    match process_value(word.text) {
+        Some(process) => process_act(alloc, process, next_word(word.after)?),
+        None => run_act(word),
     }
-    let (process, left) = word.valued(process_value(word.text))?;
-    let call = call(alloc, next_word(left)?)?;
-    Ok(ScriptAct::Call { process, call })
 }
 
 /// Reads the act of a script line, given without its LF.

@@ -5,16 +5,17 @@ ghost use Rattle.call_types.specs.declared.call.Call.{Call};
 ghost use Rattle.call_types.specs.declared.act.ScriptAct.{ScriptAct};
 ghost use Rattle.call_types.specs.declared.act.ScriptAct.TheVariants as acts;
 ghost use Rattle.script_text.specs.CallRows.{CallRows};
-ghost use Rattle.script_text.specs.Lines.{process_word, call_text};
+ghost use Rattle.script_text.specs.Lines.{process_word, call_text, script_line};
 ghost use Rattle.script_text.specs.ReadingCalls.{reading};
 ghost use Rattle.script_text.specs.ReadingScripts.{script};
-ghost use Rattle.script_text.specs.Spellings.{IsScriptCall, SpellsScript};
+ghost use Rattle.script_text.specs.Spellings.{IsScriptCall, IsScriptAct, SpellsScript};
 
 use crate::script::SCRIPT_MAX;
 
-/// Every call that a script may have is read again from the line in which a run writes it.
+/// Every call and every other act that a script may have is read again from the words in which a run writes it.
 pub fn written_calls_are_read_again()
-    ensures { (process : ℕ) (call : Call) → process < 2 ^ 32 → IsScriptCall call → reading (process_word process ++ codes " " ++ call_text call) ≡ Ok (acts.Call process call) }
+    ensures calls { (process : ℕ) (call : Call) → process < 2 ^ 32 → IsScriptCall call → reading (process_word process ++ codes " " ++ call_text call) ≡ Ok (acts.Call process call) }
+    ensures acts { (act : ScriptAct) → IsScriptAct act → reading (script_line act) ≡ Ok act }
 {}
 
 /// A text that spells acts is read as these, so what is read as a fault spells none.

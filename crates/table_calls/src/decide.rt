@@ -3,12 +3,15 @@ ghost use Rattle.slots.specs.Slots.{slot};
 ghost use Rattle.posix_model.specs.Step.{can_call, decided, comes_to};
 ghost use Rattle.posix_model.specs.Sound.{adds};
 
+use crate::attach::decide_attach;
 use crate::dup::decide_dup;
 use crate::dup2::decide_dup2;
+use crate::exit::{decide_close_run, decide_exit};
+use crate::fork::decide_fork;
 use crate::join::{decide_join, is_full};
 use crate::link::decide_link;
 use crate::unlink::decide_unlink;
-use call_types::act::Act;
+use call_types::act::{Act, HOUSE};
 use call_types::call::Call;
 use call_types::limits::Bounds;
 use file_calls::close::decide_close;
@@ -63,11 +66,13 @@ pub fn decide_call<R: Reader>(
         Call::Link { old, new } => decide_link(state, old, new),
         Call::Unlink { name } => decide_unlink(state, name),
         Call::Fstat { fd } => Ok(decide_fstat(state, process, *fd)),
+        Call::Fork => decide_fork(state, alloc, process),
     }
 }
 
 /// What an act comes to, or nothing where the rules record none: a join under another number than the next, a call of a
-/// process that may make none, and the acts that are to come. An error says that memory ran out.
+/// process that may make none, an exit of a process that is not live, a closing by another than the house or of a run
+/// that is closed, and a resume, of which there is none yet. An error says that memory ran out.
 pub fn decide<R: Reader>(
     state: &R,
     alloc: Global,
@@ -82,17 +87,30 @@ pub fn decide<R: Reader>(
         Act::Call(call) if can_call(state, actor) => {
             Ok(Some(decide_call(state, alloc, bounds, actor, call)?))
         }
+        Act::Attach => Ok(Some(decide_attach(state, actor))),
+        Act::Exit if state.is_live(actor) => Ok(Some(decide_exit(actor))),
+        Act::CloseRun if actor == HOUSE as usize && !state.is_closed() => {
+            Ok(Some(decide_close_run()))
+        }
         _ => Ok(None),
     }
 }
 
-/// How many processes an act is to add.
-pub fn adds<R: Reader>(state: &R, act: &Act) -> usize
-    ensures exact { result ≡ adds (R.world state.now) act.now }
+/// How many processes a call is to add.
+pub fn call_adds<R: Reader>(state: &R, call: &Call) -> usize
+    ensures exact { result ≡ adds (R.world state.now) (Act.Call call.now) }
     ensures one_at_most { result ≤ 1 }
 {
-    match act {
-        Act::Join if !is_full(state) => 1,
+    match call {
+        Call::Fork if !is_full(state) => 1,
         _ => 0,
     }
+}
+
+/// How many processes a join is to add.
+pub fn join_adds<R: Reader>(state: &R) -> usize
+    ensures exact { result ≡ adds (R.world state.now) Act.Join }
+    ensures one_at_most { result ≤ 1 }
+{
+    if is_full(state) { 0 } else { 1 }
 }

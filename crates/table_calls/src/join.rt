@@ -3,11 +3,11 @@ ghost use Rattle.posix_model.specs.Pages.{decided_by};
 ghost use Rattle.posix_model.specs.Join.{is_full, join};
 
 use call_types::errno::Errno;
-use call_types::limits::{OPEN_MAX, PROCESSES_MAX};
+use call_types::limits::PROCESSES_MAX;
 use call_types::outcome::Reply;
 use posix_model::change::{Decided, ProcessEdit, acts, refused};
 use posix_model::reader::Reader;
-use slots::dense::Slots;
+use process_table::table::DescriptorTable;
 use std::alloc::{AllocError, Global};
 
 /// Whether there may be no further process: there are too many, or the run is closed.
@@ -27,7 +27,8 @@ pub fn decide_join<R: Reader>(state: &R, alloc: Global) -> Result<Decided, Alloc
     }
     let number = state.next_process() as u64;
     let edit = ProcessEdit::Add {
-        table: Slots::free(alloc, OPEN_MAX)?,
+        table: DescriptorTable::free(alloc)?,
+        attached: true,
     };
     Ok(acts(Reply::Number(number), edit))
 }

@@ -1,9 +1,12 @@
 //! What each act comes to, decided in one place, and the acts on processes.
 #![tactic(auto)]
 
+pub mod attach;
 pub mod decide;
 pub mod dup;
 pub mod dup2;
+pub mod exit;
+pub mod fork;
 pub mod given;
 pub mod join;
 pub mod link;

@@ -16,7 +16,7 @@ pub invariant_of-self : goal.invariant_of-self
 invariant_of-self c =
     let can = rw (← c.self.view_is) at c.requires.fits in
     let few = rw (← c.self.view_is) at c.requires.few in
-    rw (c.replace_entry.ensures.slots, c.add.ensures.slots, c.hold_file.ensures, c.file_of_target.ensures, c.next-number.ensures)
+    rw (c.set_fd.ensures.slots, c.add.ensures.slots, c.hold_file.ensures, c.file_of_target.ensures, c.next-number.ensures)
     (after_open (stored_in c.self.inside) c.self.invariant c.args.process c.args.fd c.args.description can few)
 
 pub returns : goal.returns
@@ -24,6 +24,6 @@ returns c =
     let s = stored_in c.self.inside in
     let can = rw (← c.self.view_is) at c.requires.fits in
     let few = rw (← c.self.view_is) at c.requires.few in
-    rw (← c.self.view_is, c.replace_entry.ensures.slots, c.add.ensures.slots, c.hold_file.ensures, c.file_of_target.ensures, c.next-number.ensures)
+    rw (← c.self.view_is, c.set_fd.ensures.slots, c.add.ensures.slots, c.hold_file.ensures, c.file_of_target.ensures, c.next-number.ensures)
     (swept c.sweep_releases.ensures.stays _ (with_description (world_in s) c.args.process c.args.fd c.args.description)
     (after_open s c.self.invariant c.args.process c.args.fd c.args.description can few) (opened_world s c.self.invariant c.args.process c.args.fd c.args.description))

@@ -15,11 +15,11 @@ hold_entry-requires-clause-few c = λ n. omega (arith, few_references (stored_in
 pub invariant_of-self : goal.invariant_of-self
 invariant_of-self c =
     let can = rw (← c.self.view_is) at c.requires in
-    rw (c.drop_file.ensures, c.file_of_gone.ensures, c.drop_entry-dropped.ensures.told, c.drop_entry-dropped.ensures.slots, c.replace_entry-old.ensures.old, c.replace_entry-old.ensures.slots, c.hold_entry.ensures)
+    rw (c.drop_file.ensures, c.file_of_gone.ensures, c.drop_entry-dropped.ensures.told, c.drop_entry-dropped.ensures.slots, c.set_fd-old.ensures.old, c.set_fd-old.ensures.slots, c.hold_entry.ensures.slots)
     (is_set (stored_in c.self.inside) c.self.invariant c.args.process c.args.fd c.args.entry can c.sweep_releases.ensures.stays c.sweep_releases.ensures.releases).consistent
 
 pub returns : goal.returns
 returns c =
     let can = rw (← c.self.view_is) at c.requires in
-    rw (← c.self.view_is, c.drop_file.ensures, c.file_of_gone.ensures, c.drop_entry-dropped.ensures.told, c.drop_entry-dropped.ensures.slots, c.replace_entry-old.ensures.old, c.replace_entry-old.ensures.slots, c.hold_entry.ensures)
+    rw (← c.self.view_is, c.drop_file.ensures, c.file_of_gone.ensures, c.drop_entry-dropped.ensures.told, c.drop_entry-dropped.ensures.slots, c.set_fd-old.ensures.old, c.set_fd-old.ensures.slots, c.hold_entry.ensures.slots)
     (is_set (stored_in c.self.inside) c.self.invariant c.args.process c.args.fd c.args.entry can c.sweep_releases.ensures.stays c.sweep_releases.ensures.releases).world

@@ -1,25 +1,36 @@
-use Rattle.std.proofs.Common.{◌≡◌, ◌≤◌, refl, arith, length}
+use Rattle.std.proofs.Common.{◌≡◌, ◌≤◌, ◌+◌, ◌∙◌, cond, None, Some, refl, sym, ap, arith, length}
 use Rattle.std.specs.Arc.{arc_value}
 use Rattle.std.proofs.lemmas.List.{map-append}
 use Rattle.call_types.specs.declared.act.Record.{Record}
 use Rattle.call_types.specs.declared.limits.TheConstants.{GIVEN_BYTES_MAX}
-use Rattle.posix_model.specs.Step.{given}
+use Rattle.slots.specs.Slots.{live}
+use Rattle.posix_model.specs.Step.{given, stepped}
+use Rattle.posix_model.specs.Sound.{ended_by, adds, ended, closes}
 use Rattle.posix_model.specs.Turns.{took, gave}
 use Rattle.record_book.specs.Book.{world_now}
-use Rattle.record_book.specs.Inside.{state_of}
-use Rattle.record_book.proofs.GrowLemmas.{book_grows}
+use Rattle.record_book.specs.Inside.{state_of, prepared_closing}
+use Rattle.record_book.specs.Exits.{closing_record, prepared_for}
+use Rattle.record_book.proofs.GrowLemmas.{book_grows, book_stays, closed_same}
+use Rattle.record_book.proofs.ExitLemmas.{exits_changed, prepared_count, house_grows}
 use Rattle.record_book.proofs.book.Book.append.Goals as goal
 
 pub invariant_of-self-2 : goal.invariant_of-self-2
 invariant_of-self-2 c =
     let b = c.self.inside in
     let w = world_now (state_of b) in
-    let planned = rw (← c.self.view_is) at c.requires in
+    let planned = rw (← c.self.view_is) at c.requires.planned in
     let r : Record = record { actor = c.args.actor; act = c.args.act; outcome = c.args.decided.outcome } in
     let item_is : arc_value c.in_ok-item.item ≡ r = c.in_ok-item.ensures.ok in
     let given_is : c.given-bytes.result.now ≡ given c.args.act = rw (c.given-bytes.ensures.bytes, c.deref.ensures, item_is) refl in
     let took_is : c.took.result ≡ took w r = rw (c.took.ensures, c.deref-2.ensures, item_is, c.in_ok-reserve_for.ensures.world, c.self.invariant.world) refl in
     let gave_is : c.gave.result ≡ gave w r = rw (c.gave.ensures.bytes w, c.deref-3.ensures, item_is) refl in
+    let w_is : b.machine.world ≡ w = c.self.invariant.world in
+    let next = (stepped w (given r.act) c.args.decided).world in
+    let none : ended_by c.args.decided.change.process ≡ 0 = planned.told.ended ∙ c.requires.ends in
+    let number_is : c.next_process-number.result ≡ length w.processes = rw (c.next_process-number.ensures, c.in_ok-reserve_for.ensures.world, w_is) refl in
+    let live_is : c.live_processes-live.result ≡ live w.processes = rw (c.live_processes-live.ensures, c.in_ok-reserve_for.ensures.world, w_is) refl in
+    let prepared_is : c.in_ok-prepared.prepared ≡ prepared_for (length w.processes) c.args.decided.change.process =
+    c.in_ok-prepared.ensures.prepared ∙ ap (λ n. prepared_for n c.args.decided.change.process) number_is in
     book_grows b _ r c.args.decided c.self.invariant (record {
       planned = planned;
       outcome = refl;
@@ -33,4 +44,35 @@ invariant_of-self-2 c =
       taken = rw took_is refl;
       given_is = rw gave_is refl;
       room = c.push_reserved.ensures.capacity;
+      exits = rw (c.keep_exit.ensures, prepared_is, c.in_ok-prepared.ensures.exits, c.self.invariant.exits, w_is) (sym (exits_changed w (given r.act) c.args.decided.change none));
+      closing =
+          c.in_ok-prepared.ensures.house.closing ∙ c.self.invariant.closing ∙ ap prepared_closing w_is ∙
+          ap (λ b. cond b None (Some closing_record)) (sym (closed_same w next (ended r.act) (adds w r.act) (closes r.act) planned.counts c.requires.closes));
+      house =
+          let grown = house_grows b.house _ (live w.processes) (adds w r.act) c.in_ok-prepared.prepared c.in_ok-prepared.ensures.house (rw (← w_is) c.self.invariant.house)
+          (λ some. rw (← live_is) (c.in_ok-prepared.ensures.house_room some)) (sym planned.told.planned ∙ rw prepared_is (prepared_count (length w.processes) c.args.decided.change.process)) in
+          let living : live next.processes ≡ live w.processes + adds w r.act = omega (arith, planned.counts.living, c.requires.ends) in
+          rw living grown;
     })
+
+pub invariant_of-self-in_err-prepared : goal.invariant_of-self-in_err-prepared
+invariant_of-self-in_err-prepared c = book_stays c.self.inside _ c.self.invariant (record {
+  world = c.in_ok-reserve_for.ensures.world;
+  history = refl;
+  limits = refl;
+  bytes_in = refl;
+  bytes_out = refl;
+  exits = c.in_err-prepared.ensures.exits;
+  house = c.in_err-prepared.ensures.house;
+})
+
+pub invariant_of-self-in_err-receive : goal.invariant_of-self-in_err-receive
+invariant_of-self-in_err-receive c = book_stays c.self.inside _ c.self.invariant (record {
+  world = c.in_ok-reserve_for.ensures.world;
+  history = refl;
+  limits = refl;
+  bytes_in = refl;
+  bytes_out = refl;
+  exits = c.in_ok-prepared.ensures.exits;
+  house = c.in_ok-prepared.ensures.house;
+})

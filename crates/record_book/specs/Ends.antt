@@ -1,0 +1,50 @@
+-- What an exit and the closing give (own).
+use Rattle.std.specs.Prelude.{◌≡◌, ℕ, true, false, ◌∷◌, [], ◌++◌, List, Option, None, Some, length, slice_set}
+use Rattle.std.specs.Option.{option_map}
+use Rattle.call_types.specs.declared.act.TheConstants.{HOUSE}
+use Rattle.call_types.specs.declared.act.Act.TheVariants as act
+use Rattle.call_types.specs.declared.act.Record.{Record}
+use Rattle.record_book.specs.Seat.{Receipted, SeatState}
+use Rattle.record_book.specs.Book.{BookState, world_now, Appends, Receives}
+use Rattle.record_book.specs.Exits.{exit_record, orphans_exits, closing_records, receipts_from}
+
+-- the exit of a seat's process is recorded, and its receipt is the last of the seat
+abbrev pub ExitsBy : BookState → BookState → SeatState → SeatState → Receipted → Type 0
+ExitsBy old new s spent receipt = Appends old new s.pid act.Exit receipt × Receives s spent receipt
+
+-- the same, with some receipt
+abbrev pub Exits : BookState → BookState → SeatState → SeatState → Type 0
+Exits old new s spent = (receipt : Receipted) × ExitsBy old new s spent receipt
+
+-- the receipts of the house with those of more records, from a place on
+abbrev pub told_more : ℕ → List Record → Option (List Receipted) → Option (List Receipted)
+told_more place rs house = option_map (λ receipts. receipts ++ receipts_from place rs) house
+
+-- the exit of a process is recorded, and the house has its receipt
+pub record IsOrphansExit (old new : BookState) (process : ℕ) : Type 0 where
+  pub limits : new.limits ≡ old.limits
+  pub history : new.history ≡ old.history ++ exit_record process ∷ []
+  pub house : new.house ≡ told_more (length old.history) (exit_record process ∷ []) old.house
+  pub processes : (world_now new).processes ≡ slice_set (world_now old).processes process None
+  pub closed : (world_now new).closed ≡ (world_now old).closed
+
+-- these records are appended, and the house gives its receipts away with theirs, has seen all, and holds none any more
+pub record Ends (old new : BookState) (rs : List Record) (house : SeatState) : Type 0 where
+  pub limits : new.limits ≡ old.limits
+  pub history : new.history ≡ old.history ++ rs
+  pub pid : house.pid ≡ HOUSE
+  pub seen : house.seen ≡ length new.history
+  pub receipts : Some house.receipts ≡ told_more (length old.history) rs old.house
+  pub given_away : new.house ≡ None
+
+-- the exits of all processes without a connection are recorded, and the house has their receipts
+pub record OrphansEnd (old new : BookState) : Type 0 where
+  pub limits : new.limits ≡ old.limits
+  pub history : new.history ≡ old.history ++ orphans_exits (world_now old)
+  pub house : new.house ≡ told_more (length old.history) (orphans_exits (world_now old)) old.house
+  pub closed : (world_now new).closed ≡ (world_now old).closed
+
+-- a run that is open is closed by the exits of the processes without a connection and the closing; one that is closed stays as it is
+abbrev pub Closes : BookState → BookState → Option SeatState → Type 0
+Closes old new (Some house) = ((world_now old).closed ≡ false) × Ends old new (closing_records (world_now old)) house
+Closes old new None = ((world_now old).closed ≡ true) × (new ≡ old)
