@@ -1,0 +1,7 @@
+-- What a ring of bytes is seen as.
+use Rattle.std.specs.Prelude.{ℕ, List}
+
+-- the bytes in it, of which the first is taken next, and how many it can hold
+pub record Ring : Type 0 where
+  pub bytes : List ℕ
+  pub capacity : ℕ
