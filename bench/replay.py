@@ -14,7 +14,8 @@ the output going to a file. The growth is the cost of an act over its cost in th
 `churn` makes a file, writes 64 bytes, gives it a second name, takes both away, reads the bytes back through the
 descriptor and closes it, among 300 names of a set of 500. `wide` has 60 processes with 15 descriptors each beside
 1,000 names, and writes, seeks, reads, asks, opens and closes among them. `dups` duplicates descriptors, to the
-lowest free number, to one that is free and over one that is open, and closes them. `9,000 files` are made, written one byte at
+lowest free number, to one that is free and over one that is open, and closes them. `forks` forks and attaches children,
+which write through the offset that they share with their parent and exit; at most 60 processes are live. `9,000 files` are made, written one byte at
 their end, unlinked and closed, one after another: what went must not stay in memory, so a peak of 80 MiB fails.
 
 `64 KiB, ..` has writes of 65,536 bytes spread over files of sixteen writes each, since a file holds
@@ -47,7 +48,7 @@ BURST_ACTS = 2 * BURST + 6
 
 
 class Script:
-    """A script that is written to a file as it grows, with the closing line that its run must end in."""
+    """A script that is written to a file as it grows, with the line of totals that its run must end in."""
 
     def __init__(self, name, path):
         self.name = name
@@ -240,6 +241,29 @@ def dups(path, acts):
     return script.filled(acts)
 
 
+def forks(path, acts):
+    """Children that are forked, attached, write through the offset that they share with their parent, which reads on from there,
+    and exit; at most 59 of them are live beside it."""
+    script = Script(f"forks {acts:,}", path)
+    script.act("join")
+    script.act("p0 open f rw,creat")
+    script.write(0, "61*4096", 4_096)
+    child, live = 1, 59
+    script.processes = live + 1
+    while script.acts + 6 <= acts:
+        if child % 250 == 1:
+            script.act("p0 lseek 0 0 set")
+        script.act("p0 fork")
+        script.act(f"p{child} attach")
+        script.act(f"p{child} write 0 61*8")
+        script.bytes_in += 8
+        script.read(0, 8)
+        if child > live - 1:
+            script.act(f"p{child - live + 1} exit")
+        child += 1
+    return script.filled(acts)
+
+
 def ends(path, files):
     """Files that are made, written one byte at their end and unlinked while they are open, one after another."""
     script = Script(f"{files:,} files", path)
@@ -336,7 +360,7 @@ def table(program, runs, folder):
     for acts in (10_000, 100_000, 999_000):
         costs.append(line(mix(path, acts), costs[-1] if costs else None))
     print(f"growth of the cost of an act from 10,000 to 999,000 acts: {costs[-1] / costs[0]:.2f}")
-    for kind in (churn, wide, dups):
+    for kind in (churn, wide, dups, forks):
         few = line(kind(path, 10_000))
         many = line(kind(path, 999_000), few)
         print(f"an act of it over a small act: {few / costs[0]:.2f} of 10,000, {many / costs[-1]:.2f} of 999,000")
