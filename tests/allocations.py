@@ -84,7 +84,7 @@ def build(folder):
 def names(program):
     """The tests of want of memory."""
     listed = subprocess.run([program, "--list"], stdout=subprocess.PIPE, text=True, check=True)
-    found = [line.split(":: ")[0].removesuffix(": test").strip() for line in listed.stdout.splitlines()]
+    found = [line.rsplit(": ", 1)[0] for line in listed.stdout.splitlines()]
     return [name for name in found if name.startswith(MODULE)]
 
 
@@ -119,7 +119,7 @@ def run(program, library, test, first, last):
 
 
 def sweep(program, library, test, is_for_good):
-    """Runs a test with each allocation refused in turn; how many runs passed, and how many failed."""
+    """Runs a test with each allocation refused in turn; how many runs passed and how many failed."""
     what = "and all later ones" if is_for_good else "alone"
     passed = failed = 0
     for number in range(1, ALLOCATIONS_MOST):

@@ -1,5 +1,5 @@
-//! Want of memory, in one allocation and for good. `tests/allocations.py`, at the top of the repository, runs these tests with each of
-//! their allocations refused in turn; with none refused they pass too.
+//! Want of memory, in one allocation and for good. `tests/allocations.py`, at the top of the repository, runs these tests
+//! with each of their allocations refused in turn; with none refused they pass too.
 use call_types::act::ScriptAct;
 use call_types::bounded::{Name, Payload};
 use call_types::call::Call;
@@ -60,6 +60,19 @@ fn held(seat: &Option<Seat>) -> Option<(u64, usize)> {
     match seat {
         Some(seat) => Some((seat.seen(), seat.receipts().len())),
         None => None,
+    }
+}
+
+/// Starts a call of a seat that is there.
+fn start(
+    alloc: Global,
+    book: &mut Book,
+    seat: &mut Option<Seat>,
+    call: Call,
+) -> Result<Tells, Refusal> {
+    match seat {
+        Some(seat) => Ok(told_by(&book.start(alloc, seat, call)?)),
+        None => Err(Refusal::NotHere),
     }
 }
 
@@ -129,14 +142,10 @@ impl Run {
 
     fn call(&mut self, alloc: Global, process: u32, call: &Call) -> Result<Tells, Refusal> {
         let call = call.clone()?;
-        let seat = if process == 0 {
-            &mut self.parent
+        if process == 0 {
+            start(alloc, &mut self.book, &mut self.parent, call)
         } else {
-            &mut self.child
-        };
-        match seat {
-            Some(seat) => Ok(told_by(&self.book.start(alloc, seat, call)?)),
-            None => Err(Refusal::NotHere),
+            start(alloc, &mut self.book, &mut self.child, call)
         }
     }
 
@@ -361,7 +370,7 @@ fn ends_take_no_memory(rt: HostRuntime) -> Result<(), Fail> {
     let attached = is_given(&mut run, alloc, &ScriptAct::Attach { process: 1 });
     let records = u64::from(joined) + u64::from(first) + u64::from(second) + u64::from(attached);
     assert_eq!(rt; run.book.counts().records, records);
-    if attached {
+    if run.child.is_some() {
         assert!(rt; run.exit().is_ok());
     }
     assert!(rt; run.book.close_run().is_some());
