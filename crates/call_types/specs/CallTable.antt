@@ -77,6 +77,12 @@ dup_entry = record { word = codes "dup"; byte = 24; fields = a_descriptor ∷ []
 abbrev pub dup2_entry : Entry
 dup2_entry = record { word = codes "dup2"; byte = 25; fields = a_descriptor ∷ a_descriptor ∷ []; make = calls.Dup2 }
 
+abbrev pub pipe_entry : Entry
+pipe_entry = record { word = codes "pipe"; byte = 26; fields = []; make = calls.Pipe }
+
+abbrev pub mkfifo_entry : Entry
+mkfifo_entry = record { word = codes "mkfifo"; byte = 27; fields = a_name ∷ []; make = calls.Mkfifo }
+
 abbrev pub link_entry : Entry
 link_entry = record { word = codes "link"; byte = 28; fields = a_name ∷ a_name ∷ []; make = calls.Link }
 
@@ -95,7 +101,7 @@ position_table = pread_entry ∷ pwrite_entry ∷ lseek_entry ∷ ftruncate_entr
 
 -- the calls
 abbrev pub call_table : List Entry
-call_table = open_entry ∷ close_entry ∷ read_entry ∷ write_entry ∷ dup_entry ∷ dup2_entry ∷ link_entry ∷ unlink_entry ∷ fstat_entry ∷ fork_entry ∷ position_table
+call_table = open_entry ∷ close_entry ∷ read_entry ∷ write_entry ∷ dup_entry ∷ dup2_entry ∷ pipe_entry ∷ mkfifo_entry ∷ link_entry ∷ unlink_entry ∷ fstat_entry ∷ fork_entry ∷ position_table
 
 -- an entry, and fields for it
 pub record Parts : Type 0 where
@@ -117,6 +123,8 @@ parts (calls.Lseek fd offset whence) = of lseek_entry (fd, (offset, (whence, tt)
 parts (calls.Ftruncate fd len) = of ftruncate_entry (fd, (len, tt))
 parts (calls.Dup fd) = of dup_entry (fd, tt)
 parts (calls.Dup2 fd to) = of dup2_entry (fd, (to, tt))
+parts calls.Pipe = of pipe_entry tt
+parts (calls.Mkfifo name) = of mkfifo_entry (name, tt)
 parts (calls.Link old new) = of link_entry (old, (new, tt))
 parts (calls.Unlink name) = of unlink_entry (name, tt)
 parts (calls.Fstat fd) = of fstat_entry (fd, tt)

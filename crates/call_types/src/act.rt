@@ -41,6 +41,8 @@ pub enum ScriptAct {
     Attach { process: u32 },
     /// The call of a process, by its number.
     Call { process: u32, call: Call },
+    /// The call that a process waits in is taken up.
+    Resume { process: u32 },
     /// The process of this number ends.
     Exit { process: u32 },
     /// The run is closed.

@@ -56,6 +56,12 @@ pub enum Call {
         fd: i32,
         to: i32,
     },
+    /// Makes a pipe, and opens its two ends (page of pipe).
+    Pipe,
+    /// Gives a new FIFO a name (page of mkfifo).
+    Mkfifo {
+        name: Name,
+    },
     /// Gives a file one more name (page of link).
     Link {
         old: Name,
@@ -104,6 +110,9 @@ impl Call {
             }
             Call::Pwrite { bytes, .. } => {
                 let _bytes = bytes.as_slice();
+            }
+            Call::Mkfifo { name } => {
+                let _bytes = name.as_slice();
             }
             Call::Link { old, new } => {
                 let _old = old.as_slice();

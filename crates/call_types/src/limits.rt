@@ -36,6 +36,9 @@ pub const OFFSET_MAX: u64 = 9_223_372_036_854_775_807;
 /// Bytes of a regular file; a write at this offset or past it is EFBIG.
 pub const FILE_SIZE_MAX: u64 = 1_048_576;
 
+/// Bytes of a write to a pipe that go in all at once or not at all (page of write, PIPE_BUF).
+pub const PIPE_BUF: usize = 512;
+
 /// Bytes that a pipe holds.
 pub const PIPE_CAPACITY: u64 = 1024;
 
@@ -59,6 +62,7 @@ pub fn numbers_of_the_profile()
     ensures given_bytes_max { GIVEN_BYTES_MAX ≡ 65700 }
     ensures offset_max { OFFSET_MAX ≡ 2 ^ 63 - 1 }
     ensures file_size_max { FILE_SIZE_MAX ≡ 1048576 }
+    ensures pipe_buf { PIPE_BUF ≡ 512 }
     ensures pipe_capacity { PIPE_CAPACITY ≡ 1024 }
     ensures record_length_max { RECORD_LENGTH_MAX ≡ 66048 }
     ensures records_max { RECORDS_MAX ≡ 1000000 }

@@ -5,3 +5,4 @@ mod memory;
 mod names;
 mod plain;
 mod processes;
+mod rings;

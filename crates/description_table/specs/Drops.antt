@@ -10,7 +10,7 @@ use Rattle.description_table.specs.declared.Dropped.TheVariants.{Still, Gone}
 abbrev pub Referred : List (Option (Used Description)) → Type 0
 Referred slots = (number : ℕ) (used : Used Description) → slot slots number ≡ Some used → 0 < used.uses
 
--- the description that went with its last reference tells its target
+-- the description that went with its last reference tells its target and mode
 abbrev pub dropped : Option Description → Dropped
 dropped None = Still
-dropped (Some description) = Gone description.target
+dropped (Some description) = Gone description.target description.mode

@@ -10,7 +10,7 @@ ghost use Rattle.description_table.specs.Drops.{dropped};
 ghost use Rattle.description_table.specs.Flags.{flag_if, flags_of};
 
 use bitflags::Flags;
-use call_types::description::{Description, Target};
+use call_types::description::{Description, Mode, Target};
 use call_types::flags::OpenFlags;
 use slots::numbered::Numbered;
 use slots::used::Used;
@@ -22,8 +22,8 @@ use std::marker::Model;
 pub enum Dropped {
     /// It is still referred to, or was gone before.
     Still,
-    /// It went with its last reference; this is what it referred to.
-    Gone { target: Target },
+    /// It went with its last reference; this is what it referred to, and for what it was open.
+    Gone { target: Target, mode: Mode },
 }
 
 /// The flag, if it is set.
@@ -127,6 +127,14 @@ impl DescriptionTable {
         self.descriptions.reserve()
     }
 
+    /// Makes room for two more descriptions; an error says that memory or numbers ran out.
+    pub fn reserve_two(&mut self) -> Result<(), AllocError>
+        ensures slots { self.new.0 ≡ self.old.0 }
+        ensures room { OnOk result (2 ≤ self.new.1) }
+    {
+        self.descriptions.reserve_more(2)
+    }
+
     /// Gives the next number to a description, for which there is room, with one reference.
     pub fn add(&mut self, description: Description)
         requires { 0 < self.old.1 }
@@ -159,6 +167,7 @@ impl DescriptionTable {
         match self.descriptions.drop_use(number) {
             Some(description) => Dropped::Gone {
                 target: description.target,
+                mode: description.mode,
             },
             None => Dropped::Still,
         }

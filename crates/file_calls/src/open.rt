@@ -1,20 +1,56 @@
-ghost use Rattle.std.specs.Prelude.{◌≡◌, None, IfOk, OnErr};
+ghost use Rattle.std.specs.Prelude.{◌≡◌, true, is_some, None, IfOk, IfSome, OnErr};
 ghost use Rattle.call_types.specs.Names.{file_of};
+ghost use Rattle.slots.specs.Slots.{slot};
 ghost use Rattle.posix_model.specs.Pages.{first_fault, decided_by};
-ghost use Rattle.posix_model.specs.Open.{found_faults, room_faults, open_faults, opens, emptied, open_found, open_file};
+ghost use Rattle.posix_model.specs.Pipes.{fifo_at};
+ghost use Rattle.posix_model.specs.Open.{found_fifo, is_both, is_unread, found_faults, room_faults, open_faults, opens, emptied, open_there, open_found, open_file};
 
-use crate::opening::{flag_fault, name_fault, new_description};
+use crate::opening::{flag_fault, name_fault};
 use call_types::bounded::Name;
-use call_types::description::Description;
+use call_types::description::{Description, Mode, Target};
 use call_types::errno::Errno;
 use call_types::flags::OpenFlags;
 use call_types::limits::{DESCRIPTIONS_MAX, NAMES_MAX};
 use call_types::outcome::Reply;
+use pipe_calls::open_end::{decide_open_end, is_met};
+use pipe_calls::opening::{free_descriptor, new_description};
 use posix_model::change::{Decided, FileEdit, TableEdit, does, refused};
 use posix_model::reader::Reader;
-use std::alloc::AllocError;
+use posix_model::world::Fifo;
+use std::alloc::{AllocError, Global};
 
-/// The first refusal of what a name leads to: ENOENT, EEXIST or EINVAL.
+/// The FIFO that a name leads to, if it leads to one.
+fn found_fifo<R: Reader>(state: &R, found: Option<usize>) -> Option<Fifo>
+    ensures { result ≡ found_fifo (R.world state.now) found }
+{
+    match found {
+        None => None,
+        Some(file) => state.fifo_at(file),
+    }
+}
+
+/// Whether a FIFO would be opened for reading and writing.
+fn is_both(flags: OpenFlags, fifo: Option<Fifo>) -> bool
+    ensures { result ≡ is_both flags fifo }
+{
+    fifo.is_some() && flags.has(OpenFlags::READ) && flags.has(OpenFlags::WRITE)
+}
+
+/// Whether an open of a FIFO for writing, with nonblock, would meet no reader.
+fn is_unread<R: Reader>(state: &R, flags: OpenFlags, fifo: Option<Fifo>) -> bool
+    ensures { result ≡ is_unread (R.world state.now) flags fifo }
+{
+    match fifo {
+        None => false,
+        Some(fifo) => {
+            flags.has(OpenFlags::WRITE)
+                && flags.has(OpenFlags::NONBLOCK)
+                && !is_met(state, Mode::Write, fifo)
+        }
+    }
+}
+
+/// The first refusal of what a name leads to: ENOENT, EEXIST, EINVAL or ENXIO.
 fn found_fault<R: Reader>(state: &R, flags: OpenFlags, found: Option<usize>) -> Option<Errno>
     ensures { result ≡ first_fault (found_faults (R.world state.now) flags found) }
 {
@@ -24,8 +60,12 @@ fn found_fault<R: Reader>(state: &R, flags: OpenFlags, found: Option<usize>) -> 
     if found.is_some() && flags.has(OpenFlags::CREAT) && flags.has(OpenFlags::EXCL) {
         return Some(Errno::EEXIST);
     }
-    if state.leads_to_fifo(found) {
+    let fifo = found_fifo(state, found);
+    if is_both(flags, fifo) {
         return Some(Errno::EINVAL);
+    }
+    if is_unread(state, flags, fifo) {
+        return Some(Errno::ENXIO);
     }
     None
 }
@@ -65,7 +105,7 @@ fn open_fault<R: Reader>(
 fn opens<R: Reader>(state: &R, process: usize, files: FileEdit, description: Description) -> Decided
     ensures { result ≡ opens (R.world state.now) process files description }
 {
-    let fd = state.lowest_free(process).unwrap_or(0);
+    let fd = free_descriptor(state, process);
     let edit = TableEdit::Open {
         process,
         fd,
@@ -85,24 +125,44 @@ fn emptied(file: usize, flags: OpenFlags) -> FileEdit
     }
 }
 
-/// The file that is there is opened, or a new one. An error says that memory for a new name ran out.
+/// A file that is there is opened: a regular one, or an end of a FIFO. An error says that memory for a copy of the call ran out.
+fn open_there<R: Reader>(
+    state: &R,
+    alloc: Global,
+    process: usize,
+    name: &Name,
+    flags: OpenFlags,
+    file: usize,
+) -> Result<Decided, AllocError>
+    ensures effect { IfOk result (λ d. d ≡ open_there (R.world state.now) process name.now flags file (fifo_at (slot (R.world state.now).files file))) }
+    ensures fifo { OnErr result (is_some (fifo_at (slot (R.world state.now).files file)) ≡ true) }
+{
+    match state.fifo_at(file) {
+        None => {
+            let description = new_description(Target::Regular { file }, flags);
+            Ok(opens(state, process, emptied(file, flags), description))
+        }
+        Some(fifo) => decide_open_end(state, alloc, process, name, flags, file, fifo),
+    }
+}
+
+/// The file that is there is opened, or a new one. An error says that memory for a new name, or for a copy of the call, ran out.
 fn open_found<R: Reader>(
     state: &R,
+    alloc: Global,
     process: usize,
     name: &Name,
     flags: OpenFlags,
     found: Option<usize>,
 ) -> Result<Decided, AllocError>
     ensures effect { IfOk result (λ d. d ≡ open_found (R.world state.now) process name.now flags found) }
-    ensures needed { OnErr result (found ≡ None) }
+    ensures fifo { OnErr result (IfSome found (λ file. is_some (fifo_at (slot (R.world state.now).files file)) ≡ true)) }
 {
     match found {
-        Some(file) => {
-            let description = new_description(file, flags);
-            Ok(opens(state, process, emptied(file, flags), description))
-        }
+        Some(file) => open_there(state, alloc, process, name, flags, file),
         None => {
-            let description = new_description(state.next_file(), flags);
+            let file = state.next_file();
+            let description = new_description(Target::Regular { file }, flags);
             let name = name.clone()?;
             Ok(opens(state, process, FileEdit::MakeFile { name }, description))
         }
@@ -110,20 +170,22 @@ fn open_found<R: Reader>(
 }
 
 /// What open comes to: a refusal of its flags, its name, what that leads to or for want of room, or the lowest free
-/// descriptor (page of open). An error says that memory for a new name ran out.
+/// descriptor; of an end of a FIFO the process may wait (page of open). An error says that memory for a new name, or for a copy
+/// of the call, ran out.
 pub fn decide_open<R: Reader>(
     state: &R,
+    alloc: Global,
     process: usize,
     name: &Name,
     flags: OpenFlags,
 ) -> Result<Decided, AllocError>
     ensures page { IfOk result (λ d. d ≡ decided_by (open_file (R.world state.now) process name.now flags)) }
-    ensures new { OnErr result (file_of name.now (R.world state.now).names ≡ None) }
-    ensures needed { OnErr result (first_fault (open_faults (R.world state.now) process name.now flags None) ≡ None) }
+    ensures fifo { OnErr result (IfSome (file_of name.now (R.world state.now).names) (λ file. is_some (fifo_at (slot (R.world state.now).files file)) ≡ true)) }
+    ensures needed { OnErr result (first_fault (open_file (R.world state.now) process name.now flags).faults ≡ None) }
 {
     let found = state.file_of(name.as_slice());
     if let Some(error) = open_fault(state, process, name.as_slice(), flags, found) {
         return Ok(refused(error));
     }
-    open_found(state, process, name, flags, found)
+    open_found(state, alloc, process, name, flags, found)
 }

@@ -1,9 +1,8 @@
 ghost use Rattle.std.specs.Prelude.{◌≡◌};
 ghost use Rattle.std.specs.List.{list_all};
 ghost use Rattle.posix_model.specs.Pages.{first_fault};
-ghost use Rattle.posix_model.specs.Open.{is_name_byte, is_dots, name_faults, flag_faults, mode_of, new_description};
+ghost use Rattle.posix_model.specs.Open.{is_name_byte, is_dots, name_faults, flag_faults};
 
-use call_types::description::{Description, Mode, Target};
 use call_types::errno::Errno;
 use call_types::flags::OpenFlags;
 use call_types::limits::NAME_MAX;
@@ -59,31 +58,4 @@ pub(crate) fn flag_fault(flags: OpenFlags) -> Option<Errno>
         return Some(Errno::EINVAL);
     }
     None
-}
-
-/// For what a file is opened.
-fn mode_of(flags: OpenFlags) -> Mode
-    ensures { result ≡ mode_of flags }
-{
-    if !flags.has(OpenFlags::READ) {
-        return Mode::Write;
-    }
-    if flags.has(OpenFlags::WRITE) {
-        Mode::ReadWrite
-    } else {
-        Mode::Read
-    }
-}
-
-/// A new open file description of a regular file, with offset 0.
-pub(crate) fn new_description(file: usize, flags: OpenFlags) -> Description
-    ensures { result ≡ new_description file flags }
-{
-    Description {
-        target: Target::Regular { file },
-        offset: 0,
-        mode: mode_of(flags),
-        append: flags.has(OpenFlags::APPEND),
-        nonblock: flags.has(OpenFlags::NONBLOCK),
-    }
 }

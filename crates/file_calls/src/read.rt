@@ -1,13 +1,19 @@
-ghost use Rattle.std.specs.Prelude.{◌≡◌, ◌+◌, ◌<◌, ◌^◌, length, None, IfOk, IfSome, OnErr};
-ghost use Rattle.posix_model.specs.Descriptors.{opened};
+ghost use Rattle.std.specs.Prelude.{◌≡◌, ◌≤◌, ◌+◌, ◌<◌, ◌^◌, length, false, IfOk, OnErr};
+ghost use Rattle.posix_model.specs.Bytes.{bytes_at};
+ghost use Rattle.posix_model.specs.Descriptors.{opened, bytes_of};
+ghost use Rattle.posix_model.specs.Positions.{file_at};
 ghost use Rattle.posix_model.specs.Pages.{first_fault, on_open};
 ghost use Rattle.posix_model.specs.Read.{read_faults, gives, read};
+ghost use Rattle.pipe_calls.specs.Refusals.{is_refusal};
 
-use crate::targets::{file_at, is_regular};
+use crate::targets::file_at;
 use call_types::bounded::Content;
+use call_types::call::Call;
 use call_types::errno::Errno;
 use call_types::limits::TRANSFER_MAX;
 use call_types::outcome::Reply;
+use pipe_calls::read::decide_read_end;
+use pipe_calls::targets::pipe_at;
 use posix_model::change::{Decided, FileEdit, TableEdit, does, refused, tells};
 use posix_model::opened::OpenDescriptor;
 use posix_model::reader::Reader;
@@ -21,9 +27,6 @@ fn read_fault(descriptor: OpenDescriptor, count: usize) -> Option<Errno>
         return Some(Errno::EBADF);
     }
     if count > TRANSFER_MAX {
-        return Some(Errno::EINVAL);
-    }
-    if !is_regular(descriptor) {
         return Some(Errno::EINVAL);
     }
     None
@@ -43,17 +46,36 @@ fn gives(descriptor: OpenDescriptor, got: Content) -> Decided
     does(Reply::Data(got), FileEdit::Nothing, edit)
 }
 
-/// What read comes to: EBADF, EINVAL, or at most `count` bytes from the offset on, none at the end of the file (page of
-/// read). An error says that memory ran out.
+/// A read of a regular file, from the offset on, none at its end. An error says that memory ran out.
+fn read_file<R: Reader>(
+    state: &R,
+    alloc: Global,
+    descriptor: OpenDescriptor,
+    count: usize,
+) -> Result<Decided, AllocError>
+    requires { count ≤ TRANSFER_MAX }
+    ensures { IfOk result (λ d. d ≡ gives descriptor (bytes_at (bytes_of (R.world state.now) (file_at descriptor)) descriptor.description.offset count)) }
+{
+    let file = file_at(descriptor);
+    let start = descriptor.description.offset as usize;
+    let got = state.read_at(alloc, file, start, count)?;
+    Ok(gives(descriptor, got))
+}
+
+/// What read comes to, which is this call: EBADF, EINVAL, EAGAIN, or at most `count` bytes. Those of a regular file are read
+/// from the offset on, none at its end; of a pipe or FIFO those that it holds, and the process may wait (page of read). An
+/// error says that memory ran out.
 pub fn decide_read<R: Reader>(
     state: &R,
     alloc: Global,
     process: usize,
+    call: &Call,
     fd: i32,
     count: usize,
 ) -> Result<Decided, AllocError>
-    ensures page { IfOk result (λ d. d ≡ on_open (opened (R.world state.now) process fd) (read (R.world state.now) count)) }
-    ensures needed { OnErr result (IfSome (opened (R.world state.now) process fd) (λ o. first_fault (read_faults count o) ≡ None)) }
+    requires { call.now ≡ Call.Read fd count }
+    ensures page { IfOk result (λ d. d ≡ on_open (opened (R.world state.now) process fd) (read (R.world state.now) process call.now count)) }
+    ensures needed { OnErr result (is_refusal (on_open (opened (R.world state.now) process fd) (read (R.world state.now) process call.now count)) ≡ false) }
 {
     let descriptor = match state.opened(process, fd) {
         None => return Ok(refused(Errno::EBADF)),
@@ -62,8 +84,8 @@ pub fn decide_read<R: Reader>(
     if let Some(error) = read_fault(descriptor, count) {
         return Ok(refused(error));
     }
-    let file = file_at(descriptor);
-    let start = descriptor.description.offset as usize;
-    let got = state.read_at(alloc, file, start, count)?;
-    Ok(gives(descriptor, got))
+    match pipe_at(descriptor.description.target) {
+        None => read_file(state, alloc, descriptor, count),
+        Some(pipe) => decide_read_end(state, alloc, process, call, count, descriptor, pipe),
+    }
 }

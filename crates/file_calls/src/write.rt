@@ -1,16 +1,21 @@
-ghost use Rattle.std.specs.Prelude.{◌≡◌, length};
+ghost use Rattle.std.specs.Prelude.{◌≡◌, length, false, IfOk, OnErr};
 ghost use Rattle.posix_model.specs.Descriptors.{opened, bytes_of};
 ghost use Rattle.posix_model.specs.Positions.{file_at};
 ghost use Rattle.posix_model.specs.Pages.{first_fault, on_open};
-ghost use Rattle.posix_model.specs.Write.{write_start, write_faults, write};
+ghost use Rattle.posix_model.specs.Write.{write_start, write_faults, write_file, write};
+ghost use Rattle.pipe_calls.specs.Refusals.{is_refusal};
 
 use crate::puts::{fitting, is_past_limit, puts};
 use crate::targets::{file_at, is_regular};
+use call_types::call::Call;
 use call_types::errno::Errno;
 use call_types::limits::{Bounds, TRANSFER_MAX};
+use pipe_calls::targets::pipe_at;
+use pipe_calls::write::decide_write_end;
 use posix_model::change::{Decided, TableEdit, refused};
 use posix_model::opened::OpenDescriptor;
 use posix_model::reader::Reader;
+use std::alloc::{AllocError, Global};
 
 /// Where a write begins, in bytes: at the end under append, else at the offset.
 fn write_start<R: Reader>(state: &R, descriptor: OpenDescriptor) -> u64
@@ -38,37 +43,51 @@ fn write_fault(
     if bytes.len() > TRANSFER_MAX {
         return Some(Errno::EINVAL);
     }
-    if !is_regular(descriptor) {
-        return Some(Errno::EINVAL);
-    }
-    if is_past_limit(bounds, start, bytes) {
+    if is_regular(descriptor) && is_past_limit(bounds, start, bytes) {
         return Some(Errno::EFBIG);
     }
     None
 }
 
-/// What write comes to: EBADF, EINVAL, EFBIG, or how many of the bytes fit from the offset on, or from the end on under
-/// append (page of write).
-pub fn decide_write<R: Reader>(
-    state: &R,
-    bounds: Bounds,
-    process: usize,
-    fd: i32,
-    bytes: &[u8],
-) -> Decided
-    ensures { result ≡ on_open (opened (R.world state.now) process fd) (write bounds (R.world state.now) bytes.now) }
+/// A write to a regular file from a position on: what fits, and the offset goes past it.
+fn write_file(bounds: Bounds, start: u64, bytes: &[u8], descriptor: OpenDescriptor) -> Decided
+    ensures { result ≡ write_file bounds start bytes.now descriptor }
 {
-    let descriptor = match state.opened(process, fd) {
-        None => return refused(Errno::EBADF),
-        Some(descriptor) => descriptor,
-    };
-    let start = write_start(state, descriptor);
-    if let Some(error) = write_fault(bounds, descriptor, start, bytes) {
-        return refused(error);
-    }
     let count = fitting(bounds, start, bytes);
     let offset = start + count as u64;
     let number = descriptor.number;
     let moved = TableEdit::Offset { number, offset };
     puts(bytes, file_at(descriptor), start as usize, count, moved)
+}
+
+/// What write comes to, which is this call: EBADF, EINVAL, EFBIG, EAGAIN, EPIPE, or how many of the bytes went in. A regular
+/// file takes those that fit from the offset on, or from the end on under append. A pipe or FIFO takes those that it has room
+/// for, and the process may wait (page of write). An error says that memory for a copy of the call ran out.
+pub fn decide_write<R: Reader>(
+    state: &R,
+    alloc: Global,
+    bounds: Bounds,
+    process: usize,
+    call: &Call,
+    fd: i32,
+    bytes: &[u8],
+) -> Result<Decided, AllocError>
+    requires { call.now ≡ Call.Write fd bytes.now }
+    ensures page { IfOk result (λ d. d ≡ on_open (opened (R.world state.now) process fd) (write bounds (R.world state.now) process call.now bytes.now)) }
+    ensures needed { OnErr result (is_refusal (on_open (opened (R.world state.now) process fd) (write bounds (R.world state.now) process call.now bytes.now)) ≡ false) }
+{
+    let descriptor = match state.opened(process, fd) {
+        None => return Ok(refused(Errno::EBADF)),
+        Some(descriptor) => descriptor,
+    };
+    let start = write_start(state, descriptor);
+    if let Some(error) = write_fault(bounds, descriptor, start, bytes) {
+        return Ok(refused(error));
+    }
+    match pipe_at(descriptor.description.target) {
+        None => Ok(write_file(bounds, start, bytes, descriptor)),
+        Some(pipe) => {
+            decide_write_end(state, alloc, bounds, process, call, bytes, descriptor, pipe)
+        }
+    }
 }

@@ -11,7 +11,7 @@ use Rattle.slots.specs.Slots.{slot, live, edited}
 use Rattle.call_types.specs.Names.{Entries, file_of, with_name, without_name}
 use Rattle.posix_model.specs.Counts.{links, refers, refs, refs_of, holds, holders}
 use Rattle.call_types.specs.Descriptions.{at_offset}
-use Rattle.process_table.specs.Processes.{with_entry, with_connection, table_of}
+use Rattle.process_table.specs.Processes.{with_entry, table_of}
 use Rattle.posix_model.specs.Whole.{EachThere}
 use Rattle.machine_state.specs.Types.{Process, Description, Target}
 use Rattle.machine_state.specs.Targets.{file_of_target}
@@ -33,12 +33,14 @@ refs_entry (x ∷ ps) (suc p) fd entry d within =
 pub refs_added : (ps : List (Option Process)) (process : Process) (d : ℕ) → refs (ps ++ Some process ∷ []) d ≡ refs ps d + count_by (refers d) process.table
 refs_added ps process d = omega (arith, sum_by-append (refs_of d) ps (Some process ∷ []))
 
--- a connection is no matter to the references
-pub refs_connected : (ps : List (Option Process)) (p d : ℕ) → refs (edited p with_connection ps) d ≡ refs ps d
-refs_connected [] p d = refl
-refs_connected (None ∷ ps) zero d = refl
-refs_connected (Some x ∷ ps) zero d = omega (arith, sum_by-cons (refs_of d) (Some x) ps, sum_by-cons (refs_of d) (Some (with_connection x)) ps)
-refs_connected (x ∷ ps) (suc p) d = omega (arith, refs_connected ps p d, sum_by-cons (refs_of d) x ps, sum_by-cons (refs_of d) x (edited p with_connection ps))
+-- what a process does without its descriptors is no matter to the references
+pub refs_same : (ps : List (Option Process)) (p : ℕ) (f : Process → Process) (d : ℕ) → ((x : Process) → (f x).table ≡ x.table) → refs (edited p f ps) d ≡ refs ps d
+refs_same [] p f d same = refl
+refs_same (None ∷ ps) zero f d same = refl
+refs_same (Some x ∷ ps) zero f d same =
+    let alike : refs_of d (Some (f x)) ≡ refs_of d (Some x) = ap (λ table. count_by (refers d) table) (same x) in
+    omega (arith, alike, sum_by-cons (refs_of d) (Some x) ps, sum_by-cons (refs_of d) (Some (f x)) ps)
+refs_same (x ∷ ps) (suc p) f d same = omega (arith, refs_same ps p f d same, sum_by-cons (refs_of d) x ps, sum_by-cons (refs_of d) x (edited p f ps))
 
 -- and neither is a process that goes and has none
 pub refs_without : (ps : List (Option Process)) (p d : ℕ) → refs_of d (slot ps p) ≡ 0 → refs (set ps p None) d ≡ refs ps d
@@ -83,6 +85,44 @@ holders_most (x ∷ ds) f = omega (arith, holders_most ds f, sum_by-cons (λ x. 
 pub refers_target : (f : ℕ) (t : Target) → refers f (file_of_target t) ≡ is_file f t
 refers_target f (target.Regular file) = refl
 refers_target f other = refl
+
+-- a count of descriptions, where one goes, is added or moves
+module _ (t : Option Description → Bool) (none : t None ≡ false) where
+  nothing : one (t None) ≡ 0
+  nothing = ap one none
+
+  pub count_gone : (ds : List (Option Description)) (n : ℕ) (d : Description) → slot ds n ≡ Some d → count_by t (set ds n None) + one (t (Some d)) ≡ count_by t ds
+  count_gone ds n d is =
+      let was : one (t (slot ds n)) ≡ one (t (Some d)) = ap (λ x. one (t x)) is in
+      omega (arith, nothing, was, sum_by-set (λ x. one (t x)) ds n None None (there_below ds n (ap is_some is)))
+
+  pub count_added : (ds : List (Option Description)) (d : Description) → count_by t (ds ++ Some d ∷ []) ≡ count_by t ds + one (t (Some d))
+  count_added ds d = omega (arith, sum_by-append (λ x. one (t x)) ds (Some d ∷ []))
+
+  pub count_moved : (ds : List (Option Description)) (n k : ℕ) → ((d : Description) → t (Some (at_offset k d)) ≡ t (Some d)) → count_by t (edited n (at_offset k) ds) ≡ count_by t ds
+  count_moved [] n k same = refl
+  count_moved (None ∷ ds) zero k same = refl
+  count_moved (Some d ∷ ds) zero k same =
+      let as_was : one (t (Some (at_offset k d))) ≡ one (t (Some d)) = ap one (same d) in
+      omega (arith, as_was, sum_by-cons (λ x. one (t x)) (Some d) ds, sum_by-cons (λ x. one (t x)) (Some (at_offset k d)) ds)
+  count_moved (x ∷ ds) (suc n) k same = omega (arith, count_moved ds n k same, sum_by-cons (λ x. one (t x)) x ds, sum_by-cons (λ x. one (t x)) x (edited n (at_offset k) ds))
+
+  pub count_live : (ds : List (Option Description)) → count_by t ds ≤ live ds
+  count_live [] = omega arith
+  count_live (x ∷ ds) = omega (arith, count_live ds, sum_by-cons (λ x. one (t x)) x ds, sum_by-cons (λ (x : Option Description). one (is_some x)) x ds, here x)
+    where
+      at_most_one : (b : Bool) → one b ≤ 1
+      at_most_one true = omega arith
+      at_most_one false = omega arith
+
+      here : (x : Option Description) → one (t x) ≤ one (is_some x)
+      here None = omega (arith, nothing)
+      here (Some d) = at_most_one (t (Some d))
+
+  pub count_there : (ds : List (Option Description)) (n : ℕ) (d : Description) → slot ds n ≡ Some d → t (Some d) ≡ true → 0 < count_by t ds
+  count_there ds n d is counts =
+      let once : one (t (Some d)) ≡ 1 = ap one counts in
+      omega (arith, once, count_gone ds n d is)
 
 -- what a description that goes takes from the holders of a file
 pub holders_gone : (ds : List (Option Description)) (n : ℕ) (d : Description) (f : ℕ) → slot ds n ≡ Some d →

@@ -1,6 +1,13 @@
 pub mod SlotLaws
 pub mod UseLaws
+pub mod BodyLaws
 pub mod FileLaws
+pub mod PipeLaws
 pub mod LinkLaws
 pub mod CountLaws
+pub mod EndLaws
 pub mod StoredLaws
+pub mod ProcessLaws
+pub mod OpenLaws
+pub mod DropLaws
+pub mod ApplyLaws

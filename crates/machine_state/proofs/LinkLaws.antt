@@ -1,87 +1,92 @@
--- The names of files, counted where they are stored.
-use Rattle.std.proofs.Common.{◌≡◌, ◌≢◌, ℕ, ◌+◌, ◌≤◌, ◌∙◌, false, true, List, [], ◌∷◌, ◌++◌, Option, None, Some, length, set, refl, ap, sym, arith, eqb, ◌⊎◌, inl, inr}
+-- Numbers that are stored with what they count: the names of files, and the ends of pipes.
+use Rattle.std.proofs.Common.{◌≡◌, ◌≢◌, ℕ, ◌+◌, ◌-◌, ◌∙◌, Bool, false, true, ◌&&◌, List, [], ◌∷◌, ◌++◌, Option, None, Some, length, set, refl, ap, sym, arith, eqb, ◌⊎◌, inl, inr}
 use Rattle.std.specs.Prelude.{is_some}
 use Rattle.std.proofs.Math.ListN.{get_or-eq_default}
 use Rattle.slots.specs.Slots.{slot, edited}
 use Rattle.slots.specs.Uses.{values_in}
+use Rattle.machine_state.specs.Types.{Used}
 use Rattle.machine_state.specs.Uses.{without_use}
-use Rattle.machine_state.specs.Files.{FileState, named, unnamed, links_at}
 use Rattle.machine_state.proofs.SlotLaws.{one, same_or_not, is_itself, slot_set, slot_added, set_none}
 use Rattle.machine_state.proofs.UseLaws.{StaysUsed, Goes}
-use Rattle.machine_state.proofs.FileLaws.{Files}
 
--- each file stores as many names as it has
-abbrev pub Linked : List (Option FileState) → (ℕ → ℕ) → Type 0
-Linked xs total = (f : ℕ) → links_at (slot xs f) ≡ total f
+-- each stored number is that of a total
+abbrev pub Tallies : {T : Type 0} → (Option T → ℕ) → List (Option T) → (ℕ → ℕ) → Type 0
+Tallies count xs total = (n : ℕ) → count (slot xs n) ≡ total n
 
-module _ (xs : List (Option FileState)) (old new : ℕ → ℕ) (linked : Linked xs old) where
+module _ {T : Type 0} (count : Option T → ℕ) (none : count None ≡ 0) where
   -- one slot has another number
-  pub linked_set : (k : ℕ) (x : FileState) (y : Option FileState) → slot xs k ≡ Some x → links_at y ≡ new k → ((f : ℕ) → k ≢ f → new f ≡ old f) → Linked (set xs k y) new
-  linked_set k x y is here others f = elim (same_or_not k f) [
-    | inl same ↦ rw (slot_set xs k x y f is, same.1) (here ∙ ap new same.0)
-    | inr other ↦ rw (slot_set xs k x y f is, other.1, others f other.0) (linked f)
+  tallies_set : (xs : List (Option T)) (old new : ℕ → ℕ) (k : ℕ) (x : T) (y : Option T) → Tallies count xs old → slot xs k ≡ Some x → count y ≡ new k →
+      ((n : ℕ) → k ≢ n → new n ≡ old n) → Tallies count (set xs k y) new
+  tallies_set xs old new k x y tallies is here others n = elim (same_or_not k n) [
+    | inl same ↦ rw (slot_set xs k x y n is, same.1) (here ∙ ap new same.0)
+    | inr other ↦ rw (slot_set xs k x y n is, other.1, others n other.0) (tallies n)
   ]
 
-  others_more : (k : ℕ) → ((f : ℕ) → new f ≡ old f + one (eqb k f)) → (f : ℕ) → k ≢ f → new f ≡ old f
-  others_more k more f apart = elim (same_or_not k f) [
+  others_more : (old new : ℕ → ℕ) (k : ℕ) (b : Bool) → ((n : ℕ) → new n ≡ old n + one (eqb k n && b)) → (n : ℕ) → k ≢ n → new n ≡ old n
+  others_more old new k b more n apart = elim (same_or_not k n) [
     | inl same ↦ absurd (apart same.0)
-    | inr other ↦ let none : one (eqb k f) ≡ 0 = ap one other.1 in omega (arith, none, more f)
+    | inr other ↦ let nothing : one (eqb k n && b) ≡ 0 = ap (λ c. one (c && b)) other.1 in omega (arith, nothing, more n)
   ]
 
-  -- a file has one name more
-  pub linked_named : (k : ℕ) → is_some (slot xs k) ≡ true → ((f : ℕ) → new f ≡ old f + one (eqb k f)) → Linked (edited k named xs) new
-  linked_named k there more = by_slot (slot xs k) refl
+  others_less : (old new : ℕ → ℕ) (k : ℕ) (b : Bool) → ((n : ℕ) → new n + one (eqb k n && b) ≡ old n) → (n : ℕ) → k ≢ n → new n ≡ old n
+  others_less old new k b less n apart = elim (same_or_not k n) [
+    | inl same ↦ absurd (apart same.0)
+    | inr other ↦ let nothing : one (eqb k n && b) ≡ 0 = ap (λ c. one (c && b)) other.1 in omega (arith, nothing, less n)
+  ]
+
+  -- a value counts once more, where a test passes
+  pub tallies_more : (xs : List (Option T)) (old new : ℕ → ℕ) (k : ℕ) (f : T → T) (b : Bool) → Tallies count xs old → is_some (slot xs k) ≡ true →
+      ((x : T) → count (Some (f x)) ≡ count (Some x) + one b) → ((n : ℕ) → new n ≡ old n + one (eqb k n && b)) → Tallies count (edited k f xs) new
+  tallies_more xs old new k f b tallies there counts more = by_slot (slot xs k) refl
     where
-      by_slot : (x : Option FileState) → slot xs k ≡ x → Linked (edited k named xs) new
+      by_slot : (x : Option T) → slot xs k ≡ x → Tallies count (edited k f xs) new
       by_slot None is = let bad : false ≡ true = sym (ap is_some is) ∙ there in cc
       by_slot (Some x) is =
-          let once : one (eqb k k) ≡ 1 = ap one (is_itself k) in
-          let was : x.links ≡ old k = ap links_at (sym is) ∙ linked k in
-          rw is (linked_set k x (Some (named x)) is (omega (arith, was, once, more k)) (others_more k more))
+          let here : one (eqb k k && b) ≡ one b = ap (λ c. one (c && b)) (is_itself k) in
+          let was : count (Some x) ≡ old k = ap count (sym is) ∙ tallies k in
+          rw is (tallies_set xs old new k x (Some (f x)) tallies is (omega (arith, was, here, counts x, more k)) (others_more old new k b more))
 
-  -- a file has one name less
-  pub linked_unnamed : (k : ℕ) → ((f : ℕ) → new f + one (eqb k f) ≡ old f) → Linked (edited k unnamed xs) new
-  linked_unnamed k less = by_slot (slot xs k) refl
+  -- and once less
+  pub tallies_fewer : (xs : List (Option T)) (old new : ℕ → ℕ) (k : ℕ) (f : T → T) (b : Bool) → Tallies count xs old →
+      ((x : T) → count (Some (f x)) ≡ count (Some x) - one b) → ((n : ℕ) → new n + one (eqb k n && b) ≡ old n) → Tallies count (edited k f xs) new
+  tallies_fewer xs old new k f b tallies counts less = by_slot (slot xs k) refl
     where
-      once : one (eqb k k) ≡ 1
-      once = ap one (is_itself k)
+      here : one (eqb k k && b) ≡ one b
+      here = ap (λ c. one (c && b)) (is_itself k)
 
-      others : (f : ℕ) → k ≢ f → new f ≡ old f
-      others f apart = elim (same_or_not k f) [
-        | inl same ↦ absurd (apart same.0)
-        | inr other ↦ let none : one (eqb k f) ≡ 0 = ap one other.1 in omega (arith, none, less f)
-      ]
-
-      by_slot : (x : Option FileState) → slot xs k ≡ x → Linked (edited k unnamed xs) new
-      by_slot None is = let none : 0 ≡ old k = ap links_at (sym is) ∙ linked k in absurd (omega (arith, none, once, less k))
+      by_slot : (x : Option T) → slot xs k ≡ x → Tallies count (edited k f xs) new
+      by_slot None is =
+          let nothing : old k ≡ 0 = sym (ap count (sym is) ∙ tallies k) ∙ none in
+          rw (is, set_none xs k is) (λ n. tallies n ∙ sym (elim (same_or_not k n) [
+            | inl same ↦ let before : old n ≡ 0 = ap old (sym same.0) ∙ nothing in omega (arith, before, less n)
+            | inr other ↦ others_less old new k b less n other.0
+          ]))
       by_slot (Some x) is =
-          let was : x.links ≡ old k = ap links_at (sym is) ∙ linked k in
-          rw is (linked_set k x (Some (unnamed x)) is (omega (arith, was, once, less k)) others)
+          let was : count (Some x) ≡ old k = ap count (sym is) ∙ tallies k in
+          rw is (tallies_set xs old new k x (Some (f x)) tallies is (omega (arith, was, here, counts x, less k)) (others_less old new k b less))
 
-  -- a file is added with one name
-  pub linked_added : (x : FileState) → x.links ≡ 1 → ((f : ℕ) → new f ≡ old f + one (eqb (length xs) f)) → Linked (xs ++ Some x ∷ []) new
-  linked_added x single more f = elim (same_or_not (length xs) f) [
+  -- an edit that leaves the number alone
+  pub tallies_kept : (xs : List (Option T)) (total : ℕ → ℕ) (k : ℕ) (f : T → T) → ((x : T) → count (Some (f x)) ≡ count (Some x)) → Tallies count xs total → Tallies count (edited k f xs) total
+  tallies_kept xs total k f same tallies = by_slot (slot xs k) refl
+    where
+      by_slot : (x : Option T) → slot xs k ≡ x → Tallies count (edited k f xs) total
+      by_slot None is = rw (is, set_none xs k is) tallies
+      by_slot (Some x) is = rw is (tallies_set xs total total k x (Some (f x)) tallies is (same x ∙ (ap count (sym is) ∙ tallies k)) (λ m _. refl))
+
+  -- a value is added
+  pub tallies_added : (xs : List (Option T)) (old new : ℕ → ℕ) (x : T) (b : Bool) → Tallies count xs old → count (Some x) ≡ one b → ((n : ℕ) → new n ≡ old n + one (eqb (length xs) n && b)) →
+      Tallies count (xs ++ Some x ∷ []) new
+  tallies_added xs old new x b tallies counts more n = elim (same_or_not (length xs) n) [
     | inl same ↦
-        let once : one (eqb (length xs) f) ≡ 1 = ap one same.1 in
-        let none : links_at (slot xs f) ≡ 0 = ap links_at (get_or-eq_default xs None (omega (arith, same.0))) in
-        rw (slot_added xs (Some x) f, same.1) (omega (arith, single, once, none, linked f, more f))
-    | inr other ↦
-        let none : one (eqb (length xs) f) ≡ 0 = ap one other.1 in
-        let as_was : new f ≡ old f = omega (arith, none, more f) in
-        rw (slot_added xs (Some x) f, other.1, as_was) (linked f)
+        let here : one (eqb (length xs) n && b) ≡ one b = ap (λ c. one (c && b)) same.1 in
+        let nothing : count (slot xs n) ≡ 0 = ap count (get_or-eq_default xs None (omega (arith, same.0))) ∙ none in
+        rw (slot_added xs (Some x) n, same.1) (omega (arith, counts, here, nothing, tallies n, more n))
+    | inr other ↦ rw (slot_added xs (Some x) n, other.1, others_more old new (length xs) b more n other.0) (tallies n)
   ]
 
--- an edit that leaves the number of names alone
-pub linked_edited : (xs : List (Option FileState)) (total : ℕ → ℕ) (k : ℕ) (f : FileState → FileState) → ((x : FileState) → (f x).links ≡ x.links) → Linked xs total → Linked (edited k f xs) total
-linked_edited xs total k f same linked = by_slot (slot xs k) refl
-  where
-    by_slot : (x : Option FileState) → slot xs k ≡ x → Linked (edited k f xs) total
-    by_slot None is = rw (is, set_none xs k is) linked
-    by_slot (Some x) is = rw is (linked_set xs total total linked k x (Some (f x)) is (same x ∙ (ap links_at (sym is) ∙ linked k)) (λ m _. refl))
-
--- a file that goes has no name left
-pub linked_less : (xs : Files) (uses total : ℕ → ℕ) (entry : Option ℕ) → StaysUsed xs uses entry ⊎ Goes xs uses entry → ((f : ℕ) → total f ≤ uses f) → Linked (values_in xs) total →
-    Linked (values_in (without_use entry xs)) total
-linked_less xs uses total entry (inl stays) within linked = rw stays.values linked
-linked_less xs uses total entry (inr goes) within linked =
-    rw goes.values (linked_set (values_in xs) total total linked goes.number goes.value None goes.is (omega (arith, goes.none, within goes.number)) (λ m _. refl))
+  -- what goes with its last use has no number left
+  pub tallies_less : (xs : List (Option (Used T))) (uses total : ℕ → ℕ) (entry : Option ℕ) → StaysUsed xs uses entry ⊎ Goes xs uses entry → ((n : ℕ) → uses n ≡ 0 → total n ≡ 0) →
+      Tallies count (values_in xs) total → Tallies count (values_in (without_use entry xs)) total
+  tallies_less xs uses total entry (inl stays) within tallies = rw stays.values tallies
+  tallies_less xs uses total entry (inr goes) within tallies =
+      rw goes.values (tallies_set (values_in xs) total total goes.number goes.value None tallies goes.is (none ∙ sym (within goes.number goes.none)) (λ m _. refl))

@@ -5,7 +5,9 @@ use Rattle.std.proofs.lemmas.Bool.Decides.{eqb_tells}
 use Rattle.std.proofs.lemmas.List.{get_or-set_same, get_or-set_other, set-get_or}
 use Rattle.std.proofs.Math.ListN.{get_or-append, get_or-eq_default}
 use Rattle.std.proofs.Math.Seq.{get_or-append_seam}
-use Rattle.slots.specs.Slots.{slot}
+use Rattle.slots.specs.Slots.{slot, edited}
+use Rattle.std.specs.Option.{option_map}
+use Rattle.posix_model.specs.Whole.{EachThere}
 
 -- one where a test passes, else nothing
 abbrev pub one : Bool → ℕ
@@ -55,3 +57,25 @@ module _ {T : Type 0} where
       | inr below ↦ rw (other_number n (length xs) (λ e. omega (arith, e, below))) (get_or-append xs (y ∷ []) None n below)
     ]
   ]
+
+-- what each has, each has also where one is written, added or edited
+module _ {T : Type 0} (Has : T → Type 0) where
+  pub each_set : (xs : List (Option T)) (k : ℕ) (y : Option T) → EachThere Has xs → ((x : T) → y ≡ Some x → Has x) → EachThere Has (set xs k y)
+  each_set [] k y each new n x h = each n x h
+  each_set (z ∷ xs) zero y each new zero x h = new x h
+  each_set (z ∷ xs) zero y each new (suc n) x h = each (suc n) x h
+  each_set (z ∷ xs) (suc k) y each new zero x h = each zero x h
+  each_set (z ∷ xs) (suc k) y each new (suc n) x h = each_set xs k y (λ m. each (suc m)) new n x h
+
+  pub each_added : (xs : List (Option T)) (y : T) → EachThere Has xs → Has y → EachThere Has (xs ++ Some y ∷ [])
+  each_added [] y each new zero x h = let same : y ≡ x = cc in subst Has same new
+  each_added [] y each new (suc n) x h = cc
+  each_added (z ∷ xs) y each new zero x h = each zero x h
+  each_added (z ∷ xs) y each new (suc n) x h = each_added xs y (λ k. each (suc k)) new n x h
+
+  pub each_edited : (xs : List (Option T)) (k : ℕ) (f : T → T) → EachThere Has xs → ((x : T) → Has x → Has (f x)) → EachThere Has (edited k f xs)
+  each_edited xs k f each stays = each_set xs k (option_map f (slot xs k)) each (λ x h. by_slot (slot xs k) (each k) x h)
+    where
+      by_slot : (y : Option T) → ((x : T) → y ≡ Some x → Has x) → (x : T) → option_map f y ≡ Some x → Has x
+      by_slot None before x h = cc
+      by_slot (Some z) before x h = let same : f z ≡ x = cc in subst Has same (stays z (before z refl))

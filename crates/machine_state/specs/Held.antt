@@ -1,37 +1,44 @@
 -- What contracts see of a machine: its world, and the room reserved.
-use Rattle.std.specs.Prelude.{ℕ, Bool, List, [], Option}
+use Rattle.std.specs.Prelude.{ℕ, Bool, List, Option}
 use Rattle.call_types.specs.Names.{Entries}
-use Rattle.machine_state.specs.Types.{World, Process, Description, Used}
+use Rattle.machine_state.specs.Types.{World, Process, Description, Used, Ring, StoredFile, StoredPipe}
 use Rattle.slots.specs.Uses.{values_in}
-use Rattle.machine_state.specs.Files.{FileState, file_slots, room_slots}
+use Rattle.machine_state.specs.Files.{file_slots, room_slots}
+use Rattle.machine_state.specs.Pipes.{pipe_slots, pipe_room}
 use Rattle.machine_state.specs.declared.machine.Machine.TheInside.{Inside}
 
--- for how many more files, descriptions, processes and names there is room, and for how many bytes in all in each file
+-- for how many more files, pipes, descriptions, processes and names there is room, for how many bytes in all in each file, and
+-- how many bytes each pipe holds, which never changes
 pub record Room : Type 0 where
   pub files : ℕ
+  pub pipes : ℕ
   pub descriptions : ℕ
   pub processes : ℕ
   pub names : ℕ
   pub bytes : List ℕ
+  pub capacity : ℕ
 
 -- a machine, as contracts see it
 pub record Held : Type 0 where
   pub world : World
   pub room : Room
 
--- what a machine stores: its files and descriptions have the counts of their uses
+-- what a machine stores: its files, pipes and descriptions have the counts of their uses; a ring stands by for the next pipe
 pub record Stored : Type 0 where
-  pub files : List (Option (Used FileState))
+  pub files : List (Option (Used StoredFile))
+  pub pipes : List (Option (Used StoredPipe))
   pub descriptions : List (Option (Used Description))
   pub processes : List (Option Process)
   pub names : Entries
   pub closed : Bool
+  pub spare : Option Ring
+  pub capacity : ℕ
 
--- its world; there are no pipes yet
+-- its world
 abbrev pub world_in : Stored → World
 world_in s = record {
   files = file_slots (values_in s.files);
-  pipes = [];
+  pipes = pipe_slots (values_in s.pipes);
   descriptions = values_in s.descriptions;
   processes = s.processes;
   names = s.names;
@@ -42,10 +49,13 @@ world_in s = record {
 abbrev pub stored_in : Inside → Stored
 stored_in m = record {
   files = m.files.0;
+  pipes = m.pipes.0;
   descriptions = m.descriptions.0;
   processes = m.processes.0;
   names = m.names.0;
   closed = m.closed;
+  spare = m.spare;
+  capacity = m.capacity;
 }
 
 -- what contracts see of it
@@ -54,9 +64,11 @@ held_by m = record {
   world = world_in (stored_in m);
   room = record {
     files = m.files.1;
+    pipes = pipe_room m.pipes.1 m.spare;
     descriptions = m.descriptions.1;
     processes = m.processes.1;
     names = m.names.1;
     bytes = room_slots (values_in m.files.0);
+    capacity = m.capacity;
   };
 }

@@ -1,7 +1,9 @@
 pub mod Types
+pub mod FileBytes
 pub mod Uses
-pub mod Targets
 pub mod Files
+pub mod Pipes
+pub mod Targets
 pub mod Held
 pub mod Consistent
 pub mod Room

@@ -1,9 +1,12 @@
 -- The room that changes take.
-use Rattle.std.specs.Prelude.{◌≡◌, ℕ, ◌+◌, ◌<◌, ◌≤◌, slice_index}
-use Rattle.machine_state.specs.Types.{FileEdit, ProcessEdit, TableEdit, Change}
+use Rattle.std.specs.Prelude.{◌≡◌, ℕ, ◌+◌, ◌<◌, ◌≤◌, ◌^◌, None, slice_index}
+use Rattle.slots.specs.Slots.{slot}
+use Rattle.posix_model.specs.Pipes.{fifo_at, pipe_of_fifo}
+use Rattle.machine_state.specs.Types.{Mode, FileEdit, ProcessEdit, TableEdit, Change}
 use Rattle.posix_model.specs.declared.change.FileEdit.TheVariants as on_files
 use Rattle.posix_model.specs.declared.change.ProcessEdit.TheVariants as on_process
 use Rattle.posix_model.specs.declared.change.TableEdit.TheVariants as on_table
+use Rattle.machine_state.specs.Files.{openings}
 use Rattle.machine_state.specs.Held.{Room, Held}
 
 -- the room of an edit of files stands reserved
@@ -12,6 +15,7 @@ HasFileRoom room (on_files.Bytes file start count) = start + count ≤ slice_ind
 HasFileRoom room (on_files.Resize file len) = len ≤ slice_index room.bytes file
 HasFileRoom room (on_files.AddName name file) = 0 < room.names
 HasFileRoom room (on_files.MakeFile name) = (0 < room.files) × (0 < room.names)
+HasFileRoom room (on_files.MakeFifo name) = (0 < room.files) × (0 < room.names)
 HasFileRoom room other = Unit {0}
 
 -- the room of an edit of processes stands reserved, where there is room for so many more
@@ -19,18 +23,34 @@ abbrev pub HasProcessRoom : ℕ → ProcessEdit → Type 0
 HasProcessRoom processes (on_process.Add table attached) = 0 < processes
 HasProcessRoom processes other = Unit {0}
 
--- the room of an edit of descriptors stands reserved, where there is room for so many more descriptions
-abbrev pub HasTableRoom : ℕ → TableEdit → Type 0
-HasTableRoom descriptions (on_table.Open process fd description) = 0 < descriptions
-HasTableRoom descriptions other = Unit {0}
+-- the room of a new end of a FIFO stands reserved: a description, a pipe where the FIFO has none, and a number for one opening more
+pub record HasEndRoom (m : Held) (file : ℕ) (mode : Mode) : Type 0 where
+  pub description : 0 < m.room.descriptions
+  pub pipe : pipe_of_fifo (fifo_at (slot m.world.files file)) ≡ None → 0 < m.room.pipes
+  pub opening : openings mode (fifo_at (slot m.world.files file)) + 1 < 2 ^ 64
+
+-- the room of an edit of descriptors stands reserved
+abbrev pub HasTableRoom : Held → TableEdit → Type 0
+HasTableRoom m (on_table.Open process fd description) = 0 < m.room.descriptions
+HasTableRoom m (on_table.OpenPair process reading writing) = (2 ≤ m.room.descriptions) × (0 < m.room.pipes)
+HasTableRoom m (on_table.OpenEnd process fd file description) = HasEndRoom m file description.mode
+HasTableRoom m other = Unit {0}
 
 -- the room of a change stands reserved
 pub record HasRoom (m : Held) (c : Change) : Type 0 where
   pub files : HasFileRoom m.room c.files
   pub process : HasProcessRoom m.room.processes c.process
-  pub table : HasTableRoom m.room.descriptions c.table
+  pub table : HasTableRoom m c.table
 
--- descriptions and processes have the room that they had
+-- descriptions and pipes have the room that they had, and a pipe holds as many bytes
+pub record KeepsOpenRoom (old new : Held) : Type 0 where
+  pub descriptions : new.room.descriptions ≡ old.room.descriptions
+  pub pipes : new.room.pipes ≡ old.room.pipes
+  pub capacity : new.room.capacity ≡ old.room.capacity
+
+-- and so have processes
 pub record KeepsTableRoom (old new : Held) : Type 0 where
   pub descriptions : new.room.descriptions ≡ old.room.descriptions
   pub processes : new.room.processes ≡ old.room.processes
+  pub pipes : new.room.pipes ≡ old.room.pipes
+  pub capacity : new.room.capacity ≡ old.room.capacity

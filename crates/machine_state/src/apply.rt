@@ -1,10 +1,13 @@
 ghost use Rattle.std.specs.Prelude.{◌≡◌, false};
 ghost use Rattle.posix_model.specs.Change.{with_files, with_processes, with_table, changed};
-ghost use Rattle.posix_model.specs.Fits.{FilesFit, ProcessFits, TableFits, removes, ends, Fits, FilesProper, ProcessProper, TableProper, IsProper};
+ghost use Rattle.posix_model.specs.Fits.{FilesFit, ProcessFits, TableFits, removes, ends, Fits, FilesProper, ProcessProper, TableProper, IsProper, PutsWithin};
+ghost use Rattle.posix_model.specs.Whole.{EachThere, IsItsFifo};
 ghost use Rattle.posix_model.specs.Sweep.{sweep};
-ghost use Rattle.machine_state.specs.Room.{HasFileRoom, HasProcessRoom, HasTableRoom, HasRoom, KeepsTableRoom};
+ghost use Rattle.machine_state.specs.Targets.{EndsAreTheirs};
+ghost use Rattle.machine_state.specs.Room.{HasFileRoom, HasProcessRoom, HasTableRoom, HasRoom, KeepsOpenRoom, KeepsTableRoom};
 
 use crate::machine::Machine;
+use crate::stored_file::FileBody;
 use posix_model::change::{Change, FileEdit, ProcessEdit, TableEdit};
 use posix_model::laws::sweep_releases;
 
@@ -14,6 +17,7 @@ impl Machine {
         requires fits { FilesFit self.old.world edit }
         requires proper { FilesProper self.old.world bytes.now edit }
         requires room { HasFileRoom self.old.room edit }
+        requires holds { PutsWithin self.old.room.capacity self.old.world edit }
         requires stays { removes edit ≡ false }
         ensures world { self.new.world ≡ with_files self.old.world bytes.now edit }
         ensures tables { KeepsTableRoom self.old self.new }
@@ -26,7 +30,14 @@ impl Machine {
             FileEdit::Resize { file, len } => self.set_len(file, len),
             FileEdit::AddName { name, file } => self.link(name, file),
             FileEdit::RemoveName { .. } => unreachable!(),
-            FileEdit::MakeFile { name } => self.create(name),
+            FileEdit::MakeFile { name } => self.create(name, FileBody::empty(self.alloc)),
+            FileEdit::MakeFifo { name } => self.create(name, FileBody::fifo()),
+            FileEdit::Put {
+                pipe,
+                source,
+                count,
+            } => self.put(bytes, pipe, source, count),
+            FileEdit::Take { pipe, count } => self.take(pipe, count),
         }
     }
 
@@ -37,12 +48,15 @@ impl Machine {
         requires room { HasProcessRoom self.old.room.processes edit }
         requires stays { ends edit ≡ false }
         ensures world { self.new.world ≡ with_processes self.old.world edit }
-        ensures descriptions { self.new.room.descriptions ≡ self.old.room.descriptions }
+        ensures room { KeepsOpenRoom self.old self.new }
     {
         match edit {
             ProcessEdit::Nothing => {}
             ProcessEdit::Add { table, attached } => self.add_process(table, attached),
             ProcessEdit::Attach { process } => self.attach(process),
+            ProcessEdit::Park { process, parked } => self.park(process, parked),
+            ProcessEdit::Total { process, moved } => self.set_moved(process, moved),
+            ProcessEdit::Unpark { process } => self.unpark(process),
             ProcessEdit::Exit { .. } => unreachable!(),
             ProcessEdit::Close => self.close_run(),
         }
@@ -52,12 +66,11 @@ impl Machine {
     fn apply_table(&mut self, edit: TableEdit)
         requires fits { TableFits self.old.world edit }
         requires proper { TableProper self.old.world edit }
-        requires room { HasTableRoom self.old.room.descriptions edit }
-        ensures { self.new.world ≡ sweep (with_table self.old.world edit) }
+        requires room { HasTableRoom self.old edit }
+        requires theirs { EndsAreTheirs self.old.world }
+        ensures world { self.new.world ≡ sweep (with_table self.old.world edit) }
+        ensures capacity { self.new.room.capacity ≡ self.old.room.capacity }
     {
-        sweep_releases();
-        // Without an edit nothing waits for a sweep: the fields hold that, so one is looked at.
-        let _closed = &self.closed;
         match edit {
             TableEdit::Nothing => {}
             TableEdit::Offset { number, offset } => self.set_offset(number, offset),
@@ -66,8 +79,25 @@ impl Machine {
                 fd,
                 description,
             } => self.open(process, fd, description),
-            TableEdit::Entry { process, fd, entry } => self.set_entry(process, fd, entry),
+            TableEdit::OpenPair {
+                process,
+                reading,
+                writing,
+            } => self.open_pair(process, reading, writing),
+            TableEdit::OpenEnd {
+                process,
+                fd,
+                file,
+                description,
+            } => self.open_end(process, fd, file, description),
+            TableEdit::Entry { process, fd, entry } => {
+                self.set_entry(process, fd, entry);
+                return;
+            }
         }
+        // All but an entry that is set leaves nothing for a sweep: the fields hold that.
+        sweep_releases();
+        self.is_settled();
     }
 
     /// Makes a change, and sweeps after it. It cannot fail for want of memory: its room stands reserved.
@@ -76,7 +106,10 @@ impl Machine {
         requires fits { Fits self.old.world bytes.now change }
         requires proper { IsProper self.old.world bytes.now change }
         requires room { HasRoom self.old change }
-        ensures { self.new.world ≡ sweep (changed self.old.world bytes.now change) }
+        requires holds { PutsWithin self.old.room.capacity self.old.world change.files }
+        requires ends { EachThere (λ description. IsItsFifo self.old.world.files description.target) self.old.world.descriptions }
+        ensures world { self.new.world ≡ sweep (changed self.old.world bytes.now change) }
+        ensures capacity { self.new.room.capacity ≡ self.old.room.capacity }
     {
         let Change {
             files,

@@ -7,10 +7,12 @@ ghost use Rattle.posix_model.specs.Whole.{IsThere, is_regular_file};
 ghost use Rattle.posix_model.specs.Sweep.{sweep};
 ghost use Rattle.posix_model.specs.Descriptors.{bytes_of};
 ghost use Rattle.posix_model.specs.Change.{with_bytes, created};
+ghost use Rattle.posix_model.specs.Pipes.{fifo_at, pipe_of_fifo};
+ghost use Rattle.machine_state.specs.Files.{file_in};
 ghost use Rattle.machine_state.specs.Room.{KeepsTableRoom};
 
 use crate::machine::Machine;
-use crate::stored_file::StoredFile;
+use crate::stored_file::{FileBody, StoredFile};
 use crate::stored_files::{add_link, drop_link, reserve_bytes, set_len, write};
 use call_types::bounded::Name;
 use posix_model::laws::sweep_releases;
@@ -74,17 +76,18 @@ impl Machine {
         }
     }
 
-    /// Gives a new name to an empty file.
-    pub(crate) fn create(&mut self, name: Name)
+    /// Gives a new name to a new file, which knows no pipe.
+    pub(crate) fn create(&mut self, name: Name, body: FileBody)
         requires new { file_of name self.old.world.names ≡ None }
         requires few { length self.old.world.names < NAMES_MAX }
         requires room { (0 < self.old.room.files) × (0 < self.old.room.names) }
-        ensures world { self.new.world ≡ created self.old.world name }
+        requires closed { pipe_of_fifo (fifo_at (Some (file_in body))) ≡ None }
+        ensures world { self.new.world ≡ created self.old.world name (file_in body) }
         ensures tables { KeepsTableRoom self.old self.new }
     {
         let file = self.files.next();
         self.files.push(Used {
-            value: StoredFile::new(self.alloc),
+            value: StoredFile::new(body),
             uses: 1,
         });
         self.names.add(name, file);

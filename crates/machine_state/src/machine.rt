@@ -2,19 +2,25 @@ ghost use Rattle.std.specs.Prelude.{◌≡◌};
 ghost use Rattle.posix_model.specs.History.{empty_world};
 
 use crate::stored_file::StoredFile;
+use crate::stored_pipe::StoredPipe;
 use description_table::DescriptionTable;
 use name_table::NameTable;
+use pipe_ring::PipeRing;
 use process_table::processes::ProcessTable;
 use slots::numbered::Numbered;
 use slots::used::Used;
 use std::alloc::Global;
 use std::marker::Model;
 
-/// The state of all files and processes. Contracts see it as a world of the model, and the room reserved.
+/// The state of all files, pipes and processes. Contracts see it as a world of the model, and the room reserved. A spare ring stands
+/// by for the next pipe once room for one is reserved.
 #[derive(Drop)]
 pub struct Machine {
     pub(crate) alloc: Global,
+    pub(crate) capacity: usize,
     pub(crate) files: Numbered<Used<StoredFile>>,
+    pub(crate) pipes: Numbered<Used<StoredPipe>>,
+    pub(crate) spare: Option<PipeRing>,
     pub(crate) descriptions: DescriptionTable,
     pub(crate) processes: ProcessTable,
     pub(crate) names: NameTable,
@@ -33,13 +39,17 @@ impl Model for Machine {
 }
 
 impl Machine {
-    /// A machine in which there is nothing.
-    pub fn new(alloc: Global) -> Self
-        ensures { result.world ≡ empty_world }
+    /// A machine in which there is nothing, and whose pipes hold `capacity` bytes each.
+    pub fn new(alloc: Global, capacity: usize) -> Self
+        ensures world { result.world ≡ empty_world }
+        ensures capacity { result.room.capacity ≡ capacity }
     {
         Machine {
             alloc,
+            capacity,
             files: Numbered::new(alloc),
+            pipes: Numbered::new(alloc),
+            spare: None,
             descriptions: DescriptionTable::new(alloc),
             processes: ProcessTable::new(alloc),
             names: NameTable::new(alloc),

@@ -9,12 +9,14 @@ ghost use Rattle.posix_model.specs.Fits.{CanAdd};
 ghost use Rattle.posix_model.specs.Drops.{without_process, closed_below};
 ghost use Rattle.posix_model.specs.Sweep.{sweep};
 ghost use Rattle.posix_model.specs.declared.change.ProcessEdit.TheVariants as on_process;
+ghost use Rattle.machine_state.specs.Targets.{EndsAreTheirs};
+ghost use Rattle.machine_state.specs.Room.{KeepsOpenRoom};
 
 use crate::entries::hold_entries;
 use crate::machine::Machine;
 use call_types::limits::OPEN_MAX;
-use posix_model::laws::{exits_close, sweep_releases};
-use process_table::process::Process;
+use posix_model::laws::{exits_close, sweep_leaves_wanted, sweep_releases};
+use process_table::process::{Parked, Process};
 use process_table::table::DescriptorTable;
 
 impl Machine {
@@ -24,7 +26,7 @@ impl Machine {
         requires few { live self.old.world.processes < PROCESSES_MAX }
         requires room { 0 < self.old.room.processes }
         ensures world { self.new.world ≡ with_processes self.old.world (on_process.Add table attached) }
-        ensures descriptions { self.new.room.descriptions ≡ self.old.room.descriptions }
+        ensures room { KeepsOpenRoom self.old self.new }
     {
         hold_entries(&mut self.descriptions, table.entries());
         self.processes.add(Process::new(table, attached));
@@ -34,21 +36,48 @@ impl Machine {
     pub(crate) fn attach(&mut self, process: usize)
         requires { IsThere self.old.world.processes process }
         ensures world { self.new.world ≡ with_processes self.old.world (on_process.Attach process) }
-        ensures descriptions { self.new.room.descriptions ≡ self.old.room.descriptions }
+        ensures room { KeepsOpenRoom self.old self.new }
     {
         self.processes.attach(process);
+    }
+
+    /// Lets a process wait in a call.
+    pub(crate) fn park(&mut self, process: usize, parked: Parked)
+        requires { IsThere self.old.world.processes process }
+        ensures world { self.new.world ≡ with_processes self.old.world (on_process.Park process parked) }
+        ensures room { KeepsOpenRoom self.old self.new }
+    {
+        self.processes.park(process, parked);
+    }
+
+    /// The call that a process waits in has moved so many bytes in all.
+    pub(crate) fn set_moved(&mut self, process: usize, moved: u32)
+        requires { IsThere self.old.world.processes process }
+        ensures world { self.new.world ≡ with_processes self.old.world (on_process.Total process moved) }
+        ensures room { KeepsOpenRoom self.old self.new }
+    {
+        self.processes.set_moved(process, moved);
+    }
+
+    /// A process waits in no call any more.
+    pub(crate) fn unpark(&mut self, process: usize)
+        requires { IsThere self.old.world.processes process }
+        ensures world { self.new.world ≡ with_processes self.old.world (on_process.Unpark process) }
+        ensures room { KeepsOpenRoom self.old self.new }
+    {
+        self.processes.unpark(process);
     }
 
     /// Marks the run as closed.
     pub(crate) fn close_run(&mut self)
         ensures world { self.new.world ≡ with_processes self.old.world on_process.Close }
-        ensures descriptions { self.new.room.descriptions ≡ self.old.room.descriptions }
+        ensures room { KeepsOpenRoom self.old self.new }
     {
         self.closed = true;
     }
 
     /// Each process has all its descriptors, and nothing waits for a sweep. It does nothing.
-    fn is_settled(&self)
+    pub(crate) fn is_settled(&self)
         ensures tables { EachThere (λ process. length process.table ≡ OPEN_MAX) self.now.world.processes }
         ensures settled { IsSettled self.now.world }
     {
@@ -57,9 +86,12 @@ impl Machine {
 
     /// Closes all descriptors of a process, one after another.
     fn close_all(&mut self, process: usize)
-        requires { IsThere self.old.world.processes process }
-        ensures { self.new.world ≡ closed_below process OPEN_MAX self.old.world }
+        requires there { IsThere self.old.world.processes process }
+        requires theirs { EndsAreTheirs self.old.world }
+        ensures world { self.new.world ≡ closed_below process OPEN_MAX self.old.world }
+        ensures capacity { self.new.room.capacity ≡ self.old.room.capacity }
     {
+        sweep_leaves_wanted();
         for fd in 0..OPEN_MAX {
             self.is_settled();
             self.set_entry(process, fd, None);
@@ -69,15 +101,18 @@ impl Machine {
     /// Takes away a process that has no open descriptor.
     fn remove_process(&mut self, process: usize)
         requires { (n : ℕ) → refs_of n (slot self.old.world.processes process) ≡ 0 }
-        ensures { self.new.world ≡ without_process self.old.world process }
+        ensures world { self.new.world ≡ without_process self.old.world process }
+        ensures capacity { self.new.room.capacity ≡ self.old.room.capacity }
     {
         self.processes.remove(process);
     }
 
     /// A process ends: its descriptors are closed, and it is gone.
     pub(crate) fn exit(&mut self, process: usize)
-        requires { IsThere self.old.world.processes process }
-        ensures { self.new.world ≡ sweep (with_processes self.old.world (on_process.Exit process)) }
+        requires there { IsThere self.old.world.processes process }
+        requires theirs { EndsAreTheirs self.old.world }
+        ensures world { self.new.world ≡ sweep (with_processes self.old.world (on_process.Exit process)) }
+        ensures capacity { self.new.room.capacity ≡ self.old.room.capacity }
     {
         exits_close();
         sweep_releases();

@@ -1,9 +1,11 @@
 use crate::machine::Machine;
-use crate::stored_files::{bytes_of, links_of};
+use crate::stored_files::{bytes_of, fifo_of, links_of};
+use crate::stored_pipes::{held_in, peek, readers_of, writers_of};
 use call_types::bounded::Content;
 use posix_model::contents::bytes_at;
 use posix_model::opened::OpenDescriptor;
 use posix_model::reader::Reader;
+use posix_model::world::Fifo;
 use process_table::process::Parked;
 use process_table::table::DescriptorTable;
 use std::alloc::{AllocError, Global};
@@ -13,6 +15,10 @@ impl Reader for Machine {
 
     fn opened(&self, process: usize, fd: i32) -> Option<OpenDescriptor> {
         let fd = usize::try_from(fd).ok()?;
+        self.opened_at(process, fd)
+    }
+
+    fn opened_at(&self, process: usize, fd: usize) -> Option<OpenDescriptor> {
         let number = self.processes.descriptor(process, fd)?;
         let description = *self.descriptions.get(number)?;
         Some(OpenDescriptor {
@@ -24,6 +30,10 @@ impl Reader for Machine {
 
     fn lowest_free(&self, process: usize) -> Option<usize> {
         self.processes.lowest_free(process)
+    }
+
+    fn two_lowest_free(&self, process: usize) -> Option<(usize, usize)> {
+        self.processes.two_lowest_free(process)
     }
 
     fn length_of(&self, file: usize) -> usize {
@@ -44,22 +54,28 @@ impl Reader for Machine {
         self.names.find(name)
     }
 
-    /// No file of a machine is a FIFO yet.
-    fn leads_to_fifo(&self, found: Option<usize>) -> bool {
-        let _files = &self.files;
-        let _found = found;
-        false
+    fn fifo_at(&self, file: usize) -> Option<Fifo> {
+        fifo_of(&self.files, file)
     }
 
     fn links(&self, file: usize) -> usize {
         links_of(&self.files, file)
     }
 
-    /// No machine has a pipe yet.
     fn held_in(&self, pipe: usize) -> usize {
-        let _files = &self.files;
-        let _pipe = pipe;
-        0
+        held_in(&self.pipes, pipe)
+    }
+
+    fn peek(&self, alloc: Global, pipe: usize, count: usize) -> Result<Content, AllocError> {
+        peek(&self.pipes, alloc, pipe, count)
+    }
+
+    fn has_reader(&self, pipe: usize) -> bool {
+        readers_of(&self.pipes, pipe) > 0
+    }
+
+    fn has_writer(&self, pipe: usize) -> bool {
+        writers_of(&self.pipes, pipe) > 0
     }
 
     fn name_count(&self) -> usize {
@@ -76,6 +92,10 @@ impl Reader for Machine {
 
     fn next_file(&self) -> usize {
         self.files.next()
+    }
+
+    fn next_pipe(&self) -> usize {
+        self.pipes.next()
     }
 
     fn next_process(&self) -> usize {

@@ -1,19 +1,79 @@
-ghost use Rattle.std.specs.Prelude.{◌≡◌, ℕ, List, OnOk};
+ghost use Rattle.std.specs.Prelude.{◌≡◌, ℕ, ◌<◌, ◌≤◌, List, OnOk};
 ghost use Rattle.posix_model.specs.Fits.{FilesFit, FilesProper, IsProper};
-ghost use Rattle.machine_state.specs.Room.{HasFileRoom, HasProcessRoom, HasTableRoom, HasRoom, KeepsTableRoom};
+ghost use Rattle.machine_state.specs.Room.{HasEndRoom, HasFileRoom, HasProcessRoom, HasTableRoom, HasRoom, KeepsOpenRoom, KeepsTableRoom};
 
+use crate::descriptors::pipe_of_fifo;
 use crate::machine::Machine;
+use crate::stored_file::openings;
+use crate::stored_files::fifo_of;
+use call_types::description::Mode;
+use pipe_ring::PipeRing;
 use posix_model::change::{Change, FileEdit, ProcessEdit, TableEdit};
 use std::alloc::AllocError;
 
 impl Machine {
+    /// Makes room for one more pipe: its number, and the ring of its bytes.
+    fn reserve_pipe(&mut self) -> Result<(), AllocError>
+        ensures world { self.new.world ≡ self.old.world }
+        ensures room { OnOk result (0 < self.new.room.pipes) }
+        ensures capacity { self.new.room.capacity ≡ self.old.room.capacity }
+    {
+        if self.spare.is_none() {
+            self.spare = Some(PipeRing::new(self.alloc, self.capacity)?);
+        }
+        self.pipes.reserve()
+    }
+
+    /// Makes room for one more description.
+    fn reserve_description(&mut self) -> Result<(), AllocError>
+        ensures world { self.new.world ≡ self.old.world }
+        ensures room { OnOk result (0 < self.new.room.descriptions) }
+        ensures pipes { self.new.room.pipes ≡ self.old.room.pipes }
+        ensures capacity { self.new.room.capacity ≡ self.old.room.capacity }
+    {
+        self.descriptions.reserve()
+    }
+
+    /// Makes the room of both ends of a new pipe.
+    fn reserve_pair(&mut self) -> Result<(), AllocError>
+        ensures world { self.new.world ≡ self.old.world }
+        ensures room { OnOk result ((2 ≤ self.new.room.descriptions) × (0 < self.new.room.pipes)) }
+        ensures capacity { self.new.room.capacity ≡ self.old.room.capacity }
+    {
+        self.reserve_pipe()?;
+        self.descriptions.reserve_two()
+    }
+
+    /// Makes the room of a new end of a FIFO. An error also says that the FIFO was opened 2^64 - 1 times.
+    fn reserve_end(&mut self, file: usize, mode: Mode) -> Result<(), AllocError>
+        ensures world { self.new.world ≡ self.old.world }
+        ensures room { OnOk result (HasEndRoom self.new file mode) }
+        ensures capacity { self.new.room.capacity ≡ self.old.room.capacity }
+    {
+        let fifo = fifo_of(&self.files, file);
+        if openings(mode, fifo) == u64::MAX {
+            return Err(AllocError);
+        }
+        if pipe_of_fifo(fifo).is_none() {
+            self.reserve_pipe()?;
+        }
+        self.reserve_description()
+    }
+
     /// Makes the room of an edit of descriptors.
     fn reserve_table(&mut self, edit: &TableEdit) -> Result<(), AllocError>
         ensures world { self.new.world ≡ self.old.world }
-        ensures room { OnOk result (HasTableRoom self.new.room.descriptions edit.now) }
+        ensures room { OnOk result (HasTableRoom self.new edit.now) }
+        ensures capacity { self.new.room.capacity ≡ self.old.room.capacity }
     {
         match edit {
-            TableEdit::Open { .. } => self.descriptions.reserve(),
+            TableEdit::Open { .. } => self.reserve_description(),
+            TableEdit::OpenPair { .. } => self.reserve_pair(),
+            TableEdit::OpenEnd {
+                file,
+                description,
+                ..
+            } => self.reserve_end(*file, description.mode),
             TableEdit::Nothing | TableEdit::Offset { .. } | TableEdit::Entry { .. } => Ok(()),
         }
     }
@@ -22,12 +82,15 @@ impl Machine {
     fn reserve_process(&mut self, edit: &ProcessEdit) -> Result<(), AllocError>
         ensures world { self.new.world ≡ self.old.world }
         ensures room { OnOk result (HasProcessRoom self.new.room.processes edit.now) }
-        ensures descriptions { self.new.room.descriptions ≡ self.old.room.descriptions }
+        ensures tables { KeepsOpenRoom self.old self.new }
     {
         match edit {
             ProcessEdit::Add { .. } => self.processes.reserve(),
             ProcessEdit::Nothing
             | ProcessEdit::Attach { .. }
+            | ProcessEdit::Park { .. }
+            | ProcessEdit::Total { .. }
+            | ProcessEdit::Unpark { .. }
             | ProcessEdit::Exit { .. }
             | ProcessEdit::Close => Ok(()),
         }
@@ -46,20 +109,21 @@ impl Machine {
             FileEdit::Bytes { file, start, count } => self.reserve_bytes(*file, *start + *count),
             FileEdit::Resize { file, len } => self.reserve_bytes(*file, *len),
             FileEdit::AddName { .. } => self.names.reserve(),
-            FileEdit::RemoveName { .. } => Ok(()),
-            FileEdit::MakeFile { .. } => {
+            FileEdit::RemoveName { .. } | FileEdit::Put { .. } | FileEdit::Take { .. } => Ok(()),
+            FileEdit::MakeFile { .. } | FileEdit::MakeFifo { .. } => {
                 self.files.reserve()?;
                 self.names.reserve()
             }
         }
     }
 
-    /// Makes the room of a change; an error says that memory ran out. On an error as on success the world stays.
+    /// Makes the room of a change; an error says that memory or numbers ran out. On an error as on success the world stays.
     pub fn reserve_for(&mut self, change: &Change) -> Result<(), AllocError>
         requires fits { FilesFit self.old.world change.now.files }
         requires proper { (bytes : List ℕ) × IsProper self.old.world bytes change.now }
         ensures world { self.new.world ≡ self.old.world }
         ensures room { OnOk result (HasRoom self.new change.now) }
+        ensures capacity { self.new.room.capacity ≡ self.old.room.capacity }
     {
         self.reserve_table(&change.table)?;
         self.reserve_process(&change.process)?;

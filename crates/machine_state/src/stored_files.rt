@@ -5,10 +5,14 @@ ghost use Rattle.slots.specs.Slots.{slot, edited};
 ghost use Rattle.slots.specs.Uses.{uses_at, value_at, values_in, use_added, use_dropped, with_value};
 ghost use Rattle.posix_model.specs.Bytes.{splice, resized};
 ghost use Rattle.posix_model.specs.Descriptors.{file_bytes};
+ghost use Rattle.posix_model.specs.Pipes.{fifo_at};
 ghost use Rattle.machine_state.specs.Uses.{with_use, without_use};
-ghost use Rattle.machine_state.specs.Files.{edited_bytes, named, unnamed, file_slots, room_slots, links_at};
+ghost use Rattle.machine_state.specs.Targets.{file_of_target};
+ghost use Rattle.machine_state.specs.Files.{edited_bytes, opened_stored, forgotten, openings, named, unnamed, file_slots, room_slots, links_at};
 
 use crate::stored_file::StoredFile;
+use call_types::description::{Mode, Target};
+use posix_model::world::Fifo;
 use slots::numbered::Numbered;
 use slots::used::Used;
 use std::alloc::AllocError;
@@ -20,6 +24,16 @@ pub(crate) fn bytes_of(files: &Numbered<Used<StoredFile>>, number: usize) -> &[u
     match files.get(number) {
         Some(used) => used.value.bytes(),
         None => &[],
+    }
+}
+
+/// The FIFO of a number, if one stands there.
+pub(crate) fn fifo_of(files: &Numbered<Used<StoredFile>>, number: usize) -> Option<Fifo>
+    ensures { result ≡ fifo_at (slot (file_slots (values_in files.now.0)) number) }
+{
+    match files.get(number) {
+        Some(used) => used.value.fifo(),
+        None => None,
     }
 }
 
@@ -61,6 +75,30 @@ pub(crate) fn set_len(files: &mut Numbered<Used<StoredFile>>, number: usize, len
     ensures { (room : ℕ) × (files.new.0 ≡ edited number (with_value (edited_bytes (λ bytes. resized bytes len) room)) files.old.0) }
 {
     files.value_mut(number).value.set_len(len);
+}
+
+/// An end of a FIFO is opened once more, on this pipe.
+pub(crate) fn count_opening(
+    files: &mut Numbered<Used<StoredFile>>,
+    number: usize,
+    mode: Mode,
+    pipe: usize,
+)
+    requires there { is_some (slot files.old.0 number) ≡ true }
+    requires few { openings mode (fifo_at (slot (file_slots (values_in files.old.0)) number)) + 1 < 2 ^ 64 }
+    ensures { files.new.0 ≡ edited number (with_value (opened_stored mode pipe)) files.old.0 }
+{
+    files.value_mut(number).value.count_opening(mode, pipe);
+}
+
+/// The FIFO of a target forgets the pipe of the target.
+pub(crate) fn forget(files: &mut Numbered<Used<StoredFile>>, target: Target)
+    requires { (n : ℕ) → file_of_target target ≡ Some n → is_some (slot files.old.0 n) ≡ true }
+    ensures { files.new.0 ≡ forgotten target files.old.0 }
+{
+    if let Target::Fifo { file, pipe } = target {
+        files.value_mut(file).value.forget(pipe);
+    }
 }
 
 /// A file has one holder more, if there is one.

@@ -18,22 +18,24 @@ use Rattle.posix_model.specs.Descriptors.{opened, opened_number, opened_descript
 use Rattle.posix_model.specs.Change.{with_files, changed}
 use Rattle.posix_model.specs.Whole.{is_regular_file}
 use Rattle.posix_model.specs.Pages.{first_fault, tells, does, on_open}
-use Rattle.posix_model.specs.Read.{gives, read}
-use Rattle.posix_model.specs.Write.{fitting, puts, write_start, write}
+use Rattle.posix_model.specs.Read.{gives, read_from, read}
+use Rattle.posix_model.specs.Write.{fitting, puts, write_start, write_to, write}
 use Rattle.posix_model.specs.Pread.{pread}
 use Rattle.posix_model.specs.Pwrite.{pwrite}
 use Rattle.posix_model.specs.Lseek.{base_of, lseek_faults, lseek}
 use Rattle.posix_model.specs.Ftruncate.{ftruncate}
 use Rattle.posix_model.specs.Step.{given, decided}
-use Rattle.posix_model.specs.Sound.{CallsAreSound}
+use Rattle.posix_model.specs.Sound.{opens_fifo, CallsAreSound, ActsAreSound}
+use Rattle.posix_model.specs.Pipes.{pipe_at}
 use Rattle.posix_model.specs.Types.{Data}
-use Rattle.plain_world.specs.Types.{Errno, World, File, OpenDescriptor, TableEdit, Decided, Replied, Number, Done}
+use Rattle.plain_world.specs.Types.{Errno, Bounds, World, File, Target, OpenDescriptor, TableEdit, Decided, Replied, Number, Done}
 use Rattle.posix_model.specs.declared.world.File.TheVariants as file
+use Rattle.call_types.specs.declared.description.Target.TheVariants as target
 use Rattle.posix_model.specs.declared.change.FileEdit.TheVariants as on_files
 use Rattle.posix_model.specs.declared.change.TableEdit.TheVariants as on_table
-use Rattle.plain_world.specs.FileLaws.{OpenOn, WritePuts, PwritePuts, WriteAppends, IsRead, ReadGives, PreadGives, ReadMoves, SeekTells, PreadKeepsWorld, NothingRead, NothingWritten, NothingPwritten, PwriteKeepsOffsets, with_append, with_appending, PwriteSameUnderAppend, OwnFileAlone, ContentsStay, FtruncateLeavesResized, FtruncateKeepsOffsets}
+use Rattle.plain_world.specs.FileLaws.{OpenOn, WritePuts, PwritePuts, WriteAppends, IsRead, ReadGives, PreadGives, ReadMoves, SeekTells, PreadKeepsWorld, NothingRead, NothingWritten, NothingPwritten, PwriteKeepsOffsets, with_append, with_appending, PwriteSameUnderAppend, OwnFileAlone, FilesStay, PipesStay, ActsLeaveFiles, ActsLeavePipes, FtruncateLeavesResized, FtruncateKeepsOffsets}
 use Rattle.plain_world.proofs.PageLemmas.{on_open_has, opened_has, if_has}
-use Rattle.plain_world.proofs.ChangeLemmas.{same_after_table, same_files, contents_same}
+use Rattle.plain_world.proofs.ChangeLemmas.{files_after_table, same_files, files_same, pipes_same}
 use Rattle.plain_world.proofs.BytesLaws.{added_at_end, is_read}
 use Rattle.plain_world.proofs.OpenedLemmas.{opened_stands}
 use Rattle.plain_world.proofs.SlotLemmas.{slot_set_there, slot_edited}
@@ -42,10 +44,19 @@ pub pread_keeps_world : PreadKeepsWorld
 pread_keeps_world bounds w process fd start count = on_open_has (λ d. changed w [] d.change ≡ w) (opened w process fd) (pread w start count) (λ _. refl) (λ _ _. refl)
 
 pub nothing_read : NothingRead
-nothing_read bounds w process fd = on_open_has (λ d. changed w [] d.change ≡ w) (opened w process fd) (read w 0) (λ _. refl) (λ _ _. refl)
+nothing_read bounds w process fd =
+    let c = call.Read fd 0 in
+    on_open_has (λ d. changed w [] d.change ≡ w) (opened w process fd) (read w process c 0) (λ _. refl)
+    (λ o _. elim (pipe_at o.description.target) as (λ on. changed w [] (read_from w process c 0 o on).change ≡ w) [ None ↦ refl | Some pipe ↦ refl ])
 
 pub nothing_is_written : NothingWritten
-nothing_is_written bounds w process fd = on_open_has (λ d. changed w [] d.change ≡ w) (opened w process fd) (write bounds w []) (λ _. refl) (λ _ _. refl)
+nothing_is_written bounds w process fd =
+    let c = call.Write fd [] in
+    on_open_has (λ d. changed w [] d.change ≡ w) (opened w process fd) (write bounds w process c []) (λ _. refl)
+    (λ o _. elim (pipe_at o.description.target) as (λ on. changed w [] (write_to bounds w process c (write_start o.description (length (bytes_of w (file_at o)))) [] o on).change ≡ w) [
+      | None ↦ refl
+      | Some pipe ↦ refl
+    ])
 
 pub nothing_pwritten : NothingPwritten
 nothing_pwritten bounds w process fd start = on_open_has (λ d. changed w [] d.change ≡ w) (opened w process fd) (pwrite bounds start []) (λ _. refl) (λ _ _. refl)
@@ -60,8 +71,17 @@ pwrite_keeps_offsets bounds w process fd start bytes =
 pub ftruncate_keeps_offsets : FtruncateKeepsOffsets
 ftruncate_keeps_offsets bounds w process fd len = on_open_has (λ d. (changed w [] d.change).descriptions ≡ w.descriptions) (opened w process fd) (ftruncate bounds len) (λ _. refl) (λ _ _. refl)
 
-pub contents_stay : CallsAreSound → ContentsStay
-contents_stay sound bounds w process c other = contents_same w (given (act.Call c)) (decided bounds w process c).change ((sound bounds w process c).contents other)
+pub files_stay : CallsAreSound → FilesStay
+files_stay sound bounds w process c other = files_same w (given (act.Call c)) (decided bounds w process c).change ((sound bounds w process c).files other)
+
+pub pipes_stay : CallsAreSound → PipesStay
+pipes_stay sound bounds w process c other = pipes_same w (given (act.Call c)) (decided bounds w process c).change ((sound bounds w process c).pipes other)
+
+pub acts_leave_files : ActsAreSound → ActsLeaveFiles
+acts_leave_files sound bounds w actor act d is other = files_same w (given act) d.change ((sound bounds w actor act d is).files other)
+
+pub acts_leave_pipes : ActsAreSound → ActsLeavePipes
+acts_leave_pipes sound bounds w actor act d is other = pipes_same w (given act) d.change ((sound bounds w actor act d is).pipes other)
 
 -- the bytes of a regular file that is written
 bytes_set : (files : List (Option File)) (n : ℕ) (bytes : List ℕ) → is_regular_file (slot files n) ≡ true → file_bytes (slot (set files n (Some (file.Regular bytes))) n) ≡ bytes
@@ -78,26 +98,33 @@ not_none (b ∷ bytes) some = eqb-suc-zero (length bytes)
 abbrev Leaves : World → List ℕ → ℕ → ℕ → ℕ → Decided → Type 0
 Leaves w bytes f start n d = d.outcome ≡ Replied (Number n) → bytes_of (changed w bytes d.change) f ≡ splice (bytes_of w f) start (take n bytes)
 
-puts_leave : (w : World) (f start count : ℕ) (moved : TableEdit) (n : ℕ) (bytes : List ℕ) → bytes ≢ [] → is_regular_file (slot w.files f) ≡ true →
+puts_leave : (w : World) (f start count : ℕ) (moved : TableEdit) (n : ℕ) (bytes : List ℕ) → opens_fifo moved ≡ false → bytes ≢ [] → is_regular_file (slot w.files f) ≡ true →
     Leaves w bytes f start n (puts bytes f start count moved)
-puts_leave w f start count moved n bytes some there =
-    subst (λ none. Leaves w bytes f start n (cond none (tells (Number 0)) (does (Number count) (on_files.Bytes f start count) moved))) (sym (not_none bytes some))
+puts_leave w f start count moved n bytes none some there =
+    subst (λ empty. Leaves w bytes f start n (cond empty (tells (Number 0)) (does (Number count) (on_files.Bytes f start count) moved))) (sym (not_none bytes some))
     (λ told.
     let same : count ≡ n = cc in
-    ap (λ fs. file_bytes (slot fs f)) (same_after_table (with_files w bytes (on_files.Bytes f start count)) moved).files ∙
+    ap (λ fs. file_bytes (slot fs f)) (files_after_table (with_files w bytes (on_files.Bytes f start count)) moved none).files ∙
     (bytes_set w.files f (splice (bytes_of w f) start (take count bytes)) there ∙ ap (λ k. splice (bytes_of w f) start (take k bytes)) same))
 
 -- the file of an open descriptor
 file_is : (w : World) (process : ℕ) (fd : ℤ) (o : OpenDescriptor) (f : ℕ) → OpenOn w process fd o f → file_at o ≡ f
 file_is w process fd o f is = ap (λ t. unwrap_or (regular_file t) 0) is.target_is
 
+-- and it is no pipe
+no_pipe : (w : World) (process : ℕ) (fd : ℤ) (o : OpenDescriptor) (f : ℕ) → OpenOn w process fd o f → pipe_at o.description.target ≡ None
+no_pipe w process fd o f is = ap pipe_at is.target_is
+
 pub write_puts : WritePuts
 write_puts bounds w process fd bytes o f n is some told =
     let start : ℕ → ℕ = λ g. write_start o.description (length (bytes_of w g)) in
     let count = fitting bounds (start f) bytes in
     let Puts : ℕ → Type 0 = λ g. let count = fitting bounds (start g) bytes in Leaves w bytes f (start f) n (puts bytes g (start g) count (on_table.Offset o.number (start g + count))) in
-    opened_has (Leaves w bytes f (start f) n) (opened w process fd) o (write bounds w bytes) is.opened_is (λ error refused. cc)
-    (λ _. subst Puts (sym (file_is w process fd o f is)) (puts_leave w f (start f) count (on_table.Offset o.number (start f + count)) n bytes some is.there)) told
+    let c = call.Write fd bytes in
+    let Ends : Option ℕ → Type 0 = λ on. Leaves w bytes f (start f) n (write_to bounds w process c (start (file_at o)) bytes o on) in
+    opened_has (Leaves w bytes f (start f) n) (opened w process fd) o (write bounds w process c bytes) is.opened_is (λ error refused. cc)
+    (λ _. subst Ends (sym (no_pipe w process fd o f is))
+    (subst Puts (sym (file_is w process fd o f is)) (puts_leave w f (start f) count (on_table.Offset o.number (start f + count)) n bytes refl some is.there))) told
 
 pub pwrite_puts : PwritePuts
 pwrite_puts bounds w process fd start bytes o f n is some told =
@@ -105,7 +132,7 @@ pwrite_puts bounds w process fd start bytes o f n is some told =
     let count = fitting bounds from bytes in
     opened_has (Leaves w bytes f from n) (opened w process fd) o (pwrite bounds start bytes) is.opened_is (λ error refused. cc)
     (λ _. subst (λ g. Leaves w bytes f from n (puts bytes g from count on_table.Nothing)) (sym (file_is w process fd o f is))
-    (puts_leave w f from count on_table.Nothing n bytes some is.there)) told
+    (puts_leave w f from count on_table.Nothing n bytes refl some is.there)) told
 
 pub write_appends : WriteAppends
 write_appends bounds w process fd [] o f n is append told =
@@ -132,6 +159,14 @@ opened_appending w process fd o append h =
     (ap (opened_number v o.fd) at.entry_is ∙
     ap (opened_description o.fd o.number) (slot_set_there w.descriptions o.number o.description (Some (with_append o append).description) at.description_is))
 
+-- a pwrite opens no end of a FIFO
+opens_none : (bounds : Bounds) (w : World) (process : ℕ) (fd start : ℤ) (bytes : List ℕ) → opens_fifo (decided bounds w process (call.Pwrite fd start bytes)).change.table ≡ false
+opens_none bounds w process fd start bytes =
+    let None_opened : Decided → Type 0 = λ d. opens_fifo d.change.table ≡ false in
+    let n = fitting bounds (bytes_before start) bytes in
+    on_open_has None_opened (opened w process fd) (pwrite bounds start bytes) (λ _. refl)
+    (λ o _. if_has None_opened (eqb (length bytes) 0) (tells (Number 0)) (does (Number n) (on_files.Bytes (file_at o) (bytes_before start) n) on_table.Nothing) (λ _. refl) (λ _. refl))
+
 pub pwrite_same_under_append : PwriteSameUnderAppend
 pwrite_same_under_append bounds w process fd start bytes o append h =
     let v = with_appending w o append in
@@ -140,7 +175,7 @@ pwrite_same_under_append bounds w process fd start bytes o append h =
     let same : decided bounds v process c ≡ decided bounds w process c = ap (λ x. on_open x page) (opened_appending w process fd o append h) ∙ sym (ap (λ x. on_open x page) h) in
     record {
       outcome = ap (λ d. d.outcome) same;
-      files = ap (λ d. (changed v bytes d.change).files) same ∙ same_files w v bytes (decided bounds w process c).change refl;
+      files = ap (λ d. (changed v bytes d.change).files) same ∙ same_files w v bytes (decided bounds w process c).change (opens_none bounds w process fd start bytes) refl;
     }
 
 -- bytes that are told are those that were read
@@ -165,10 +200,18 @@ gives_moved w o x got there =
     (λ some told. slot_edited w.descriptions o.number (at_offset (start + length x)) ∙
     (ap (option_map (at_offset (start + length x))) there ∙ ap (λ (l : List ℕ). Some (at_offset (start + length l) o.description)) (told_read x got told)))
 
+-- a regular file is no pipe
+regular_no_pipe : (t : Target) → is_some (regular_file t) ≡ true → pipe_at t ≡ None
+regular_no_pipe (target.Regular f) h = refl
+regular_no_pipe (target.Pipe p) h = cc
+regular_no_pipe (target.Fifo f p) h = cc
+
 pub read_moves : ReadMoves
-read_moves bounds w process fd count o got is told =
-    opened_has (Moved w o got) (opened w process fd) o (read w count) is (λ error refused. cc)
-    (λ _. gives_moved w o (bytes_at (bytes_of w (file_at o)) o.description.offset count) got (opened_stands w process fd o is).description_is) told
+read_moves bounds w process fd count o got is regular told =
+    let c = call.Read fd count in
+    opened_has (Moved w o got) (opened w process fd) o (read w process c count) is (λ error refused. cc)
+    (λ _. subst (λ on. Moved w o got (read_from w process c count o on)) (sym (regular_no_pipe o.description.target regular))
+    (gives_moved w o (bytes_at (bytes_of w (file_at o)) o.description.offset count) got (opened_stands w process fd o is).description_is)) told
 
 -- what a decided read tells was read from a position on
 abbrev Given : List ℕ → ℕ → ℕ → List ℕ → Decided → Type 0
@@ -186,8 +229,10 @@ gives_read o bytes start count got =
 pub read_gives : ReadGives
 read_gives bounds w process fd count o f got is told =
     let start = o.description.offset in
-    opened_has (Given (bytes_of w f) start count got) (opened w process fd) o (read w count) is.opened_is (λ error refused. cc)
-    (λ _. subst (λ g. Given (bytes_of w f) start count got (gives o (bytes_at (bytes_of w g) start count))) (sym (file_is w process fd o f is)) (gives_read o (bytes_of w f) start count got)) told
+    let c = call.Read fd count in
+    opened_has (Given (bytes_of w f) start count got) (opened w process fd) o (read w process c count) is.opened_is (λ error refused. cc)
+    (λ _. subst (λ on. Given (bytes_of w f) start count got (read_from w process c count o on)) (sym (no_pipe w process fd o f is))
+    (subst (λ g. Given (bytes_of w f) start count got (gives o (bytes_at (bytes_of w g) start count))) (sym (file_is w process fd o f is)) (gives_read o (bytes_of w f) start count got))) told
 
 pub pread_gives : PreadGives
 pread_gives bounds w process fd start count o f got is told =
@@ -224,12 +269,12 @@ seek_tells bounds w process fd offset o f n is = record {
 }
 
 -- what a decided write puts is not put into another file
-puts_apart : (w : World) (f start count n : ℕ) (bytes : List ℕ) (moved : TableEdit) → n ≢ f →
+puts_apart : (w : World) (f start count n : ℕ) (bytes : List ℕ) (moved : TableEdit) → opens_fifo moved ≡ false → n ≢ f →
     slot (changed w bytes (puts bytes f start count moved).change).files n ≡ slot w.files n
-puts_apart w f start count n bytes moved other =
+puts_apart w f start count n bytes moved none other =
     let new = splice (bytes_of w f) start (take count bytes) in
     if_has (λ d. slot (changed w bytes d.change).files n ≡ slot w.files n) (eqb (length bytes) 0) (tells (Number 0)) (does (Number count) (on_files.Bytes f start count) moved) (λ _. refl)
-    (λ _. ap (λ fs. slot fs n) (same_after_table (with_files w bytes (on_files.Bytes f start count)) moved).files ∙
+    (λ _. ap (λ fs. slot fs n) (files_after_table (with_files w bytes (on_files.Bytes f start count)) moved none).files ∙
     get_or-set_other w.files f n (Some (file.Regular new)) None other)
 
 pub own_file_alone : OwnFileAlone
@@ -242,11 +287,12 @@ own_file_alone bounds w process fd start len bytes o f n is other =
     let at = bytes_before start in
     record {
       write =
-          opened_has (Apart bytes) (opened w process fd) o (write bounds w bytes) is.opened_is (λ _. refl)
-          (λ _. puts_apart w g from count n bytes (on_table.Offset o.number (from + count)) away);
+          opened_has (Apart bytes) (opened w process fd) o (write bounds w process (call.Write fd bytes) bytes) is.opened_is (λ _. refl)
+          (λ _. subst (λ on. Apart bytes (write_to bounds w process (call.Write fd bytes) from bytes o on)) (sym (no_pipe w process fd o f is))
+          (puts_apart w g from count n bytes (on_table.Offset o.number (from + count)) refl away));
       pwrite =
           opened_has (Apart bytes) (opened w process fd) o (pwrite bounds start bytes) is.opened_is (λ _. refl)
-          (λ _. puts_apart w g at (fitting bounds at bytes) n bytes on_table.Nothing away);
+          (λ _. puts_apart w g at (fitting bounds at bytes) n bytes on_table.Nothing refl away);
       ftruncate =
           opened_has (Apart []) (opened w process fd) o (ftruncate bounds len) is.opened_is (λ _. refl)
           (λ _. get_or-set_other w.files g n (Some (file.Regular (resized (bytes_of w g) (bytes_before len)))) None away);

@@ -7,6 +7,7 @@ pub mod OpenedLemmas
 pub mod CallLaws
 pub mod NameLaws
 pub mod OpenLaws
+pub mod PipeLaws
 pub mod DupLaws
 pub mod DescriptorLaws
 pub mod ProcessLaws

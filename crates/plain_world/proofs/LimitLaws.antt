@@ -1,5 +1,5 @@
 -- No step goes past a limit: one lemma for each edit, and one for the sweep.
-use Rattle.std.proofs.Common.{eqb, ◌≡◌, ℕ, zero, suc, ◌+◌, ◌≤◌, ◌<◌, ◌∙◌, Bool, true, false, not, cond, List, [], ◌∷◌, ◌++◌, Option, None, Some, length, set, take, refl, ap, sym, subst, arith, length-set}
+use Rattle.std.proofs.Common.{eqb, ◌≡◌, ℕ, zero, suc, ◌+◌, ◌-◌, ◌≤◌, ◌<◌, ◌∙◌, Bool, true, false, not, cond, List, [], ◌∷◌, ◌++◌, Option, None, Some, length, set, take, drop, refl, ap, sym, subst, arith, length-set}
 use Rattle.std.specs.Option.{option_map, is_some}
 use Rattle.std.proofs.lemmas.Grind.{common_steps}
 use Rattle.std.proofs.lemmas.List.{length-replicate}
@@ -8,18 +8,19 @@ use Rattle.std.specs.Ordering.{nat_cmp, eq_by_cmp}
 use Rattle.std.specs.Cmp.Lexicographic.{slice_cmp}
 use Rattle.std.specs.FinMap.Entries.{by_order}
 use Rattle.std.specs.declared.cmp.Ordering.TheVariants.{Less, Equal, Greater}
-use Rattle.plain_world.specs.Types.{Act, Record, Bounds, World, Process, Description, File, FileEdit, ProcessEdit, TableEdit, Change, Decided, OPEN_MAX, NAMES_MAX, DESCRIPTIONS_MAX, OFFSET_MAX}
+use Rattle.plain_world.specs.Types.{Act, Record, Bounds, World, Process, Description, Mode, File, FileEdit, ProcessEdit, TableEdit, Change, Decided, OPEN_MAX, NAMES_MAX, DESCRIPTIONS_MAX, OFFSET_MAX}
 use Rattle.call_types.specs.declared.act.Act.TheVariants as act
 use Rattle.call_types.specs.declared.call.Call.TheVariants as call
 use Rattle.posix_model.specs.Bytes.{splice, resized}
 use Rattle.slots.specs.Slots.{slot, edited, live, kept_from}
 use Rattle.call_types.specs.Names.{Entries, with_name, without_name}
 use Rattle.call_types.specs.Descriptions.{at_offset}
-use Rattle.process_table.specs.Processes.{free_table, copied_table, process_with, with_connection, with_entry}
-use Rattle.posix_model.specs.Descriptors.{with_descriptor, with_offset, file_bytes, bytes_of}
-use Rattle.posix_model.specs.Change.{with_bytes, created, with_files, with_processes, with_table, changed}
-use Rattle.posix_model.specs.Fits.{FilesProper, ProcessProper, TableProper, IsProper}
-use Rattle.posix_model.specs.Sweep.{is_referred, is_wanted, without_gone_pipe, sweep}
+use Rattle.process_table.specs.Processes.{free_table, copied_table, process_with, with_connection, with_parked, with_total, with_entry}
+use Rattle.posix_model.specs.Descriptors.{with_descriptor, with_offset, file_bytes, bytes_of, pipe_bytes, held_in}
+use Rattle.posix_model.specs.Change.{with_bytes, created, bytes_from, after_those, with_files, with_processes, with_description, end_of, with_table, changed}
+use Rattle.posix_model.specs.Pipes.{unopened, fifo_at, pipe_of_fifo, pipe_between, with_pipe_for, opened_file, with_opening, with_pipe}
+use Rattle.posix_model.specs.Fits.{FilesProper, PutsWithin, ProcessProper, TableProper, IsProper}
+use Rattle.posix_model.specs.Sweep.{is_referred, is_open, is_wanted, without_gone_pipe, sweep}
 use Rattle.posix_model.specs.Step.{can_call, given, comes_to, step}
 use Rattle.posix_model.specs.Pages.{decided_by}
 use Rattle.posix_model.specs.Join.{join}
@@ -28,6 +29,7 @@ use Rattle.posix_model.specs.Sound.{Sound, makes, ActsAreSound, WithinLimits, Fi
 use Rattle.posix_model.specs.Laws.{SweepLeaves}
 use Rattle.posix_model.specs.History.{empty_world, after, world_from}
 use Rattle.posix_model.specs.declared.world.File.TheVariants as file
+use Rattle.call_types.specs.declared.description.Mode.TheVariants as mode
 use Rattle.posix_model.specs.declared.change.FileEdit.TheVariants as on_files
 use Rattle.posix_model.specs.declared.change.ProcessEdit.TheVariants as on_process
 use Rattle.posix_model.specs.declared.change.TableEdit.TheVariants as on_table
@@ -76,6 +78,7 @@ live_kept keeps m (x ∷ xs) =
 bytes_within : (bounds : Bounds) (w : World) (f : ℕ) (bytes : List ℕ) → WithinLimits bounds w → length bytes ≤ bounds.file_size → WithinLimits bounds (with_bytes w f bytes)
 bytes_within bounds w f bytes h small = record {
   files = λ n. at_set (λ x. length (file_bytes x) ≤ bounds.file_size) w.files f (Some (file.Regular bytes)) n h.files small;
+  pipes = h.pipes;
   offsets = h.offsets;
   tables = h.tables;
   names = h.names;
@@ -100,9 +103,10 @@ one_more_name name f (e ∷ es) =
       | Greater ↦ omega arith
     ]
 
-created_within : (bounds : Bounds) (w : World) (name : List ℕ) → WithinLimits bounds w → length w.names < NAMES_MAX → WithinLimits bounds (created w name)
-created_within bounds w name h room = record {
-  files = λ n. at_push (λ x. length (file_bytes x) ≤ bounds.file_size) w.files (Some (file.Regular [])) n h.files (omega arith);
+created_within : (bounds : Bounds) (w : World) (name : List ℕ) (new : File) → length (file_bytes (Some new)) ≤ 0 → WithinLimits bounds w → length w.names < NAMES_MAX → WithinLimits bounds (created w name new)
+created_within bounds w name new empty h room = record {
+  files = λ n. at_push (λ x. length (file_bytes x) ≤ bounds.file_size) w.files (Some new) n h.files (omega (arith, empty));
+  pipes = h.pipes;
   offsets = h.offsets;
   tables = h.tables;
   names = let more = one_more_name name (length w.files) w.names in omega arith;
@@ -121,16 +125,53 @@ no_more_names name (e ∷ es) =
     ]
 
 names_within : (bounds : Bounds) (w : World) (names : Entries) → WithinLimits bounds w → length names ≤ NAMES_MAX → WithinLimits bounds (record w { names = names })
-names_within bounds w names h few = record { files = h.files; offsets = h.offsets; tables = h.tables; names = few; descriptions = h.descriptions; processes = h.processes }
+names_within bounds w names h few = record { files = h.files; pipes = h.pipes; offsets = h.offsets; tables = h.tables; names = few; descriptions = h.descriptions; processes = h.processes }
 
-files_within : (bounds : Bounds) (w : World) (bytes : List ℕ) (e : FileEdit) → WithinLimits bounds w → FilesProper w bytes e → FilesWithin bounds e → WithinLimits bounds (with_files w bytes e)
-files_within bounds w bytes on_files.Nothing h proper within = h
-files_within bounds w bytes (on_files.Bytes f start count) h proper within =
+-- a pipe is edited, and holds no more than it may
+pipe_within : (bounds : Bounds) (w : World) (p : ℕ) (f : List ℕ → List ℕ) → WithinLimits bounds w → ((there : List ℕ) → slot w.pipes p ≡ Some there → length (f there) ≤ bounds.pipe_capacity) →
+    WithinLimits bounds (record w { pipes = edited p f w.pipes })
+pipe_within bounds w p f h few =
+    let new = option_map f (slot w.pipes p) in
+    record {
+      files = h.files;
+      pipes = λ n. at_set (λ x. length (pipe_bytes x) ≤ bounds.pipe_capacity) w.pipes p new n h.pipes (edited_few (slot w.pipes p) few);
+      offsets = h.offsets;
+      tables = h.tables;
+      names = h.names;
+      descriptions = h.descriptions;
+      processes = h.processes;
+    }
+  where
+    edited_few : (x : Option (List ℕ)) → ((there : List ℕ) → x ≡ Some there → length (f there) ≤ bounds.pipe_capacity) → length (pipe_bytes (option_map f x)) ≤ bounds.pipe_capacity
+    edited_few None few = omega arith
+    edited_few (Some there) few = few there refl
+
+added_few : (there new : List ℕ) (count most : ℕ) → length there ≤ most → count ≤ most - length there → length (there ++ take count new) ≤ most
+added_few there new count most h k = grind (arith, common_steps)
+
+dropped_few : (there : List ℕ) (count most : ℕ) → length there ≤ most → length (drop count there) ≤ most
+dropped_few there count most h = grind (arith, common_steps)
+
+files_within : (bounds : Bounds) (w : World) (bytes : List ℕ) (e : FileEdit) → WithinLimits bounds w → FilesProper w bytes e → PutsWithin bounds.pipe_capacity w e → FilesWithin bounds e → WithinLimits bounds (with_files w bytes e)
+files_within bounds w bytes on_files.Nothing h proper puts within = h
+files_within bounds w bytes (on_files.Bytes f start count) h proper puts within =
     bytes_within bounds w f (splice (bytes_of w f) start (take count bytes)) h (splice_fits bounds.file_size start count (bytes_of w f) bytes (h.files f) within)
-files_within bounds w bytes (on_files.Resize f len) h proper within = bytes_within bounds w f (resized (bytes_of w f) len) h (resized_fits (bytes_of w f) len bounds.file_size within)
-files_within bounds w bytes (on_files.AddName name f) h proper within = names_within bounds w (with_name name f w.names) h (let more = one_more_name name f w.names in omega (arith, more, proper.1))
-files_within bounds w bytes (on_files.RemoveName name) h proper within = names_within bounds w (without_name name w.names) h (let few = no_more_names name w.names in omega (arith, few, h.names))
-files_within bounds w bytes (on_files.MakeFile name) h proper within = created_within bounds w name h proper.1
+files_within bounds w bytes (on_files.Resize f len) h proper puts within = bytes_within bounds w f (resized (bytes_of w f) len) h (resized_fits (bytes_of w f) len bounds.file_size within)
+files_within bounds w bytes (on_files.AddName name f) h proper puts within = names_within bounds w (with_name name f w.names) h (let more = one_more_name name f w.names in omega (arith, more, proper.1))
+files_within bounds w bytes (on_files.RemoveName name) h proper puts within = names_within bounds w (without_name name w.names) h (let few = no_more_names name w.names in omega (arith, few, h.names))
+files_within bounds w bytes (on_files.MakeFile name) h proper puts within = created_within bounds w name (file.Regular []) (omega arith) h proper.1
+files_within bounds w bytes (on_files.MakeFifo name) h proper puts within = created_within bounds w name (file.Fifo unopened) (omega arith) h proper.1
+files_within bounds w bytes (on_files.Put p source count) h proper puts within =
+    let new = bytes_from w bytes source in
+    pipe_within bounds w p (after_those (take count new)) h
+    (λ there is.
+    let held : held_in w p ≡ length there = ap (λ x. length (pipe_bytes x)) is in
+    added_few there new count bounds.pipe_capacity (subst (λ k. k ≤ bounds.pipe_capacity) held (h.pipes p)) (subst (λ k. count ≤ bounds.pipe_capacity - k) held puts))
+files_within bounds w bytes (on_files.Take p count) h proper puts within =
+    pipe_within bounds w p (drop count) h
+    (λ there is.
+    let held : held_in w p ≡ length there = ap (λ x. length (pipe_bytes x)) is in
+    dropped_few there count bounds.pipe_capacity (subst (λ k. k ≤ bounds.pipe_capacity) held (h.pipes p)))
 
 -- a process that has as many descriptors after it is edited as before
 process_within : (bounds : Bounds) (w : World) (p : ℕ) (f : Process → Process) → ((x : Process) → length (f x).table ≡ length x.table) → WithinLimits bounds w →
@@ -139,6 +180,7 @@ process_within bounds w p f as_long h =
     let new = option_map f (slot w.processes p) in
     record {
       files = h.files;
+      pipes = h.pipes;
       offsets = h.offsets;
       tables = λ n. at_set (λ o. (x : Process) → o ≡ Some x → length x.table ≡ OPEN_MAX) w.processes p new n h.tables (λ x e. all (slot w.processes p) x (h.tables p) e);
       names = h.names;
@@ -159,6 +201,7 @@ processes_within : (bounds : Bounds) (w : World) (e : ProcessEdit) → WithinLim
 processes_within bounds w on_process.Nothing h proper all = h
 processes_within bounds w (on_process.Add table attached) h proper all = let p = process_with table attached in record {
   files = h.files;
+  pipes = h.pipes;
   offsets = h.offsets;
   tables = λ n. at_push (λ o. (x : Process) → o ≡ Some x → length x.table ≡ OPEN_MAX) w.processes (Some p) n h.tables
       (λ x e. let same : p ≡ x = cc in subst (λ (x : Process). length x.table ≡ OPEN_MAX) same all);
@@ -167,8 +210,12 @@ processes_within bounds w (on_process.Add table attached) h proper all = let p =
   processes = let more = live_push w.processes p in omega (arith, more, proper);
 }
 processes_within bounds w (on_process.Attach p) h proper all = process_within bounds w p with_connection (λ x. refl) h
+processes_within bounds w (on_process.Park p parked) h proper all = process_within bounds w p (with_parked (Some parked)) (λ x. refl) h
+processes_within bounds w (on_process.Total p moved) h proper all = process_within bounds w p (with_total moved) (λ x. refl) h
+processes_within bounds w (on_process.Unpark p) h proper all = process_within bounds w p (with_parked None) (λ x. refl) h
 processes_within bounds w (on_process.Exit p) h proper all = record {
   files = h.files;
+  pipes = h.pipes;
   offsets = h.offsets;
   tables = λ n. at_set (λ o. (x : Process) → o ≡ Some x → length x.table ≡ OPEN_MAX) w.processes p None n h.tables (λ x e. cc);
   names = h.names;
@@ -176,7 +223,7 @@ processes_within bounds w (on_process.Exit p) h proper all = record {
   processes = let fewer = live_freed w.processes p in let few = h.processes in omega (arith, fewer, few);
 }
 processes_within bounds w on_process.Close h proper all =
-    record { files = h.files; offsets = h.offsets; tables = h.tables; names = h.names; descriptions = h.descriptions; processes = h.processes }
+    record { files = h.files; pipes = h.pipes; offsets = h.offsets; tables = h.tables; names = h.names; descriptions = h.descriptions; processes = h.processes }
 
 -- the offset of a description is written
 offset_within : (bounds : Bounds) (w : World) (n k : ℕ) → WithinLimits bounds w → k ≤ OFFSET_MAX → WithinLimits bounds (with_offset w n k)
@@ -184,6 +231,7 @@ offset_within bounds w n k h small =
     let moved = option_map (at_offset k) (slot w.descriptions n) in
     record {
       files = h.files;
+      pipes = h.pipes;
       offsets = λ m. at_set (λ o. (x : Description) → o ≡ Some x → x.offset ≤ OFFSET_MAX) w.descriptions n moved m h.offsets (λ d e. as_small (slot w.descriptions n) d e);
       tables = h.tables;
       names = h.names;
@@ -203,6 +251,7 @@ described_within : (bounds : Bounds) (w : World) (d : Description) → WithinLim
     WithinLimits bounds (record w { descriptions = w.descriptions ++ Some d ∷ [] })
 described_within bounds w d h small room = record {
   files = h.files;
+  pipes = h.pipes;
   offsets = λ n. at_push (λ o. (x : Description) → o ≡ Some x → x.offset ≤ OFFSET_MAX) w.descriptions (Some d) n h.offsets
       (λ x e. let same : d ≡ x = cc in subst (λ (x : Description). x.offset ≤ OFFSET_MAX) same small);
   tables = h.tables;
@@ -211,11 +260,61 @@ described_within bounds w d h small room = record {
   processes = h.processes;
 }
 
+-- a descriptor refers to one more description
+opened_within : (bounds : Bounds) (w : World) (p fd : ℕ) (d : Description) → WithinLimits bounds w → d.offset ≤ OFFSET_MAX → live w.descriptions < DESCRIPTIONS_MAX → WithinLimits bounds (with_description w p fd d)
+opened_within bounds w p fd d h small room =
+    descriptor_within bounds (record w { descriptions = w.descriptions ++ Some d ∷ [] }) p fd (Some (length w.descriptions)) (described_within bounds w d h small room)
+
+-- one more pipe, which is empty
+piped_within : (bounds : Bounds) (w : World) → WithinLimits bounds w → WithinLimits bounds (with_pipe w)
+piped_within bounds w h = record {
+  files = h.files;
+  pipes = λ n. at_push (λ x. length (pipe_bytes x) ≤ bounds.pipe_capacity) w.pipes (Some []) n h.pipes (omega arith);
+  offsets = h.offsets;
+  tables = h.tables;
+  names = h.names;
+  descriptions = h.descriptions;
+  processes = h.processes;
+}
+
+-- an opening makes no file longer
+opening_length : (m : Mode) (pipe : ℕ) (x : Option File) → length (file_bytes (option_map (opened_file m pipe) x)) ≤ length (file_bytes x)
+opening_length m pipe None = omega arith
+opening_length m pipe (Some (file.Regular bytes)) = omega arith
+opening_length m pipe (Some (file.Fifo fifo)) = omega arith
+
+pipe_for_within : (most : ℕ) (has : Option ℕ) (pipes : List (Option (List ℕ))) (n : ℕ) → ((k : ℕ) → length (pipe_bytes (slot pipes k)) ≤ most) → length (pipe_bytes (slot (with_pipe_for has pipes) n)) ≤ most
+pipe_for_within most None pipes n h = at_push (λ x. length (pipe_bytes x) ≤ most) pipes (Some []) n h (omega arith)
+pipe_for_within most (Some pipe) pipes n h = h n
+
+-- an end of a FIFO is opened once more
+opening_within : (bounds : Bounds) (w : World) (f : ℕ) (m : Mode) → WithinLimits bounds w → WithinLimits bounds (with_opening w f m)
+opening_within bounds w f m h =
+    let fifo = fifo_at (slot w.files f) in
+    let pipe = pipe_between w fifo in
+    record {
+      files = λ n. at_set (λ x. length (file_bytes x) ≤ bounds.file_size) w.files f (option_map (opened_file m pipe) (slot w.files f)) n h.files
+          (let no_longer = opening_length m pipe (slot w.files f) in let few = h.files f in omega (arith, no_longer, few));
+      pipes = λ n. pipe_for_within bounds.pipe_capacity (pipe_of_fifo fifo) w.pipes n h.pipes;
+      offsets = h.offsets;
+      tables = h.tables;
+      names = h.names;
+      descriptions = h.descriptions;
+      processes = h.processes;
+    }
+
 table_within : (bounds : Bounds) (w : World) (e : TableEdit) → WithinLimits bounds w → TableProper w e → TableWithin e → WithinLimits bounds (with_table w e)
 table_within bounds w on_table.Nothing h proper within = h
 table_within bounds w (on_table.Offset n k) h proper within = offset_within bounds w n k h within
-table_within bounds w (on_table.Open p fd d) h proper within =
-    descriptor_within bounds (record w { descriptions = w.descriptions ++ Some d ∷ [] }) p fd (Some (length w.descriptions)) (described_within bounds w d h within proper)
+table_within bounds w (on_table.Open p fd d) h proper within = opened_within bounds w p fd d h within proper
+table_within bounds w (on_table.OpenPair p reading writing) h proper within =
+    let pipe = length w.pipes in
+    let first = end_of pipe mode.Read in
+    let u = with_description (with_pipe w) p reading first in
+    let more = live_push w.descriptions first in
+    opened_within bounds u p writing (end_of pipe mode.Write) (opened_within bounds (with_pipe w) p reading first (piped_within bounds w h) (omega arith) (omega (arith, proper))) (omega arith)
+    (omega (arith, more, proper))
+table_within bounds w (on_table.OpenEnd p fd f d) h proper within = opened_within bounds (with_opening w f d.mode) p fd d (opening_within bounds w f d.mode h) within proper
 table_within bounds w (on_table.Entry p fd entry) h proper within = descriptor_within bounds w p fd entry h
 
 -- room stays where the parts that it is in stay
@@ -227,15 +326,17 @@ table_room : (w v : World) (e : TableEdit) → v.descriptions ≡ w.descriptions
 table_room w v on_table.Nothing same proper = tt
 table_room w v (on_table.Offset n k) same proper = tt
 table_room w v (on_table.Open p fd d) same proper = rw same proper
+table_room w v (on_table.OpenPair p reading writing) same proper = rw same proper
+table_room w v (on_table.OpenEnd p fd f d) same proper = rw same proper
 table_room w v (on_table.Entry p fd entry) same proper = tt
 
-change_within : (bounds : Bounds) (w : World) (bytes : List ℕ) (c : Change) → WithinLimits bounds w → IsProper w bytes c → HasAll c.process →
+change_within : (bounds : Bounds) (w : World) (bytes : List ℕ) (c : Change) → WithinLimits bounds w → IsProper w bytes c → PutsWithin bounds.pipe_capacity w c.files → HasAll c.process →
     FilesWithin bounds c.files → TableWithin c.table → WithinLimits bounds (changed w bytes c)
-change_within bounds w bytes c h proper all files table =
+change_within bounds w bytes c h proper puts all files table =
     let u = with_files w bytes c.files in
     let v = with_processes u c.process in
     let same = same_descriptions w bytes c in
-    let first = files_within bounds w bytes c.files h proper.files files in
+    let first = files_within bounds w bytes c.files h proper.files puts files in
     let second = processes_within bounds u c.process first (process_room w u c.process (files_leave w bytes c.files).1 proper.process) all in
     table_within bounds v c.table second (table_room w v c.table same proper.table) table
 
@@ -268,6 +369,10 @@ left_of_file ds true None most h = h
 left_of_file ds true (Some (file.Regular bytes)) most h = h
 left_of_file ds true (Some (file.Fifo fifo)) most h = h
 
+left_of_pipe : (b : Bool) (x : Option (List ℕ)) (most : ℕ) → length (pipe_bytes x) ≤ most → length (pipe_bytes (cond b x None)) ≤ most
+left_of_pipe false x most h = omega arith
+left_of_pipe true x most h = h
+
 sweep_within : SweepLeaves → (bounds : Bounds) (w : World) → WithinLimits bounds w → WithinLimits bounds (sweep w)
 sweep_within leaves bounds w h =
     let left = leaves w in
@@ -275,6 +380,7 @@ sweep_within leaves bounds w h =
       files = λ n.
           let ds = (sweep w).descriptions in
           rw (left.files n) (left_of_file ds (is_wanted w.names ds n) (slot w.files n) bounds.file_size (h.files n));
+      pipes = λ n. rw (left.pipes n) (left_of_pipe (is_open (sweep w).descriptions n) (slot w.pipes n) bounds.pipe_capacity (h.pipes n));
       offsets = λ n d there. h.offsets n d (stood (is_referred w.processes n) (slot w.descriptions n) d (sym (left.descriptions n) ∙ there));
       tables = h.tables;
       names = h.names;
@@ -289,11 +395,12 @@ step_keeps_limits sound leaves bounds w actor act s small within h =
     let x = sound bounds w actor act d is in
     let v = changed w (given act) d.change in
     sweep_within leaves bounds v
-    (change_within bounds w (given act) d.change within (x.proper small) (adds_all bounds w actor act d within x is) x.within_files (x.within_table small within))) h
+    (change_within bounds w (given act) d.change within (x.proper small) x.puts (adds_all bounds w actor act d within x is) x.within_files (x.within_table small within))) h
 
 empty_within : (bounds : Bounds) → WithinLimits bounds empty_world
 empty_within bounds = record {
   files = λ n. omega arith;
+  pipes = λ n. omega arith;
   offsets = λ n d h. cc;
   tables = λ n p h. cc;
   names = omega arith;

@@ -1,25 +1,29 @@
 -- What an open does.
-use Rattle.std.proofs.Common.{◌≡◌, ℕ, zero, suc, pos, ◌∙◌, Bool, true, false, cond, List, [], ◌∷◌, ◌++◌, Option, None, Some, length, set, refl, ap, sym, subst}
+use Rattle.std.proofs.Common.{◌≡◌, ◌≢◌, ℕ, zero, suc, pos, ◌∙◌, ◌||◌, Bool, true, false, cond, List, [], ◌∷◌, ◌++◌, Option, None, Some, length, set, refl, ap, sym, subst}
 use Rattle.std.proofs.lemmas.List.{get_or-set_other, get_or-set_same}
 use Rattle.std.proofs.lemmas.List.Quantifiers.{position-Some}
-use Rattle.std.specs.Option.{is_none, is_some, unwrap_or}
+use Rattle.std.specs.Option.{is_none, is_some, option_map, unwrap_or}
 use Rattle.call_types.specs.Flags.{has}
 use Rattle.call_types.specs.Flags as flag
-use Rattle.plain_world.specs.Types.{Errno, OpenFlags, World, Process, Description, File, EMFILE, Replied, Number}
+use Rattle.plain_world.specs.Types.{Errno, OpenFlags, World, Process, Description, Target, Mode, Fifo, File, Decided, EMFILE, Replied, Number}
 use Rattle.slots.specs.Slots.{slot, lowest, edited}
 use Rattle.call_types.specs.Names.{file_of}
 use Rattle.process_table.specs.Processes.{table_of, with_entry}
 use Rattle.posix_model.specs.Descriptors.{opened, opened_number, opened_description, file_bytes}
 use Rattle.posix_model.specs.Change.{with_files, with_description, changed}
 use Rattle.posix_model.specs.Pages.{first_fault}
-use Rattle.posix_model.specs.Open.{flag_faults, name_faults, found_faults, room_faults, open_faults, new_description, free_descriptor, emptied, open_found, open_file}
+use Rattle.posix_model.specs.Open.{flag_faults, name_faults, found_faults, room_faults, open_faults, mode_of, new_description, free_descriptor, emptied, opens_end, open_there, open_found, open_file}
+use Rattle.posix_model.specs.Pipes.{fifo_at, is_met, opposite_openings, pipe_between, opened_file, with_opening}
+use Rattle.posix_model.specs.Tries.{waiting, parks}
+use Rattle.call_types.specs.declared.call.Call.TheVariants as call
+use Rattle.call_types.specs.declared.description.Target.TheVariants as target
 use Rattle.posix_model.specs.declared.world.File.TheVariants as file
 use Rattle.posix_model.specs.declared.change.FileEdit.TheVariants as on_files
-use Rattle.plain_world.specs.FileLaws.{Opens, OpenDescribes, ExclOpensNew, EmptiesFile, TruncOpenEmpties, OpenKeepsFiles, OpenMakesEmpty}
+use Rattle.plain_world.specs.FileLaws.{target_on, Opens, OpenDescribes, ExclOpensNew, EmptiesFile, TruncOpenEmpties, OpenKeepsFiles, OpenKeepsOthers, OpenMakesEmpty}
 use Rattle.plain_world.proofs.NameLaws.{named_file}
-use Rattle.plain_world.proofs.PageLemmas.{page_has, no_fault_after}
+use Rattle.plain_world.proofs.PageLemmas.{page_has, if_has, no_fault_after}
 use Rattle.plain_world.proofs.ChangeLemmas.{files_leave}
-use Rattle.plain_world.proofs.SlotLemmas.{slot_at_end, slot_set_there}
+use Rattle.plain_world.proofs.SlotLemmas.{slot_at_end, slot_set_there, slot_edited, other_slot}
 
 -- what an open without a fault finds, and the room that there is for it
 later_clear : (w : World) (p : ℕ) (name : List ℕ) (flags : OpenFlags) (found : Option ℕ) → first_fault (open_faults w p name flags found) ≡ None →
@@ -33,7 +37,7 @@ there_is_one None error rest h = cc
 there_is_one (Some k) error rest h = (k, refl)
 
 -- so a descriptor is free
-has_free : (w : World) (p : ℕ) (name : List ℕ) (flags : OpenFlags) (found : Option ℕ) → first_fault (open_faults w p name flags found) ≡ None →
+pub has_free : (w : World) (p : ℕ) (name : List ℕ) (flags : OpenFlags) (found : Option ℕ) → first_fault (open_faults w p name flags found) ≡ None →
     (k : ℕ) × (lowest (table_of (slot w.processes p)) ≡ Some k)
 has_free w p name flags found free =
     let here = no_fault_after (found_faults w flags found) (room_faults w p found) (later_clear w p name flags found free) in
@@ -49,22 +53,23 @@ entry_stands ps p k n (Some process) stands low =
     ap (λ x. slot (table_of x) k) written ∙ get_or-set_same process.table k (Some n) None (position-Some is_none process.table k None low).0
 
 -- the descriptor leads to the description that is opened
-opened_leads : (v : World) (p : ℕ) (d : Description) (k : ℕ) → lowest (table_of (slot v.processes p)) ≡ Some k →
+pub opened_leads : (v : World) (p : ℕ) (d : Description) (k : ℕ) → lowest (table_of (slot v.processes p)) ≡ Some k →
     opened (with_description v p k d) p (pos k) ≡ Some (record { fd = k; number = length v.descriptions; description = d })
 opened_leads v p d k low =
     let n = length v.descriptions in
     ap (opened_number (with_description v p k d) k) (entry_stands v.processes p k n (slot v.processes p) refl low) ∙ ap (opened_description k n) (slot_at_end v.descriptions (Some d))
 
-opens_with : (w v : World) (p : ℕ) (name : List ℕ) (flags : OpenFlags) (file k : ℕ) → (v.descriptions ≡ w.descriptions) × (v.processes ≡ w.processes) →
-    file_of name v.names ≡ Some file → lowest (table_of (slot w.processes p)) ≡ Some k → Opens w (with_description v p (free_descriptor w p) (new_description file flags)) p name flags k
-opens_with w v p name flags file k same named low =
-    let d = new_description file flags in
+opens_with : (w v : World) (p : ℕ) (name : List ℕ) (flags : OpenFlags) (file k : ℕ) (t : Target) → (v.descriptions ≡ w.descriptions) × (v.processes ≡ w.processes) →
+    file_of name v.names ≡ Some file → t ≡ target_on w file (fifo_at (slot w.files file)) → lowest (table_of (slot w.processes p)) ≡ Some k →
+    Opens w (with_description v p (free_descriptor w p) (new_description t flags)) p name flags k
+opens_with w v p name flags file k t same named on low =
+    let d = new_description t flags in
     let free : free_descriptor w p ≡ k = ap (λ l. unwrap_or l 0) low in
     subst (λ fd. Opens w (with_description v p fd d) p name flags k) (sym free) (record {
       description = d;
       file = file;
       named = named;
-      target_is = refl;
+      target_is = on;
       at_start = refl;
       mode_is = refl;
       append_is = refl;
@@ -78,35 +83,67 @@ opens_with w v p name flags file k same named low =
 emptied_names : (w : World) (n : ℕ) (flags : OpenFlags) → (with_files w [] (emptied n flags)).names ≡ w.names
 emptied_names w n flags = elim (has flags flag.trunc) as (λ b. (with_files w [] (cond b (on_files.Resize n 0) on_files.Nothing)).names ≡ w.names) [ true ↦ refl | false ↦ refl ]
 
-opens_found : (w : World) (p : ℕ) (name : List ℕ) (flags : OpenFlags) (found : Option ℕ) (k : ℕ) → file_of name w.names ≡ found → lowest (table_of (slot w.processes p)) ≡ Some k →
-    Opens w (changed w [] (open_found w p name flags found).change) p name flags k
-opens_found w p name flags None k is low =
-    let e = on_files.MakeFile name in
-    opens_with w (with_files w [] e) p name flags (length w.files) k (files_leave w [] e) (named_file name (length w.files) w.names) low
-opens_found w p name flags (Some n) k is low =
-    let e = emptied n flags in
-    opens_with w (with_files w [] e) p name flags n k (files_leave w [] e) (ap (file_of name) (emptied_names w n flags) ∙ is) low
+-- a number past the end of the files has no FIFO
+none_past : (files : List (Option File)) → fifo_at (slot files (length files)) ≡ None
+none_past [] = refl
+none_past (f ∷ files) = none_past files
 
--- the number that an open tells
-told_found : (w : World) (p : ℕ) (name : List ℕ) (flags : OpenFlags) (found : Option ℕ) (k : ℕ) → lowest (table_of (slot w.processes p)) ≡ Some k →
-    (open_found w p name flags found).outcome ≡ Replied (Number k)
-told_found w p name flags None k low = ap (λ l. Replied (Number (unwrap_or l 0))) low
-told_found w p name flags (Some n) k low = ap (λ l. Replied (Number (unwrap_or l 0))) low
+-- what an open that is not refused leaves, where it tells a number
+abbrev Opened : World → ℕ → List ℕ → OpenFlags → ℕ → Decided → Type 0
+Opened w p name flags k d = d.outcome ≡ Replied (Number k) → Opens w (changed w [] d.change) p name flags k
+
+opens_end_with : (w : World) (p : ℕ) (name : List ℕ) (flags : OpenFlags) (n k : ℕ) (fifo : Fifo) → file_of name w.names ≡ Some n → fifo_at (slot w.files n) ≡ Some fifo →
+    lowest (table_of (slot w.processes p)) ≡ Some k → Opens w (changed w [] (opens_end w p flags n fifo).change) p name flags k
+opens_end_with w p name flags n k fifo is stands low =
+    opens_with w (with_opening w n (mode_of flags)) p name flags n k (target.Fifo n (pipe_between w (Some fifo))) (refl, refl) is (ap (target_on w n) (sym stands)) low
+
+opens_there : (w : World) (p : ℕ) (name : List ℕ) (flags : OpenFlags) (n k : ℕ) (fifo : Option Fifo) → file_of name w.names ≡ Some n → fifo_at (slot w.files n) ≡ fifo →
+    lowest (table_of (slot w.processes p)) ≡ Some k → Opened w p name flags k (open_there w p name flags n fifo)
+opens_there w p name flags n k None is stands low told =
+    let e = emptied n flags in
+    opens_with w (with_files w [] e) p name flags n k (target.Regular n) (files_leave w [] e) (ap (file_of name) (emptied_names w n flags) ∙ is) (ap (target_on w n) (sym stands)) low
+opens_there w p name flags n k (Some fifo) is stands low told =
+    let opens = opens_end w p flags n fifo in
+    let parked = waiting (call.Open name flags) (free_descriptor w p) 0 (opposite_openings (mode_of flags) (Some fifo)) in
+    if_has (Opened w p name flags k) (has flags flag.nonblocking || is_met w (mode_of flags) fifo) opens (parks p parked opens)
+    (λ _ _. opens_end_with w p name flags n k fifo is stands low) (λ _ h. cc) told
+
+opens_found : (w : World) (p : ℕ) (name : List ℕ) (flags : OpenFlags) (found : Option ℕ) (k : ℕ) → file_of name w.names ≡ found → lowest (table_of (slot w.processes p)) ≡ Some k →
+    Opened w p name flags k (open_found w p name flags found)
+opens_found w p name flags None k is low told =
+    let e = on_files.MakeFile name in
+    opens_with w (with_files w [] e) p name flags (length w.files) k (target.Regular (length w.files)) (files_leave w [] e) (named_file name (length w.files) w.names)
+    (ap (target_on w (length w.files)) (sym (none_past w.files))) low
+opens_found w p name flags (Some n) k is low told = opens_there w p name flags n k (fifo_at (slot w.files n)) is refl low told
+
+-- the number that an open tells is that of its free descriptor
+abbrev TellsFree : World → ℕ → ℕ → Decided → Type 0
+TellsFree w p fd d = d.outcome ≡ Replied (Number fd) → free_descriptor w p ≡ fd
+
+told_there : (w : World) (p : ℕ) (name : List ℕ) (flags : OpenFlags) (n fd : ℕ) (fifo : Option Fifo) → TellsFree w p fd (open_there w p name flags n fifo)
+told_there w p name flags n fd None told = cc
+told_there w p name flags n fd (Some fifo) told =
+    let opens = opens_end w p flags n fifo in
+    let parked = waiting (call.Open name flags) (free_descriptor w p) 0 (opposite_openings (mode_of flags) (Some fifo)) in
+    if_has (TellsFree w p fd) (has flags flag.nonblocking || is_met w (mode_of flags) fifo) opens (parks p parked opens) (λ _ h. cc) (λ _ h. cc) told
+
+told_found : (w : World) (p : ℕ) (name : List ℕ) (flags : OpenFlags) (found : Option ℕ) (fd : ℕ) → TellsFree w p fd (open_found w p name flags found)
+told_found w p name flags None fd told = cc
+told_found w p name flags (Some n) fd told = told_there w p name flags n fd (fifo_at (slot w.files n)) told
 
 -- and it is the lowest free one
 pub told_lowest : (w : World) (p : ℕ) (name : List ℕ) (flags : OpenFlags) (found : Option ℕ) (fd : ℕ) → first_fault (open_faults w p name flags found) ≡ None →
     (open_found w p name flags found).outcome ≡ Replied (Number fd) → lowest (table_of (slot w.processes p)) ≡ Some fd
 told_lowest w p name flags found fd free opens =
     let low = has_free w p name flags found free in
-    let tells : (open_found w p name flags found).outcome ≡ Replied (Number low.0) = told_found w p name flags found low.0 low.1 in
-    let same : low.0 ≡ fd = cc in
+    let same : low.0 ≡ fd = sym (ap (λ l. unwrap_or l 0) low.1) ∙ told_found w p name flags found fd opens in
     low.1 ∙ ap (λ (k : ℕ). Some k) same
 
 pub open_describes : OpenDescribes
 open_describes bounds w p name flags fd told =
     let found = file_of name w.names in
-    page_has (λ d. d.outcome ≡ Replied (Number fd) → Opens w (changed w [] d.change) p name flags fd) (open_file w p name flags) (λ error refused. cc)
-    (λ free opens. opens_found w p name flags found fd refl (told_lowest w p name flags found fd free opens)) told
+    page_has (Opened w p name flags fd) (open_file w p name flags) (λ error refused. cc)
+    (λ free opens. opens_found w p name flags found fd refl (told_lowest w p name flags found fd free opens) opens) told
 
 -- under excl and creat a name that is there is a fault
 excl_refuses : (w : World) (flags : OpenFlags) (n : ℕ) (rest : List (Bool × Errno)) → has flags flag.excl ≡ true → has flags flag.creat ≡ true →
@@ -132,26 +169,77 @@ emptied_bytes [] n = refl
 emptied_bytes (f ∷ files) zero = refl
 emptied_bytes (f ∷ files) (suc n) = emptied_bytes files n
 
+-- where a FIFO stands there are no bytes
+no_bytes : (x : Option File) (fifo : Fifo) → fifo_at x ≡ Some fifo → file_bytes x ≡ []
+no_bytes None fifo h = cc
+no_bytes (Some (file.Regular bytes)) fifo h = cc
+no_bytes (Some (file.Fifo x)) fifo h = refl
+
+opened_no_bytes : (mode : Mode) (pipe : ℕ) (x : Option File) → file_bytes x ≡ [] → file_bytes (option_map (opened_file mode pipe) x) ≡ []
+opened_no_bytes mode pipe None h = refl
+opened_no_bytes mode pipe (Some (file.Regular bytes)) h = h
+opened_no_bytes mode pipe (Some (file.Fifo fifo)) h = refl
+
+-- an open of an end of a FIFO leaves all other files
+end_empties : (w : World) (p : ℕ) (flags : OpenFlags) (n : ℕ) (fifo : Fifo) → fifo_at (slot w.files n) ≡ Some fifo → EmptiesFile n w (changed w [] (opens_end w p flags n fifo).change)
+end_empties w p flags n fifo stands =
+    let edit = opened_file (mode_of flags) (pipe_between w (fifo_at (slot w.files n))) in
+    record {
+      emptied = ap file_bytes (slot_edited w.files n edit) ∙ opened_no_bytes (mode_of flags) (pipe_between w (fifo_at (slot w.files n))) (slot w.files n) (no_bytes (slot w.files n) fifo stands);
+      others = λ m other. other_slot w.files n m edit other;
+    }
+
+trunc_there : (w : World) (p : ℕ) (name : List ℕ) (flags : OpenFlags) (n : ℕ) (fifo : Option Fifo) → fifo_at (slot w.files n) ≡ fifo → has flags flag.trunc ≡ true →
+    EmptiesFile n w (changed w [] (open_there w p name flags n fifo).change)
+trunc_there w p name flags n None stands trunc = rw trunc (record {
+  emptied = emptied_bytes w.files n;
+  others = λ m other. get_or-set_other w.files n m (Some (file.Regular [])) None other;
+})
+trunc_there w p name flags n (Some fifo) stands trunc =
+    let opens = opens_end w p flags n fifo in
+    let parked = waiting (call.Open name flags) (free_descriptor w p) 0 (opposite_openings (mode_of flags) (Some fifo)) in
+    let empties = end_empties w p flags n fifo stands in
+    if_has (λ d. EmptiesFile n w (changed w [] d.change)) (has flags flag.nonblocking || is_met w (mode_of flags) fifo) opens (parks p parked opens)
+    (λ _. empties) (λ _. record { emptied = empties.emptied; others = empties.others })
+
 trunc_found : (w : World) (p : ℕ) (name : List ℕ) (flags : OpenFlags) (found : Option ℕ) (n : ℕ) → found ≡ Some n → has flags flag.trunc ≡ true →
     EmptiesFile n w (changed w [] (open_found w p name flags found).change)
 trunc_found w p name flags found n is trunc =
-    subst (λ (x : Option ℕ). EmptiesFile n w (changed w [] (open_found w p name flags x).change)) (sym is) (rw trunc (record {
-      emptied = emptied_bytes w.files n;
-      others = λ m other. get_or-set_other w.files n m (Some (file.Regular [])) None other;
-    }))
+    subst (λ (x : Option ℕ). EmptiesFile n w (changed w [] (open_found w p name flags x).change)) (sym is) (trunc_there w p name flags n (fifo_at (slot w.files n)) refl trunc)
 
 pub trunc_open_empties : TruncOpenEmpties
 trunc_open_empties bounds w p name flags fd n is trunc told =
     page_has (λ d. d.outcome ≡ Replied (Number fd) → EmptiesFile n w (changed w [] d.change)) (open_file w p name flags) (λ error refused. cc)
     (λ _ _. trunc_found w p name flags (file_of name w.names) n is trunc) told
 
-kept_found : (w : World) (p : ℕ) (name : List ℕ) (flags : OpenFlags) (found : Option ℕ) (n : ℕ) → found ≡ Some n → has flags flag.trunc ≡ false →
+kept_found : (w : World) (p : ℕ) (name : List ℕ) (flags : OpenFlags) (found : Option ℕ) (n : ℕ) → found ≡ Some n → fifo_at (slot w.files n) ≡ None → has flags flag.trunc ≡ false →
     (changed w [] (open_found w p name flags found).change).files ≡ w.files
-kept_found w p name flags found n is trunc = subst (λ (x : Option ℕ). (changed w [] (open_found w p name flags x).change).files ≡ w.files) (sym is) (rw trunc refl)
+kept_found w p name flags found n is regular trunc =
+    subst (λ (x : Option ℕ). (changed w [] (open_found w p name flags x).change).files ≡ w.files) (sym is)
+    (subst (λ (x : Option Fifo). (changed w [] (open_there w p name flags n x).change).files ≡ w.files) (sym regular) (rw trunc refl))
 
 pub open_keeps_files : OpenKeepsFiles
-open_keeps_files bounds w p name flags n is trunc =
-    page_has (λ d. (changed w [] d.change).files ≡ w.files) (open_file w p name flags) (λ _. refl) (λ _. kept_found w p name flags (file_of name w.names) n is trunc)
+open_keeps_files bounds w p name flags n is regular trunc =
+    page_has (λ d. (changed w [] d.change).files ≡ w.files) (open_file w p name flags) (λ _. refl) (λ _. kept_found w p name flags (file_of name w.names) n is regular trunc)
+
+-- what an open leaves of another file than its own
+other_stays : (w : World) (p : ℕ) (name : List ℕ) (flags : OpenFlags) (n m : ℕ) (fifo : Option Fifo) → m ≢ n → slot (changed w [] (open_there w p name flags n fifo).change).files m ≡ slot w.files m
+other_stays w p name flags n m None other =
+    elim (has flags flag.trunc) as (λ b. slot (with_files w [] (cond b (on_files.Resize n 0) on_files.Nothing)).files m ≡ slot w.files m) [
+      | true ↦ get_or-set_other w.files n m (Some (file.Regular [])) None other
+      | false ↦ refl
+    ]
+other_stays w p name flags n m (Some fifo) other =
+    let opens = opens_end w p flags n fifo in
+    let parked = waiting (call.Open name flags) (free_descriptor w p) 0 (opposite_openings (mode_of flags) (Some fifo)) in
+    let edit = opened_file (mode_of flags) (pipe_between w (fifo_at (slot w.files n))) in
+    if_has (λ d. slot (changed w [] d.change).files m ≡ slot w.files m) (has flags flag.nonblocking || is_met w (mode_of flags) fifo) opens (parks p parked opens)
+    (λ _. other_slot w.files n m edit other) (λ _. other_slot w.files n m edit other)
+
+pub open_keeps_others : OpenKeepsOthers
+open_keeps_others bounds w p name flags n m is other =
+    page_has (λ d. slot (changed w [] d.change).files m ≡ slot w.files m) (open_file w p name flags) (λ _. refl)
+    (λ _. subst (λ (x : Option ℕ). slot (changed w [] (open_found w p name flags x).change).files m ≡ slot w.files m) (sym is) (other_stays w p name flags n m (fifo_at (slot w.files n)) other))
 
 pub open_makes_empty : OpenMakesEmpty
 open_makes_empty bounds w p name flags fd is told =

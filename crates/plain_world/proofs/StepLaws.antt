@@ -13,7 +13,7 @@ use Rattle.posix_model.specs.Pages.{decided_by}
 use Rattle.posix_model.specs.Join.{join}
 use Rattle.posix_model.specs.Sweep.{is_referred, sweep}
 use Rattle.posix_model.specs.Step.{given, Stepped, stepped, step}
-use Rattle.posix_model.specs.Sound.{ActsAreSound}
+use Rattle.posix_model.specs.Sound.{data_of, ActsAreSound}
 use Rattle.posix_model.specs.Laws.{HistorySettles, SweepLeaves}
 use Rattle.posix_model.specs.History.{empty_world, after, world_of, world_from, legal_from}
 use Rattle.posix_model.specs.Turns.{took}
@@ -54,7 +54,7 @@ offsets_stay_apart sound leaves bounds w actor act s n description h other below
 
 pub takes_few : ActsAreSound → TakesFew
 takes_few sound bounds w actor act s h =
-    step_parts (λ t. took w (record { actor = actor; act = act; outcome = t.outcome }) ≤ length (given act)) bounds w actor act s (λ d is. (sound bounds w actor act d is).few) h
+    step_parts (λ t. took w (record { actor = actor; act = act; outcome = t.outcome }) ≤ length (data_of w actor act)) bounds w actor act s (λ d is. (sound bounds w actor act d is).few) h
 
 free_slot : {T : Type 0} (x : Option T) → is_none x ≡ true → x ≡ None
 free_slot None e = refl

@@ -1,15 +1,9 @@
 -- A sweep, slot by slot.
-use Rattle.std.proofs.Common.{◌≡◌, ℕ, zero, suc, ◌+◌, Bool, true, false, ◌&&◌, ◌||◌, cond, List, [], ◌∷◌, ◌++◌, Option, None, Some, length, set, get_or, take, drop, map, refl, ap, arith, ltb}
-use Rattle.std.specs.List.{list_any, sum_by, count_by}
+use Rattle.std.proofs.Common.{◌≡◌, ℕ, zero, suc, ◌+◌, Bool, ◌||◌, cond, List, [], ◌∷◌, ◌++◌, Option, None, length, set, get_or, take, drop, map, refl, ap, arith, ltb}
+use Rattle.std.specs.List.{list_any, sum_by}
 use Rattle.std.proofs.lemmas.List.Sums.{sum_by-cons}
 use Rattle.std.proofs.lemmas.Bool.Decides.{nat_tests}
 use Rattle.slots.specs.Slots.{kept, kept_from}
-use Rattle.call_types.specs.Descriptions.{can_read, can_write}
-use Rattle.posix_model.specs.Counts.{reads, writes, is_pipe}
-use Rattle.posix_model.specs.Sweep.{is_open}
-use Rattle.plain_world.specs.Types.{Description, Mode}
-use Rattle.call_types.specs.declared.description.Mode.TheVariants as mode
-use Rattle.plain_world.specs.Ends.{is_end}
 
 -- a sum of two is above zero where one of them is
 pub any_of_both : (a b : ℕ) → (ltb 0 a || ltb 0 b) ≡ ltb 0 (a + b)
@@ -64,28 +58,3 @@ pub map_more : {X : Type 0} (f : X → X) (d : X) → f d ≡ d → (n : ℕ) (x
 map_more f d e n xs ys is =
     let next : n + 1 ≡ suc n = omega arith in
     rw (is, next) (map_so_far f d e n xs)
-
--- an end of a pipe is for reading or for writing
-end_counts : (p : ℕ) (x : Option Description) → ltb 0 (cond (is_end p x) 1 0) ≡ ltb 0 (cond (reads p x) 1 0 + cond (writes p x) 1 0)
-end_counts p None = refl
-end_counts p (Some d) = by_mode (is_pipe p d.target) d.mode
-  where
-    by_mode : (b : Bool) (m : Mode) → ltb 0 (cond b 1 0) ≡ ltb 0 (cond (b && can_read m) 1 0 + cond (b && can_write m) 1 0)
-    by_mode true mode.Read = refl
-    by_mode true other = refl
-    by_mode false m = refl
-
-either_counts : (e es r w rs ws : ℕ) → ltb 0 e ≡ ltb 0 (r + w) → ltb 0 es ≡ ltb 0 (rs + ws) → ltb 0 (e + es) ≡ ltb 0 ((r + rs) + (w + ws))
-either_counts e es r w rs ws first rest = grind (arith, nat_tests)
-
--- a pipe is open where some description is an end of it
-pub any_end : (p : ℕ) (ds : List (Option Description)) → ltb 0 (count_by (is_end p) ds) ≡ is_open ds p
-any_end p [] = refl
-any_end p (x ∷ ds) =
-    let e = cond (is_end p x) 1 0 in
-    let r = cond (reads p x) 1 0 in
-    let w = cond (writes p x) 1 0 in
-    let first = end_counts p x in
-    let rest = any_end p ds in
-    rw (sum_by-cons (λ x. cond (is_end p x) 1 0) x ds, sum_by-cons (λ x. cond (reads p x) 1 0) x ds, sum_by-cons (λ x. cond (writes p x) 1 0) x ds)
-    (either_counts e (count_by (is_end p) ds) r w (count_by (reads p) ds) (count_by (writes p) ds) first rest)

@@ -1,21 +1,24 @@
 -- What holds of the calls on files, in words that the pages use.
-use Rattle.std.specs.Prelude.{◌≡◌, ◌≢◌, ℕ, ℤ, pos, ◌+◌, ◌-◌, ◌+ℤ◌, ◌≤◌, ◌<◌, Bool, true, false, max, min, List, [], ◌∷◌, ◌++◌, None, Some, length, take, slice_index, slice_set}
+use Rattle.std.specs.Prelude.{◌≡◌, ◌≢◌, ℕ, ℤ, pos, ◌+◌, ◌-◌, ◌+ℤ◌, ◌≤◌, ◌<◌, Bool, true, false, max, min, List, [], ◌∷◌, ◌++◌, Option, None, Some, length, take, slice_index, slice_set}
 use Rattle.call_types.specs.Flags.{has}
 use Rattle.call_types.specs.Flags as flag
-use Rattle.plain_world.specs.Types.{Call, OpenFlags, Bounds, World, Description, OpenDescriptor, Replied, Number, Done}
+use Rattle.plain_world.specs.Types.{Act, Call, Decided, OpenFlags, Bounds, World, Description, Target, Fifo, OpenDescriptor, Replied, Number, Done}
 use Rattle.call_types.specs.declared.act.Act.TheVariants as act
 use Rattle.call_types.specs.declared.call.Call.TheVariants as call
 use Rattle.call_types.specs.declared.whence.Whence.TheVariants.{Set, Cur, End}
 use Rattle.posix_model.specs.Bytes.{splice, resized}
 use Rattle.call_types.specs.Names.{file_of}
 use Rattle.slots.specs.Slots.{slot}
-use Rattle.posix_model.specs.Positions.{bytes_before}
+use Rattle.posix_model.specs.Positions.{bytes_before, is_regular}
+use Rattle.posix_model.specs.Pipes.{fifo_at, pipe_between}
 use Rattle.call_types.specs.Descriptions.{at_offset}
 use Rattle.posix_model.specs.Descriptors.{opened, bytes_of}
 use Rattle.posix_model.specs.Whole.{is_regular_file}
 use Rattle.posix_model.specs.Write.{write_start}
 use Rattle.posix_model.specs.Open.{mode_of}
-use Rattle.posix_model.specs.Sound.{may_change_contents}
+use Rattle.posix_model.specs.Sound.{may_change_files, may_change_pipes}
+use Rattle.posix_model.specs.Change.{changed}
+use Rattle.posix_model.specs.Step.{given, comes_to}
 use Rattle.posix_model.specs.Types.{Data}
 use Rattle.posix_model.specs.declared.world.File.TheVariants as file
 use Rattle.call_types.specs.declared.description.Target.TheVariants as target
@@ -92,9 +95,9 @@ abbrev pub PreadGives : Type 0
 PreadGives = (bounds : Bounds) (w : World) (process : ℕ) (fd start : ℤ) (count : ℕ) (o : OpenDescriptor) (file : ℕ) (got : List ℕ) → OpenOn w process fd o file →
     outcome_of bounds w process (call.Pread fd start count) ≡ Replied (Data got) → IsRead (bytes_of w file) (bytes_before start) count got
 
--- a read leaves the offset after the bytes that it gave, so the next one goes on there (page of read)
+-- a read of a regular file leaves the offset after the bytes that it gave, so the next one goes on there (page of read)
 abbrev pub ReadMoves : Type 0
-ReadMoves = (bounds : Bounds) (w : World) (process : ℕ) (fd : ℤ) (count : ℕ) (o : OpenDescriptor) (got : List ℕ) → opened w process fd ≡ Some o →
+ReadMoves = (bounds : Bounds) (w : World) (process : ℕ) (fd : ℤ) (count : ℕ) (o : OpenDescriptor) (got : List ℕ) → opened w process fd ≡ Some o → is_regular o ≡ true →
     outcome_of bounds w process (call.Read fd count) ≡ Replied (Data got) →
     slot (before_sweep bounds w process (call.Read fd count)).descriptions o.number ≡ Some (at_offset (o.description.offset + length got) o.description)
 
@@ -158,16 +161,34 @@ abbrev pub OwnFileAlone : Type 0
 OwnFileAlone = (bounds : Bounds) (w : World) (process : ℕ) (fd start len : ℤ) (bytes : List ℕ) (o : OpenDescriptor) (number n : ℕ) → OpenOn w process fd o number → n ≢ number →
     LeaveFile bounds w process fd start len bytes n
 
--- the second world has the files, names and pipes of the first, with their bytes
-pub record SameContents (w v : World) : Type 0 where
+-- the second world has the files, with their bytes, and the names of the first
+pub record SameFiles (w v : World) : Type 0 where
   pub files : v.files ≡ w.files
   pub names : v.names ≡ w.names
-  pub pipes : v.pipes ≡ w.pipes
 
--- an open, a write, a pwrite, an ftruncate, a link and an unlink may change them; every other call leaves all of them: a seek
--- past the end neither makes a file longer nor changes a byte (their pages)
-abbrev pub ContentsStay : Type 0
-ContentsStay = (bounds : Bounds) (w : World) (process : ℕ) (c : Call) → may_change_contents (act.Call c) ≡ false → SameContents w (before_sweep bounds w process c)
+-- an open, a write, a pwrite, an ftruncate, a mkfifo, a link and an unlink may change them; every other call leaves all of them:
+-- a seek past the end neither makes a file longer nor changes a byte (their pages)
+abbrev pub FilesStay : Type 0
+FilesStay = (bounds : Bounds) (w : World) (process : ℕ) (c : Call) → may_change_files (act.Call c) ≡ false → SameFiles w (before_sweep bounds w process c)
+
+-- an open, a read, a write and a pipe may change a pipe; every other call leaves each pipe, with its bytes (their pages)
+abbrev pub PipesStay : Type 0
+PipesStay = (bounds : Bounds) (w : World) (process : ℕ) (c : Call) → may_change_pipes (act.Call c) ≡ false → (before_sweep bounds w process c).pipes ≡ w.pipes
+
+-- the same of every act, but for what a sweep takes: no other than those calls changes a file or a name
+abbrev pub ActsLeaveFiles : Type 0
+ActsLeaveFiles = (bounds : Bounds) (w : World) (actor : ℕ) (act : Act) (d : Decided) → comes_to bounds w actor act ≡ Some d → may_change_files act ≡ false →
+    SameFiles w (changed w (given act) d.change)
+
+-- and none but those calls, and a resume, changes a pipe
+abbrev pub ActsLeavePipes : Type 0
+ActsLeavePipes = (bounds : Bounds) (w : World) (actor : ℕ) (act : Act) (d : Decided) → comes_to bounds w actor act ≡ Some d → may_change_pipes act ≡ false →
+    (changed w (given act) d.change).pipes ≡ w.pipes
+
+-- what an open of this file refers to: a regular file, or a FIFO and the pipe between its ends (page of open)
+abbrev pub target_on : World → ℕ → Option Fifo → Target
+target_on w file None = target.Regular file
+target_on w file (Some fifo) = target.Fifo file (pipe_between w (Some fifo))
 
 -- one more open file description, at the start of the file that the name leads to, for what the flags ask; the others are as
 -- they were, and the descriptor leads to it
@@ -175,7 +196,7 @@ pub record Opens (w v : World) (process : ℕ) (name : List ℕ) (flags : OpenFl
   pub description : Description
   pub file : ℕ
   pub named : file_of name v.names ≡ Some file
-  pub target_is : description.target ≡ target.Regular file
+  pub target_is : description.target ≡ target_on w file (fifo_at (slot w.files file))
   pub at_start : description.offset ≡ 0
   pub mode_is : description.mode ≡ mode_of flags
   pub append_is : description.append ≡ has flags flag.appending
@@ -204,10 +225,15 @@ TruncOpenEmpties = (bounds : Bounds) (w : World) (process : ℕ) (name : List �
     has flags flag.trunc ≡ true → outcome_of bounds w process (call.Open name flags) ≡ Replied (Number fd) →
     EmptiesFile number w (before_sweep bounds w process (call.Open name flags))
 
--- an open without trunc of a name that is there changes no file (page of open)
+-- an open without trunc of a name that is there, and leads to no FIFO, changes no file (page of open)
 abbrev pub OpenKeepsFiles : Type 0
 OpenKeepsFiles = (bounds : Bounds) (w : World) (process : ℕ) (name : List ℕ) (flags : OpenFlags) (number : ℕ) → file_of name w.names ≡ Some number →
-    has flags flag.trunc ≡ false → (before_sweep bounds w process (call.Open name flags)).files ≡ w.files
+    fifo_at (slot w.files number) ≡ None → has flags flag.trunc ≡ false → (before_sweep bounds w process (call.Open name flags)).files ≡ w.files
+
+-- and no open of a name that is there changes another file (page of open)
+abbrev pub OpenKeepsOthers : Type 0
+OpenKeepsOthers = (bounds : Bounds) (w : World) (process : ℕ) (name : List ℕ) (flags : OpenFlags) (number n : ℕ) → file_of name w.names ≡ Some number → n ≢ number →
+    slot (before_sweep bounds w process (call.Open name flags)).files n ≡ slot w.files n
 
 -- an open of a new name that is not refused adds an empty regular file, and changes no other (page of open)
 abbrev pub OpenMakesEmpty : Type 0

@@ -12,7 +12,7 @@ use Rattle.posix_model.specs.Change.{changed}
 use Rattle.posix_model.specs.Join.{is_full}
 use Rattle.posix_model.specs.Sweep.{sweep}
 use Rattle.posix_model.specs.Step.{given, comes_to, Stepped, step}
-use Rattle.posix_model.specs.Sound.{is_resume, number_at, WithinLimits}
+use Rattle.posix_model.specs.Sound.{is_resume, number_at, data_of, WithinLimits}
 use Rattle.posix_model.specs.Turns.{took}
 use Rattle.posix_model.specs.History.{world_of, legal}
 
@@ -58,10 +58,10 @@ abbrev pub OffsetsStayApart : Type 0
 OffsetsStayApart = (bounds : Bounds) (w : World) (actor : ℕ) (act : Act) (s : Stepped) (number : ℕ) (description : Description) → step bounds w actor act ≡ Some s →
     number_at w actor act ≢ Some number → number < length w.descriptions → slot s.world.descriptions number ≡ Some description → slot w.descriptions number ≡ Some description
 
--- a step takes no more bytes than its act gives (page of write)
+-- a step takes no more bytes than its call gives, or the call that its process waits in (page of write)
 abbrev pub TakesFew : Type 0
 TakesFew = (bounds : Bounds) (w : World) (actor : ℕ) (act : Act) (s : Stepped) → step bounds w actor act ≡ Some s →
-    took w (record { actor = actor; act = act; outcome = s.outcome }) ≤ length (given act)
+    took w (record { actor = actor; act = act; outcome = s.outcome }) ≤ length (data_of w actor act)
 
 -- a step goes past no limit, where the size limit is at most the greatest offset (own)
 abbrev pub StepKeepsLimits : Type 0

@@ -1,7 +1,7 @@
 -- Worked runs: what each act answers, and the bytes that each run takes and gives.
-use Rattle.std.specs.Prelude.{◌≡◌, ℕ, pos, negsuc, List, [], ◌∷◌, codes}
-use Rattle.plain_world.specs.Types.{Call, Record, Reply, OpenFlags, Bounds, Act, EAGAIN, EBADF, EINVAL, EFBIG, EOVERFLOW, ENOENT, EEXIST, ESRCH}
-use Rattle.call_types.specs.declared.call.Call.TheVariants.{Open, Close, Read, Write, Pread, Pwrite, Lseek, Ftruncate, Dup, Dup2, Link, Unlink, Fstat, Fork}
+use Rattle.std.specs.Prelude.{◌≡◌, ℕ, pos, negsuc, List, [], ◌∷◌, codes, replicate}
+use Rattle.plain_world.specs.Types.{Call, Record, Reply, OpenFlags, Bounds, Act, EAGAIN, EBADF, EINVAL, EFBIG, EOVERFLOW, ENOENT, ENXIO, EEXIST, EPIPE, ESRCH}
+use Rattle.call_types.specs.declared.call.Call.TheVariants.{Open, Close, Read, Write, Pread, Pwrite, Lseek, Ftruncate, Dup, Dup2, Pipe, Mkfifo, Link, Unlink, Fstat, Fork}
 use Rattle.call_types.specs.declared.whence.Whence.TheVariants.{Set, Cur, End}
 use Rattle.call_types.specs.declared.act.TheConstants.{HOUSE}
 use Rattle.call_types.specs.declared.act.Act.TheVariants as act
@@ -37,7 +37,19 @@ joins = acts 0 act.Join (reply.Number 0)
 abbrev pub answers : Call → Reply → Record
 answers c r = acts 0 (act.Call c) r
 
--- flags by their bits: r 1, w 2, creat 4, excl 8, trunc 16, append 32
+-- an act of this actor after which a call of it waits, and has moved so many bytes
+abbrev pub waits : ℕ → Act → ℕ → Record
+waits actor a moved = record { actor = actor; act = a; outcome = outcome.Parked moved }
+
+-- a resume of this actor after which its call waits on, and has moved so many bytes in all
+abbrev pub moves : ℕ → ℕ → Record
+moves actor moved = record { actor = actor; act = act.Resume; outcome = outcome.Part moved }
+
+-- the letter a, so many times
+abbrev pub letters : ℕ → List ℕ
+letters n = replicate n 97
+
+-- flags by their bits: r 1, w 2, creat 4, excl 8, trunc 16, append 32, nonblock 64
 abbrev pub bits : ℕ → OpenFlags
 bits n = record { 0 = n }
 
@@ -192,4 +204,80 @@ opening =
     ∷ answers (Ftruncate (pos 2) (pos 3)) reply.Done
     ∷ answers (Pread (pos 0) (pos 0) 5) (reply.Data (0 ∷ 0 ∷ 0 ∷ []))
     ∷ answers (Ftruncate (pos 0) (pos 1)) (reply.Error EINVAL)
+    ∷ []
+
+-- under nonblock an open for writing without a reader is ENXIO, and a write moves what fits, or is EAGAIN: one of at most 512 bytes
+-- moves all of them or none
+abbrev pub nonblocking_fifo : List Record
+nonblocking_fifo =
+    joins
+    ∷ answers (Mkfifo (codes "q")) reply.Done
+    ∷ answers (Open (codes "q") (bits 66)) (reply.Error ENXIO)
+    ∷ answers (Open (codes "q") (bits 65)) (reply.Number 0)
+    ∷ answers (Open (codes "q") (bits 66)) (reply.Number 1)
+    ∷ answers (Write (pos 1) (letters 1000)) (reply.Number 1000)
+    ∷ answers (Write (pos 1) (letters 512)) (reply.Error EAGAIN)
+    ∷ answers (Write (pos 1) (letters 24)) (reply.Number 24)
+    ∷ answers (Write (pos 1) (letters 600)) (reply.Error EAGAIN)
+    ∷ answers (Read (pos 0) 1) (reply.Data (letters 1))
+    ∷ answers (Write (pos 1) (letters 600)) (reply.Number 1)
+    ∷ []
+
+-- what a write moved before its process ended stays in the pipe, and the end of the data comes after it
+abbrev pub exit_in_a_write_that_waits : List Record
+exit_in_a_write_that_waits =
+    joins
+    ∷ answers Pipe (reply.Pair 0 1)
+    ∷ answers Fork (reply.Number 1)
+    ∷ acts 1 act.Attach reply.Done
+    ∷ waits 1 (act.Call (Write (pos 1) (letters 5000))) 1024
+    ∷ acts 1 act.Exit reply.Done
+    ∷ answers (Read (pos 0) 600) (reply.Data (letters 600))
+    ∷ answers (Write (pos 1) (letters 1)) (reply.Number 1)
+    ∷ answers (Close (pos 1)) reply.Done
+    ∷ answers (Read (pos 0) 5000) (reply.Data (letters 425))
+    ∷ answers (Read (pos 0) 1) (reply.Data [])
+    ∷ []
+
+-- a write that waits tells what it moved when the last reader goes, and the next one is EPIPE
+abbrev pub last_reader_goes : List Record
+last_reader_goes =
+    joins
+    ∷ answers Pipe (reply.Pair 0 1)
+    ∷ answers Fork (reply.Number 1)
+    ∷ acts 1 act.Attach reply.Done
+    ∷ acts 1 (act.Call (Close (pos 0))) reply.Done
+    ∷ waits 1 (act.Call (Write (pos 1) (letters 2000))) 1024
+    ∷ answers (Close (pos 0)) reply.Done
+    ∷ acts 1 act.Resume (reply.Number 1024)
+    ∷ acts 1 (act.Call (Write (pos 1) (letters 1))) (reply.Error EPIPE)
+    ∷ []
+
+-- an open that waits goes on once the other end was opened, also where that is closed again
+abbrev pub fifo_rendezvous : List Record
+fifo_rendezvous =
+    joins
+    ∷ answers (Mkfifo (codes "f")) reply.Done
+    ∷ answers Fork (reply.Number 1)
+    ∷ acts 1 act.Attach reply.Done
+    ∷ waits 0 (act.Call (Open (codes "f") (bits 1))) 0
+    ∷ acts 1 (act.Call (Open (codes "f") (bits 2))) (reply.Number 0)
+    ∷ acts 1 (act.Call (Close (pos 0))) reply.Done
+    ∷ acts 0 act.Resume (reply.Number 0)
+    ∷ answers (Read (pos 0) 4) (reply.Data [])
+    ∷ []
+
+-- a large write goes into a pipe in parts, and tells its length once the last byte is in
+abbrev pub parts_of_a_large_write : List Record
+parts_of_a_large_write =
+    joins
+    ∷ answers Pipe (reply.Pair 0 1)
+    ∷ answers Fork (reply.Number 1)
+    ∷ acts 1 act.Attach reply.Done
+    ∷ waits 1 (act.Call (Write (pos 1) (letters 2000))) 1024
+    ∷ answers (Read (pos 0) 500) (reply.Data (letters 500))
+    ∷ moves 1 1524
+    ∷ answers (Read (pos 0) 1024) (reply.Data (letters 1024))
+    ∷ acts 1 act.Resume (reply.Number 2000)
+    ∷ answers (Read (pos 0) 9999) (reply.Data (letters 476))
     ∷ []

@@ -13,13 +13,17 @@ pub use Rattle.call_types.specs.declared.description.Description.{Description}
 pub use Rattle.call_types.specs.declared.description.Target.{Target}
 pub use Rattle.call_types.specs.declared.description.Mode.{Mode}
 pub use Rattle.posix_model.specs.declared.world.File.{File}
+pub use Rattle.posix_model.specs.declared.world.Fifo.{Fifo}
+pub use Rattle.process_table.specs.declared.process.Parked.{Parked}
 pub use Rattle.posix_model.specs.declared.opened.OpenDescriptor.{OpenDescriptor}
+pub use Rattle.posix_model.specs.declared.change.Source.{Source}
 pub use Rattle.posix_model.specs.declared.change.FileEdit.{FileEdit}
 pub use Rattle.posix_model.specs.declared.change.ProcessEdit.{ProcessEdit}
 pub use Rattle.posix_model.specs.declared.change.TableEdit.{TableEdit}
 pub use Rattle.posix_model.specs.declared.change.Change.{Change}
 pub use Rattle.posix_model.specs.declared.change.Decided.{Decided}
-pub use Rattle.call_types.specs.declared.errno.Errno.TheVariants.{EAGAIN, EBADF, EEXIST, EFBIG, EINVAL, EMFILE, ENOENT, EOVERFLOW, ESRCH}
+pub use Rattle.posix_model.specs.declared.change.Try.{Try}
+pub use Rattle.call_types.specs.declared.errno.Errno.TheVariants.{EAGAIN, EBADF, EEXIST, EFBIG, EINVAL, EMFILE, ENOENT, ENXIO, EOVERFLOW, EPIPE, ESRCH}
 pub use Rattle.call_types.specs.declared.limits.TheConstants.{DESCRIPTIONS_MAX, NAMES_MAX, OFFSET_MAX, OPEN_MAX}
 pub use Rattle.call_types.specs.declared.outcome.Outcome.TheVariants.{Reply as Replied}
 pub use Rattle.call_types.specs.declared.outcome.Reply.TheVariants.{Done, Error, Number}

@@ -1,7 +1,6 @@
 ghost use Rattle.std.specs.Prelude.{◌≡◌, count_by, nat_lt};
 ghost use Rattle.std.specs.List.{list_any};
-ghost use Rattle.posix_model.specs.Counts.{refers, refs_of, is_file, is_pipe, holds, holders};
-ghost use Rattle.plain_world.specs.Ends.{is_end};
+ghost use Rattle.posix_model.specs.Counts.{refers, refs_of, is_file, holds, holders};
 
 use call_types::description::{Description, Target};
 use process_table::process::Process;
@@ -49,32 +48,12 @@ fn is_file(number: usize, target: Target) -> bool
     }
 }
 
-/// Whether a target is an end of the pipe of a number.
-fn is_pipe(number: usize, target: Target) -> bool
-    ensures { result ≡ is_pipe number target }
-{
-    match target {
-        Target::Pipe { pipe } | Target::Fifo { pipe, .. } => pipe == number,
-        Target::Regular { .. } => false,
-    }
-}
-
 /// Whether a slot has a description that holds the file of a number.
 fn holds(number: usize, slot: Option<Description>) -> bool
     ensures { result ≡ holds number slot }
 {
     match slot {
         Some(description) => is_file(number, description.target),
-        None => false,
-    }
-}
-
-/// Whether a slot has a description that is an end of the pipe of a number.
-fn is_end(number: usize, slot: Option<Description>) -> bool
-    ensures { result ≡ is_end number slot }
-{
-    match slot {
-        Some(description) => is_pipe(number, description.target),
         None => false,
     }
 }
@@ -87,17 +66,6 @@ pub(crate) fn holders(descriptions: &Slots<Description>, file: usize) -> usize
         .all()
         .iter()
         .filter(|slot| holds(file, **slot))
-        .count()
-}
-
-/// How many descriptions are ends of a pipe.
-pub(crate) fn ends(descriptions: &Slots<Description>, pipe: usize) -> usize
-    ensures { result ≡ count_by (is_end pipe) descriptions.now }
-{
-    descriptions
-        .all()
-        .iter()
-        .filter(|slot| is_end(pipe, **slot))
         .count()
 }
 

@@ -1,8 +1,8 @@
 //! Laws of the calls on files. Each function does nothing; its contract is the law.
 
-ghost use Rattle.plain_world.specs.FileLaws.{WriteSplices, WritePuts, PwritePuts, WriteAppends, ReadGives, PreadGives, ReadMoves, SeekTells, PreadKeepsWorld, NothingRead, NothingWritten, NothingPwritten, PwriteKeepsOffsets, PwriteSameUnderAppend, OwnFileAlone, ContentsStay, FtruncateResizes, FtruncateLeavesResized, FtruncateKeepsOffsets, OpenDescribes, ExclOpensNew, TruncOpenEmpties, OpenKeepsFiles, OpenMakesEmpty};
+ghost use Rattle.plain_world.specs.FileLaws.{WriteSplices, WritePuts, PwritePuts, WriteAppends, ReadGives, PreadGives, ReadMoves, SeekTells, PreadKeepsWorld, NothingRead, NothingWritten, NothingPwritten, PwriteKeepsOffsets, PwriteSameUnderAppend, OwnFileAlone, FilesStay, PipesStay, ActsLeaveFiles, ActsLeavePipes, FtruncateResizes, FtruncateLeavesResized, FtruncateKeepsOffsets, OpenDescribes, ExclOpensNew, TruncOpenEmpties, OpenKeepsFiles, OpenKeepsOthers, OpenMakesEmpty};
 
-use posix_model::laws::calls_are_sound;
+use posix_model::laws::{acts_are_sound, calls_are_sound};
 
 /// A write puts the bytes that it took at the offset, or at the end under append, leaves the others, and fills a gap with
 /// zeros (page of write).
@@ -16,8 +16,8 @@ pub fn append_adds_at_end()
     ensures { WriteAppends }
 {}
 
-/// A read gives the bytes from its offset on, as many as were asked or as there are, and leaves the offset after them; a
-/// pread gives those from its position on (page of read).
+/// A read of a regular file gives the bytes from its offset on, as many as were asked or as there are, and leaves the offset after
+/// them; a pread gives those from its position on (page of read).
 pub fn reads_give_the_bytes()
     ensures read { ReadGives }
     ensures pread { PreadGives }
@@ -58,12 +58,17 @@ pub fn other_files_stay()
     ensures { OwnFileAlone }
 {}
 
-/// Only an open, a write, a pwrite, an ftruncate, a link and an unlink may change a file, a name or a pipe; so a file is no
-/// longer for a seek past its end (pages of the other calls).
+/// Only an open, a write, a pwrite, an ftruncate, a mkfifo, a link and an unlink may change a file or a name; so a file is no
+/// longer for a seek past its end. Only an open, a read, a write, a pipe and a resume may change a pipe. What a sweep takes after an
+/// act is another matter (pages of the other calls).
 pub fn contents_stay()
-    ensures { ContentsStay }
+    ensures files { FilesStay }
+    ensures pipes { PipesStay }
+    ensures act_files { ActsLeaveFiles }
+    ensures act_pipes { ActsLeavePipes }
 {
     calls_are_sound();
+    acts_are_sound();
 }
 
 /// An ftruncate cuts a file or extends it by zeros, and leaves the bytes before the new end (page of ftruncate).
@@ -77,7 +82,7 @@ pub fn ftruncate_keeps_offsets()
     ensures { FtruncateKeepsOffsets }
 {}
 
-/// Two opens of one file have two open file descriptions, each at the start of the file that the name leads to, in the
+/// Two opens of one file have two open file descriptions, each at the start of the file or FIFO that the name leads to, in the
 /// mode and with the flags that were asked, and the descriptor that is told leads to it (page of open).
 pub fn open_describes()
     ensures { OpenDescribes }
@@ -93,9 +98,10 @@ pub fn trunc_empties()
     ensures { TruncOpenEmpties }
 {}
 
-/// An open without trunc of a name that is there changes no file, and one of a new name adds an empty regular file (page of
-/// open).
+/// An open without trunc of a name that is there, and leads to no FIFO, changes no file, and one of a name that is there no
+/// other file; one of a new name adds an empty regular file (page of open).
 pub fn open_keeps_files()
     ensures present { OpenKeepsFiles }
+    ensures others { OpenKeepsOthers }
     ensures new { OpenMakesEmpty }
 {}

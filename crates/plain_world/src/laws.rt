@@ -1,7 +1,7 @@
 //! Laws of steps and histories, and worked runs. None of these functions does anything; each contract is its law.
 
 ghost use Rattle.plain_world.specs.Laws.{RefusedStepKeepsWorld, RefusedNextKeepsWorld, JoinAdds, FullJoinRefused, LowestIsLeast, NoLowestIsFull, OffsetsAreApart, OffsetsStayApart, TakesFew, StepKeepsLimits, LimitsHold, HistoryKeepsExactly, LegalIsAnswered, AnsweredIsLegal};
-ghost use Rattle.plain_world.specs.Rows.{Runs, standard, small, path, hole, greatest_offset, size_limit, pwrite_under_append, opening, deferred_removal, duplicates, shared_offset, closing};
+ghost use Rattle.plain_world.specs.Rows.{Runs, standard, small, path, hole, greatest_offset, size_limit, pwrite_under_append, opening, deferred_removal, duplicates, shared_offset, closing, nonblocking_fifo, exit_in_a_write_that_waits, last_reader_goes, fifo_rendezvous, parts_of_a_large_write};
 
 use posix_model::laws::{
     acts_are_sound, numbers_rise, sweep_leaves_wanted, sweep_releases, sweep_settles,
@@ -40,16 +40,17 @@ pub fn offsets_are_apart()
     sweep_leaves_wanted();
 }
 
-/// A write, or whatever gives bytes, takes at most the bytes that it gives (page of write).
+/// A write, or whatever gives bytes, takes at most the bytes that it gives, and a resume at most those of the call that its process
+/// waits in (page of write).
 pub fn write_takes_few()
     ensures { TakesFew }
 {
     acts_are_sound();
 }
 
-/// No step goes past a limit, so no history does: each regular file is at most as long as the size limit, each offset at
-/// most the greatest one, each process has the descriptors 0 to 31, and there are at most so many names, live open file
-/// descriptions and live processes. The size limit has to be at most the greatest offset.
+/// No step goes past a limit, so no history does: each regular file is at most as long as the size limit, each pipe holds at
+/// most its capacity, each offset is at most the greatest one, each process has the descriptors 0 to 31, and there are at most so
+/// many names, live open file descriptions and live processes. The size limit has to be at most the greatest offset.
 pub fn limits_hold()
     ensures step { StepKeepsLimits }
     ensures history { LimitsHold }
@@ -87,4 +88,9 @@ pub fn worked_runs()
     ensures duplicates { Runs standard duplicates 2 2 }
     ensures shared_offset { Runs standard shared_offset 4 4 }
     ensures closing { Runs standard closing 0 0 }
+    ensures nonblocking_fifo { Runs standard nonblocking_fifo 1025 1 }
+    ensures exit_in_a_write_that_waits { Runs standard exit_in_a_write_that_waits 1025 1025 }
+    ensures last_reader_goes { Runs standard last_reader_goes 1024 0 }
+    ensures fifo_rendezvous { Runs standard fifo_rendezvous 0 0 }
+    ensures parts_of_a_large_write { Runs standard parts_of_a_large_write 2000 2000 }
 {}

@@ -9,6 +9,8 @@ pub mod history;
 pub mod laws;
 mod make;
 pub mod name_laws;
+pub mod pipe_laws;
+mod pipes;
 pub mod process_laws;
 pub mod step;
 mod sweep;

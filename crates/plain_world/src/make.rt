@@ -1,23 +1,34 @@
 //! A change, made in place. Where memory runs out the world may be changed in part.
 
-ghost use Rattle.std.specs.Prelude.{◌≡◌, ◌+◌, ◌<◌, ◌^◌, None, length, slice_set, OnOk};
+ghost use Rattle.std.specs.Prelude.{◌≡◌, ◌+◌, ◌<◌, ◌≤◌, ◌^◌, None, length, slice_set, OnOk};
 ghost use Rattle.posix_model.specs.Bytes.{splice, resized};
 ghost use Rattle.slots.specs.Slots.{slot, edited};
 ghost use Rattle.call_types.specs.Names.{file_of};
 ghost use Rattle.call_types.specs.Descriptions.{at_offset};
-ghost use Rattle.process_table.specs.Processes.{with_connection, with_entry};
+ghost use Rattle.process_table.specs.Processes.{with_connection, with_parked, with_total, with_entry};
 ghost use Rattle.posix_model.specs.Descriptors.{file_bytes};
-ghost use Rattle.posix_model.specs.Change.{created, with_files, with_processes, with_description, with_table, changed};
+ghost use Rattle.posix_model.specs.Change.{bytes_from, created, with_files, with_processes, with_description, with_table, changed};
+ghost use Rattle.posix_model.specs.Pipes.{with_opening};
 ghost use Rattle.posix_model.specs.Fits.{FilesProper, IsProper};
 
+use crate::pipes::{
+    end_of, open_once, parked_bytes, pipe_for, pipe_of_fifo, put_bytes, take_first,
+};
 use call_types::bounded::Name;
-use call_types::description::Description;
-use posix_model::change::{Change, FileEdit, ProcessEdit, TableEdit};
+use call_types::description::{Description, Mode};
+use posix_model::change::{Change, FileEdit, ProcessEdit, Source, TableEdit};
 use posix_model::contents::Contents;
-use posix_model::world::{File, World};
-use process_table::process::Process;
+use posix_model::world::{Fifo, File, World};
+use process_table::process::{Parked, Process};
 use slots::dense::Slots;
 use std::alloc::{AllocError, Global};
+
+/// A FIFO that nobody opened yet.
+const UNOPENED: Fifo = Fifo {
+    pipe: None,
+    reader_openings: 0,
+    writer_openings: 0,
+};
 
 /// Takes the bytes out of a regular file; none where there is no such file.
 fn take_bytes(alloc: Global, files: &mut Slots<File>, file: usize) -> Contents
@@ -59,14 +70,34 @@ fn resize(alloc: Global, files: &mut Slots<File>, file: usize, len: usize) -> Re
     Ok(())
 }
 
-/// Makes an empty regular file with a new name.
-fn make_file(alloc: Global, world: &mut World, name: Name) -> Result<(), AllocError>
+/// Makes a new file of a new name.
+fn make_file(world: &mut World, name: Name, new: File) -> Result<(), AllocError>
     requires { file_of name world.old.names ≡ None }
-    ensures { OnOk result (world.new ≡ created world.old name) }
+    ensures { OnOk result (world.new ≡ created world.old name new) }
 {
     let file = world.files.len();
-    world.files.push(File::Regular(Contents::new(alloc)))?;
+    world.files.push(new)?;
     world.names.put(name, file)
+}
+
+/// Puts the first bytes of the act, or of a call that waits, into a pipe.
+fn put_into(
+    world: &mut World,
+    bytes: &[u8],
+    pipe: usize,
+    source: Source,
+    count: usize,
+) -> Result<(), AllocError>
+    requires { count ≤ length (bytes_from world.old bytes.now source) }
+    ensures { OnOk result (world.new ≡ with_files world.old bytes.now (FileEdit.Put pipe source count)) }
+{
+    match source {
+        Source::Act => put_bytes(&mut world.pipes, pipe, &bytes[..count]),
+        Source::Parked { process } => {
+            let rest = parked_bytes(&world.processes, process);
+            put_bytes(&mut world.pipes, pipe, &rest[..count])
+        }
+    }
 }
 
 /// Makes an edit of files, of which the act gives these bytes.
@@ -90,7 +121,16 @@ fn make_files(
             world.names.remove(name.as_slice());
             Ok(())
         }
-        FileEdit::MakeFile { name } => make_file(alloc, world, name),
+        FileEdit::MakeFile { name } => {
+            make_file(world, name, File::Regular(Contents::new(alloc)))
+        }
+        FileEdit::MakeFifo { name } => make_file(world, name, File::Fifo(UNOPENED)),
+        FileEdit::Put {
+            pipe,
+            source,
+            count,
+        } => put_into(world, bytes, pipe, source, count),
+        FileEdit::Take { pipe, count } => take_first(alloc, &mut world.pipes, pipe, count),
     }
 }
 
@@ -105,6 +145,37 @@ fn connect(processes: &mut Slots<Process>, number: usize)
     }
 }
 
+#[tactic(auto, using(crate::proofs::SlotLemmas::set_twice))]
+/// Lets a process wait in this call, or in none.
+fn set_parked(processes: &mut Slots<Process>, number: usize, parked: Option<Parked>)
+    ensures { processes.new ≡ edited number (with_parked parked) processes.old }
+{
+    if let Some(mut process) = processes.take(number) {
+        process.parked = parked;
+        processes.put(number, Some(process));
+    }
+}
+
+/// A process whose call has moved so many bytes in all.
+fn with_total(mut process: Process, moved: u32) -> Process
+    ensures { result ≡ with_total moved process }
+{
+    if let Some(parked) = &mut process.parked {
+        parked.moved = moved;
+    }
+    process
+}
+
+#[tactic(auto, using(crate::proofs::SlotLemmas::set_twice))]
+/// The call that a process waits in has moved so many bytes in all.
+fn set_moved(processes: &mut Slots<Process>, number: usize, moved: u32)
+    ensures { processes.new ≡ edited number (with_total moved) processes.old }
+{
+    if let Some(process) = processes.take(number) {
+        processes.put(number, Some(with_total(process, moved)));
+    }
+}
+
 /// Makes an edit of processes.
 fn make_processes(world: &mut World, edit: ProcessEdit) -> Result<(), AllocError>
     ensures { OnOk result (world.new ≡ with_processes world.old edit) }
@@ -115,6 +186,11 @@ fn make_processes(world: &mut World, edit: ProcessEdit) -> Result<(), AllocError
             world.processes.push(Process::new(table, attached))?;
         }
         ProcessEdit::Attach { process } => connect(&mut world.processes, process),
+        ProcessEdit::Park { process, parked } => {
+            set_parked(&mut world.processes, process, Some(parked));
+        }
+        ProcessEdit::Total { process, moved } => set_moved(&mut world.processes, process, moved),
+        ProcessEdit::Unpark { process } => set_parked(&mut world.processes, process, None),
         ProcessEdit::Exit { process } => world.processes.put(process, None),
         ProcessEdit::Close => world.closed = true,
     }
@@ -158,8 +234,33 @@ fn add_description(
     Ok(())
 }
 
+/// Lets two descriptors of a process refer to the ends of the next pipe, which is empty.
+fn add_pair(
+    alloc: Global,
+    world: &mut World,
+    process: usize,
+    reading: usize,
+    writing: usize,
+) -> Result<(), AllocError>
+    ensures { OnOk result (world.new ≡ with_table world.old (TableEdit.OpenPair process reading writing)) }
+{
+    let pipe = world.pipes.len();
+    world.pipes.push(Contents::new(alloc))?;
+    add_description(world, process, reading, end_of(pipe, Mode::Read))?;
+    add_description(world, process, writing, end_of(pipe, Mode::Write))
+}
+
+/// An end of a FIFO is opened once more. Where it has no pipe, the next one, empty, becomes its pipe.
+fn open_end(alloc: Global, world: &mut World, file: usize, mode: Mode) -> Result<(), AllocError>
+    ensures { OnOk result (world.new ≡ with_opening world.old file mode) }
+{
+    let pipe = pipe_of_fifo(&world.files, file);
+    let pipe = pipe_for(alloc, &mut world.pipes, pipe)?;
+    open_once(&mut world.files, file, mode, pipe)
+}
+
 /// Makes an edit of descriptors and open file descriptions.
-fn make_table(world: &mut World, edit: TableEdit) -> Result<(), AllocError>
+fn make_table(alloc: Global, world: &mut World, edit: TableEdit) -> Result<(), AllocError>
     ensures { OnOk result (world.new ≡ with_table world.old edit) }
 {
     match edit {
@@ -172,6 +273,20 @@ fn make_table(world: &mut World, edit: TableEdit) -> Result<(), AllocError>
             fd,
             description,
         } => add_description(world, process, fd, description)?,
+        TableEdit::OpenPair {
+            process,
+            reading,
+            writing,
+        } => add_pair(alloc, world, process, reading, writing)?,
+        TableEdit::OpenEnd {
+            process,
+            fd,
+            file,
+            description,
+        } => {
+            open_end(alloc, world, file, description.mode)?;
+            add_description(world, process, fd, description)?;
+        }
         TableEdit::Entry { process, fd, entry } => {
             set_descriptor(&mut world.processes, process, fd, entry);
         }
@@ -196,5 +311,5 @@ pub(crate) fn make(
     } = change;
     make_files(alloc, world, bytes, files)?;
     make_processes(world, process)?;
-    make_table(world, table)
+    make_table(alloc, world, table)
 }

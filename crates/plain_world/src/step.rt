@@ -1,13 +1,13 @@
 ghost use Rattle.std.specs.Prelude.{◌≡◌, ◌↔◌, true, is_some, Some, None, Err, IfOk, OnErr};
-ghost use Rattle.call_types.specs.declared.limits.Bounds.{Bounds};
 ghost use Rattle.posix_model.specs.Fits.{IsProper};
 ghost use Rattle.posix_model.specs.Step.{given, stepped, step};
 
 use crate::make::make;
 use crate::sweep::sweep;
 use call_types::act::{Act, HOUSE};
-use call_types::limits::Limits;
+use call_types::limits::{Bounds, Limits};
 use call_types::outcome::Outcome;
+use pipe_calls::resume::is_ready;
 use posix_model::change::Decided;
 use posix_model::laws::acts_are_sound;
 use posix_model::reader::Reader;
@@ -20,8 +20,8 @@ use table_calls::given::given;
 #[derive(Clone, Copy, Debug, PartialEq, Eq)]
 pub enum StepFault {
     /// The rules record no such act here: a join under another number than the next, a call of a process that is not live
-    /// and attached or that waits in one, an exit of a process that is not live, a closing by another than the house or of
-    /// a run that is closed, or a resume, of which there is none yet.
+    /// and attached or that waits in one, a resume of one that waits in no call that is ready, an exit of a process that is
+    /// not live, and a closing by another than the house or of a run that is closed.
     NotReady,
     /// Memory ran out.
     NoMemory,
@@ -39,14 +39,14 @@ impl From<AllocError> for StepFault {
 }
 
 /// Whether the rules record such an act here at all.
-fn is_step(world: &World, actor: usize, act: &Act) -> bool
-    ensures { (bounds : Bounds) → result ≡ is_some (step bounds world.now actor act.now) }
+fn is_step(world: &World, bounds: Bounds, actor: usize, act: &Act) -> bool
+    ensures { result ≡ is_some (step bounds world.now actor act.now) }
 {
     match act {
         Act::Join => actor == world.processes.len(),
         Act::Attach => true,
         Act::Call(_) => can_call(world, actor),
-        Act::Resume => false,
+        Act::Resume => is_ready(world, bounds, actor),
         Act::Exit => world.is_live(actor),
         Act::CloseRun => actor == HOUSE as usize && !world.closed,
     }
@@ -105,7 +105,7 @@ pub fn plain_step(
     ensures step { IfOk result (λ stepped. step limits.bounds world.now actor act.now ≡ Some (record { world = stepped.0; outcome = stepped.1 })) }
     ensures not_ready { (result ≡ Err StepFault.NotReady) ↔ (step limits.bounds world.now actor act.now ≡ None) }
 {
-    if !is_step(world, actor as usize, act) {
+    if !is_step(world, limits.bounds(), actor as usize, act) {
         return Err(StepFault::NotReady);
     }
     let mut after = copy_of(world)?;

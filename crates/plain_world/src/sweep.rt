@@ -2,10 +2,10 @@ ghost use Rattle.std.specs.Prelude.{◌≡◌, map, slice_set};
 ghost use Rattle.slots.specs.Slots.{slot, kept};
 ghost use Rattle.posix_model.specs.Sweep.{is_referred, is_open, is_wanted, open_pipe, without_gone_pipe, sweep};
 
-use crate::counts::{any_refers, ends, holders};
+use crate::counts::{any_refers, holders};
 use call_types::description::Description;
 use posix_model::contents::Contents;
-use posix_model::counts::links;
+use posix_model::counts::{links, readers, writers};
 use posix_model::names::Names;
 use posix_model::world::{Fifo, File, World};
 use process_table::process::Process;
@@ -22,7 +22,7 @@ fn is_referred(processes: &Slots<Process>, number: usize) -> bool
 fn is_open(descriptions: &Slots<Description>, pipe: usize) -> bool
     ensures { result ≡ is_open descriptions.now pipe }
 {
-    ends(descriptions, pipe) > 0
+    readers(descriptions, pipe) > 0 || writers(descriptions, pipe) > 0
 }
 
 /// Whether a file has a name or is held by a description.

@@ -1,5 +1,5 @@
--- Changes of a world that use no number again and leave nothing that refers to what is gone.
-use Rattle.std.proofs.Common.{◌≡◌, ◌∙◌, take, ℕ, Bool, true, false, not, cond, List, [], ◌∷◌, ◌++◌, Option, None, Some, length, length-set, set, get_or, refl, ap, sym, subst}
+-- Parts of changes of a world that use no number again and leave nothing that refers to what is gone.
+use Rattle.std.proofs.Common.{◌≡◌, ◌∙◌, ℕ, zero, suc, Bool, true, false, not, cond, List, [], ◌∷◌, ◌++◌, Option, None, Some, length, length-set, set, get_or, refl, ap, sym, subst}
 use Rattle.std.specs.Option.{option_map, is_some}
 use Rattle.std.specs.List.{All}
 use Rattle.std.proofs.lemmas.List.Elements.{All-cons, All-head, All-tail}
@@ -11,17 +11,15 @@ use Rattle.posix_model.specs.Whole.{IsThere, TargetIsThere, is_fifo, is_regular_
 use Rattle.slots.specs.Slots.{slot}
 use Rattle.call_types.specs.Names.{Entries, with_name, without_name}
 use Rattle.call_types.specs.Descriptions.{at_offset}
-use Rattle.process_table.specs.Processes.{with_entry, process_with, with_connection}
-use Rattle.posix_model.specs.Descriptors.{with_descriptor, with_offset, bytes_of}
-use Rattle.posix_model.specs.Change.{with_files, with_processes, with_table, changed, with_bytes, created, with_description}
-use Rattle.posix_model.specs.Fits.{CanAdd, FilesFit, ProcessFits, TableFits, Fits}
-use Rattle.posix_model.specs.Types.{World, Process, Description, Target, File, FileEdit, ProcessEdit, TableEdit, Change, OPEN_MAX}
-use Rattle.posix_model.specs.declared.change.FileEdit.TheVariants as on_files
+use Rattle.process_table.specs.Processes.{with_entry, process_with, with_parked, moved_in}
+use Rattle.posix_model.specs.Descriptors.{with_descriptor, with_offset}
+use Rattle.posix_model.specs.Change.{with_processes, with_bytes, created, with_description}
+use Rattle.posix_model.specs.Fits.{CanAdd}
+use Rattle.posix_model.specs.Types.{World, Process, Parked, Description, Target, File, Fifo, OPEN_MAX}
 use Rattle.posix_model.specs.declared.change.ProcessEdit.TheVariants as on_process
-use Rattle.posix_model.specs.declared.change.TableEdit.TheVariants as on_table
-use Rattle.posix_model.specs.Bytes.{splice, resized}
 use Rattle.posix_model.specs.Numbers.{Rises, NumbersRise, StaysSame}
-use Rattle.posix_model.specs.Whole.{EachThere, PipeIsThere, IsWhole}
+use Rattle.posix_model.specs.Whole.{EachThere, PipeIsThere, IsItsFifo, PipesApart, WaitsForFew, IsWhole}
+use Rattle.process_table.specs.Waits.{AsksFew}
 use Rattle.posix_model.specs.declared.world.File.TheVariants as file
 use Rattle.call_types.specs.declared.description.Target.TheVariants as target
 use Rattle.posix_model.proofs.SlotLaws.{test_set, slot_pushed, there_below, stays_as_is, stays_pushed, stays_set, stays_twice, Adds, adds_same, adds_set, adds_edited, adds_push, pushed_there, rises_twice, rises_emptied, each_set, each_push}
@@ -71,13 +69,13 @@ fifo_there (Some (file.Regular bytes)) h = cc
 fifo_there (Some (file.Fifo fifo)) h = refl
 
 -- no file went, and none is of another kind
-record FilesAdd (xs ys : List (Option File)) : Type 0 where
-  adds : Adds xs ys
-  regular : (n : ℕ) → is_regular_file (slot xs n) ≡ true → is_regular_file (slot ys n) ≡ true
-  fifo : (n : ℕ) → is_fifo (slot xs n) ≡ true → is_fifo (slot ys n) ≡ true
-  kinds : StaysSame (λ f. is_fifo (Some f)) xs ys
+pub record FilesAdd (xs ys : List (Option File)) : Type 0 where
+  pub adds : Adds xs ys
+  pub regular : (n : ℕ) → is_regular_file (slot xs n) ≡ true → is_regular_file (slot ys n) ≡ true
+  pub fifo : (n : ℕ) → is_fifo (slot xs n) ≡ true → is_fifo (slot ys n) ≡ true
+  pub kinds : StaysSame (λ f. is_fifo (Some f)) xs ys
 
-files_set : (xs : List (Option File)) (m : ℕ) (y : Option File) → is_some y ≡ is_some (slot xs m) → is_regular_file y ≡ is_regular_file (slot xs m) →
+pub files_set : (xs : List (Option File)) (m : ℕ) (y : Option File) → is_some y ≡ is_some (slot xs m) → is_regular_file y ≡ is_regular_file (slot xs m) →
     is_fifo y ≡ is_fifo (slot xs m) → FilesAdd xs (set xs m y)
 files_set xs m y full regular fifo = record {
   adds = adds_set xs m y full;
@@ -86,7 +84,7 @@ files_set xs m y full regular fifo = record {
   kinds = stays_set (λ f. is_fifo (Some f)) xs m y (λ a b h k. ap is_fifo (sym k) ∙ (fifo ∙ ap is_fifo h));
 }
 
-files_push : (xs : List (Option File)) (y : File) → FilesAdd xs (xs ++ Some y ∷ [])
+pub files_push : (xs : List (Option File)) (y : File) → FilesAdd xs (xs ++ Some y ∷ [])
 files_push xs y = record {
   adds = adds_push xs (Some y);
   regular = λ n h. ap is_regular_file (slot_pushed xs (Some y) n (there_below xs n (regular_parts (slot xs n) h).0)) ∙ h;
@@ -100,6 +98,49 @@ target_stays : (files more : List (Option File)) (pipes : List (Option (List ℕ
 target_stays files more pipes a (target.Regular f) h = a.regular f h
 target_stays files more pipes a (target.Pipe p) h = h
 target_stays files more pipes a (target.Fifo f p) h = (a.fifo f h.0, h.1)
+
+-- a FIFO stands there and has this pipe
+pub record HasPipe (files : List (Option File)) (g p : ℕ) : Type 0 where
+  pub fifo : Fifo
+  pub stands : slot files g ≡ Some (file.Fifo fifo)
+  pub its_pipe : fifo.pipe ≡ Some p
+
+-- where no FIFO has a pipe that it had not, an end of a FIFO's pipe stays one of that FIFO
+pub its_from : (files more : List (Option File)) (t : Target) → ((g p : ℕ) → HasPipe more g p → HasPipe files g p) → IsItsFifo files t → IsItsFifo more t
+its_from files more t was its g x p h k is =
+    let old = was g p (record { fifo = x; stands = h; its_pipe = k }) in
+    its g old.fifo p old.stands old.its_pipe is
+
+-- and no two have the same
+pub apart_from : (files more : List (Option File)) → ((g p : ℕ) → HasPipe more g p → HasPipe files g p) → PipesApart files → PipesApart more
+apart_from files more was apart f g x y p h k e i =
+    let one = was f p (record { fifo = x; stands = h; its_pipe = e }) in
+    let other = was g p (record { fifo = y; stands = k; its_pipe = i }) in
+    apart f g one.fifo other.fifo p one.stands other.stands one.its_pipe other.its_pipe
+
+-- a file is another, which has no pipe: the others have the pipes that they had
+had_set : (xs : List (Option File)) (m : ℕ) (y : Option File) → ((p : ℕ) (x : Fifo) → y ≡ Some (file.Fifo x) → x.pipe ≡ Some p → ⊥) →
+    (g p : ℕ) → HasPipe (set xs m y) g p → HasPipe xs g p
+had_set [] m y none g p h = h
+had_set (z ∷ xs) zero y none zero p h = absurd (none p h.fifo h.stands h.its_pipe)
+had_set (z ∷ xs) zero y none (suc g) p h = record { fifo = h.fifo; stands = h.stands; its_pipe = h.its_pipe }
+had_set (z ∷ xs) (suc m) y none zero p h = record { fifo = h.fifo; stands = h.stands; its_pipe = h.its_pipe }
+had_set (z ∷ xs) (suc m) y none (suc g) p h =
+    let rest = had_set xs m y none g p (record { fifo = h.fifo; stands = h.stands; its_pipe = h.its_pipe }) in
+    record { fifo = rest.fifo; stands = rest.stands; its_pipe = rest.its_pipe }
+
+-- a file without a pipe is added
+had_push : (xs : List (Option File)) (y : File) → ((p : ℕ) (x : Fifo) → y ≡ file.Fifo x → x.pipe ≡ Some p → ⊥) → (g p : ℕ) → HasPipe (xs ++ Some y ∷ []) g p → HasPipe xs g p
+had_push [] y none zero p h = let e : Some y ≡ Some (file.Fifo h.fifo) = h.stands in let same : y ≡ file.Fifo h.fifo = cc in absurd (none p h.fifo same h.its_pipe)
+had_push [] y none (suc g) p h = let e : None ≡ Some (file.Fifo h.fifo) = h.stands in cc
+had_push (z ∷ xs) y none zero p h = record { fifo = h.fifo; stands = h.stands; its_pipe = h.its_pipe }
+had_push (z ∷ xs) y none (suc g) p h =
+    let rest = had_push xs y none g p (record { fifo = h.fifo; stands = h.stands; its_pipe = h.its_pipe }) in
+    record { fifo = rest.fifo; stands = rest.stands; its_pipe = rest.its_pipe }
+
+-- the pipe of a FIFO is there
+pub pipe_there : (pipes : List (Option (List ℕ))) (files : List (Option File)) → EachThere (PipeIsThere pipes) files → (g p : ℕ) → HasPipe files g p → IsThere pipes p
+pipe_there pipes files fifos g p h = fifos g (file.Fifo h.fifo) h.stands p h.its_pipe
 
 offset_edited : (P : Target → Type 0) (k : ℕ) (old : Option Description) (d : Description) → ((x : Description) → old ≡ Some x → P x.target) → option_map (at_offset k) old ≡ Some d → P d.target
 offset_edited P k None d all h = cc
@@ -128,14 +169,18 @@ offset_goes w n k whole =
         descriptions = each_set (λ d. TargetIsThere w.files w.pipes d.target) ds n moved whole.descriptions
             (λ d h. offset_edited (TargetIsThere w.files w.pipes) k (slot ds n) d (whole.descriptions n) h);
         fifos = whole.fifos;
+        ends = each_set (λ d. IsItsFifo w.files d.target) ds n moved whole.ends (λ d h. offset_edited (IsItsFifo w.files) k (slot ds n) d (whole.ends n) h);
+        apart = whole.apart;
         processes = λ p process at m x h. adds.there x (whole.processes p process at m x h);
+        waits = whole.waits;
         tables = whole.tables;
       };
     }
 
--- the files of a world are others, of which none went
-files_go : (w : World) (files : List (Option File)) → IsWhole w → FilesAdd w.files files → EachThere (PipeIsThere w.pipes) files → Goes w (record w { files = files })
-files_go w files whole add fifos = record {
+-- the files of a world are others, of which none went, and none has a pipe that it had not
+files_go : (w : World) (files : List (Option File)) → IsWhole w → FilesAdd w.files files → EachThere (PipeIsThere w.pipes) files → ((g p : ℕ) → HasPipe files g p → HasPipe w.files g p) →
+    Goes w (record w { files = files })
+files_go w files whole add fifos had = record {
   rises = record {
     files = add.adds.rises;
     pipes = (adds_same w.pipes).rises;
@@ -149,7 +194,10 @@ files_go w files whole add fifos = record {
     names = λ k d below. add.adds.there (get_or w.names k d).1 (whole.names k d below);
     descriptions = λ n d h. target_stays w.files files w.pipes add d.target (whole.descriptions n d h);
     fifos = fifos;
+    ends = λ n d h. its_from w.files files d.target had (whole.ends n d h);
+    apart = apart_from w.files files had whole.apart;
     processes = whole.processes;
+    waits = whole.waits;
     tables = whole.tables;
   };
 }
@@ -160,9 +208,10 @@ bytes_go w f bytes whole there =
     let parts = regular_parts (slot w.files f) there in
     files_go w (set w.files f (Some (file.Regular bytes))) whole (files_set w.files f (Some (file.Regular bytes)) (sym parts.0) (sym there) (sym parts.1))
     (each_set (PipeIsThere w.pipes) w.files f (Some (file.Regular bytes)) whole.fifos (λ x h. let e : file.Regular bytes ≡ x = cc in subst (PipeIsThere w.pipes) e tt))
+    (had_set w.files f (Some (file.Regular bytes)) (λ p x h. cc))
 
 -- a name is put at a file that is there
-names_with : (files : List (Option File)) (name : List ℕ) (f : ℕ) (es : Entries) → IsThere files f →
+pub names_with : (files : List (Option File)) (name : List ℕ) (f : ℕ) (es : Entries) → IsThere files f →
     All (λ entry. IsThere files entry.1) es → All (λ entry. IsThere files entry.1) (with_name name f es)
 names_with files name f [] there all = All-cons (λ entry. IsThere files entry.1) (name, f) [] there all
 names_with files name f (e ∷ es) there all =
@@ -175,7 +224,7 @@ names_with files name f (e ∷ es) there all =
     ]
 
 -- and some names are taken away
-names_without : (files : List (Option File)) (name : List ℕ) (es : Entries) → All (λ entry. IsThere files entry.1) es → All (λ entry. IsThere files entry.1) (without_name name es)
+pub names_without : (files : List (Option File)) (name : List ℕ) (es : Entries) → All (λ entry. IsThere files entry.1) es → All (λ entry. IsThere files entry.1) (without_name name es)
 names_without files name [] all = all
 names_without files name (e ∷ es) all =
     let rest = names_without files name es (All-tail (λ entry. IsThere files entry.1) e es all) in
@@ -185,25 +234,29 @@ names_without files name (e ∷ es) all =
     ]
 
 -- the names are others, and each is of a file that is there
-names_go : (w : World) (names : Entries) → IsWhole w → All (λ entry. IsThere w.files entry.1) names → Goes w (record w { names = names })
+pub names_go : (w : World) (names : Entries) → IsWhole w → All (λ entry. IsThere w.files entry.1) names → Goes w (record w { names = names })
 names_go w names whole all =
     let same = same_rises w in
     record {
       rises = record { files = same.files; pipes = same.pipes; descriptions = same.descriptions; processes = same.processes; kinds = same.kinds; targets = same.targets; modes = same.modes };
-      whole = record { names = all; descriptions = whole.descriptions; fifos = whole.fifos; processes = whole.processes; tables = whole.tables };
+      whole = record { names = all; descriptions = whole.descriptions; fifos = whole.fifos; ends = whole.ends; apart = whole.apart; processes = whole.processes; waits = whole.waits; tables = whole.tables };
     }
 
-pub created_goes : (w : World) (name : List ℕ) → IsWhole w → Goes w (created w name)
-created_goes w name whole =
-    let files = w.files ++ Some (file.Regular []) ∷ [] in
-    let moved = files_go w files whole (files_push w.files (file.Regular [])) (each_push (PipeIsThere w.pipes) w.files (file.Regular []) whole.fifos tt) in
+-- a new file, which has no pipe
+pub created_goes : (w : World) (name : List ℕ) (new : File) → IsWhole w → PipeIsThere w.pipes new → ((p : ℕ) (x : Fifo) → new ≡ file.Fifo x → x.pipe ≡ Some p → ⊥) → Goes w (created w name new)
+created_goes w name new whole there none =
+    let files = w.files ++ Some new ∷ [] in
+    let moved = files_go w files whole (files_push w.files new) (each_push (PipeIsThere w.pipes) w.files new whole.fifos there) (had_push w.files new none) in
     record {
       rises = record { files = moved.rises.files; pipes = moved.rises.pipes; descriptions = moved.rises.descriptions; processes = moved.rises.processes; kinds = moved.rises.kinds; targets = moved.rises.targets; modes = moved.rises.modes };
       whole = record {
-        names = names_with files name (length w.files) w.names (pushed_there w.files (file.Regular [])) moved.whole.names;
+        names = names_with files name (length w.files) w.names (pushed_there w.files new) moved.whole.names;
         descriptions = moved.whole.descriptions;
         fifos = moved.whole.fifos;
+        ends = moved.whole.ends;
+        apart = moved.whole.apart;
         processes = moved.whole.processes;
+        waits = moved.whole.waits;
         tables = moved.whole.tables;
       };
     }
@@ -229,6 +282,12 @@ entry_keeps fd entry (Some y) x all h =
     let e : with_entry fd entry y ≡ x = cc in
     subst HasAll e (length-set y.table fd entry ∙ all y refl)
 
+-- what holds of each process holds of it after an edit that keeps it
+edited_has : (Has : Process → Type 0) (edit : Process → Process) (old : Option Process) (x : Process) → ((y : Process) → Has y → Has (edit y)) → ((y : Process) → old ≡ Some y → Has y) →
+    option_map edit old ≡ Some x → Has x
+edited_has Has edit None x keeps all h = cc
+edited_has Has edit (Some y) x keeps all h = let e : edit y ≡ x = cc in subst Has e (keeps y (all y refl))
+
 -- a descriptor refers to what is there, or is free
 pub descriptor_goes : (w : World) (process fd : ℕ) (entry : Option ℕ) → IsWhole w → ((n : ℕ) → entry ≡ Some n → IsThere w.descriptions n) →
     Goes w (with_descriptor w process fd entry)
@@ -249,6 +308,9 @@ descriptor_goes w process fd entry whole new =
         names = whole.names;
         descriptions = whole.descriptions;
         fifos = whole.fifos;
+        ends = whole.ends;
+        apart = whole.apart;
+        waits = each_set WaitsForFew w.processes process edited whole.waits (λ x h. edited_has WaitsForFew (with_entry fd entry) (slot w.processes process) x (λ y has. has) (whole.waits process) h);
         processes = each_set (Refers w.descriptions) w.processes process edited whole.processes
             (λ x h. entry_edited w.descriptions fd entry (slot w.processes process) x new (whole.processes process) h);
         tables = each_set HasAll w.processes process edited whole.tables (λ x h. entry_keeps fd entry (slot w.processes process) x (whole.tables process) h);
@@ -256,8 +318,8 @@ descriptor_goes w process fd entry whole new =
     }
 
 -- one more description, of what is there
-pub described_goes : (w : World) (d : Description) → IsWhole w → TargetIsThere w.files w.pipes d.target → Goes w (record w { descriptions = w.descriptions ++ Some d ∷ [] })
-described_goes w d whole there =
+pub described_goes : (w : World) (d : Description) → IsWhole w → TargetIsThere w.files w.pipes d.target → IsItsFifo w.files d.target → Goes w (record w { descriptions = w.descriptions ++ Some d ∷ [] })
+described_goes w d whole there its =
     let adds = adds_push w.descriptions (Some d) in
     record {
       rises = record {
@@ -273,85 +335,67 @@ described_goes w d whole there =
         names = whole.names;
         descriptions = each_push (λ x. TargetIsThere w.files w.pipes x.target) w.descriptions d whole.descriptions there;
         fifos = whole.fifos;
+        ends = each_push (λ x. IsItsFifo w.files x.target) w.descriptions d whole.ends its;
+        apart = whole.apart;
         processes = λ p process at n x h. adds.there x (whole.processes p process at n x h);
+        waits = whole.waits;
         tables = whole.tables;
       };
     }
 
--- the processes of a world are others, of which each refers to what is there and has all its descriptors
-processes_go : (w : World) (ps : List (Option Process)) → IsWhole w → Rises w.processes ps → EachThere (Refers w.descriptions) ps → EachThere HasAll ps → Goes w (record w { processes = ps })
-processes_go w ps whole rises refers all =
+-- the processes of a world are others, of which each refers to what is there, waits for few bytes and has all its descriptors
+processes_go : (w : World) (ps : List (Option Process)) → IsWhole w → Rises w.processes ps → EachThere (Refers w.descriptions) ps → EachThere WaitsForFew ps → EachThere HasAll ps →
+    Goes w (record w { processes = ps })
+processes_go w ps whole rises refers few all =
     let same = same_rises w in
     record {
       rises = record { files = same.files; pipes = same.pipes; descriptions = same.descriptions; processes = rises; kinds = same.kinds; targets = same.targets; modes = same.modes };
-      whole = record { names = whole.names; descriptions = whole.descriptions; fifos = whole.fifos; processes = refers; tables = all };
+      whole = record { names = whole.names; descriptions = whole.descriptions; fifos = whole.fifos; ends = whole.ends; apart = whole.apart; processes = refers; waits = few; tables = all };
     }
 
-added_goes : (w : World) (table : List (Option ℕ)) (attached : Bool) → IsWhole w → CanAdd w table → Goes w (with_processes w (on_process.Add table attached))
+pub added_goes : (w : World) (table : List (Option ℕ)) (attached : Bool) → IsWhole w → CanAdd w table → Goes w (with_processes w (on_process.Add table attached))
 added_goes w table attached whole can =
     let child = process_with table attached in
     processes_go w (w.processes ++ Some child ∷ []) whole (adds_push w.processes (Some child)).rises
-    (each_push (Refers w.descriptions) w.processes child whole.processes can.there) (each_push HasAll w.processes child whole.tables can.all)
+    (each_push (Refers w.descriptions) w.processes child whole.processes can.there) (each_push WaitsForFew w.processes child whole.waits (λ parked h. cc)) (each_push HasAll w.processes child whole.tables can.all)
 
--- what holds of the table of a process holds of it when it has its connection
-connected : (Has : Process → Type 0) (old : Option Process) (x : Process) → ((y : Process) → Has y → Has (with_connection y)) → ((y : Process) → old ≡ Some y → Has y) →
-    option_map with_connection old ≡ Some x → Has x
-connected Has None x keeps all h = cc
-connected Has (Some y) x keeps all h = let e : with_connection y ≡ x = cc in subst Has e (keeps y (all y refl))
+-- a process is another, with the descriptors that it had, and waits for few bytes
+pub process_goes : (w : World) (p : ℕ) (edit : Process → Process) → IsWhole w → ((y : Process) → (edit y).table ≡ y.table) → ((y : Process) → WaitsForFew y → WaitsForFew (edit y)) →
+    Goes w (record w { processes = set w.processes p (option_map edit (slot w.processes p)) })
+process_goes w p edit whole same few =
+    let old = slot w.processes p in
+    let new = option_map edit old in
+    let stays : (P : List (Option ℕ) → Type 0) (y : Process) → P y.table → P (edit y).table = λ P y h. subst P (sym (same y)) h in
+    processes_go w (set w.processes p new) whole (adds_edited w.processes p edit).rises
+    (each_set (Refers w.descriptions) w.processes p new whole.processes (λ x h. edited_has (Refers w.descriptions) edit old x (stays (EachThere (IsThere w.descriptions))) (whole.processes p) h))
+    (each_set WaitsForFew w.processes p new whole.waits (λ x h. edited_has WaitsForFew edit old x few (whole.waits p) h))
+    (each_set HasAll w.processes p new whole.tables (λ x h. edited_has HasAll edit old x (stays (λ table. length table ≡ OPEN_MAX)) (whole.tables p) h))
 
-attached_goes : (w : World) (p : ℕ) → IsWhole w → Goes w (with_processes w (on_process.Attach p))
-attached_goes w p whole =
-    let new = option_map with_connection (slot w.processes p) in
-    processes_go w (set w.processes p new) whole (adds_edited w.processes p with_connection).rises
-    (each_set (Refers w.descriptions) w.processes p new whole.processes (λ x h. connected (Refers w.descriptions) (slot w.processes p) x (λ y has. has) (whole.processes p) h))
-    (each_set HasAll w.processes p new whole.tables (λ x h. connected HasAll (slot w.processes p) x (λ y has. has) (whole.tables p) h))
+-- a process waits in a call that asks for few bytes
+pub few_parked : (parked : Parked) → AsksFew parked.call → (y : Process) → WaitsForFew (with_parked (Some parked) y)
+few_parked parked few y other h = let same : parked ≡ other = cc in subst (λ (q : Parked). AsksFew q.call) same few
 
-exited_goes : (w : World) (p : ℕ) → IsWhole w → Goes w (with_processes w (on_process.Exit p))
+-- and it goes on waiting in the same call
+pub few_moved : (moved : ℕ) (old : Option Parked) (other : Parked) → ((q : Parked) → old ≡ Some q → AsksFew q.call) → option_map (moved_in moved) old ≡ Some other → AsksFew other.call
+few_moved moved None other few h = cc
+few_moved moved (Some q) other few h = let same : moved_in moved q ≡ other = cc in subst (λ (q : Parked). AsksFew q.call) same (few q refl)
+
+pub exited_goes : (w : World) (p : ℕ) → IsWhole w → Goes w (with_processes w (on_process.Exit p))
 exited_goes w p whole =
     processes_go w (set w.processes p None) whole (rises_emptied w.processes p)
-    (each_set (Refers w.descriptions) w.processes p None whole.processes (λ x h. cc)) (each_set HasAll w.processes p None whole.tables (λ x h. cc))
+    (each_set (Refers w.descriptions) w.processes p None whole.processes (λ x h. cc)) (each_set WaitsForFew w.processes p None whole.waits (λ x h. cc)) (each_set HasAll w.processes p None whole.tables (λ x h. cc))
 
-closed_goes : (w : World) → IsWhole w → Goes w (with_processes w on_process.Close)
+pub closed_goes : (w : World) → IsWhole w → Goes w (with_processes w on_process.Close)
 closed_goes w whole =
     let same = same_rises w in
     record {
       rises = record { files = same.files; pipes = same.pipes; descriptions = same.descriptions; processes = same.processes; kinds = same.kinds; targets = same.targets; modes = same.modes };
-      whole = record { names = whole.names; descriptions = whole.descriptions; fifos = whole.fifos; processes = whole.processes; tables = whole.tables };
+      whole = record { names = whole.names; descriptions = whole.descriptions; fifos = whole.fifos; ends = whole.ends; apart = whole.apart; processes = whole.processes; waits = whole.waits; tables = whole.tables };
     }
 
-opened_goes : (w : World) (process fd : ℕ) (d : Description) → IsWhole w → TargetIsThere w.files w.pipes d.target → Goes w (with_description w process fd d)
-opened_goes w process fd d whole there =
+pub opened_goes : (w : World) (process fd : ℕ) (d : Description) → IsWhole w → TargetIsThere w.files w.pipes d.target → IsItsFifo w.files d.target → Goes w (with_description w process fd d)
+opened_goes w process fd d whole there its =
     let more : World = record w { descriptions = w.descriptions ++ Some d ∷ [] } in
-    let first = described_goes w d whole there in
+    let first = described_goes w d whole there its in
     let at_end : (n : ℕ) → Some (length w.descriptions) ≡ Some n → IsThere more.descriptions n = λ n h. let same : length w.descriptions ≡ n = cc in subst (IsThere more.descriptions) same (pushed_there w.descriptions d) in
     goes_twice w more (with_description w process fd d) first (descriptor_goes more process fd (Some (length w.descriptions)) first.whole at_end)
-
--- one case for each edit
-files_go_on : (w : World) (bytes : List ℕ) (e : FileEdit) → IsWhole w → FilesFit w e → Goes w (with_files w bytes e)
-files_go_on w bytes on_files.Nothing whole fits = goes_nowhere w whole
-files_go_on w bytes (on_files.Bytes f start count) whole fits = bytes_go w f (splice (bytes_of w f) start (take count bytes)) whole fits
-files_go_on w bytes (on_files.Resize f len) whole fits = bytes_go w f (resized (bytes_of w f) len) whole fits
-files_go_on w bytes (on_files.AddName name f) whole fits = names_go w (with_name name f w.names) whole (names_with w.files name f w.names fits whole.names)
-files_go_on w bytes (on_files.RemoveName name) whole fits = names_go w (without_name name w.names) whole (names_without w.files name w.names whole.names)
-files_go_on w bytes (on_files.MakeFile name) whole fits = created_goes w name whole
-
-processes_go_on : (w : World) (e : ProcessEdit) → IsWhole w → ProcessFits w e → Goes w (with_processes w e)
-processes_go_on w on_process.Nothing whole fits = goes_nowhere w whole
-processes_go_on w (on_process.Add table attached) whole fits = added_goes w table attached whole fits
-processes_go_on w (on_process.Attach p) whole fits = attached_goes w p whole
-processes_go_on w (on_process.Exit p) whole fits = exited_goes w p whole
-processes_go_on w on_process.Close whole fits = closed_goes w whole
-
-table_goes_on : (w : World) (e : TableEdit) → IsWhole w → TableFits w e → Goes w (with_table w e)
-table_goes_on w on_table.Nothing whole fits = goes_nowhere w whole
-table_goes_on w (on_table.Offset number offset) whole fits = offset_goes w number offset whole
-table_goes_on w (on_table.Open process fd d) whole fits = opened_goes w process fd d whole fits.there
-table_goes_on w (on_table.Entry process fd entry) whole fits = descriptor_goes w process fd entry whole fits.there
-
-pub change_goes : (w : World) (bytes : List ℕ) (c : Change) → IsWhole w → Fits w bytes c → Goes w (changed w bytes c)
-change_goes w bytes c whole fits =
-    let u = with_files w bytes c.files in
-    let v = with_processes u c.process in
-    let first = files_go_on w bytes c.files whole fits.files in
-    let second = processes_go_on u c.process first.whole fits.process in
-    goes_twice w u (changed w bytes c) first (goes_twice u v (changed w bytes c) second (table_goes_on v c.table second.whole fits.table))

@@ -10,10 +10,11 @@ use Rattle.posix_model.specs.Change.{changed}
 use Rattle.posix_model.specs.Step.{Stepped, given, step}
 use Rattle.posix_model.specs.History.{empty_world, after, world_from, world_of}
 use Rattle.posix_model.specs.Laws.{HistorySettles, StepRaisesNumbers, StepKeepsWhole, HistoryIsWhole, HistoryRaisesNumbers}
-use Rattle.posix_model.proofs.ChangeLaws.{Goes, goes_nowhere, goes_twice, change_goes}
+use Rattle.posix_model.proofs.ChangeLaws.{Goes, goes_nowhere, goes_twice}
+use Rattle.posix_model.proofs.EditLaws.{change_goes}
 use Rattle.posix_model.proofs.SweepLaws.{step_parts, step_settles}
 use Rattle.posix_model.proofs.SweepWhole.{sweep_goes}
-use Rattle.posix_model.proofs.Sound.{acts_are_sound}
+use Rattle.posix_model.proofs.SoundActs.{acts_are_sound}
 
 -- what holds of a world, and of the world of each step from it, holds after any act
 stepped_or_not : (Has : World → Type 0) (w : World) (e : Option Stepped) → Has w → ((s : Stepped) → e ≡ Some s → Has s.world) → Has (option_map_or (λ s. s.world) e w)
@@ -42,12 +43,15 @@ step_raises_numbers bounds w actor act s whole h = (step_goes bounds w actor act
 pub step_keeps_whole : StepKeepsWhole
 step_keeps_whole bounds w actor act s whole h = (step_goes bounds w actor act s whole h).whole
 
-empty_whole : IsWhole empty_world
+pub empty_whole : IsWhole empty_world
 empty_whole = record {
   names = All-nil (λ entry. IsThere empty_world.files entry.1);
   descriptions = λ n d h. cc;
   fifos = λ n x h. cc;
+  ends = λ n d h. cc;
+  apart = λ f g x y p h. cc;
   processes = λ n p h. cc;
+  waits = λ n p h. cc;
   tables = λ n p h. cc;
 }
 

@@ -12,7 +12,7 @@ use Rattle.posix_model.specs.Turns.{data_in}
 use Rattle.posix_model.specs.Sound.{data_most}
 use Rattle.posix_model.specs.Lengths.{outcome_length, record_length, IsShort, StepIsShort}
 use Rattle.posix_model.proofs.SweepLaws.{step_parts}
-use Rattle.posix_model.proofs.Sound.{acts_are_sound}
+use Rattle.posix_model.proofs.SoundActs.{acts_are_sound}
 
 short_fields : (ks : List FieldKind) (vs : Values ks) → FieldsShort ks vs → fields_length ks vs ≤ sum_by field_most ks
 short_fields [] vs h = omega arith
@@ -30,9 +30,10 @@ short_outcome other = omega arith
 
 short_record : (actor : ℕ) (a : Act) (o : Outcome) → IsShort a → length (data_in o) ≤ data_most a → record_length (record { actor = actor; act = a; outcome = o }) ≤ RECORD_LENGTH_MAX
 short_record actor (act.Call c) o short brief = omega (arith, short_fields (parts c).entry.fields (parts c).values short, room_left c, short_outcome o, brief)
+short_record actor act.Resume o short brief = omega (arith, short_outcome o, brief)
 short_record actor other o short brief = omega (arith, short_outcome o, brief)
 
 pub step_is_short : StepIsShort
-step_is_short bounds w actor act s h short =
+step_is_short bounds w actor act s whole h short =
     step_parts (λ t. record_length (record { actor = actor; act = act; outcome = t.outcome }) ≤ RECORD_LENGTH_MAX) bounds w actor act s
-    (λ d is. short_record actor act d.outcome short (acts_are_sound bounds w actor act d is).brief) h
+    (λ d is. short_record actor act d.outcome short ((acts_are_sound bounds w actor act d is).brief whole)) h

@@ -1,13 +1,15 @@
 -- How many processes changes make and end.
-use Rattle.std.proofs.Common.{◌≡◌, ◌∙◌, ℕ, zero, suc, ◌+◌, Bool, true, ◌||◌, cond, List, [], ◌∷◌, ◌++◌, Option, None, Some, length, set, refl, ap, sym, subst, arith, length-set, length-append}
+use Rattle.std.proofs.Common.{◌≡◌, ◌∙◌, ℕ, zero, suc, ◌+◌, Bool, true, false, ◌||◌, cond, List, [], ◌∷◌, ◌++◌, Option, None, Some, length, set, refl, ap, sym, subst, arith, length-set, length-append}
 use Rattle.std.specs.Option.{option_map, is_some}
 use Rattle.std.proofs.lemmas.List.Sums.{sum_by-cons, sum_by_push}
-use Rattle.posix_model.specs.Types.{Act, World, Process, FileEdit, ProcessEdit, TableEdit, Change, Decided}
+use Rattle.posix_model.specs.Types.{Act, World, Process, Description, FileEdit, ProcessEdit, TableEdit, Change, Decided}
 use Rattle.slots.specs.Slots.{slot, live}
 use Rattle.posix_model.specs.Whole.{IsThere}
-use Rattle.process_table.specs.Processes.{with_entry, process_with, with_connection}
+use Rattle.process_table.specs.Processes.{with_entry, process_with, with_connection, with_parked, with_total}
 use Rattle.posix_model.specs.Descriptors.{with_descriptor}
-use Rattle.posix_model.specs.Change.{with_files, with_processes, with_table, changed}
+use Rattle.posix_model.specs.Change.{with_files, with_processes, with_table, with_description, end_of, changed}
+use Rattle.posix_model.specs.Pipes.{with_pipe, with_opening}
+use Rattle.call_types.specs.declared.description.Mode.TheVariants as mode
 use Rattle.posix_model.specs.Step.{given, stepped}
 use Rattle.posix_model.specs.Sweep.{sweep}
 use Rattle.posix_model.specs.Sound.{makes, ended_by, closed_by, added, adds, ended, closes, IsTold}
@@ -16,7 +18,7 @@ use Rattle.posix_model.specs.declared.change.FileEdit.TheVariants as on_files
 use Rattle.posix_model.specs.declared.change.ProcessEdit.TheVariants as on_process
 use Rattle.posix_model.specs.declared.change.TableEdit.TheVariants as on_table
 use Rattle.posix_model.proofs.SweepLaws.{step_parts}
-use Rattle.posix_model.proofs.Sound.{acts_are_sound}
+use Rattle.posix_model.proofs.SoundActs.{acts_are_sound}
 
 -- as many processes, as many of them live, and the run as it was
 record SameRun (w v : World) : Type 0 where
@@ -40,6 +42,11 @@ descriptor_keeps w process fd entry = record {
   closed = refl;
 }
 
+described_keeps : (w : World) (process fd : ℕ) (d : Description) → SameRun w (with_description w process fd d)
+described_keeps w process fd d =
+    let same = descriptor_keeps (record w { descriptions = w.descriptions ++ Some d ∷ [] }) process fd (Some (length w.descriptions)) in
+    record { all = same.all; living = same.living; closed = same.closed }
+
 files_keep : (w : World) (bytes : List ℕ) (e : FileEdit) → ((with_files w bytes e).processes ≡ w.processes) × ((with_files w bytes e).closed ≡ w.closed)
 files_keep w bytes on_files.Nothing = (refl, refl)
 files_keep w bytes other = (refl, refl)
@@ -47,9 +54,14 @@ files_keep w bytes other = (refl, refl)
 table_keeps : (w : World) (e : TableEdit) → SameRun w (with_table w e)
 table_keeps w on_table.Nothing = record { all = refl; living = refl; closed = refl }
 table_keeps w (on_table.Offset number offset) = record { all = refl; living = refl; closed = refl }
-table_keeps w (on_table.Open process fd d) =
-    let same = descriptor_keeps (record w { descriptions = w.descriptions ++ Some d ∷ [] }) process fd (Some (length w.descriptions)) in
-    record { all = same.all; living = same.living; closed = same.closed }
+table_keeps w (on_table.Open process fd d) = described_keeps w process fd d
+table_keeps w (on_table.OpenPair process reading writing) =
+    let p = length w.pipes in
+    let u = with_pipe w in
+    let first = described_keeps u process reading (end_of p mode.Read) in
+    let second = described_keeps (with_description u process reading (end_of p mode.Read)) process writing (end_of p mode.Write) in
+    record { all = second.all ∙ first.all; living = second.living ∙ first.living; closed = refl }
+table_keeps w (on_table.OpenEnd process fd f d) = let same = described_keeps (with_opening w f d.mode) process fd d in record { all = same.all; living = same.living; closed = same.closed }
 table_keeps w (on_table.Entry process fd entry) = descriptor_keeps w process fd entry
 
 -- a process that is there and goes is one less
@@ -61,6 +73,14 @@ live_emptied {T} (first ∷ slots) (suc n) h =
     let none : Option T = None in
     omega (arith, live_emptied slots n h, sum_by-cons (λ p. cond (is_some p) 1 0) first slots, sum_by-cons (λ p. cond (is_some p) 1 0) first (set slots n none))
 
+-- an edit of a process leaves their number
+edited_count : (w : World) (p : ℕ) (edit : Process → Process) → Counts w (record w { processes = set w.processes p (option_map edit (slot w.processes p)) }) 0 0 false
+edited_count w p edit = record {
+  all = omega (arith, length-set w.processes p (option_map edit (slot w.processes p)));
+  living = omega (arith, live_edited edit w.processes p);
+  closed = refl;
+}
+
 processes_count : (w : World) (e : ProcessEdit) → ((p : ℕ) → e ≡ on_process.Exit p → IsThere w.processes p) → Counts w (with_processes w e) (makes e) (ended_by e) (closed_by e)
 processes_count w on_process.Nothing there = record { all = omega arith; living = omega arith; closed = refl }
 processes_count w (on_process.Add table attached) there = record {
@@ -68,11 +88,10 @@ processes_count w (on_process.Add table attached) there = record {
   living = let more = sum_by_push (λ p. cond (is_some p) 1 0) w.processes (Some (process_with table attached)) in omega (arith, more);
   closed = refl;
 }
-processes_count w (on_process.Attach p) there = record {
-  all = omega (arith, length-set w.processes p (option_map with_connection (slot w.processes p)));
-  living = omega (arith, live_edited with_connection w.processes p);
-  closed = refl;
-}
+processes_count w (on_process.Attach p) there = edited_count w p with_connection
+processes_count w (on_process.Park p parked) there = edited_count w p (with_parked (Some parked))
+processes_count w (on_process.Total p moved) there = edited_count w p (with_total moved)
+processes_count w (on_process.Unpark p) there = edited_count w p (with_parked None)
 processes_count w (on_process.Exit p) there = record {
   all = omega (arith, length-set w.processes p None);
   living = omega (arith, live_emptied w.processes p (there p refl));

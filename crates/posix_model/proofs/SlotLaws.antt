@@ -91,6 +91,20 @@ slot_set_there [] n x y h = cc
 slot_set_there (z ∷ xs) zero x y h = refl
 slot_set_there (z ∷ xs) (suc n) x y h = slot_set_there xs n x y h
 
+-- a place of the list has what was written
+pub set_within : {T : Type 0} (xs : List (Option T)) (n : ℕ) (y : Option T) → n < length xs → slot (set xs n y) n ≡ y
+set_within [] n y below = absurd (omega arith)
+set_within (x ∷ xs) zero y below = refl
+set_within (x ∷ xs) (suc n) y below = set_within xs n y (omega arith)
+
+-- and the others what they had
+pub set_other : {T : Type 0} (xs : List (Option T)) (n m : ℕ) (y : Option T) → n ≢ m → slot (set xs n y) m ≡ slot xs m
+set_other [] n m y apart = refl
+set_other (x ∷ xs) zero zero y apart = absurd (apart refl)
+set_other (x ∷ xs) zero (suc m) y apart = refl
+set_other (x ∷ xs) (suc n) zero y apart = refl
+set_other (x ∷ xs) (suc n) (suc m) y apart = set_other xs n m y (λ same. apart (ap suc same))
+
 -- what was added stands at the end
 pub slot_at_end : {T : Type 0} (xs : List (Option T)) (y : Option T) → slot (xs ++ y ∷ []) (length xs) ≡ y
 slot_at_end [] y = refl

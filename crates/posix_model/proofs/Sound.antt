@@ -1,6 +1,5 @@
--- What acts come to is sound: one lemma for each call.
-use Rattle.std.proofs.Common.{rules, ◌≡◌, ◌∙◌, ℕ, zero, suc, replicate, ℤ, pos, negsuc, nat_abs, ◌+◌, ◌-◌, ◌<◌, ◌≤◌, Bool, true, false, not, ◌&&◌, ◌||◌, cond, List, [], ◌∷◌, ◌++◌, Option, None, Some, length, refl, ap, sym, subst, arith, leb, ltb, eqb}
-use Rattle.std.specs.Prelude.{◌+ℤ◌}
+-- What acts come to is sound: a lemma for each call that does not wait.
+use Rattle.std.proofs.Common.{rules, ◌≡◌, ◌∙◌, ℕ, zero, suc, replicate, ℤ, pos, negsuc, nat_abs, ◌+◌, ◌-◌, ◌<◌, ◌≤◌, ◌≢◌, Bool, true, false, not, ◌&&◌, ◌||◌, cond, List, [], ◌∷◌, ◌++◌, Option, None, Some, length, length-set, set, refl, ap, sym, subst, arith, leb, ltb, eqb}
 use Rattle.std.specs.Option.{option_map, is_some, is_none, unwrap_or}
 use Rattle.std.specs.List.{All}
 use Rattle.std.specs.Ordering.{nat_cmp, is_eq}
@@ -11,71 +10,72 @@ use Rattle.std.proofs.lemmas.Bool.Decides.{nat_tests}
 use Rattle.call_types.specs.CallTable.{payload_of}
 use Rattle.call_types.specs.Flags.{has}
 use Rattle.call_types.specs.Flags as flag
-use Rattle.posix_model.specs.Types.{Call, Act, Outcome, ProcessEdit, Reply, Errno, OpenFlags, Whence, Bounds, World, Process, Description, Target, File, OpenDescriptor, Decided, OFFSET_MAX, OPEN_MAX, NAMES_MAX, DESCRIPTIONS_MAX, PROCESSES_MAX, TRANSFER_MAX, EAGAIN, Replied, Number, Data, Done, Error, Told}
+use Rattle.posix_model.specs.Types.{Call, Act, Outcome, Reply, Errno, OpenFlags, Whence, Bounds, World, Process, Parked, Description, Target, File, Fifo, OpenDescriptor, Decided, OFFSET_MAX, OPEN_MAX, NAMES_MAX, DESCRIPTIONS_MAX, PROCESSES_MAX, TRANSFER_MAX, EAGAIN, Replied, Number, Data, Error}
 use Rattle.call_types.specs.declared.act.Act.TheVariants as act
 use Rattle.call_types.specs.declared.call.Call.TheVariants as call
 use Rattle.posix_model.specs.Bytes.{bytes_at}
 use Rattle.slots.specs.Slots.{slot, lowest, live}
 use Rattle.call_types.specs.Names.{Entries, file_of}
 use Rattle.posix_model.specs.Whole.{IsThere, EachThere, TargetIsThere, is_fifo, is_regular_file, IsWhole}
-use Rattle.process_table.specs.Processes.{table_of, free_table, copied_table, awaits}
+use Rattle.process_table.specs.Processes.{table_of, free_table, copied_table, with_parked}
 use Rattle.posix_model.specs.Descriptors.{opened, opened_number, opened_description, number_of, bytes_of}
 use Rattle.posix_model.specs.Positions.{bytes_before, regular_file, is_regular, file_at}
-use Rattle.posix_model.specs.Change.{with_bytes, created}
-use Rattle.posix_model.specs.Fits.{IsFree, CanAdd, ProcessFits, ProcessProper, Fits, IsProper}
+use Rattle.posix_model.specs.Change.{with_bytes, created, with_processes}
+use Rattle.posix_model.specs.Fits.{IsFree, CanAdd, CanOpenPair, PutsWithin, Fits, IsProper}
 use Rattle.posix_model.specs.Pages.{first_fault, unless, refused, tells, does, acts, decided_by}
 use Rattle.posix_model.specs.Close.{close}
-use Rattle.posix_model.specs.Read.{read_faults, read}
-use Rattle.posix_model.specs.Write.{is_past_limit, write_faults, write_from, write_start, write, fitting}
-use Rattle.posix_model.specs.Pread.{pread_faults, pread}
+use Rattle.posix_model.specs.Read.{read_faults, gives}
+use Rattle.posix_model.specs.Write.{is_past_limit, write_faults, write_file, fitting}
 use Rattle.posix_model.specs.Pwrite.{pwrite_faults, pwrite}
-use Rattle.posix_model.specs.Lseek.{lseek_faults, lseek_to, base_of, lseek}
+use Rattle.posix_model.specs.Lseek.{lseek_faults, lseek_to}
 use Rattle.posix_model.specs.Ftruncate.{ftruncate_faults, ftruncate}
 use Rattle.posix_model.specs.Dup.{dup}
 use Rattle.posix_model.specs.Dup2.{is_no_descriptor, dup2}
-use Rattle.posix_model.specs.Link.{link_at, link}
+use Rattle.posix_model.specs.Link.{link_at}
 use Rattle.posix_model.specs.Unlink.{unlink_faults, unlink}
-use Rattle.posix_model.specs.Fstat.{fstat, stat_of}
-use Rattle.posix_model.specs.Open.{open_faults, leads_to_fifo, open_found, opens, emptied, new_description, free_descriptor, open_file}
-use Rattle.posix_model.specs.Join.{join, is_full}
-use Rattle.posix_model.specs.Attach.{attach}
-use Rattle.posix_model.specs.Exit.{exit, close_run}
-use Rattle.call_types.specs.declared.act.TheConstants.{HOUSE}
-use Rattle.posix_model.specs.Step.{given, decided, can_call}
+use Rattle.posix_model.specs.Open.{open_faults, open_found, open_there, open_end, opens_end, opens, emptied, mode_of, new_description, free_descriptor}
+use Rattle.posix_model.specs.Pipes.{fifo_at, is_met, opposite_openings, pipe_between}
+use Rattle.posix_model.specs.Tries.{waiting, parks}
+use Rattle.posix_model.specs.Pipe.{pipe_faults, free_pair, opens_pair}
+use Rattle.posix_model.specs.Mkfifo.{mkfifo}
+use Rattle.process_table.specs.Tables.{two_lowest, and_next}
+use Rattle.posix_model.specs.Join.{is_full}
 use Rattle.posix_model.specs.Turns.{total, took_in, new_turn, took, data_in}
-use Rattle.posix_model.specs.Sound.{added, ended, closes, adds, IsTold, Sound, data_most, CallsAreSound, ActsAreSound, FilesWithin}
+use Rattle.posix_model.specs.Sound.{added, ended, closes, adds, data_of, IsTold, Sound, data_most, FilesWithin}
 use Rattle.call_types.specs.declared.description.Target.TheVariants as target
 use Rattle.posix_model.specs.declared.world.File.TheVariants as file
 use Rattle.posix_model.specs.declared.change.FileEdit.TheVariants as on_files
 use Rattle.posix_model.specs.declared.change.ProcessEdit.TheVariants as on_process
 use Rattle.posix_model.specs.declared.change.TableEdit.TheVariants as on_table
-use Rattle.posix_model.proofs.PageLaws.{page_has, on_open_has, if_has, IsOf, unmet}
-use Rattle.posix_model.proofs.SlotLaws.{test_set, there_below, stands_there, lowest_is_least}
+use Rattle.posix_model.proofs.PageLaws.{if_has, IsOf, unmet}
+use Rattle.posix_model.proofs.SlotLaws.{test_set, there_below, stands_there, lowest_is_least, slot_set_there, set_within, set_other}
 
 -- what a call comes to is sound
 abbrev pub Answers : Bounds → World → ℕ → Call → Decided → Type 0
 Answers bounds w process c d = Sound bounds w process (act.Call c) d
 
 -- no bytes are taken where the total is 0
-none_taken : (c : Call) (most : ℕ) → took_in 0 (new_turn c) ≤ most
+pub none_taken : (c : Call) (most : ℕ) → took_in 0 (new_turn c) ≤ most
 none_taken c most = elim (is_some (payload_of c)) as (λ b. cond b (0 - 0) 0 ≤ most) [ true ↦ omega arith | false ↦ omega arith ]
 
 -- no process comes or goes, and the run stays open
-as_before : {act : Act} {outcome : Outcome} (w : World) → added act outcome ≡ 0 → adds w act ≡ 0 → ended act ≡ 0 → closes act ≡ false → IsTold w act outcome on_process.Nothing
+pub as_before : {act : Act} {outcome : Outcome} (w : World) → added act outcome ≡ 0 → adds w act ≡ 0 → ended act ≡ 0 → closes act ≡ false → IsTold w act outcome on_process.Nothing
 as_before w adds_none plans_none ends_none stays_open = record { added = sym adds_none; planned = sym plans_none; ended = sym ends_none; closed = sym stays_open; there = λ p h. cc }
 
 -- what only tells, and no bytes taken
-sound_tells : (bounds : Bounds) (w : World) (process : ℕ) (c : Call) (reply : Reply) → added (act.Call c) (Replied reply) ≡ 0 → adds w (act.Call c) ≡ 0 → total (Replied reply) ≡ 0 →
+pub sound_tells : (bounds : Bounds) (w : World) (process : ℕ) (c : Call) (reply : Reply) → added (act.Call c) (Replied reply) ≡ 0 → adds w (act.Call c) ≡ 0 → total (Replied reply) ≡ 0 →
     length (data_in (Replied reply)) ≤ data_most (act.Call c) → Answers bounds w process c (tells reply)
 sound_tells bounds w process c reply adds_none plans_none none brief = record {
   refusal = λ _ _ _. refl;
   processes = as_before w adds_none plans_none refl refl;
   own = λ n h. cc;
-  contents = λ _. refl;
-  brief = brief;
-  few = subst (λ n. took_in n (new_turn c) ≤ length (given (act.Call c))) (sym none) (none_taken c (length (given (act.Call c))));
+  files = λ _. record { files = λ _. refl; table = refl };
+  pipes = λ _. record { files = refl; made = refl; opened = refl };
+  brief = λ _. brief;
+  few = subst (λ n. took_in n (new_turn c) ≤ length (data_of w process (act.Call c))) (sym none) (none_taken c (length (data_of w process (act.Call c))));
   proper = λ _. record { files = tt; process = tt; table = tt };
   fits = λ _. record { files = tt; process = tt; table = tt; alone = λ h. cc; goes_alone = λ h. cc };
+  puts = tt;
   within_files = tt;
   within_table = λ _ _. tt;
 }
@@ -118,7 +118,7 @@ opened_stands w p (pos fd) o h = open_in w p fd (slot w.processes p) o refl h
 opened_stands w p (negsuc n) o h = cc
 
 -- the offset that a call on a descriptor moves is that of its own description
-own_offset : (w : World) (p : ℕ) (fd : ℤ) (o : OpenDescriptor) (n : ℕ) → opened w p fd ≡ Some o → Some o.number ≡ Some n → number_of w p fd ≡ Some n
+pub own_offset : (w : World) (p : ℕ) (fd : ℤ) (o : OpenDescriptor) (n : ℕ) → opened w p fd ≡ Some o → Some o.number ≡ Some n → number_of w p fd ≡ Some n
 own_offset w p fd o n is h = ap (option_map (λ x. x.number)) is ∙ h
 
 -- the file of a descriptor that is open on a regular one is there
@@ -128,17 +128,17 @@ regular_there files pipes (target.Regular f) regular there = there
 regular_there files pipes (target.Pipe pipe) regular there = cc
 regular_there files pipes (target.Fifo f pipe) regular there = cc
 
-not_false : (b : Bool) → not b ≡ false → b ≡ true
+pub not_false : (b : Bool) → not b ≡ false → b ≡ true
 not_false true h = refl
 not_false false h = cc
 
-file_there : (w : World) (p : ℕ) (o : OpenDescriptor) → IsOpenAt w p o → not (is_regular o) ≡ false → IsWhole w → is_regular_file (slot w.files (file_at o)) ≡ true
+pub file_there : (w : World) (p : ℕ) (o : OpenDescriptor) → IsOpenAt w p o → not (is_regular o) ≡ false → IsWhole w → is_regular_file (slot w.files (file_at o)) ≡ true
 file_there w p o at regular whole = regular_there w.files w.pipes o.description.target (not_false (is_regular o) regular) (whole.descriptions o.number o.description at.description_is)
 
-not_at_most : (a b : ℕ) → leb a b ≡ false → b < a
+pub not_at_most : (a b : ℕ) → leb a b ≡ false → b < a
 not_at_most a b h = grind (arith, nat_tests)
 
-not_below : (a b : ℕ) → ltb a b ≡ false → b ≤ a
+pub not_below : (a b : ℕ) → ltb a b ≡ false → b ≤ a
 not_below a b h = grind (arith, nat_tests)
 
 second_of_both : (a b : Bool) → (not a && b) ≡ false → a ≡ false → b ≡ false
@@ -155,16 +155,18 @@ put_below bounds start bytes clear some =
     let below : start < bounds.file_size = not_at_most bounds.file_size start (second_of_both (eqb (length bytes) 0) (leb bounds.file_size start) clear some) in
     (omega arith, omega (arith, below))
 
-sound_close : (bounds : Bounds) (w : World) (p : ℕ) (fd : ℤ) (o : OpenDescriptor) → IsOpenAt w p o → Answers bounds w p (call.Close fd) (close p o).effect
+pub sound_close : (bounds : Bounds) (w : World) (p : ℕ) (fd : ℤ) (o : OpenDescriptor) → IsOpenAt w p o → Answers bounds w p (call.Close fd) (close p o).effect
 sound_close bounds w p fd o at = record {
   refusal = λ _ _ h. cc;
   processes = as_before w refl refl refl refl;
   own = λ n h. cc;
-  contents = λ _. refl;
-  brief = omega arith;
+  files = λ _. record { files = λ _. refl; table = refl };
+  pipes = λ _. record { files = refl; made = refl; opened = refl };
+  brief = λ _. omega arith;
   few = omega arith;
   proper = λ _. record { files = tt; process = tt; table = tt };
   fits = λ _. record { files = tt; process = tt; table = record { process = at.process; process_is = at.process_is; within = at.within; there = λ n h. cc }; alone = λ h. cc; goes_alone = λ h. cc };
+  puts = tt;
   within_files = tt;
   within_table = λ _ _. tt;
 }
@@ -174,12 +176,12 @@ read_end : (there : List ℕ) (start count size most : ℕ) → length there ≤
 read_end there start count size most h k l = grind (arith, common_steps)
 
 -- what is read is no more than was asked
-read_few : (there : List ℕ) (start count most : ℕ) → count ≤ most → length (bytes_at there start count) ≤ most
+pub read_few : (there : List ℕ) (start count most : ℕ) → count ≤ most → length (bytes_at there start count) ≤ most
 read_few there start count most h = grind (arith, common_steps)
 
-sound_read : (bounds : Bounds) (w : World) (p : ℕ) (fd : ℤ) (count : ℕ) (o : OpenDescriptor) → opened w p fd ≡ Some o → first_fault (read_faults count o) ≡ None →
-    Answers bounds w p (call.Read fd count) (read w count o).effect
-sound_read bounds w p fd count o is free =
+pub sound_read_file : (bounds : Bounds) (w : World) (p : ℕ) (fd : ℤ) (count : ℕ) (o : OpenDescriptor) → opened w p fd ≡ Some o → first_fault (read_faults count o) ≡ None →
+    Answers bounds w p (call.Read fd count) (gives o (bytes_at (bytes_of w (file_at o)) o.description.offset count))
+sound_read_file bounds w p fd count o is free =
     let asked = not_below TRANSFER_MAX count (unmet (read_faults count o) free (ltb TRANSFER_MAX count) (search rules)) in
     let brief = read_few (bytes_of w (file_at o)) o.description.offset count TRANSFER_MAX asked in
     let got = bytes_at (bytes_of w (file_at o)) o.description.offset count in
@@ -190,21 +192,24 @@ sound_read bounds w p fd count o is free =
       refusal = λ _ _ h. cc;
       processes = as_before w refl refl refl refl;
       own = λ n h. own_offset w p fd o n is h;
-      contents = λ _. refl;
-      brief = brief;
+      files = λ _. record { files = λ _. refl; table = refl };
+      pipes = λ _. record { files = refl; made = refl; opened = refl };
+      brief = λ _. brief;
       few = omega arith;
       proper = λ _. record { files = tt; process = tt; table = tt };
       fits = λ _. record { files = tt; process = tt; table = ap is_some at.description_is; alone = λ h. cc; goes_alone = λ h. cc };
+      puts = tt;
       within_files = tt;
       within_table = λ small limits. read_end (bytes_of w (file_at o)) o.description.offset count bounds.file_size OFFSET_MAX (limits.files (file_at o)) small (limits.offsets o.number o.description at.description_is);
     })
 
-sound_write : (bounds : Bounds) (w : World) (p : ℕ) (fd : ℤ) (bytes : List ℕ) (start : ℕ) (o : OpenDescriptor) → opened w p fd ≡ Some o → first_fault (write_faults bounds start bytes o) ≡ None →
-    Answers bounds w p (call.Write fd bytes) (write_from bounds start bytes o).effect
-sound_write bounds w p fd bytes start o is free =
+pub sound_write_file : (bounds : Bounds) (w : World) (p : ℕ) (fd : ℤ) (bytes : List ℕ) (start : ℕ) (o : OpenDescriptor) → opened w p fd ≡ Some o → is_regular o ≡ true →
+    first_fault (write_faults bounds start bytes o) ≡ None → Answers bounds w p (call.Write fd bytes) (write_file bounds start bytes o)
+sound_write_file bounds w p fd bytes start o is on_file free =
     let at = opened_stands w p fd o is in
-    let regular = unmet (write_faults bounds start bytes o) free (not (is_regular o)) (search rules) in
-    let below_limit = unmet (write_faults bounds start bytes o) free (is_past_limit bounds start bytes) (search rules) in
+    let regular : not (is_regular o) ≡ false = ap not on_file in
+    let below_limit : is_past_limit bounds start bytes ≡ false =
+    ap (λ b. b && is_past_limit bounds start bytes) (sym on_file) ∙ unmet (write_faults bounds start bytes o) free (is_regular o && is_past_limit bounds start bytes) (search rules) in
     let n = fitting bounds start bytes in
     if_has (Answers bounds w p (call.Write fd bytes)) (eqb (length bytes) 0) (tells (Number 0)) (does (Number n) (on_files.Bytes (file_at o) start n) (on_table.Offset o.number (start + n)))
     (λ _. sound_tells bounds w p (call.Write fd bytes) (Number 0) refl refl refl (omega arith))
@@ -212,16 +217,18 @@ sound_write bounds w p fd bytes start o is free =
       refusal = λ _ _ h. cc;
       processes = as_before w refl refl refl refl;
       own = λ n h. own_offset w p fd o n is h;
-      contents = λ h. cc;
-      brief = omega arith;
+      files = λ h. cc;
+      pipes = λ _. record { files = refl; made = refl; opened = refl };
+      brief = λ _. omega arith;
       few = omega (arith, put.0);
       proper = λ small. record { files = (put.0, omega (arith, put.1, small)); process = tt; table = tt };
       fits = λ whole. record { files = file_there w p o at regular whole; process = tt; table = ap is_some at.description_is; alone = λ h. cc; goes_alone = λ h. cc };
+      puts = tt;
       within_files = put.1;
       within_table = λ small _. omega (arith, put.1, small);
     })
 
-sound_pwrite : (bounds : Bounds) (w : World) (p : ℕ) (fd start : ℤ) (bytes : List ℕ) (o : OpenDescriptor) → opened w p fd ≡ Some o → first_fault (pwrite_faults bounds start bytes o) ≡ None →
+pub sound_pwrite : (bounds : Bounds) (w : World) (p : ℕ) (fd start : ℤ) (bytes : List ℕ) (o : OpenDescriptor) → opened w p fd ≡ Some o → first_fault (pwrite_faults bounds start bytes o) ≡ None →
     Answers bounds w p (call.Pwrite fd start bytes) (pwrite bounds start bytes o).effect
 sound_pwrite bounds w p fd start bytes o is free =
     let at = opened_stands w p fd o is in
@@ -234,11 +241,13 @@ sound_pwrite bounds w p fd start bytes o is free =
       refusal = λ _ _ h. cc;
       processes = as_before w refl refl refl refl;
       own = λ n h. cc;
-      contents = λ h. cc;
-      brief = omega arith;
+      files = λ h. cc;
+      pipes = λ _. record { files = refl; made = refl; opened = refl };
+      brief = λ _. omega arith;
       few = omega (arith, put.0);
       proper = λ small. record { files = (put.0, omega (arith, put.1, small)); process = tt; table = tt };
       fits = λ whole. record { files = file_there w p o at regular whole; process = tt; table = tt; alone = λ h. cc; goes_alone = λ h. cc };
+      puts = tt;
       within_files = put.1;
       within_table = λ _ _. tt;
     })
@@ -248,22 +257,24 @@ sought_within : (to : ℤ) (o : OpenDescriptor) → first_fault (lseek_faults to
 sought_within (pos n) o free = not_below OFFSET_MAX n (unmet (lseek_faults (pos n) o) free (ltb OFFSET_MAX n) (search rules))
 sought_within (negsuc n) o free = let none = unmet (lseek_faults (negsuc n) o) free true (search rules) in cc
 
-sound_lseek : (bounds : Bounds) (w : World) (p : ℕ) (fd offset : ℤ) (from : Whence) (to : ℤ) (o : OpenDescriptor) → opened w p fd ≡ Some o → first_fault (lseek_faults to o) ≡ None →
+pub sound_lseek : (bounds : Bounds) (w : World) (p : ℕ) (fd offset : ℤ) (from : Whence) (to : ℤ) (o : OpenDescriptor) → opened w p fd ≡ Some o → first_fault (lseek_faults to o) ≡ None →
     Answers bounds w p (call.Lseek fd offset from) (lseek_to to o).effect
 sound_lseek bounds w p fd offset from to o is free = record {
   refusal = λ _ _ h. cc;
   processes = as_before w refl refl refl refl;
   own = λ n h. own_offset w p fd o n is h;
-  contents = λ _. refl;
-  brief = omega arith;
+  files = λ _. record { files = λ _. refl; table = refl };
+  pipes = λ _. record { files = refl; made = refl; opened = refl };
+  brief = λ _. omega arith;
   few = omega arith;
   proper = λ _. record { files = tt; process = tt; table = tt };
   fits = λ _. record { files = tt; process = tt; table = ap is_some (opened_stands w p fd o is).description_is; alone = λ h. cc; goes_alone = λ h. cc };
+  puts = tt;
   within_files = tt;
   within_table = λ _ _. sought_within to o free;
 }
 
-sound_ftruncate : (bounds : Bounds) (w : World) (p : ℕ) (fd len : ℤ) (o : OpenDescriptor) → IsOpenAt w p o → first_fault (ftruncate_faults bounds len o) ≡ None →
+pub sound_ftruncate : (bounds : Bounds) (w : World) (p : ℕ) (fd len : ℤ) (o : OpenDescriptor) → IsOpenAt w p o → first_fault (ftruncate_faults bounds len o) ≡ None →
     Answers bounds w p (call.Ftruncate fd len) (ftruncate bounds len o).effect
 sound_ftruncate bounds w p fd len o at free =
     let regular = unmet (ftruncate_faults bounds len o) free (not (is_regular o)) (search rules) in
@@ -272,11 +283,13 @@ sound_ftruncate bounds w p fd len o at free =
       refusal = λ _ _ h. cc;
       processes = as_before w refl refl refl refl;
       own = λ n h. cc;
-      contents = λ h. cc;
-      brief = omega arith;
+      files = λ h. cc;
+      pipes = λ _. record { files = refl; made = refl; opened = refl };
+      brief = λ _. omega arith;
       few = omega arith;
       proper = λ small. record { files = omega (arith, short, small); process = tt; table = tt };
       fits = λ whole. record { files = file_there w p o at regular whole; process = tt; table = tt; alone = λ h. cc; goes_alone = λ h. cc };
+      puts = tt;
       within_files = short;
       within_table = λ _ _. tt;
     }
@@ -295,12 +308,6 @@ regular_pushed : (files : List (Option File)) → is_regular_file (slot (files +
 regular_pushed [] = refl
 regular_pushed (f ∷ files) = regular_pushed files
 
--- what is there and no FIFO is a regular file
-no_fifo_regular : (x : Option File) → is_some x ≡ true → is_fifo x ≡ false → is_regular_file x ≡ true
-no_fifo_regular None there other = cc
-no_fifo_regular (Some (file.Regular bytes)) there other = refl
-no_fifo_regular (Some (file.Fifo fifo)) there other = cc
-
 -- the lowest free descriptor is free
 free_in : (w : World) (p fd : ℕ) (there : Option Process) → slot w.processes p ≡ there → lowest (table_of there) ≡ Some fd → IsFree w p fd
 free_in w p fd None here low = cc
@@ -312,7 +319,7 @@ free_is : (w : World) (p : ℕ) (low : Option ℕ) → lowest (table_of (slot w.
 free_is w p None e some = cc
 free_is w p (Some fd) e some = rw e (free_in w p fd (slot w.processes p) refl e)
 
-sound_dup : (bounds : Bounds) (w : World) (p : ℕ) (fd : ℤ) (o : OpenDescriptor) → IsOpenAt w p o → first_fault (dup w p o).faults ≡ None → Answers bounds w p (call.Dup fd) (dup w p o).effect
+pub sound_dup : (bounds : Bounds) (w : World) (p : ℕ) (fd : ℤ) (o : OpenDescriptor) → IsOpenAt w p o → first_fault (dup w p o).faults ≡ None → Answers bounds w p (call.Dup fd) (dup w p o).effect
 sound_dup bounds w p fd o at free =
     let low = lowest (table_of (slot w.processes p)) in
     let is = free_is w p low refl (unmet (dup w p o).faults free (is_none low) (search rules)) in
@@ -320,8 +327,9 @@ sound_dup bounds w p fd o at free =
       refusal = λ _ _ h. cc;
       processes = as_before w refl refl refl refl;
       own = λ n h. cc;
-      contents = λ _. refl;
-      brief = omega arith;
+      files = λ _. record { files = λ _. refl; table = refl };
+      pipes = λ _. record { files = refl; made = refl; opened = refl };
+      brief = λ _. omega arith;
       few = omega arith;
       proper = λ _. record { files = tt; process = tt; table = tt };
       fits = λ _. record {
@@ -331,6 +339,7 @@ sound_dup bounds w p fd o at free =
         alone = λ h. cc;
         goes_alone = λ h. cc;
       };
+      puts = tt;
       within_files = tt;
       within_table = λ _ _. tt;
     }
@@ -340,7 +349,7 @@ may_be_one : (to : ℤ) → is_no_descriptor to ≡ false → nat_abs to < OPEN_
 may_be_one (pos fd) h = not_at_most OPEN_MAX fd h
 may_be_one (negsuc n) h = cc
 
-sound_dup2 : (bounds : Bounds) (w : World) (p : ℕ) (fd to : ℤ) (o : OpenDescriptor) → IsOpenAt w p o → first_fault (dup2 p to o).faults ≡ None → Answers bounds w p (call.Dup2 fd to) (dup2 p to o).effect
+pub sound_dup2 : (bounds : Bounds) (w : World) (p : ℕ) (fd to : ℤ) (o : OpenDescriptor) → IsOpenAt w p o → first_fault (dup2 p to o).faults ≡ None → Answers bounds w p (call.Dup2 fd to) (dup2 p to o).effect
 sound_dup2 bounds w p fd to o at free =
     let few = may_be_one to (unmet (dup2 p to o).faults free (is_no_descriptor to) (search rules)) in
     if_has (Answers bounds w p (call.Dup2 fd to)) (eqb (nat_abs to) o.fd) (tells (Number (nat_abs to))) (does (Number (nat_abs to)) on_files.Nothing (on_table.Entry p (nat_abs to) (Some o.number)))
@@ -348,11 +357,13 @@ sound_dup2 bounds w p fd to o at free =
       refusal = λ _ _ h. cc;
       processes = as_before w refl refl refl refl;
       own = λ n h. cc;
-      contents = λ _. refl;
-      brief = omega arith;
+      files = λ _. record { files = λ _. refl; table = refl };
+      pipes = λ _. record { files = refl; made = refl; opened = refl };
+      brief = λ _. omega arith;
       few = omega arith;
       proper = λ _. record { files = tt; process = tt; table = tt };
       fits = λ _. record { files = tt; process = tt; table = tt; alone = λ h. cc; goes_alone = λ h. cc };
+      puts = tt;
       within_files = tt;
       within_table = λ _ _. tt;
     })
@@ -360,8 +371,9 @@ sound_dup2 bounds w p fd to o at free =
       refusal = λ _ _ h. cc;
       processes = as_before w refl refl refl refl;
       own = λ n h. cc;
-      contents = λ _. refl;
-      brief = omega arith;
+      files = λ _. record { files = λ _. refl; table = refl };
+      pipes = λ _. record { files = refl; made = refl; opened = refl };
+      brief = λ _. omega arith;
       few = omega arith;
       proper = λ _. record { files = tt; process = tt; table = tt };
       fits = λ whole. record {
@@ -376,22 +388,31 @@ sound_dup2 bounds w p fd to o at free =
         alone = λ h. cc;
         goes_alone = λ h. cc;
       };
+      puts = tt;
       within_files = tt;
       within_table = λ _ _. tt;
     })
+
+-- a free descriptor stays so where its process waits in a call
+parked_free : (w : World) (p fd : ℕ) (parked : Parked) → IsFree w p fd → IsFree (with_processes w (on_process.Park p parked)) p fd
+parked_free w p fd parked f = record {
+  process = with_parked (Some parked) f.process;
+  process_is = slot_set_there w.processes p f.process (option_map (with_parked (Some parked)) (slot w.processes p)) f.process_is ∙ ap (option_map (with_parked (Some parked))) f.process_is;
+  within = f.within;
+  free = f.free;
+}
 
 -- a free descriptor stays so where files change
 free_stays : (w v : World) (p fd : ℕ) → v.processes ≡ w.processes → IsFree w p fd → IsFree v p fd
 free_stays w v p fd same f = record { process = f.process; process_is = ap (λ ps. slot ps p) same ∙ f.process_is; within = f.within; free = f.free }
 
--- an open without a fault: a descriptor and a description are free, and so is a name where it makes one; what is found is no FIFO
-record CanOpenFound (w : World) (p : ℕ) (found : Option ℕ) : Type 0 where
-  free : IsFree w p (free_descriptor w p)
-  descriptions : live w.descriptions < DESCRIPTIONS_MAX
-  name : found ≡ None → length w.names < NAMES_MAX
-  regular : (f : ℕ) → found ≡ Some f → is_fifo (slot w.files f) ≡ false
+-- an open without a fault: a descriptor and a description are free, and so is a name where it makes one
+pub record CanOpenFound (w : World) (p : ℕ) (found : Option ℕ) : Type 0 where
+  pub free : IsFree w p (free_descriptor w p)
+  pub descriptions : live w.descriptions < DESCRIPTIONS_MAX
+  pub name : found ≡ None → length w.names < NAMES_MAX
 
-can_open : (w : World) (p : ℕ) (name : List ℕ) (flags : OpenFlags) (found : Option ℕ) → first_fault (open_faults w p name flags found) ≡ None → CanOpenFound w p found
+pub can_open : (w : World) (p : ℕ) (name : List ℕ) (flags : OpenFlags) (found : Option ℕ) → first_fault (open_faults w p name flags found) ≡ None → CanOpenFound w p found
 can_open w p name flags found h =
     let no : (b : Bool) → IsOf (open_faults w p name flags found) b → b ≡ false = unmet (open_faults w p name flags found) h in
     record {
@@ -399,52 +420,126 @@ can_open w p name flags found h =
       descriptions = not_at_most DESCRIPTIONS_MAX (live w.descriptions) (no (leb DESCRIPTIONS_MAX (live w.descriptions)) (search rules));
       name = λ e. not_at_most NAMES_MAX (length w.names)
           (let P : Option ℕ → Type 0 = λ x. (is_none x && leb NAMES_MAX (length w.names)) ≡ false in subst P e (no (is_none found && leb NAMES_MAX (length w.names)) (search rules)));
-      regular = λ f e. let P : Option ℕ → Type 0 = λ x. leads_to_fifo w x ≡ false in subst P e (no (leads_to_fifo w found) (search rules));
     }
 
-fits_emptied : (w : World) (p f : ℕ) (flags : OpenFlags) → IsFree w p (free_descriptor w p) → is_regular_file (slot w.files f) ≡ true → Fits w [] (opens w p (emptied f flags) (new_description f flags)).change
+fits_emptied : (w : World) (p f : ℕ) (flags : OpenFlags) → IsFree w p (free_descriptor w p) → is_regular_file (slot w.files f) ≡ true →
+    Fits w [] (opens w p (emptied f flags) (new_description (target.Regular f) flags)).change
 fits_emptied w p f flags free there =
-    elim (has flags flag.trunc) as (λ b. Fits w [] (opens w p (cond b (on_files.Resize f 0) on_files.Nothing) (new_description f flags)).change) [
-      | true ↦ record { files = there; process = tt; table = record { free = free_stays w (with_bytes w f []) p (free_descriptor w p) refl free; there = test_set is_regular_file w.files f (Some (file.Regular [])) f (sym there) ∙ there }; alone = λ h. cc; goes_alone = λ h. cc }
-      | false ↦ record { files = tt; process = tt; table = record { free = free; there = there }; alone = λ h. cc; goes_alone = λ h. cc }
+    elim (has flags flag.trunc) as (λ b. Fits w [] (opens w p (cond b (on_files.Resize f 0) on_files.Nothing) (new_description (target.Regular f) flags)).change) [
+      | true ↦ record {
+        files = there;
+        process = tt;
+        table = (record { free = free_stays w (with_bytes w f []) p (free_descriptor w p) refl free; there = test_set is_regular_file w.files f (Some (file.Regular [])) f (sym there) ∙ there }, λ g x q _ _ h. cc);
+        alone = λ h. cc;
+        goes_alone = λ h. cc;
+      }
+      | false ↦ record { files = tt; process = tt; table = (record { free = free; there = there }, λ g x q _ _ h. cc); alone = λ h. cc; goes_alone = λ h. cc }
     ]
 
-sound_open : (bounds : Bounds) (w : World) (p : ℕ) (name : List ℕ) (flags : OpenFlags) (found : Option ℕ) → file_of name w.names ≡ found → CanOpenFound w p found →
+-- what is there and no FIFO is a regular file
+regular_if : (x : Option File) → is_some x ≡ true → fifo_at x ≡ None → is_regular_file x ≡ true
+regular_if None there other = cc
+regular_if (Some (file.Regular bytes)) there other = refl
+regular_if (Some (file.Fifo fifo)) there other = cc
+
+fifo_if : (x : Option File) (fifo : Fifo) → fifo_at x ≡ Some fifo → is_fifo x ≡ true
+fifo_if None fifo h = cc
+fifo_if (Some (file.Regular bytes)) fifo h = cc
+fifo_if (Some (file.Fifo x)) fifo h = refl
+
+sound_open_file : (bounds : Bounds) (w : World) (p : ℕ) (name : List ℕ) (flags : OpenFlags) (f : ℕ) (found : Option ℕ) → (IsWhole w → is_regular_file (slot w.files f) ≡ true) → CanOpenFound w p found →
+    Answers bounds w p (call.Open name flags) (opens w p (emptied f flags) (new_description (target.Regular f) flags))
+sound_open_file bounds w p name flags f found there can = record {
+  refusal = λ _ _ h. cc;
+  processes = as_before w refl refl refl refl;
+  own = λ n h. cc;
+  files = λ h. cc;
+  pipes = λ h. cc;
+  brief = λ _. omega arith;
+  few = omega arith;
+  proper = λ small. elim (has flags flag.trunc) as (λ b. IsProper w [] (opens w p (cond b (on_files.Resize f 0) on_files.Nothing) (new_description (target.Regular f) flags)).change) [
+    | true ↦ record { files = omega arith; process = tt; table = can.descriptions }
+    | false ↦ record { files = tt; process = tt; table = can.descriptions }
+  ];
+  fits = λ whole. fits_emptied w p f flags can.free (there whole);
+  puts = elim (has flags flag.trunc) as (λ b. PutsWithin bounds.pipe_capacity w (cond b (on_files.Resize f 0) on_files.Nothing)) [ true ↦ tt | false ↦ tt ];
+  within_files = elim (has flags flag.trunc) as (λ b. FilesWithin bounds (cond b (on_files.Resize f 0) on_files.Nothing)) [ true ↦ omega arith | false ↦ tt ];
+  within_table = λ _ _. omega arith;
+}
+
+-- an end of a FIFO is opened, at once or by a call that waits
+sound_end : (bounds : Bounds) (w : World) (p : ℕ) (name : List ℕ) (flags : OpenFlags) (f : ℕ) (fifo : Fifo) (found : Option ℕ) → fifo_at (slot w.files f) ≡ Some fifo → CanOpenFound w p found →
+    Answers bounds w p (call.Open name flags) (open_end w p name flags f fifo)
+sound_end bounds w p name flags f fifo found is can =
+    let fd = free_descriptor w p in
+    let opens_it = opens_end w p flags f fifo in
+    let waits : Parked = waiting (call.Open name flags) fd 0 (opposite_openings (mode_of flags) (Some fifo)) in
+    let target_is : target.Fifo f (pipe_between w (Some fifo)) ≡ target.Fifo f (pipe_between w (fifo_at (slot w.files f))) = ap (λ x. target.Fifo f (pipe_between w x)) (sym is) in
+    if_has (Answers bounds w p (call.Open name flags)) (has flags flag.nonblocking || is_met w (mode_of flags) fifo) opens_it (parks p waits opens_it)
+    (λ _. record {
+      refusal = λ _ _ h. cc;
+      processes = as_before w refl refl refl refl;
+      own = λ n h. cc;
+      files = λ h. cc;
+      pipes = λ h. cc;
+      brief = λ _. omega arith;
+      few = omega arith;
+      proper = λ _. record { files = tt; process = tt; table = can.descriptions };
+      fits = λ _. record { files = tt; process = tt; table = record { free = can.free; there = fifo_if (slot w.files f) fifo is; target_is = target_is }; alone = λ h. cc; goes_alone = λ h. cc };
+      puts = tt;
+      within_files = tt;
+      within_table = λ _ _. omega arith;
+    })
+    (λ _. record {
+      refusal = λ _ _ h. cc;
+      processes = record { added = refl; planned = refl; ended = refl; closed = refl; there = λ q h. cc };
+      own = λ n h. cc;
+      files = λ h. cc;
+      pipes = λ h. cc;
+      brief = λ _. omega arith;
+      few = omega arith;
+      proper = λ _. record { files = tt; process = tt; table = can.descriptions };
+      fits = λ _. record {
+        files = tt;
+        process = record { there = stands_there w.processes p can.free.process can.free.process_is; few = tt };
+        table = record { free = parked_free w p fd waits can.free; there = fifo_if (slot w.files f) fifo is; target_is = target_is };
+        alone = λ h. cc;
+        goes_alone = λ h. cc;
+      };
+      puts = tt;
+      within_files = tt;
+      within_table = λ _ _. omega arith;
+    })
+
+sound_open_there : (bounds : Bounds) (w : World) (p : ℕ) (name : List ℕ) (flags : OpenFlags) (f : ℕ) → (IsWhole w → IsThere w.files f) → CanOpenFound w p (Some f) → (fifo : Option Fifo) →
+    fifo_at (slot w.files f) ≡ fifo → Answers bounds w p (call.Open name flags) (open_there w p name flags f fifo)
+sound_open_there bounds w p name flags f there can None is = sound_open_file bounds w p name flags f (Some f) (λ whole. regular_if (slot w.files f) (there whole) is) can
+sound_open_there bounds w p name flags f there can (Some fifo) is = sound_end bounds w p name flags f fifo (Some f) is can
+
+pub sound_open : (bounds : Bounds) (w : World) (p : ℕ) (name : List ℕ) (flags : OpenFlags) (found : Option ℕ) → file_of name w.names ≡ found → CanOpenFound w p found →
     Answers bounds w p (call.Open name flags) (open_found w p name flags found)
 sound_open bounds w p name flags None is can = record {
   refusal = λ _ _ h. cc;
   processes = as_before w refl refl refl refl;
   own = λ n h. cc;
-  contents = λ h. cc;
-  brief = omega arith;
+  files = λ h. cc;
+  pipes = λ h. cc;
+  brief = λ _. omega arith;
   few = omega arith;
   proper = λ _. record { files = (is, can.name refl); process = tt; table = can.descriptions };
-  fits = λ _. record { files = tt; process = tt; table = record { free = free_stays w (created w name) p (free_descriptor w p) refl can.free; there = regular_pushed w.files }; alone = λ h. cc; goes_alone = λ h. cc };
+  fits = λ _. record { files = tt; process = tt; table = (record { free = free_stays w (created w name (file.Regular [])) p (free_descriptor w p) refl can.free; there = regular_pushed w.files }, λ g x q _ _ h. cc); alone = λ h. cc; goes_alone = λ h. cc };
+  puts = tt;
   within_files = tt;
   within_table = λ _ _. omega arith;
 }
-sound_open bounds w p name flags (Some f) is can = record {
-  refusal = λ _ _ h. cc;
-  processes = as_before w refl refl refl refl;
-  own = λ n h. cc;
-  contents = λ h. cc;
-  brief = omega arith;
-  few = omega arith;
-  proper = λ small. elim (has flags flag.trunc) as (λ b. IsProper w [] (opens w p (cond b (on_files.Resize f 0) on_files.Nothing) (new_description f flags)).change) [
-    | true ↦ record { files = omega arith; process = tt; table = can.descriptions }
-    | false ↦ record { files = tt; process = tt; table = can.descriptions }
-  ];
-  fits = λ whole. fits_emptied w p f flags can.free (no_fifo_regular (slot w.files f) (found_there (IsThere w.files) name w.names f whole.names is) (can.regular f refl));
-  within_files = elim (has flags flag.trunc) as (λ b. FilesWithin bounds (cond b (on_files.Resize f 0) on_files.Nothing)) [ true ↦ omega arith | false ↦ tt ];
-  within_table = λ _ _. omega arith;
-}
+sound_open bounds w p name flags (Some f) is can = sound_open_there bounds w p name flags f (λ whole. found_there (IsThere w.files) name w.names f whole.names is) can (fifo_at (slot w.files f)) refl
 
 -- what is not there
 none_there : (x : Option ℕ) → is_some x ≡ false → x ≡ None
 none_there None h = refl
 none_there (Some n) h = cc
 
-sound_link : (bounds : Bounds) (w : World) (p : ℕ) (old new : List ℕ) (found : Option ℕ) → file_of old w.names ≡ found → first_fault (link_at w old new found).faults ≡ None →
+pub sound_link : (bounds : Bounds) (w : World) (p : ℕ) (old new : List ℕ) (found : Option ℕ) → file_of old w.names ≡ found → first_fault (link_at w old new found).faults ≡ None →
     Answers bounds w p (call.Link old new) (link_at w old new found).effect
 sound_link bounds w p old new None is free = let bad : true ≡ false = unmet (link_at w old new None).faults free true (search rules) in cc
 sound_link bounds w p old new (Some f) is free =
@@ -453,8 +548,9 @@ sound_link bounds w p old new (Some f) is free =
       refusal = λ _ _ h. cc;
       processes = as_before w refl refl refl refl;
       own = λ n h. cc;
-      contents = λ h. cc;
-      brief = omega arith;
+      files = λ h. cc;
+      pipes = λ _. record { files = refl; made = refl; opened = refl };
+      brief = λ _. omega arith;
       few = omega arith;
       proper = λ _. record {
         files = (none_there (file_of new w.names) (unmet faults free (is_some (file_of new w.names)) (search rules)), not_at_most NAMES_MAX (length w.names) (unmet faults free (leb NAMES_MAX (length w.names)) (search rules)));
@@ -462,6 +558,7 @@ sound_link bounds w p old new (Some f) is free =
         table = tt;
       };
       fits = λ whole. record { files = found_there (IsThere w.files) old w.names f whole.names is; process = tt; table = tt; alone = λ h. cc; goes_alone = λ h. cc };
+      puts = tt;
       within_files = tt;
       within_table = λ _ _. tt;
     }
@@ -471,31 +568,99 @@ some_there : (x : Option ℕ) → is_none x ≡ false → is_some x ≡ true
 some_there None h = cc
 some_there (Some n) h = refl
 
-sound_unlink : (bounds : Bounds) (w : World) (p : ℕ) (name : List ℕ) → first_fault (unlink_faults w name) ≡ None → Answers bounds w p (call.Unlink name) (unlink w name).effect
+pub sound_unlink : (bounds : Bounds) (w : World) (p : ℕ) (name : List ℕ) → first_fault (unlink_faults w name) ≡ None → Answers bounds w p (call.Unlink name) (unlink w name).effect
 sound_unlink bounds w p name free = record {
   refusal = λ _ _ h. cc;
   processes = as_before w refl refl refl refl;
   own = λ n h. cc;
-  contents = λ h. cc;
-  brief = omega arith;
+  files = λ h. cc;
+  pipes = λ _. record { files = refl; made = refl; opened = refl };
+  brief = λ _. omega arith;
   few = omega arith;
   proper = λ _. record { files = tt; process = tt; table = tt };
   fits = λ _. record { files = some_there (file_of name w.names) (unmet (unlink_faults w name) free (is_none (file_of name w.names)) (search rules)); process = tt; table = tt; alone = λ _. (refl, refl); goes_alone = λ h. cc };
+  puts = tt;
   within_files = tt;
   within_table = λ _ _. tt;
 }
 
+pub sound_mkfifo : (bounds : Bounds) (w : World) (p : ℕ) (name : List ℕ) → first_fault (mkfifo w name).faults ≡ None → Answers bounds w p (call.Mkfifo name) (mkfifo w name).effect
+sound_mkfifo bounds w p name free =
+    let faults = (mkfifo w name).faults in
+    record {
+      refusal = λ _ _ h. cc;
+      processes = as_before w refl refl refl refl;
+      own = λ n h. cc;
+      files = λ h. cc;
+      pipes = λ _. record { files = refl; made = refl; opened = refl };
+      brief = λ _. omega arith;
+      few = omega arith;
+      proper = λ _. record {
+        files = (none_there (file_of name w.names) (unmet faults free (is_some (file_of name w.names)) (search rules)), not_at_most NAMES_MAX (length w.names) (unmet faults free (leb NAMES_MAX (length w.names)) (search rules)));
+        process = tt;
+        table = tt;
+      };
+      fits = λ _. record { files = tt; process = tt; table = tt; alone = λ h. cc; goes_alone = λ h. cc };
+      puts = tt;
+      within_files = tt;
+      within_table = λ _ _. tt;
+    }
+
+-- two free descriptors of a process
+pair_free : (w : World) (p : ℕ) (there : Option Process) (pair : Option (ℕ × ℕ)) → slot w.processes p ≡ there → two_lowest (table_of there) ≡ pair → is_none pair ≡ false →
+    CanOpenPair w p (unwrap_or pair (0, 0)).0 (unwrap_or pair (0, 0)).1
+pair_free w p None pair here two some = let none : None ≡ pair = two in let bad : true ≡ false = ap is_none none ∙ some in cc
+pair_free w p (Some x) pair here two some = by_first (lowest x.table) refl two
+  where
+    by_second : (first : ℕ) (second : Option ℕ) → lowest x.table ≡ Some first → lowest (set x.table first (Some 0)) ≡ second → option_map (λ n. (first, n)) second ≡ pair →
+        CanOpenPair w p (unwrap_or pair (0, 0)).0 (unwrap_or pair (0, 0)).1
+    by_second first None low next is = let bad : true ≡ false = ap is_none is ∙ some in cc
+    by_second first (Some second) low next is =
+        let one = lowest_is_least x.table first low in
+        let other = lowest_is_least (set x.table first (Some 0)) second next in
+        let taken : slot (set x.table first (Some 0)) first ≡ Some 0 = set_within x.table first (Some 0) one.within in
+        let apart : first ≢ second = λ same. let full : ◌≡◌ {A = Option ℕ} (Some 0) None = sym taken ∙ (ap (slot (set x.table first (Some 0))) same ∙ other.free) in cc in
+        subst (λ (q : Option (ℕ × ℕ)). CanOpenPair w p (unwrap_or q (0, 0)).0 (unwrap_or q (0, 0)).1) is (record {
+          first = record { process = x; process_is = here; within = one.within; free = one.free };
+          second = record { process = x; process_is = here; within = omega (arith, other.within, length-set x.table first (Some 0)); free = sym (set_other x.table first second (Some 0) apart) ∙ other.free };
+          apart = apart;
+        })
+
+    by_first : (first : Option ℕ) → lowest x.table ≡ first → and_next x.table first ≡ pair → CanOpenPair w p (unwrap_or pair (0, 0)).0 (unwrap_or pair (0, 0)).1
+    by_first None low is = let bad : true ≡ false = ap is_none is ∙ some in cc
+    by_first (Some first) low is = by_second first (lowest (set x.table first (Some 0))) low refl is
+
+pub sound_pipe : (bounds : Bounds) (w : World) (p : ℕ) → first_fault (pipe_faults w p) ≡ None → Answers bounds w p call.Pipe (opens_pair p (free_pair w p))
+sound_pipe bounds w p free =
+    let pair = two_lowest (table_of (slot w.processes p)) in
+    let room = not_below DESCRIPTIONS_MAX (live w.descriptions + 2) (unmet (pipe_faults w p) free (ltb DESCRIPTIONS_MAX (live w.descriptions + 2)) (search rules)) in
+    let can = pair_free w p (slot w.processes p) pair refl refl (unmet (pipe_faults w p) free (is_none pair) (search rules)) in
+    record {
+      refusal = λ _ _ h. cc;
+      processes = as_before w refl refl refl refl;
+      own = λ n h. cc;
+      files = λ _. record { files = λ _. refl; table = refl };
+      pipes = λ h. cc;
+      brief = λ _. omega arith;
+      few = omega arith;
+      proper = λ _. record { files = tt; process = tt; table = room };
+      fits = λ _. record { files = tt; process = tt; table = can; alone = λ h. cc; goes_alone = λ h. cc };
+      puts = tt;
+      within_files = tt;
+      within_table = λ _ _. tt;
+    }
+
 -- an act that adds a process, where there may be a further one
-record AddsOne (w : World) (actor : ℕ) (a : Act) : Type 0 where
-  told : (n : ℕ) → added a (Replied (Number n)) ≡ 1
-  refused : (error : Errno) → added a (Replied (Error error)) ≡ 0
-  planned : adds w a ≡ cond (is_full w) 0 1
-  ended : ended a ≡ 0
-  closed : closes a ≡ false
-  few : (o : Outcome) → took w (record { actor = actor; act = a; outcome = o }) ≤ length (given a)
+pub record AddsOne (w : World) (actor : ℕ) (a : Act) : Type 0 where
+  pub told : (n : ℕ) → added a (Replied (Number n)) ≡ 1
+  pub refused : (error : Errno) → added a (Replied (Error error)) ≡ 0
+  pub planned : adds w a ≡ cond (is_full w) 0 1
+  pub ended : ended a ≡ 0
+  pub closed : closes a ≡ false
+  pub few : (o : Outcome) → took w (record { actor = actor; act = a; outcome = o }) ≤ length (data_of w actor a)
 
 -- it is refused or not
-sound_adds : (bounds : Bounds) (w : World) (actor : ℕ) (a : Act) (table : List (Option ℕ)) (attached : Bool) → AddsOne w actor a → (IsWhole w → CanAdd w table) →
+pub sound_adds : (bounds : Bounds) (w : World) (actor : ℕ) (a : Act) (table : List (Option ℕ)) (attached : Bool) → AddsOne w actor a → (IsWhole w → CanAdd w table) →
     Sound bounds w actor a (decided_by (record { faults = (is_full w, EAGAIN) ∷ []; effect = acts (Number (length w.processes)) (on_process.Add table attached) }))
 sound_adds bounds w actor a table attached one can = by_room (is_full w) refl
   where
@@ -504,11 +669,13 @@ sound_adds bounds w actor a table attached one can = by_room (is_full w) refl
       refusal = λ _ _ _. refl;
       processes = as_before w (one.refused EAGAIN) (rw e at one.planned) one.ended one.closed;
       own = λ n h. cc;
-      contents = λ _. refl;
-      brief = omega arith;
+      files = λ _. record { files = λ _. refl; table = refl };
+      pipes = λ _. record { files = refl; made = refl; opened = refl };
+      brief = λ _. omega arith;
       few = one.few (Replied (Error EAGAIN));
       proper = λ _. record { files = tt; process = tt; table = tt };
       fits = λ _. record { files = tt; process = tt; table = tt; alone = λ h. cc; goes_alone = λ h. cc };
+      puts = tt;
       within_files = tt;
       within_table = λ _ _. tt;
     }
@@ -516,11 +683,13 @@ sound_adds bounds w actor a table attached one can = by_room (is_full w) refl
       refusal = λ _ _ h. cc;
       processes = record { added = sym (one.told (length w.processes)); planned = sym (rw e at one.planned); ended = sym one.ended; closed = sym one.closed; there = λ p h. cc };
       own = λ n h. cc;
-      contents = λ _. refl;
-      brief = omega arith;
+      files = λ _. record { files = λ _. refl; table = refl };
+      pipes = λ _. record { files = refl; made = refl; opened = refl };
+      brief = λ _. omega arith;
       few = one.few (Replied (Number (length w.processes)));
       proper = λ _. record { files = tt; process = not_at_most PROCESSES_MAX (live w.processes) (second_of_either w.closed (leb PROCESSES_MAX (live w.processes)) e); table = tt };
       fits = λ whole. record { files = tt; process = can whole; table = tt; alone = λ h. cc; goes_alone = λ h. cc };
+      puts = tt;
       within_files = tt;
       within_table = λ _ _. tt;
     }
@@ -531,113 +700,11 @@ none_replicated zero n x P h = cc
 none_replicated (suc m) zero x P h = cc
 none_replicated (suc m) (suc n) x P h = none_replicated m n x P h
 
-free_can : (w : World) → CanAdd w free_table
+pub free_can : (w : World) → CanAdd w free_table
 free_can w = record { there = λ n x h. none_replicated OPEN_MAX n x (IsThere w.descriptions x) h; all = refl }
 
 -- the descriptors of a parent refer to what is there
-copied_can : (w : World) (parent : Option Process) → ((x : Process) → parent ≡ Some x → EachThere (IsThere w.descriptions) x.table) → ((x : Process) → parent ≡ Some x → length x.table ≡ OPEN_MAX) →
+pub copied_can : (w : World) (parent : Option Process) → ((x : Process) → parent ≡ Some x → EachThere (IsThere w.descriptions) x.table) → ((x : Process) → parent ≡ Some x → length x.table ≡ OPEN_MAX) →
     CanAdd w (copied_table parent)
 copied_can w None there all = free_can w
 copied_can w (Some x) there all = record { there = there x refl; all = all x refl }
-
--- one case for each call
-pub calls_are_sound : CallsAreSound
-calls_are_sound bounds w p (call.Open name flags) =
-    let found = file_of name w.names in
-    page_has (Answers bounds w p (call.Open name flags)) (open_file w p name flags) (sound_refused bounds w p (call.Open name flags) refl)
-    (λ free. sound_open bounds w p name flags found refl (can_open w p name flags found free))
-calls_are_sound bounds w p (call.Close fd) =
-    on_open_has (Answers bounds w p (call.Close fd)) (opened w p fd) (close p) (sound_refused bounds w p (call.Close fd) refl) (λ o is _. sound_close bounds w p fd o (opened_stands w p fd o is))
-calls_are_sound bounds w p (call.Read fd count) =
-    on_open_has (Answers bounds w p (call.Read fd count)) (opened w p fd) (read w count) (sound_refused bounds w p (call.Read fd count) refl) (λ o is free. sound_read bounds w p fd count o is free)
-calls_are_sound bounds w p (call.Write fd bytes) =
-    on_open_has (Answers bounds w p (call.Write fd bytes)) (opened w p fd) (write bounds w bytes) (sound_refused bounds w p (call.Write fd bytes) refl)
-    (λ o is free. sound_write bounds w p fd bytes (write_start o.description (length (bytes_of w (file_at o)))) o is free)
-calls_are_sound bounds w p (call.Pread fd start count) =
-    on_open_has (Answers bounds w p (call.Pread fd start count)) (opened w p fd) (pread w start count) (sound_refused bounds w p (call.Pread fd start count) refl)
-    (λ o is free.
-    let asked = not_below TRANSFER_MAX count (unmet (pread_faults start count o) free (ltb TRANSFER_MAX count) (search rules)) in
-    let there = bytes_of w (file_at o) in
-    sound_tells bounds w p (call.Pread fd start count) (Data (bytes_at there (bytes_before start) count)) refl refl refl (read_few there (bytes_before start) count TRANSFER_MAX asked))
-calls_are_sound bounds w p (call.Pwrite fd start bytes) =
-    on_open_has (Answers bounds w p (call.Pwrite fd start bytes)) (opened w p fd) (pwrite bounds start bytes) (sound_refused bounds w p (call.Pwrite fd start bytes) refl)
-    (λ o is free. sound_pwrite bounds w p fd start bytes o is free)
-calls_are_sound bounds w p (call.Lseek fd offset from) =
-    on_open_has (Answers bounds w p (call.Lseek fd offset from)) (opened w p fd) (lseek w offset from) (sound_refused bounds w p (call.Lseek fd offset from) refl)
-    (λ o is free. sound_lseek bounds w p fd offset from (pos (base_of w o from) +ℤ offset) o is free)
-calls_are_sound bounds w p (call.Ftruncate fd len) =
-    on_open_has (Answers bounds w p (call.Ftruncate fd len)) (opened w p fd) (ftruncate bounds len) (sound_refused bounds w p (call.Ftruncate fd len) refl)
-    (λ o is free. sound_ftruncate bounds w p fd len o (opened_stands w p fd o is) free)
-calls_are_sound bounds w p (call.Dup fd) =
-    on_open_has (Answers bounds w p (call.Dup fd)) (opened w p fd) (dup w p) (sound_refused bounds w p (call.Dup fd) refl) (λ o is free. sound_dup bounds w p fd o (opened_stands w p fd o is) free)
-calls_are_sound bounds w p (call.Dup2 fd to) =
-    on_open_has (Answers bounds w p (call.Dup2 fd to)) (opened w p fd) (dup2 p to) (sound_refused bounds w p (call.Dup2 fd to) refl) (λ o is free. sound_dup2 bounds w p fd to o (opened_stands w p fd o is) free)
-calls_are_sound bounds w p (call.Link old new) =
-    page_has (Answers bounds w p (call.Link old new)) (link w old new) (sound_refused bounds w p (call.Link old new) refl) (λ free. sound_link bounds w p old new (file_of old w.names) refl free)
-calls_are_sound bounds w p (call.Unlink name) =
-    page_has (Answers bounds w p (call.Unlink name)) (unlink w name) (sound_refused bounds w p (call.Unlink name) refl) (λ free. sound_unlink bounds w p name free)
-calls_are_sound bounds w p (call.Fstat fd) =
-    on_open_has (Answers bounds w p (call.Fstat fd)) (opened w p fd) (fstat w) (sound_refused bounds w p (call.Fstat fd) refl)
-    (λ o is _. sound_tells bounds w p (call.Fstat fd) (Told (stat_of w o.description.target)) refl refl refl (omega arith))
-calls_are_sound bounds w p call.Fork =
-    sound_adds bounds w p (act.Call call.Fork) (copied_table (slot w.processes p)) false (record { told = λ _. refl; refused = λ _. refl; planned = refl; ended = refl; closed = refl; few = λ _. omega arith })
-    (λ whole. copied_can w (slot w.processes p) (whole.processes p) (whole.tables p))
-
--- what is of one process alone
-alone_sound : (bounds : Bounds) (w : World) (actor : ℕ) (a : Act) (edit : ProcessEdit) → IsTold w a (Replied Done) edit → took w (record { actor = actor; act = a; outcome = Replied Done }) ≤ length (given a) →
-    ProcessProper w edit → (IsWhole w → ProcessFits w edit) → Sound bounds w actor a (acts Done edit)
-alone_sound bounds w actor a edit told few proper fits = record {
-  refusal = λ _ _ h. cc;
-  processes = told;
-  own = λ n h. cc;
-  contents = λ _. refl;
-  brief = omega arith;
-  few = few;
-  proper = λ _. record { files = tt; process = proper; table = tt };
-  fits = λ whole. record { files = tt; process = fits whole; table = tt; alone = λ h. cc; goes_alone = λ _. (refl, refl) };
-  within_files = tt;
-  within_table = λ _ _. tt;
-}
-
-sound_attach : (bounds : Bounds) (w : World) (actor : ℕ) → Sound bounds w actor act.Attach (decided_by (attach w actor))
-sound_attach bounds w actor = page_has (Sound bounds w actor act.Attach) (attach w actor)
-    (λ error. record {
-      refusal = λ _ _ _. refl;
-      processes = as_before w refl refl refl refl;
-      own = λ n h. cc;
-      contents = λ _. refl;
-      brief = omega arith;
-      few = omega arith;
-      proper = λ _. record { files = tt; process = tt; table = tt };
-      fits = λ _. record { files = tt; process = tt; table = tt; alone = λ h. cc; goes_alone = λ h. cc };
-      within_files = tt;
-      within_table = λ _ _. tt;
-    })
-    (λ free. alone_sound bounds w actor act.Attach (on_process.Attach actor) (record { added = refl; planned = refl; ended = refl; closed = refl; there = λ p h. cc }) (omega arith) tt
-    (λ _. there_if (slot w.processes actor) (not_false (awaits (slot w.processes actor)) (unmet (attach w actor).faults free (not (awaits (slot w.processes actor))) (search rules)))))
-  where
-    there_if : (x : Option Process) → awaits x ≡ true → is_some x ≡ true
-    there_if None h = cc
-    there_if (Some x) h = refl
-
-sound_exit : (bounds : Bounds) (w : World) (actor : ℕ) → IsThere w.processes actor → Sound bounds w actor act.Exit (exit actor)
-sound_exit bounds w actor there = alone_sound bounds w actor act.Exit (on_process.Exit actor)
-    (record { added = refl; planned = refl; ended = refl; closed = refl; there = λ p h. let same : actor ≡ p = cc in subst (IsThere w.processes) same there }) (omega arith) tt (λ _. there)
-
-sound_close_run : (bounds : Bounds) (w : World) (actor : ℕ) → Sound bounds w actor act.CloseRun close_run
-sound_close_run bounds w actor = alone_sound bounds w actor act.CloseRun on_process.Close (record { added = refl; planned = refl; ended = refl; closed = refl; there = λ p h. cc }) (omega arith) tt (λ _. tt)
-
-where_may : (Has : Decided → Type 0) (b : Bool) (x d : Decided) → (b ≡ true → Has x) → cond b (Some x) None ≡ Some d → Has d
-where_may Has true x d has h = let is : x ≡ d = cc in subst Has is (has refl)
-where_may Has false x d has h = cc
-
-pub acts_are_sound : ActsAreSound
-acts_are_sound bounds w actor act.Join d h =
-    where_may (Sound bounds w actor act.Join) (eqb actor (length w.processes)) (decided_by (join w)) d
-    (λ _. sound_adds bounds w actor act.Join free_table true (record { told = λ _. refl; refused = λ _. refl; planned = refl; ended = refl; closed = refl; few = λ _. omega arith }) (λ _. free_can w)) h
-acts_are_sound bounds w actor act.Attach d h = where_may (Sound bounds w actor act.Attach) true (decided_by (attach w actor)) d (λ _. sound_attach bounds w actor) h
-acts_are_sound bounds w actor (act.Call c) d h = where_may (Answers bounds w actor c) (can_call (slot w.processes actor)) (decided bounds w actor c) d (λ _. calls_are_sound bounds w actor c) h
-acts_are_sound bounds w actor act.Resume d h = cc
-acts_are_sound bounds w actor act.Exit d h = where_may (Sound bounds w actor act.Exit) (is_some (slot w.processes actor)) (exit actor) d (λ there. sound_exit bounds w actor there) h
-acts_are_sound bounds w actor act.CloseRun d h =
-    where_may (Sound bounds w actor act.CloseRun) (eqb actor HOUSE && not w.closed) close_run d (λ _. sound_close_run bounds w actor) h

@@ -15,7 +15,7 @@ use Rattle.posix_model.specs.declared.world.File.TheVariants as file
 use Rattle.call_types.specs.declared.description.Mode.TheVariants as mode
 use Rattle.call_types.specs.declared.description.Target.TheVariants as target
 use Rattle.posix_model.proofs.SlotLaws.{kept_as_is, stays_thinned, there_below, stands_there, not_there, kept_stood, length_kept, counted}
-use Rattle.posix_model.proofs.ChangeLaws.{Goes}
+use Rattle.posix_model.proofs.ChangeLaws.{Goes, HasPipe, its_from, apart_from}
 use Rattle.posix_model.proofs.SweepLaws.{length_mapped, slot_mapped, sweep_leaves_there}
 
 rises_thinned : {T : Type 0} (xs ys : List (Option T)) (keeps : ℕ → Bool) → length ys ≡ length xs →
@@ -151,6 +151,20 @@ descriptor_counted ps p process fd n h k =
     let least = rw h at (get_or-le-sum_by (refs_of n) ps p None (there_below ps p (stands_there ps p process h))) in
     above (refs ps n) (omega arith)
 
+-- a swept FIFO had its pipe before
+pipe_stood : (w : World) (old : Option File) (x : Fifo) (p : ℕ) → without_gone_pipe (sweep w).descriptions old ≡ Some (file.Fifo x) → x.pipe ≡ Some p → (y : Fifo) × (old ≡ Some (file.Fifo y)) × (y.pipe ≡ Some p)
+pipe_stood w None x p h k = cc
+pipe_stood w (Some (file.Regular bytes)) x p h k = cc
+pipe_stood w (Some (file.Fifo y)) x p h k =
+    let ds = (sweep w).descriptions in
+    let same : record y { pipe = open_pipe ds y.pipe } ≡ x = cc in
+    (y, refl, (open_stays ds y.pipe p (ap (λ (z : Fifo). z.pipe) same ∙ k)).1)
+
+had_pipe : (w : World) (g p : ℕ) → HasPipe (sweep w).files g p → HasPipe w.files g p
+had_pipe w g p h =
+    let was = pipe_stood w (slot w.files g) h.fifo p (file_stood w g (file.Fifo h.fifo) h.stands) h.its_pipe in
+    record { fifo = was.0; stands = was.1; its_pipe = was.2 }
+
 sweep_whole : (w : World) → IsWhole w → IsWhole (sweep w)
 sweep_whole w whole =
     let ds = (sweep w).descriptions in
@@ -164,6 +178,9 @@ sweep_whole w whole =
           fifo_kept w (slot w.files n) x (file_stood w n x h) (whole.fifos n);
       processes = λ p process h fd n k.
           stays (is_some (slot ds n)) (is_some (slot w.descriptions n)) (is_referred w.processes n) ((sweep_leaves_there w).descriptions n) (whole.processes p process h fd n k) (descriptor_counted w.processes p process fd n h k);
+      ends = λ n d h. its_from w.files (sweep w).files d.target (had_pipe w) (whole.ends n d (kept_stood (is_referred w.processes) 0 w.descriptions n d h));
+      apart = apart_from w.files (sweep w).files (had_pipe w) whole.apart;
+      waits = whole.waits;
       tables = whole.tables;
     }
 

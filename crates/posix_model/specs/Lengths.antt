@@ -7,6 +7,7 @@ use Rattle.call_types.specs.declared.act.Act.TheVariants as act
 use Rattle.call_types.specs.declared.outcome.Outcome.TheVariants as outcome
 use Rattle.call_types.specs.declared.outcome.Reply.TheVariants as reply
 use Rattle.posix_model.specs.Step.{Stepped, step}
+use Rattle.posix_model.specs.Whole.{IsWhole}
 
 -- the bytes of an act: one, and the fields of a call
 abbrev pub act_length : Act → ℕ
@@ -33,7 +34,7 @@ abbrev pub IsShort : Act → Type 0
 IsShort (act.Call c) = FieldsShort (parts c).entry.fields (parts c).values
 IsShort other = Unit {0}
 
--- so no record of a step is longer than a record may be
+-- so no record of a step from a world in which nothing refers to what is gone is longer than a record may be
 abbrev pub StepIsShort : Type 0
-StepIsShort = (bounds : Bounds) (w : World) (actor : ℕ) (act : Act) (s : Stepped) → step bounds w actor act ≡ Some s → IsShort act →
+StepIsShort = (bounds : Bounds) (w : World) (actor : ℕ) (act : Act) (s : Stepped) → IsWhole w → step bounds w actor act ≡ Some s → IsShort act →
     record_length (record { actor = actor; act = act; outcome = s.outcome }) ≤ RECORD_LENGTH_MAX

@@ -6,8 +6,10 @@ pub mod Whole
 pub mod Numbers
 pub mod Descriptors
 pub mod Positions
+pub mod Pipes
 pub mod Change
 pub mod Pages
+pub mod Tries
 pub mod Open
 pub mod Close
 pub mod Read
@@ -18,6 +20,8 @@ pub mod Lseek
 pub mod Ftruncate
 pub mod Dup
 pub mod Dup2
+pub mod Pipe
+pub mod Mkfifo
 pub mod Link
 pub mod Unlink
 pub mod Fstat
@@ -25,6 +29,7 @@ pub mod Join
 pub mod Fork
 pub mod Attach
 pub mod Exit
+pub mod Resume
 pub mod Step
 pub mod History
 pub mod Turns
@@ -34,3 +39,5 @@ pub mod Lengths
 pub mod Released
 pub mod Drops
 pub mod Laws
+pub mod PipeRecord
+pub mod WaitLaws

@@ -2,10 +2,10 @@
 use Rattle.std.specs.Prelude.{◌≡◌, ◌≢◌, ℕ, ◌+◌, ◌<◌, true, List, Option, None, Some, is_some, slice_set, if◌then◌else◌}
 use Rattle.slots.specs.Slots.{slot}
 use Rattle.call_types.specs.Names.{Entries}
-use Rattle.posix_model.specs.Counts.{links, refs, holders, readers, writers, is_pipe, is_file}
+use Rattle.posix_model.specs.Counts.{links, refs, holders, readers, writers}
+use Rattle.posix_model.specs.Whole.{IsItsFifo}
 use Rattle.posix_model.specs.Sweep.{is_referred, is_open, is_wanted, without_gone_pipe, sweep}
-use Rattle.posix_model.specs.Types.{World, Process, Description, Target, File, Fifo}
-use Rattle.posix_model.specs.declared.world.File.TheVariants as file
+use Rattle.posix_model.specs.Types.{World, Process, Description, Target, File}
 use Rattle.call_types.specs.declared.description.Target.TheVariants as target
 
 -- a description goes where nothing refers to it
@@ -50,10 +50,6 @@ pub record IsSettled (w : World) : Type 0 where
   pub pipes : (n : ℕ) → is_some (slot w.pipes n) ≡ true → 0 < readers w.descriptions n + writers w.descriptions n
   pub fifos : (n : ℕ) → without_gone_pipe w.descriptions (slot w.files n) ≡ slot w.files n
   pub files : (n : ℕ) → is_some (slot w.files n) ≡ true → 0 < links w.names n + holders w.descriptions n
-
--- a FIFO whose pipe this target is an end of is the target's file
-abbrev pub IsItsFifo : List (Option File) → Target → Type 0
-IsItsFifo files t = (g : ℕ) (x : Fifo) (p : ℕ) → slot files g ≡ Some (file.Fifo x) → x.pipe ≡ Some p → is_pipe p t ≡ true → is_file g t ≡ true
 
 abbrev pub SweptIsSettled : Type 0
 SweptIsSettled = (w : World) → sweep w ≡ w → IsSettled w

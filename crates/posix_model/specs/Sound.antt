@@ -1,18 +1,18 @@
 -- What holds of all that acts come to: one record, which is proved by one lemma for each call.
-use Rattle.std.specs.Prelude.{◌≡◌, ℕ, ◌+◌, ◌≤◌, Bool, true, false, Option, None, Some, length, is_some, is_none, ◌&&◌, if◌then◌else◌}
+use Rattle.std.specs.Prelude.{◌≡◌, ℕ, ◌+◌, ◌≤◌, Bool, true, false, List, [], Option, None, Some, length, is_some, is_none, ◌&&◌, if◌then◌else◌, unwrap_or}
 use Rattle.std.specs.Option.{option_map_or}
 use Rattle.call_types.specs.CallTable.{descriptor_of, payload_of}
-use Rattle.posix_model.specs.Types.{Call, Act, Outcome, Errno, Bounds, World, FileEdit, ProcessEdit, TableEdit, Decided, OPEN_MAX, NAMES_MAX, DESCRIPTIONS_MAX, PROCESSES_MAX, OFFSET_MAX, TRANSFER_MAX, Replied, Error, Number}
+use Rattle.posix_model.specs.Types.{Call, Act, Outcome, Errno, Bounds, World, FileEdit, ProcessEdit, TableEdit, Change, Decided, OPEN_MAX, NAMES_MAX, DESCRIPTIONS_MAX, PROCESSES_MAX, OFFSET_MAX, TRANSFER_MAX, Replied, Error, Number}
 use Rattle.call_types.specs.declared.act.Act.TheVariants as act
 use Rattle.call_types.specs.declared.call.Call.TheVariants as call
 use Rattle.slots.specs.Slots.{live}
 use Rattle.posix_model.specs.Whole.{IsThere, IsWhole, EachThere}
-use Rattle.posix_model.specs.Descriptors.{number_of, bytes_of}
+use Rattle.posix_model.specs.Descriptors.{number_of, bytes_of, held_in}
 use Rattle.posix_model.specs.Pages.{no_change}
 use Rattle.posix_model.specs.Join.{is_full}
-use Rattle.posix_model.specs.Fits.{Fits, IsProper}
+use Rattle.posix_model.specs.Fits.{Fits, IsProper, PutsWithin}
 use Rattle.posix_model.specs.Step.{given, decided, comes_to}
-use Rattle.posix_model.specs.Turns.{took, data_in}
+use Rattle.posix_model.specs.Turns.{turn, took, data_in}
 use Rattle.posix_model.specs.declared.change.FileEdit.TheVariants as on_files
 use Rattle.posix_model.specs.declared.change.ProcessEdit.TheVariants as on_process
 use Rattle.posix_model.specs.declared.change.TableEdit.TheVariants as on_table
@@ -56,7 +56,12 @@ is_resume other = false
 -- how many bytes of data an act may be told: none where it gives data itself, or is on no descriptor
 abbrev pub data_most : Act → ℕ
 data_most (act.Call c) = if is_some (descriptor_of c) && is_none (payload_of c) then TRANSFER_MAX else 0
+data_most act.Resume = TRANSFER_MAX
 data_most other = 0
+
+-- the data that an act is to take bytes from: that of its own call, or of the one that its process waits in
+abbrev pub data_of : World → ℕ → Act → List ℕ
+data_of w actor act = option_map_or (λ t. unwrap_or (payload_of t.call) []) (turn w actor act) []
 
 -- how many processes an act is to add, before its outcome is known
 abbrev pub adds : World → Act → ℕ
@@ -82,20 +87,58 @@ abbrev pub number_at : World → ℕ → Act → Option ℕ
 number_at w actor (act.Call c) = option_map_or (number_of w actor) (descriptor_of c) None
 number_at w actor other = None
 
--- whether an act may change a file, a name or a pipe, but for what a sweep takes
-abbrev pub may_change_contents : Act → Bool
-may_change_contents (act.Call (call.Open name flags)) = true
-may_change_contents (act.Call (call.Write fd bytes)) = true
-may_change_contents (act.Call (call.Pwrite fd start bytes)) = true
-may_change_contents (act.Call (call.Ftruncate fd len)) = true
-may_change_contents (act.Call (call.Link old new)) = true
-may_change_contents (act.Call (call.Unlink name)) = true
-may_change_contents other = false
+-- whether an act may change a file or a name, but for what a sweep takes
+abbrev pub may_change_files : Act → Bool
+may_change_files (act.Call (call.Open name flags)) = true
+may_change_files (act.Call (call.Write fd bytes)) = true
+may_change_files (act.Call (call.Pwrite fd start bytes)) = true
+may_change_files (act.Call (call.Ftruncate fd len)) = true
+may_change_files (act.Call (call.Mkfifo name)) = true
+may_change_files (act.Call (call.Link old new)) = true
+may_change_files (act.Call (call.Unlink name)) = true
+may_change_files other = false
 
--- no file is too long, no offset too great, each process has so many descriptors, and there are no more names, live
+-- whether an act may change a pipe, but for what a sweep takes
+abbrev pub may_change_pipes : Act → Bool
+may_change_pipes (act.Call (call.Open name flags)) = true
+may_change_pipes (act.Call (call.Read fd count)) = true
+may_change_pipes (act.Call (call.Write fd bytes)) = true
+may_change_pipes (act.Call call.Pipe) = true
+may_change_pipes act.Resume = true
+may_change_pipes other = false
+
+-- whether an edit of files is one of pipes alone
+abbrev pub is_of_pipes : FileEdit → Bool
+is_of_pipes (on_files.Put pipe source count) = true
+is_of_pipes (on_files.Take pipe count) = true
+is_of_pipes other = false
+
+-- whether an edit of descriptors makes a pipe
+abbrev pub makes_pipe : TableEdit → Bool
+makes_pipe (on_table.OpenPair process reading writing) = true
+makes_pipe other = false
+
+-- whether an edit of descriptors opens an end of a FIFO
+abbrev pub opens_fifo : TableEdit → Bool
+opens_fifo (on_table.OpenEnd process fd file description) = true
+opens_fifo other = false
+
+-- a change leaves the files and the names, but for what a sweep takes
+pub record LeavesFiles (c : Change) : Type 0 where
+  pub files : is_of_pipes c.files ≡ false → c.files ≡ on_files.Nothing
+  pub table : opens_fifo c.table ≡ false
+
+-- a change leaves the pipes, but for what a sweep takes
+pub record LeavesPipes (c : Change) : Type 0 where
+  pub files : is_of_pipes c.files ≡ false
+  pub made : makes_pipe c.table ≡ false
+  pub opened : opens_fifo c.table ≡ false
+
+-- no file is too long, no pipe holds too much, no offset is too great, each process has so many descriptors, and there are no more names, live
 -- descriptions and live processes than there may be (own)
 pub record WithinLimits (bounds : Bounds) (w : World) : Type 0 where
   pub files : (file : ℕ) → length (bytes_of w file) ≤ bounds.file_size
+  pub pipes : (pipe : ℕ) → held_in w pipe ≤ bounds.pipe_capacity
   pub offsets : EachThere (λ description. description.offset ≤ OFFSET_MAX) w.descriptions
   pub tables : EachThere (λ process. length process.table ≡ OPEN_MAX) w.processes
   pub names : length w.names ≤ NAMES_MAX
@@ -112,18 +155,21 @@ FilesWithin bounds other = Unit {0}
 abbrev pub TableWithin : TableEdit → Type 0
 TableWithin (on_table.Offset number offset) = offset ≤ OFFSET_MAX
 TableWithin (on_table.Open process fd description) = description.offset ≤ OFFSET_MAX
+TableWithin (on_table.OpenEnd process fd file description) = description.offset ≤ OFFSET_MAX
 TableWithin other = Unit {0}
 
 -- what an act comes to: a refusal changes nothing, but for that of a resume; it adds and ends as many processes as it tells; it moves no offset but that of its
--- own descriptor; it changes no file, name or pipe where it may not; it takes no more bytes than it gives, and is told no more
--- than it may be; and its change can be made, within all limits. The limit of sizes is at most the greatest offset
+-- own descriptor; it changes no file, name or pipe where it may not; it takes no more bytes than its call gives, and is told no more
+-- than it may be; it puts no more into a pipe than it has room for; and its change can be made, within all limits. The limit of sizes is at most the greatest offset
 pub record Sound (bounds : Bounds) (w : World) (actor : ℕ) (act : Act) (d : Decided) : Type 0 where
   pub refusal : is_resume act ≡ false → (error : Errno) → d.outcome ≡ Replied (Error error) → d.change ≡ no_change
   pub processes : IsTold w act d.outcome d.change.process
   pub own : (n : ℕ) → moved_offset d.change.table ≡ Some n → number_at w actor act ≡ Some n
-  pub contents : may_change_contents act ≡ false → d.change.files ≡ on_files.Nothing
-  pub brief : length (data_in d.outcome) ≤ data_most act
-  pub few : took w (record { actor = actor; act = act; outcome = d.outcome }) ≤ length (given act)
+  pub files : may_change_files act ≡ false → LeavesFiles d.change
+  pub pipes : may_change_pipes act ≡ false → LeavesPipes d.change
+  pub brief : IsWhole w → length (data_in d.outcome) ≤ data_most act
+  pub few : took w (record { actor = actor; act = act; outcome = d.outcome }) ≤ length (data_of w actor act)
+  pub puts : PutsWithin bounds.pipe_capacity w d.change.files
   pub proper : bounds.file_size ≤ OFFSET_MAX → IsProper w (given act) d.change
   pub fits : IsWhole w → Fits w (given act) d.change
   pub within_files : FilesWithin bounds d.change.files

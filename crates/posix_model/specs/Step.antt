@@ -25,6 +25,9 @@ use Rattle.posix_model.specs.Lseek.{lseek}
 use Rattle.posix_model.specs.Ftruncate.{ftruncate}
 use Rattle.posix_model.specs.Dup.{dup}
 use Rattle.posix_model.specs.Dup2.{dup2}
+use Rattle.posix_model.specs.Pipe.{pipe}
+use Rattle.posix_model.specs.Mkfifo.{mkfifo}
+use Rattle.posix_model.specs.Resume.{resume}
 use Rattle.posix_model.specs.Link.{link}
 use Rattle.posix_model.specs.Unlink.{unlink}
 use Rattle.posix_model.specs.Fstat.{fstat}
@@ -43,27 +46,29 @@ can_call process = is_here process && not (is_parked process)
 abbrev pub decided : Bounds → World → ℕ → Call → Decided
 decided bounds w process (call.Open name flags) = decided_by (open_file w process name flags)
 decided bounds w process (call.Close fd) = on_open (opened w process fd) (close process)
-decided bounds w process (call.Read fd count) = on_open (opened w process fd) (read w count)
-decided bounds w process (call.Write fd bytes) = on_open (opened w process fd) (write bounds w bytes)
+decided bounds w process (call.Read fd count) = on_open (opened w process fd) (read w process (call.Read fd count) count)
+decided bounds w process (call.Write fd bytes) = on_open (opened w process fd) (write bounds w process (call.Write fd bytes) bytes)
 decided bounds w process (call.Pread fd start count) = on_open (opened w process fd) (pread w start count)
 decided bounds w process (call.Pwrite fd start bytes) = on_open (opened w process fd) (pwrite bounds start bytes)
 decided bounds w process (call.Lseek fd offset from) = on_open (opened w process fd) (lseek w offset from)
 decided bounds w process (call.Ftruncate fd len) = on_open (opened w process fd) (ftruncate bounds len)
 decided bounds w process (call.Dup fd) = on_open (opened w process fd) (dup w process)
 decided bounds w process (call.Dup2 fd to) = on_open (opened w process fd) (dup2 process to)
+decided bounds w process call.Pipe = decided_by (pipe w process)
+decided bounds w process (call.Mkfifo name) = decided_by (mkfifo w name)
 decided bounds w process (call.Link old new) = decided_by (link w old new)
 decided bounds w process (call.Unlink name) = decided_by (unlink w name)
 decided bounds w process (call.Fstat fd) = on_open (opened w process fd) (fstat w)
 decided bounds w process call.Fork = decided_by (fork w process)
 
 -- what an act comes to, or nothing where the rules record none: a join under another number than the next, a call of a
--- process that is not live and attached or that waits in one, an exit of a process that is not live, a closing by another
--- than the house or of a run that is closed, and a resume, of which this profile has none yet
+-- process that is not live and attached or that waits in one, a resume of one that is not ready, an exit of a process that
+-- is not live, a closing by another than the house or of a run that is closed
 abbrev pub comes_to : Bounds → World → ℕ → Act → Option Decided
 comes_to bounds w actor act.Join = if actor == length w.processes then Some (decided_by (join w)) else None
 comes_to bounds w actor act.Attach = Some (decided_by (attach w actor))
 comes_to bounds w actor (act.Call c) = if can_call (slot w.processes actor) then Some (decided bounds w actor c) else None
-comes_to bounds w actor act.Resume = None
+comes_to bounds w actor act.Resume = resume bounds w actor
 comes_to bounds w actor act.Exit = if is_some (slot w.processes actor) then Some (exit actor) else None
 comes_to bounds w actor act.CloseRun = if actor == HOUSE && not w.closed then Some close_run else None
 

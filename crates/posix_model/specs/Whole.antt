@@ -1,7 +1,9 @@
 -- What is there: nothing refers to what is gone, and each process has its descriptors.
 use Rattle.std.specs.Prelude.{◌≡◌, ℕ, Bool, true, false, All, List, Option, None, Some, is_some, length}
 use Rattle.slots.specs.Slots.{slot}
-use Rattle.posix_model.specs.Types.{World, Target, File, OPEN_MAX}
+use Rattle.posix_model.specs.Types.{World, Process, Parked, Target, File, Fifo, OPEN_MAX}
+use Rattle.process_table.specs.Waits.{AsksFew}
+use Rattle.posix_model.specs.Counts.{is_pipe, is_file}
 use Rattle.call_types.specs.declared.description.Target.TheVariants as target
 use Rattle.posix_model.specs.declared.world.File.TheVariants as file
 
@@ -36,10 +38,27 @@ abbrev pub PipeIsThere : List (Option (List ℕ)) → File → Type 0
 PipeIsThere pipes (file.Regular bytes) = Unit {0}
 PipeIsThere pipes (file.Fifo fifo) = (pipe : ℕ) → fifo.pipe ≡ Some pipe → IsThere pipes pipe
 
--- nothing refers to what is gone: no name, no description, no FIFO and no descriptor; and each process has so many descriptors (own)
+-- a FIFO whose pipe this target is an end of is the target's file (own)
+abbrev pub IsItsFifo : List (Option File) → Target → Type 0
+IsItsFifo files t = (g : ℕ) (x : Fifo) (p : ℕ) → slot files g ≡ Some (file.Fifo x) → x.pipe ≡ Some p → is_pipe p t ≡ true → is_file g t ≡ true
+
+-- no two FIFOs have the same pipe (own)
+abbrev pub PipesApart : List (Option File) → Type 0
+PipesApart files = (f g : ℕ) (x y : Fifo) (p : ℕ) → slot files f ≡ Some (file.Fifo x) → slot files g ≡ Some (file.Fifo y) → x.pipe ≡ Some p → y.pipe ≡ Some p → f ≡ g
+
+-- the call that a process waits in asks for no more bytes than one transfer has (own)
+abbrev pub WaitsForFew : Process → Type 0
+WaitsForFew process = (parked : Parked) → process.parked ≡ Some parked → AsksFew parked.call
+
+-- nothing refers to what is gone: no name, no description, no FIFO and no descriptor; no two FIFOs have the same pipe, and an end of a
+-- FIFO's pipe is one of that FIFO;
+-- each process has so many descriptors, and asks for no more bytes than one transfer has in the call that it waits in (own)
 pub record IsWhole (w : World) : Type 0 where
   pub names : All (λ entry. IsThere w.files entry.1) w.names
   pub descriptions : EachThere (λ description. TargetIsThere w.files w.pipes description.target) w.descriptions
   pub fifos : EachThere (PipeIsThere w.pipes) w.files
   pub processes : EachThere (λ process. EachThere (IsThere w.descriptions) process.table) w.processes
+  pub ends : EachThere (λ description. IsItsFifo w.files description.target) w.descriptions
+  pub apart : PipesApart w.files
+  pub waits : EachThere WaitsForFew w.processes
   pub tables : EachThere (λ process. length process.table ≡ OPEN_MAX) w.processes

@@ -5,9 +5,19 @@ use call_types::bounded::Name;
 use call_types::description::Description;
 use call_types::errno::Errno;
 use call_types::outcome::{Outcome, Reply};
+use process_table::process::Parked;
 use process_table::table::DescriptorTable;
 
-/// What an act changes in files and pipes. All numbers are found already; positions and lengths are in bytes.
+/// Which bytes go into a pipe.
+#[derive(Clone, Copy)]
+pub enum Source {
+    /// The data of the act's own call, from its first byte on.
+    Act,
+    /// The data of the call that a process waits in, after the bytes that it moved.
+    Parked { process: usize },
+}
+
+/// What an act changes in files and pipes that are there. All numbers are found already; positions and lengths are in bytes.
 #[derive(Drop)]
 pub enum FileEdit {
     /// Nothing.
@@ -36,6 +46,21 @@ pub enum FileEdit {
     MakeFile {
         name: Name,
     },
+    /// A FIFO has a new name.
+    MakeFifo {
+        name: Name,
+    },
+    /// So many bytes go into a pipe, after those that it holds.
+    Put {
+        pipe: usize,
+        source: Source,
+        count: usize,
+    },
+    /// So many bytes leave a pipe, or all that it holds; those first that went in first.
+    Take {
+        pipe: usize,
+        count: usize,
+    },
 }
 
 /// What an act changes in processes.
@@ -52,6 +77,20 @@ pub enum ProcessEdit {
     Attach {
         process: usize,
     },
+    /// A process waits in a call.
+    Park {
+        process: usize,
+        parked: Parked,
+    },
+    /// The call that a process waits in has moved so many bytes in all.
+    Total {
+        process: usize,
+        moved: u32,
+    },
+    /// A process waits in no call any more.
+    Unpark {
+        process: usize,
+    },
     /// A process is gone.
     Exit {
         process: usize,
@@ -60,7 +99,7 @@ pub enum ProcessEdit {
     Close,
 }
 
-/// What an act changes in descriptors and open file descriptions. All numbers are found already.
+/// What an act changes in descriptors, in open file descriptions, and in pipes that come with their ends. All numbers are found already.
 #[derive(Drop)]
 pub enum TableEdit {
     /// Nothing.
@@ -74,6 +113,20 @@ pub enum TableEdit {
     Open {
         process: usize,
         fd: usize,
+        description: Description,
+    },
+    /// Two free descriptors refer to the two ends of the next pipe, which is empty.
+    OpenPair {
+        process: usize,
+        reading: usize,
+        writing: usize,
+    },
+    /// A free descriptor refers to a new description of an end of a FIFO, which is opened once more. Where the FIFO has no
+    /// pipe, the next one, empty, becomes its pipe.
+    OpenEnd {
+        process: usize,
+        fd: usize,
+        file: usize,
         description: Description,
     },
     /// A descriptor refers to this description, or is free.
@@ -97,6 +150,15 @@ pub struct Change {
 pub struct Decided {
     pub outcome: Outcome,
     pub change: Change,
+}
+
+/// What one try of a call comes to that may wait: it ends with a reply, or it waits, having moved so many bytes in all.
+#[derive(Drop)]
+pub enum Try {
+    /// The call ends.
+    Ends { reply: Reply, edit: FileEdit },
+    /// The call waits.
+    Waits { moved: u32, edit: FileEdit },
 }
 
 /// A reply, with an edit of files and one of descriptors.

@@ -7,6 +7,7 @@ pub mod counts;
 pub mod laws;
 pub mod names;
 pub mod opened;
+pub mod pipe_laws;
 pub mod plain_reader;
 pub mod reader;
 pub mod world;

@@ -4,11 +4,12 @@ ghost use Rattle.std.specs.Prelude.{◌≡◌};
 ghost use Rattle.slots.specs.Slots.{slot};
 ghost use Rattle.posix_model.specs.Descriptors.{opened_number, bytes_of};
 ghost use Rattle.process_table.specs.Processes.{table_of};
+ghost use Rattle.posix_model.specs.Pipes.{held_bytes};
 
-use crate::counts::links;
+use crate::counts::{links, readers, writers};
 use crate::opened::OpenDescriptor;
 use crate::reader::Reader;
-use crate::world::{File, World};
+use crate::world::{Fifo, File, World};
 use call_types::bounded::Content;
 use process_table::process::{Parked, Process};
 use process_table::table::DescriptorTable;
@@ -48,6 +49,16 @@ pub fn bytes_of(world: &World, number: usize) -> &[u8]
     }
 }
 
+/// The bytes that a pipe holds; none where it is gone.
+pub fn held_bytes(world: &World, pipe: usize) -> &[u8]
+    ensures { result.now ≡ held_bytes world.now pipe }
+{
+    match world.pipes.get(pipe) {
+        Some(contents) => contents.as_slice(),
+        None => &[],
+    }
+}
+
 impl Reader for World {
     ghost world = { λ w. w };
 
@@ -55,13 +66,23 @@ impl Reader for World {
         if fd < 0 {
             return None;
         }
-        let fd = fd as usize;
+        self.opened_at(process, fd as usize)
+    }
+
+    fn opened_at(&self, process: usize, fd: usize) -> Option<OpenDescriptor> {
         opened_number(self, fd, entry_of(&self.processes, process, fd))
     }
 
     fn lowest_free(&self, process: usize) -> Option<usize> {
         match self.processes.get(process) {
             Some(process) => process.table.lowest_free(),
+            None => None,
+        }
+    }
+
+    fn two_lowest_free(&self, process: usize) -> Option<(usize, usize)> {
+        match self.processes.get(process) {
+            Some(process) => process.table.two_lowest_free(),
             None => None,
         }
     }
@@ -87,10 +108,10 @@ impl Reader for World {
         self.names.file_of(name)
     }
 
-    fn leads_to_fifo(&self, found: Option<usize>) -> bool {
-        match found {
-            Some(number) => matches!(self.files.get(number), Some(File::Fifo(_))),
-            None => false,
+    fn fifo_at(&self, file: usize) -> Option<Fifo> {
+        match self.files.get(file) {
+            Some(File::Fifo(fifo)) => Some(*fifo),
+            _ => None,
         }
     }
 
@@ -99,10 +120,22 @@ impl Reader for World {
     }
 
     fn held_in(&self, pipe: usize) -> usize {
-        match self.pipes.get(pipe) {
-            Some(contents) => contents.len(),
-            None => 0,
-        }
+        held_bytes(self, pipe).len()
+    }
+
+    fn peek(&self, alloc: Global, pipe: usize, count: usize) -> Result<Content, AllocError> {
+        Content::copied(
+            alloc,
+            crate::contents::bytes_at(held_bytes(self, pipe), 0, count),
+        )
+    }
+
+    fn has_reader(&self, pipe: usize) -> bool {
+        readers(&self.descriptions, pipe) > 0
+    }
+
+    fn has_writer(&self, pipe: usize) -> bool {
+        writers(&self.descriptions, pipe) > 0
     }
 
     fn name_count(&self) -> usize {
@@ -119,6 +152,10 @@ impl Reader for World {
 
     fn next_file(&self) -> usize {
         self.files.len()
+    }
+
+    fn next_pipe(&self) -> usize {
+        self.pipes.len()
     }
 
     fn next_process(&self) -> usize {

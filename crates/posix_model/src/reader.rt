@@ -1,19 +1,21 @@
 //! What can be read as a world of the model. Calls are decided of any such state, by one body for all of them.
 
-ghost use Rattle.std.specs.Prelude.{◌≡◌, ◌≤◌, ◌<◌, ◌^◌, is_some, length, IfOk};
+ghost use Rattle.std.specs.Prelude.{◌≡◌, ◌≤◌, ◌<◌, ◌^◌, pos, is_some, length, take, IfOk, IfSome};
 ghost use Rattle.std.specs.Option.{option_copied};
 ghost use Rattle.slots.specs.Slots.{slot, lowest, live};
 ghost use Rattle.process_table.specs.Processes.{table_of, copied_table, parked_of, is_here, awaits};
 ghost use Rattle.call_types.specs.Names.{file_of};
 ghost use Rattle.posix_model.specs.Bytes.{bytes_at};
 ghost use Rattle.posix_model.specs.Descriptors.{opened, bytes_of, held_in};
-ghost use Rattle.posix_model.specs.Open.{leads_to_fifo};
+ghost use Rattle.posix_model.specs.Pipes.{held_bytes, has_reader, has_writer, fifo_at};
+ghost use Rattle.process_table.specs.Tables.{two_lowest};
 ghost use Rattle.posix_model.specs.Counts.{links};
 ghost use Rattle.posix_model.specs.declared.world.World.{World as Worlds};
 
 use crate::opened::OpenDescriptor;
+use crate::world::Fifo;
 use call_types::bounded::Content;
-use call_types::limits::TRANSFER_MAX;
+use call_types::limits::{OPEN_MAX, TRANSFER_MAX};
 use process_table::process::Parked;
 use process_table::table::DescriptorTable;
 use std::alloc::{AllocError, Global};
@@ -26,9 +28,18 @@ pub trait Reader {
     fn opened(&self, process: usize, fd: i32) -> Option<OpenDescriptor>
         ensures { result ≡ opened (world self.now) process fd };
 
+    /// What a descriptor of a process leads to, by a number that no descriptor has to have.
+    fn opened_at(&self, process: usize, fd: usize) -> Option<OpenDescriptor>
+        ensures { result ≡ opened (world self.now) process (pos fd) };
+
     /// The lowest free descriptor of a process (XSH 2.14, File Descriptor Allocation).
     fn lowest_free(&self, process: usize) -> Option<usize>
         ensures { result ≡ lowest (table_of (slot (world self.now).processes process)) };
+
+    /// The two lowest free descriptors of a process.
+    fn two_lowest_free(&self, process: usize) -> Option<(usize, usize)>
+        ensures exact { result ≡ two_lowest (table_of (slot (world self.now).processes process)) }
+        ensures within { IfSome result (λ fds. (fds.0 < OPEN_MAX) × (fds.1 < OPEN_MAX)) };
 
     /// The length of a regular file, in bytes.
     fn length_of(&self, file: usize) -> usize
@@ -51,9 +62,9 @@ pub trait Reader {
     fn file_of(&self, name: &[u8]) -> Option<usize>
         ensures { result ≡ file_of name.now (world self.now).names };
 
-    /// Whether a name that leads to this leads to a FIFO.
-    fn leads_to_fifo(&self, found: Option<usize>) -> bool
-        ensures { result ≡ leads_to_fifo (world self.now) found };
+    /// The FIFO of a number, if one stands there.
+    fn fifo_at(&self, file: usize) -> Option<Fifo>
+        ensures { result ≡ fifo_at (slot (world self.now).files file) };
 
     /// How many names a file has.
     fn links(&self, file: usize) -> usize
@@ -62,6 +73,19 @@ pub trait Reader {
     /// How many bytes a pipe holds now.
     fn held_in(&self, pipe: usize) -> usize
         ensures { result ≡ held_in (world self.now) pipe };
+
+    /// A copy of the first bytes that a pipe holds, at most so many. An error says that memory ran out.
+    fn peek(&self, alloc: Global, pipe: usize, count: usize) -> Result<Content, AllocError>
+        requires { count ≤ TRANSFER_MAX }
+        ensures { IfOk result (λ content. content ≡ take count (held_bytes (world self.now) pipe)) };
+
+    /// Whether a reading end of a pipe is open.
+    fn has_reader(&self, pipe: usize) -> bool
+        ensures { result ≡ has_reader (world self.now) pipe };
+
+    /// Whether a writing end of a pipe is open.
+    fn has_writer(&self, pipe: usize) -> bool
+        ensures { result ≡ has_writer (world self.now) pipe };
 
     /// How many names there are.
     fn name_count(&self) -> usize
@@ -78,6 +102,10 @@ pub trait Reader {
     /// The number of the next file.
     fn next_file(&self) -> usize
         ensures { result ≡ length (world self.now).files };
+
+    /// The number of the next pipe.
+    fn next_pipe(&self) -> usize
+        ensures { result ≡ length (world self.now).pipes };
 
     /// The number of the next process.
     fn next_process(&self) -> usize

@@ -1,4 +1,4 @@
-use Rattle.std.proofs.Common.{◌≡◌, ℕ, zero, suc, ◌+◌, ◌-◌, ◌∙◌, List, [], ◌∷◌, Option, None, Some, length, set, take, drop, refl, ap, sym, arith}
+use Rattle.std.proofs.Common.{◌≡◌, ◌<◌, ℕ, zero, suc, ◌+◌, ◌-◌, ◌∙◌, List, [], ◌∷◌, Option, None, Some, length, length-set, set, take, drop, refl, ap, sym, arith}
 use Rattle.std.specs.Prelude.{is_none}
 use Rattle.std.specs.Option.{option_map}
 use Rattle.std.specs.List.{position_from}
@@ -42,3 +42,16 @@ pub next_found : (xs slots : List (Option ℕ)) (first : ℕ) → slots ≡ xs �
 next_found xs slots first same is found behind =
     let rest = rw (same, take_rest xs (first + 1)) at behind in
     rw rest (sym (next_lowest xs first is))
+
+-- what is found is one of the slots
+found_below : (start : ℕ) (xs : List (Option ℕ)) (n : ℕ) → position_from is_none start xs ≡ Some n → n < start + length xs
+found_below start [] n is = cc
+found_below start (None ∷ xs) n is = let same : start ≡ n = cc in omega (arith, same)
+found_below start (Some x ∷ xs) n is = omega (arith, found_below (start + 1) xs n is)
+
+lowest_below : (xs : List (Option ℕ)) (n : ℕ) → lowest xs ≡ Some n → n < length xs
+lowest_below xs n is = omega (arith, found_below 0 xs n (sym (position_from-zero is_none xs) ∙ is))
+
+-- and so are the two lowest free ones
+pub pair_below : (xs : List (Option ℕ)) (most first second : ℕ) → length xs ≡ most → lowest xs ≡ Some first → lowest (set xs first (Some 0)) ≡ Some second → (first < most) × (second < most)
+pair_below xs most first second all is next = (omega (arith, lowest_below xs first is, all), omega (arith, lowest_below (set xs first (Some 0)) second next, length-set xs first (Some 0), all))

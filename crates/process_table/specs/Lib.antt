@@ -1,2 +1,3 @@
+pub mod Waits
 pub mod Tables
 pub mod Processes

@@ -1,4 +1,5 @@
 -- Processes, with their tables of descriptors, their parked calls and their connections.
+use Rattle.std.specs.Option.{option_map}
 use Rattle.std.specs.Prelude.{ℕ, Bool, true, false, List, [], Option, None, Some, not, slice_set, replicate}
 use Rattle.call_types.specs.declared.limits.TheConstants.{OPEN_MAX}
 use Rattle.process_table.specs.declared.process.Process.{Process}
@@ -44,6 +45,18 @@ new_process = process_with free_table true
 -- a process that has its connection
 abbrev pub with_connection : Process → Process
 with_connection process = record process { attached = true }
+
+-- a process that waits in this call, or in none
+abbrev pub with_parked : Option Parked → Process → Process
+with_parked parked process = record process { parked = parked }
+
+-- a call that waits and has moved so many bytes in all
+abbrev pub moved_in : ℕ → Parked → Parked
+moved_in moved parked = record parked { moved = moved }
+
+-- a process whose call has moved so many bytes in all
+abbrev pub with_total : ℕ → Process → Process
+with_total moved process = record process { parked = option_map (moved_in moved) process.parked }
 
 -- a process whose descriptor refers to this, or is free
 abbrev pub with_entry : ℕ → Option ℕ → Process → Process

@@ -1,6 +1,7 @@
 //! The processes of a run: the descriptors of each, the call that it waits in, and whether it has a connection.
 #![tactic(auto)]
 
+pub mod kept_call;
 pub mod process;
 pub mod processes;
 pub mod table;

@@ -1,12 +1,13 @@
 ghost use Rattle.std.specs.Prelude.{◌≡◌};
 
+use crate::kept_call::KeptCall;
 use crate::table::DescriptorTable;
 
 /// A call that waits, the descriptor that it is on, the bytes that it moved so far, and for an open how often the
 /// opposite end had been opened when it began.
 #[derive(Clone, Drop)]
 pub struct Parked {
-    pub call: call_types::call::Call,
+    pub call: KeptCall,
     pub fd: usize,
     pub moved: u32,
     pub openings: u64,

@@ -1,7 +1,8 @@
-ghost use Rattle.std.specs.Prelude.{◌≡◌, ◌+◌, ◌<◌, ◌≤◌, ◌∷◌, ◌++◌, [], Some, None, true, is_some, length, slice_set, option_copied, IfOk, OnOk};
+ghost use Rattle.std.specs.Prelude.{◌≡◌, ◌+◌, ◌<◌, ◌≤◌, ◌∷◌, ◌++◌, [], Some, None, true, is_some, length, slice_set, option_copied, IfOk, IfSome, OnOk};
 ghost use Rattle.slots.specs.Slots.{slot, live, lowest, edited};
+ghost use Rattle.call_types.specs.declared.limits.TheConstants.{OPEN_MAX};
 ghost use Rattle.process_table.specs.Tables.{two_lowest};
-ghost use Rattle.process_table.specs.Processes.{table_of, copied_table, parked_of, with_entry, with_connection, is_here, awaits};
+ghost use Rattle.process_table.specs.Processes.{table_of, copied_table, parked_of, with_entry, with_connection, with_parked, with_total, is_here, awaits};
 
 use crate::process::{Parked, Process};
 use crate::table::DescriptorTable;
@@ -97,7 +98,8 @@ impl ProcessTable {
 
     /// The two lowest free descriptors of a process (page of pipe).
     pub fn two_lowest_free(&self, process: usize) -> Option<(usize, usize)>
-        ensures { result ≡ two_lowest (table_of (slot self.now.0 process)) }
+        ensures exact { result ≡ two_lowest (table_of (slot self.now.0 process)) }
+        ensures within { IfSome result (λ fds. (fds.0 < OPEN_MAX) × (fds.1 < OPEN_MAX)) }
     {
         match self.get(process) {
             Some(process) => process.table.two_lowest_free(),
@@ -159,6 +161,35 @@ impl ProcessTable {
         ensures room { self.new.1 ≡ self.old.1 }
     {
         self.processes.value_mut(process).attached = true;
+    }
+
+    /// A live process waits in a call.
+    pub fn park(&mut self, process: usize, parked: Parked)
+        requires { is_some (slot self.old.0 process) ≡ true }
+        ensures slots { self.new.0 ≡ edited process (with_parked (Some parked)) self.old.0 }
+        ensures room { self.new.1 ≡ self.old.1 }
+    {
+        self.processes.value_mut(process).parked = Some(parked);
+    }
+
+    /// The call that a live process waits in, if it waits in one, has moved so many bytes in all.
+    pub fn set_moved(&mut self, process: usize, moved: u32)
+        requires { is_some (slot self.old.0 process) ≡ true }
+        ensures slots { self.new.0 ≡ edited process (with_total moved) self.old.0 }
+        ensures room { self.new.1 ≡ self.old.1 }
+    {
+        if let Some(parked) = &mut self.processes.value_mut(process).parked {
+            parked.moved = moved;
+        }
+    }
+
+    /// A live process waits in no call any more.
+    pub fn unpark(&mut self, process: usize)
+        requires { is_some (slot self.old.0 process) ≡ true }
+        ensures slots { self.new.0 ≡ edited process (with_parked None) self.old.0 }
+        ensures room { self.new.1 ≡ self.old.1 }
+    {
+        self.processes.value_mut(process).parked = None;
     }
 
     /// A process goes, and its number is not given again. Of a number that is gone nothing goes.

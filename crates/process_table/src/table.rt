@@ -1,4 +1,4 @@
-ghost use Rattle.std.specs.Prelude.{◌≡◌, None, Some, length, replicate, slice_set, IfOk};
+ghost use Rattle.std.specs.Prelude.{◌≡◌, ◌<◌, None, Some, length, replicate, slice_set, IfOk, IfSome};
 ghost use Rattle.slots.specs.Slots.{slot, lowest};
 ghost use Rattle.process_table.specs.Tables.{two_lowest};
 
@@ -22,15 +22,18 @@ pub struct DescriptorTable {
 }
 
 impl Model for DescriptorTable {
-    ghost use Rattle.std.specs.Prelude.{List, Option, ℕ};
+    ghost use Rattle.std.specs.Prelude.{◌≡◌, List, Option, ℕ, length};
+    ghost use Rattle.call_types.specs.declared.limits.TheConstants.{OPEN_MAX};
 
     ghost Value = { List (Option ℕ) };
 
     ghost view = { λ table. table.slots };
+
+    ghost invariant = { λ table. length table.slots ≡ OPEN_MAX };
 }
 
 impl DescriptorTable {
-    /// All descriptors that a process may have, none of them open.
+    /// All 32 descriptors that a process may have, none of them open.
     pub fn free(alloc: Global) -> Result<Self, AllocError>
         ensures { IfOk result (λ table. table ≡ replicate OPEN_MAX None) }
     {
@@ -78,8 +81,10 @@ impl DescriptorTable {
 
     /// The two lowest free descriptors, as a call that opens two of them takes them (page of pipe).
     pub fn two_lowest_free(&self) -> Option<(usize, usize)>
-        ensures { result ≡ two_lowest self.now }
+        ensures exact { result ≡ two_lowest self.now }
+        ensures within { IfSome result (λ fds. (fds.0 < OPEN_MAX) × (fds.1 < OPEN_MAX)) }
     {
+        let _slots = &self.slots;
         let first = self.lowest_free()?;
         let second = self.next_free(first)?;
         Some((first, second))

@@ -5,8 +5,10 @@ use Rattle.std.specs.Option.{option_map}
 use Rattle.call_types.specs.declared.act.Record.{Record}
 use Rattle.slots.specs.Slots.{slot, edited}
 use Rattle.process_table.specs.declared.process.Process.{Process}
-use Rattle.process_table.specs.Processes.{process_with, with_connection, with_entry, awaits}
-use Rattle.posix_model.specs.Change.{with_files, with_processes, with_table, changed}
+use Rattle.process_table.specs.Processes.{process_with, with_connection, with_entry, with_parked, with_total, awaits}
+use Rattle.posix_model.specs.Change.{with_files, with_processes, with_table, with_description, end_of, changed}
+use Rattle.posix_model.specs.Pipes.{with_pipe}
+use Rattle.call_types.specs.declared.description.Mode.TheVariants as mode
 use Rattle.posix_model.specs.Sound.{makes, ended_by}
 use Rattle.posix_model.specs.declared.world.World.{World}
 use Rattle.posix_model.specs.declared.change.FileEdit.{FileEdit}
@@ -62,6 +64,9 @@ exits_process w (on_process.Add table attached) none =
     let same : 0 + length w.processes ≡ length w.processes = omega arith in
     exits_push 0 w.processes (process_with table attached) ∙ ap (λ n. exits_from 0 w.processes ++ Some (exit_record n) ∷ []) same
 exits_process w (on_process.Attach p) none = exits_edited 0 w.processes p with_connection
+exits_process w (on_process.Park p parked) none = exits_edited 0 w.processes p (with_parked (Some parked))
+exits_process w (on_process.Total p moved) none = exits_edited 0 w.processes p (with_total moved)
+exits_process w (on_process.Unpark p) none = exits_edited 0 w.processes p (with_parked None)
 exits_process w (on_process.Exit p) none = cc
 exits_process w on_process.Close none = refl
 
@@ -69,6 +74,10 @@ exits_table : (w : World) (e : TableEdit) → exits_from 0 (with_table w e).proc
 exits_table w on_table.Nothing = refl
 exits_table w (on_table.Offset number offset) = refl
 exits_table w (on_table.Open process fd d) = exits_edited 0 w.processes process (with_entry fd (Some (length w.descriptions)))
+exits_table w (on_table.OpenPair process reading writing) =
+    let u = with_description (with_pipe w) process reading (end_of (length w.pipes) mode.Read) in
+    exits_edited 0 u.processes process (with_entry writing (Some (length u.descriptions))) ∙ exits_edited 0 w.processes process (with_entry reading (Some (length w.descriptions)))
+exits_table w (on_table.OpenEnd process fd file d) = exits_edited 0 w.processes process (with_entry fd (Some (length w.descriptions)))
 exits_table w (on_table.Entry process fd entry) = exits_edited 0 w.processes process (with_entry fd entry)
 
 pub exits_changed : (w : World) (bytes : List ℕ) (c : Change) → ended_by c.process ≡ 0 →

@@ -37,6 +37,7 @@ pub record IsGrown (b b' : Inside) (r : Record) (d : Decided) : Type 0 where
   pub taken : b'.bytes_in ≡ b.bytes_in + took (world_now (state_of b)) r
   pub given_is : b'.bytes_out ≡ b.bytes_out + gave (world_now (state_of b)) r
   pub room : vec_capacity b'.history ≡ vec_capacity b.history
+  pub capacity : b'.machine.room.capacity ≡ b.machine.room.capacity
   pub exits : b'.exits.0 ≡ exits_from 0 (stepped (world_now (state_of b)) (given r.act) d).world.processes
   pub closing : closing_of b'.house ≡ prepared_closing (stepped (world_now (state_of b)) (given r.act) d).world
   pub house : HasRoom (live (stepped (world_now (state_of b)) (given r.act) d).world.processes) b'.house
@@ -48,6 +49,7 @@ closed_same w v ends more closing c none = c.closed ∙ ap (λ b. b || w.closed)
 -- a book in which nothing but room was made
 pub record IsSame (b b' : Inside) : Type 0 where
   pub world : b'.machine.world ≡ b.machine.world
+  pub capacity : b'.machine.room.capacity ≡ b.machine.room.capacity
   pub history : b'.history ≡ b.history
   pub limits : b'.limits ≡ b.limits
   pub bytes_in : b'.bytes_in ≡ b.bytes_in
@@ -59,6 +61,7 @@ pub book_stays : (b b' : Inside) → IsBook b → IsSame b b' → IsBook b'
 book_stays b b' book same = record {
   is_legal = rw (same.history, same.limits) book.is_legal;
   world = rw (same.world, same.history, same.limits) book.world;
+  capacity = rw (same.capacity, same.limits) book.capacity;
   reserve = rw (same.world, same.history, same.limits) book.reserve;
   room = rw (same.history, same.limits) book.room;
   taken = rw (same.bytes_in, same.history, same.limits) book.taken;
@@ -88,6 +91,7 @@ book_grows b b' r d book more =
     record {
       is_legal = rw (more.records, more.limits) (legal_from-push bounds _ h r book.is_legal (rw (more.planned.comes_to_is, more.outcome) refl));
       world = rw (more.records, more.limits, more.world) (rw (world_from-push bounds _ h r, more.planned.comes_to_is) refl);
+      capacity = rw (more.capacity, more.limits) book.capacity;
       reserve = rw (more.limits, more.world, count) fits;
       room = rw (more.limits, more.room) book.room;
       taken = rw (more.records, more.limits, more.taken, bytes_in-push bounds h r, book.taken) refl;
@@ -112,6 +116,7 @@ pub record IsEnded (b b' : Inside) (p : ℕ) : Type 0 where
   pub bytes_in : b'.bytes_in ≡ b.bytes_in
   pub bytes_out : b'.bytes_out ≡ b.bytes_out
   pub room : vec_capacity b'.history ≡ vec_capacity b.history
+  pub capacity : b'.machine.room.capacity ≡ b.machine.room.capacity
   pub exits : b'.exits.0 ≡ set b.exits.0 p None
   pub closing : closing_of b'.house ≡ closing_of b.house
   pub house : (k : ℕ) → k + 1 ≡ live b.machine.world.processes → HasRoom k b'.house
@@ -131,6 +136,7 @@ book_ends b b' p book planned e =
       taken = omega (arith, e.bytes_in);
       given_is = omega (arith, e.bytes_out);
       room = e.room;
+      capacity = e.capacity;
       exits = e.exits ∙ ap (λ es. set es p None) (book.exits ∙ ap (λ (v : World). exits_from 0 v.processes) book.world) ∙ sym (exits_emptied 0 w.processes p);
       closing = e.closing ∙ book.closing ∙ ap prepared_closing book.world ∙ ap (λ b. cond b None (Some closing_record)) (sym (closed_same w next 1 (adds w act.Exit) false planned.counts refl));
       house = e.house (live next.processes) (let same : live b.machine.world.processes ≡ live w.processes = ap (λ (v : World). live v.processes) book.world in omega (arith, planned.counts.living, same));
@@ -144,6 +150,7 @@ pub record IsShut (b b' : Inside) : Type 0 where
   pub bytes_in : b'.bytes_in ≡ b.bytes_in
   pub bytes_out : b'.bytes_out ≡ b.bytes_out
   pub room : vec_capacity b'.history ≡ vec_capacity b.history
+  pub capacity : b'.machine.room.capacity ≡ b.machine.room.capacity
   pub exits : b'.exits.0 ≡ b.exits.0
   pub house : b'.house ≡ None
 
@@ -160,6 +167,7 @@ book_shuts b b' book planned e =
       taken = omega (arith, e.bytes_in);
       given_is = omega (arith, e.bytes_out);
       room = e.room;
+      capacity = e.capacity;
       exits = e.exits ∙ book.exits ∙ ap (λ (v : World). exits_from 0 v.processes) book.world;
       closing = rw e.house refl;
       house = rw e.house tt;

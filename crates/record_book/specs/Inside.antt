@@ -24,11 +24,13 @@ state_of b = record { limits = b.limits; history = records_in b; house = receipt
 abbrev pub prepared_closing : World → Option Record
 prepared_closing w = if w.closed then None else Some closing_record
 
--- the history is legal, the machine's world is the world after it, the exits and the closing have their records, each live
+-- the history is legal, the machine's world is the world after it, its pipes hold what the limits
+-- say, the exits and the closing have their records, each live
 -- process has that of its exit prepared, and the counters are those of the history
 pub record IsBook (b : Inside) : Type 0 where
   pub is_legal : legal b.limits.bounds (records_in b)
   pub world : b.machine.world ≡ world_of b.limits.bounds (records_in b)
+  pub capacity : b.machine.room.capacity ≡ b.limits.bounds.pipe_capacity
   pub reserve : length (records_in b) + exits_left b.machine.world ≤ b.limits.records
   pub room : b.limits.records ≤ vec_capacity b.history
   pub taken : b.bytes_in ≡ bytes_in b.limits.bounds (records_in b)

@@ -6,5 +6,6 @@ pub mod Refusals
 pub mod Planned
 pub mod Inside
 pub mod Openings
+pub mod Resumes
 pub mod Ends
 pub mod Runs

@@ -1,5 +1,5 @@
 -- The refusals that are not recorded, in their order (own).
-use Rattle.std.specs.Prelude.{◌≡◌, ℕ, ◌+◌, Bool, not, nat_lt, List, [], ◌∷◌, Option, None, Some, length, if◌then◌else◌}
+use Rattle.std.specs.Prelude.{◌≡◌, ℕ, ◌+◌, Bool, true, not, ◌&&◌, nat_lt, List, [], ◌∷◌, Option, None, Some, length, if◌then◌else◌}
 use Rattle.call_types.specs.declared.act.Act.{Act}
 use Rattle.call_types.specs.declared.act.Act.TheVariants as act
 use Rattle.call_types.specs.declared.call.Call.{Call}
@@ -8,6 +8,7 @@ use Rattle.call_types.specs.declared.refusal.Refusal.TheVariants.{NoMemory, RunF
 use Rattle.slots.specs.Slots.{slot}
 use Rattle.process_table.specs.Processes.{is_here}
 use Rattle.posix_model.specs.Step.{is_parked}
+use Rattle.posix_model.specs.Resume.{is_ready}
 use Rattle.record_book.specs.Seat.{SeatState}
 use Rattle.record_book.specs.Book.{BookState, world_now, world_after, has_reserve}
 
@@ -47,7 +48,26 @@ abbrev pub exit_refusal : BookState → SeatState → Option Refusal
 exit_refusal b s =
     first_refusal ((nat_lt (length b.history) s.seen, Foreign s.seen (length b.history)) ∷ (not (is_here (slot (world_now b).processes s.pid)), NotHere) ∷ [])
 
+-- whether the call that a seat's process waits in is ready
+abbrev pub is_ready_for : BookState → SeatState → Bool
+is_ready_for b s = is_ready b.limits.bounds (world_now b) s.pid
+
+-- the refusals of a resume: those of an exit, and where the call is ready, that the run is full
+abbrev pub resume_refusal : BookState → SeatState → Option Refusal
+resume_refusal b s =
+    first_refusal (
+    (nat_lt (length b.history) s.seen, Foreign s.seen (length b.history))
+    ∷ (not (is_here (slot (world_now b).processes s.pid)), NotHere)
+    ∷ (is_ready_for b s && is_too_full b s.pid act.Resume, RunFull)
+    ∷ []
+    )
+
 -- a refusal is the first that is due; where none is, only memory can be wanting
 abbrev pub IsDue : Option Refusal → Refusal → Type 0
 IsDue (Some due) refusal = refusal ≡ due
 IsDue None refusal = refusal ≡ NoMemory
+
+-- so is that of a resume; and neither a full run nor want of memory refuses one whose call is not ready
+pub record ResumeRefused (b : BookState) (s : SeatState) (refusal : Refusal) : Type 0 where
+  pub due : IsDue (resume_refusal b s) refusal
+  pub ready : exit_refusal b s ≡ None → is_ready_for b s ≡ true

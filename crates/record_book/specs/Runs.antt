@@ -12,9 +12,11 @@ use Rattle.process_table.specs.Processes.{awaits}
 use Rattle.posix_model.specs.Join.{is_full}
 use Rattle.record_book.specs.Seat.{Receipted, SeatState}
 use Rattle.record_book.specs.Book.{BookState, world_now, Appends, Receives}
-use Rattle.record_book.specs.Refusals.{start_refusal, join_refusal, attach_refusal, exit_refusal, IsDue}
+use Rattle.record_book.specs.Refusals.{start_refusal, join_refusal, attach_refusal, exit_refusal, resume_refusal, is_ready_for, IsDue, ResumeRefused}
 use Rattle.record_book.specs.Openings.{next_pid, first_seat}
 use Rattle.record_book.specs.Ends.{Closes}
+use Rattle.record_book.specs.declared.resume.Resumed.{Resumed}
+use Rattle.record_book.specs.declared.resume.Resumed.TheVariants as resumed
 use Rattle.record_book.specs.declared.run.Told.{Told}
 use Rattle.record_book.specs.declared.run.Told.TheVariants.{Recorded, Closed, Still, Refused}
 
@@ -75,6 +77,39 @@ CallRuns old new seats after process c (Err refusal) (Some s) = IsDue (start_ref
 CallRuns old new seats after process c (Ok receipt) None = ⊥
 CallRuns old new seats after process c (Err refusal) None = (refusal ≡ NotHere) × Unchanged old new seats after
 
+-- a resume of a seat's process is recorded, and the seat has its receipt
+pub record ResumeRecorded (old new : BookState) (seats after : Seats) (process : ℕ) (s : SeatState) (receipt : Receipted) : Type 0 where
+  pub free : resume_refusal old s ≡ None
+  pub ready : is_ready_for old s ≡ true
+  pub appends : Appends old new s.pid act.Resume receipt
+  pub seat : SeatState
+  pub receives : Receives s seat receipt
+  pub seats_are : after ≡ slice_set seats process (Some seat)
+
+-- how a resume of a process with this seat goes, unless its call is not ready: NotHere where the script opened no such process
+abbrev pub ResumeRuns : BookState → BookState → Seats → Seats → ℕ → Result Receipted Refusal → Option SeatState → Type 0
+ResumeRuns old new seats after process (Ok receipt) (Some s) = ResumeRecorded old new seats after process s receipt
+ResumeRuns old new seats after process (Err refusal) (Some s) = ResumeRefused old s refusal × Unchanged old new seats after
+ResumeRuns old new seats after process (Ok receipt) None = ⊥
+ResumeRuns old new seats after process (Err refusal) None = (refusal ≡ NotHere) × Unchanged old new seats after
+
+-- the call that a process waits in is not ready, and nothing changes
+abbrev pub StaysParked : BookState → BookState → Seats → Seats → Option SeatState → Type 0
+StaysParked old new seats after None = ⊥
+StaysParked old new seats after (Some s) = (exit_refusal old s ≡ None) × (is_ready_for old s ≡ false) × Unchanged old new seats after
+
+-- how a resume goes: it is told as still, or it runs
+abbrev pub ResumeGoes : BookState → BookState → Seats → Seats → ℕ → Result Resumed Refusal → Option SeatState → Type 0
+ResumeGoes old new seats after process (Ok resumed.Still) s = StaysParked old new seats after s
+ResumeGoes old new seats after process (Ok (resumed.Recorded receipt)) s = ResumeRuns old new seats after process (Ok receipt) s
+ResumeGoes old new seats after process (Err refusal) s = ResumeRuns old new seats after process (Err refusal) s
+
+-- what is told as still: a closing of a run that is closed, and a resume of a call that is not ready
+abbrev pub IsStill : BookState → BookState → Seats → Seats → ScriptAct → Type 0
+IsStill old new seats after script.CloseRun = Closes old new None × (after ≡ seats)
+IsStill old new seats after (script.Resume process) = StaysParked old new seats after (slot seats process)
+IsStill old new seats after other = ⊥
+
 -- the exit of a seat's process is recorded, and the seat is spent
 pub record ExitRecorded (old new : BookState) (seats after : Seats) (process : ℕ) (s : SeatState) (receipt : Receipted) : Type 0 where
   pub free : exit_refusal old s ≡ None
@@ -93,6 +128,7 @@ abbrev pub Runs : BookState → BookState → Seats → Seats → ScriptAct → 
 Runs old new seats after script.Join ran = JoinRuns old new seats after ran
 Runs old new seats after (script.Attach process) ran = AttachRuns old new seats after process ran
 Runs old new seats after (script.Call process c) ran = CallRuns old new seats after process c ran (slot seats process)
+Runs old new seats after (script.Resume process) ran = ResumeRuns old new seats after process ran (slot seats process)
 Runs old new seats after (script.Exit process) ran = ExitRuns old new seats after process ran (slot seats process)
 Runs old new seats after script.CloseRun ran = ⊥
 
@@ -101,14 +137,15 @@ abbrev pub actor_of : BookState → ScriptAct → ℕ
 actor_of b script.Join = next_pid b
 actor_of b (script.Attach process) = process
 actor_of b (script.Call process c) = process
+actor_of b (script.Resume process) = process
 actor_of b (script.Exit process) = process
 actor_of b script.CloseRun = HOUSE
 
--- what is told of an act: its record, the records of a closing, that a closing has nothing to close, or why there is no record
+-- what is told of an act: its record, the records of a closing, that a closing has nothing to close or a call is not ready, or why there is no record
 abbrev pub Tells : BookState → BookState → Seats → Seats → ScriptAct → List Told → Type 0
 Tells old new seats after a (Recorded receipt ∷ []) = Runs old new seats after a (Ok receipt)
 Tells old new seats after a (Closed house ∷ []) = (a ≡ script.CloseRun) × Closes old new (Some house) × (after ≡ seats)
-Tells old new seats after a (Still actor still ∷ []) = (actor ≡ actor_of old a) × (still.now ≡ a) × (a ≡ script.CloseRun) × Closes old new None × (after ≡ seats)
+Tells old new seats after a (Still actor still ∷ []) = (actor ≡ actor_of old a) × (still.now ≡ a) × IsStill old new seats after a
 Tells old new seats after a (Refused actor refused refusal ∷ []) = (actor ≡ actor_of old a) × (refused.now ≡ a) × Runs old new seats after a (Err refusal)
 Tells old new seats after a other = ⊥
 

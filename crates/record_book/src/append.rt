@@ -12,7 +12,7 @@ use posix_model::change::Decided;
 use posix_model::reader::Reader;
 use std::alloc::{AllocError, Global};
 use std::sync::Arc;
-use table_calls::given::given;
+use table_calls::given::{data_of, given};
 
 impl Book {
     /// Appends the record of a planned act that ends no process and does not close the run, makes its change, and gives its
@@ -57,6 +57,8 @@ impl Book {
         )?;
         seat.receive(shared)?;
         let bytes = given(&item.act);
+        // At most so many bytes are taken.
+        let _data = data_of(&self.machine, actor as usize, &item.act);
         self.bytes_in += took(&self.machine, &item);
         self.bytes_out += gave(&item);
         self.machine.apply(bytes, change);

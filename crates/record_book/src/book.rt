@@ -1,6 +1,7 @@
 ghost use Rattle.std.specs.Prelude.{◌≡◌, ◌≤◌, ◌+◌, length, IfOk};
 ghost use Rattle.posix_model.specs.History.{legal};
 ghost use Rattle.posix_model.specs.Turns.{bytes_in, bytes_out};
+ghost use Rattle.posix_model.specs.PipeRecord.{KeepsBytes, KeepsSmallWhole};
 ghost use Rattle.record_book.specs.Book.{new_book, world_now, exits_left};
 
 use crate::house::House;
@@ -8,6 +9,7 @@ use crate::prepared::Prepared;
 use call_types::act::{Act, HOUSE, Record};
 use call_types::limits::{Limits, PROCESSES_MAX};
 use machine_state::machine::Machine;
+use posix_model::pipe_laws::bytes_of_pipe;
 use slots::numbered::Numbered;
 use std::alloc::{AllocError, Global};
 use std::marker::Model;
@@ -57,7 +59,7 @@ impl Book {
             closing: Prepared::new(alloc, HOUSE, Act::CloseRun)?,
         };
         Ok(Book {
-            machine: Machine::new(alloc),
+            machine: Machine::new(alloc, limits.bounds().pipe_capacity as usize),
             history: Vec::with_capacity(alloc, records as usize)?,
             limits,
             bytes_in: 0,
@@ -67,14 +69,18 @@ impl Book {
         })
     }
 
-    /// How much the book holds. What it holds is a run of the model.
+    /// How much the book holds. What it holds is a run of the model, in which each pipe holds what was put into it and not yet got
+    /// out again, and the data of a write of at most 512 bytes (PIPE_BUF) went in unbroken (page of write).
     pub fn counts(&self) -> Counts
         ensures records { result.records ≡ length self.now.history }
         ensures bytes_in { result.bytes_in ≡ bytes_in self.now.limits.bounds self.now.history }
         ensures bytes_out { result.bytes_out ≡ bytes_out self.now.limits.bounds self.now.history }
         ensures is_legal { legal self.now.limits.bounds self.now.history }
+        ensures pipes { KeepsBytes self.now.limits.bounds self.now.history }
+        ensures small_writes { KeepsSmallWhole self.now.limits.bounds self.now.history }
         ensures reserve { length self.now.history + exits_left (world_now self.now) ≤ self.now.limits.records }
     {
+        bytes_of_pipe();
         Counts {
             records: self.history.len() as u64,
             bytes_in: self.bytes_in,

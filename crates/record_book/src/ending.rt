@@ -4,6 +4,7 @@ ghost use Rattle.std.specs.Prelude.{◌≡◌, ◌+◌, ◌<◌, ◌^◌, ◌++�
 ghost use Rattle.std.specs.Arc.{arc_value};
 ghost use Rattle.slots.specs.Slots.{slot};
 ghost use Rattle.posix_model.specs.Exit.{exit};
+ghost use Rattle.posix_model.specs.Whole.{EachThere, IsItsFifo};
 ghost use Rattle.posix_model.specs.Change.{changed};
 ghost use Rattle.posix_model.specs.Sweep.{sweep};
 ghost use Rattle.record_book.specs.Book.{world_now, Appends};
@@ -42,6 +43,8 @@ fn end_process(
     requires there { is_some (slot machine.old.world.processes process) ≡ true }
     requires prepared { slot exits.old.0 process ≡ Some (exit_record process) }
     requires room { vec_len history.old < vec_capacity history.old }
+    requires ends { EachThere (λ description. IsItsFifo machine.old.world.files description.target) machine.old.world.descriptions }
+    ensures pipes { machine.new.room.capacity ≡ machine.old.room.capacity }
     ensures world { machine.new.world ≡ sweep (changed machine.old.world [] (exit process).change) }
     ensures history { map arc_value history.new.items ≡ map arc_value history.old.items ++ exit_record process ∷ [] }
     ensures capacity { vec_capacity history.new ≡ vec_capacity history.old }

@@ -10,6 +10,7 @@ mod house;
 mod moved;
 pub mod opening;
 mod prepared;
+pub mod resume;
 pub mod run;
 pub mod seat;
 mod seats;

@@ -33,7 +33,7 @@ fn took_at_once(now: u64, call: &Call) -> u64
 fn took_since(now: u64, parked: &Parked) -> u64
     ensures { result ≡ took_in now (next_turn parked.now) }
 {
-    if parked.call.payload().is_some() {
+    if parked.call.get().payload().is_some() {
         now.saturating_sub(u64::from(parked.moved))
     } else {
         0

@@ -5,6 +5,7 @@ ghost use Rattle.record_book.specs.Refusals.{start_refusal, IsDue};
 
 use crate::book::Book;
 use crate::opening::Opened;
+use crate::resume::Resumed;
 use crate::seat::{Receipt, Seat, SpentSeat};
 use crate::seats::Seats;
 use call_types::act::{Act, HOUSE, ScriptAct};
@@ -14,7 +15,7 @@ use posix_model::reader::Reader;
 use std::alloc::{AllocError, Global};
 
 /// What is told of an act of a script: its record; the records of a closing, which the house has; that a closing has nothing
-/// to close; or that the act is not recorded, with the process whose act it was or would have been, and why.
+/// to close, or a call that waits is not ready; or that the act is not recorded, with the process whose act it was or would have been, and why.
 #[derive(Drop)]
 pub enum Told<'a> {
     Recorded(Receipt),
@@ -28,6 +29,13 @@ pub enum Told<'a> {
         act: &'a ScriptAct,
         refusal: Refusal,
     },
+}
+
+/// A copy of a call; an error says that memory ran out.
+fn copy_of(call: &Call) -> Result<Call, AllocError>
+    ensures { IfOk result (λ copy. copy ≡ call.now) }
+{
+    call.clone()
 }
 
 impl Book {
@@ -46,12 +54,12 @@ impl Book {
         if let Some(refusal) = self.start_refusal(seat, call) {
             return Err(refusal);
         }
-        let call = call.clone()?;
+        let call = copy_of(call)?;
         Ok(self.record_call(alloc, seat, call)?)
     }
 
     ghost use Rattle.slots.specs.Slots.{slot};
-    ghost use Rattle.record_book.specs.Runs.{Seats as ScriptSeats, JoinRuns, AttachRuns, CallRuns, ExitRuns, Tells, RunTells};
+    ghost use Rattle.record_book.specs.Runs.{Seats as ScriptSeats, JoinRuns, AttachRuns, CallRuns, ResumeGoes, ExitRuns, Tells, RunTells};
 
     /// Runs a join of a script; where it makes a process, its seat is put among the others.
     fn run_join(&mut self, alloc: Global, seats: &mut Seats) -> Result<Receipt, Refusal>
@@ -146,6 +154,26 @@ impl Book {
         }
     }
 
+    /// Runs a resume of a script.
+    fn run_resume(
+        &mut self,
+        alloc: Global,
+        seats: &mut Seats,
+        process: u32,
+    ) -> Result<Resumed, Refusal>
+        ensures runs { ResumeGoes self.old self.new seats.old.0 seats.new.0 process result (slot seats.old.0 process) }
+        ensures limits { self.new.limits ≡ self.old.limits }
+    {
+        let number = process as usize;
+        if number >= seats.slots.len() {
+            return Err(Refusal::NotHere);
+        }
+        match &mut seats.slots[number] {
+            Some(seat) => self.resume(alloc, seat),
+            None => Err(Refusal::NotHere),
+        }
+    }
+
     /// Runs one act of a script, and tells of it.
     fn run_act<'a>(&mut self, alloc: Global, seats: &mut Seats, act: &'a ScriptAct) -> Told<'a>
         ensures tells { Tells self.old self.new seats.old.0 seats.new.0 act.now (result ∷ []) }
@@ -156,6 +184,18 @@ impl Book {
             ScriptAct::Attach { process } => (*process, self.run_attach(alloc, seats, *process)),
             ScriptAct::Call { process, call } => {
                 (*process, self.run_call(alloc, seats, *process, call))
+            }
+            ScriptAct::Resume { process } => {
+                match self.run_resume(alloc, seats, *process) {
+                    Ok(Resumed::Recorded(receipt)) => (*process, Ok(receipt)),
+                    Ok(Resumed::Still) => {
+                        return Told::Still {
+                            actor: *process,
+                            act,
+                        };
+                    }
+                    Err(refusal) => (*process, Err(refusal)),
+                }
             }
             ScriptAct::Exit { process } => (*process, self.run_exit(seats, *process)),
             ScriptAct::CloseRun => return self.run_closing(act),

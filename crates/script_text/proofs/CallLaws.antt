@@ -63,40 +63,33 @@ call_act_takes process w act h e =
     subst (λ (a : ScriptAct). SpellsAct a (process_word process ++ (32 ∷ text_from w))) (ok_is (acts.Call process k.0) act k.2)
     (text_from w, h, named_takes w k.0 k.1, refl)
 
+-- a word that is the last of its line, or else what else is read
+word_or_takes : (word : List ℕ) (last act : ScriptAct) (w : Word) (other : Result ScriptAct ℕ) (line : List ℕ → List ℕ) → SpellsAct last (line word)
+    → (other ≡ Ok act → SpellsAct act (line (text_from w))) → cond (bytes_eq w.text word) (last_word last w.after) other ≡ Ok act → SpellsAct act (line (text_from w))
+word_or_takes word last act w other line spelled rest e =
+    elim (chosen (bytes_eq w.text word) (last_word last w.after) other (Ok act) e) [
+      | inl is ↦
+          let t = last_takes word last act w is.0 is.1 in
+          subst (λ (a : ScriptAct). SpellsAct a (line (text_from w))) t.1 (subst (λ (text : List ℕ). SpellsAct last (line text)) (sym t.0) spelled)
+      | inr past ↦ rest past.1
+    ]
+
 process_act_takes : (process : ℕ) (w : Word) (act : ScriptAct) → process < 2 ^ 32 → process_act process w ≡ Ok act → SpellsAct act (process_word process ++ (32 ∷ text_from w))
-process_act_takes process w act h e =
+process_act_takes process w act h =
     let line : List ℕ → List ℕ = λ text. process_word process ++ (32 ∷ text) in
     let a_call : Result ScriptAct ℕ = named_call w >>= λ call. Ok (acts.Call process call) in
     let an_exit : Result ScriptAct ℕ = cond (bytes_eq w.text (codes "exit")) (last_word (acts.Exit process) w.after) a_call in
-    elim (chosen (bytes_eq w.text (codes "attach")) (last_word (acts.Attach process) w.after) an_exit (Ok act) e) [
-      | inl is ↦
-          let t = last_takes (codes "attach") (acts.Attach process) act w is.0 is.1 in
-          subst (λ (a : ScriptAct). SpellsAct a (line (text_from w))) t.1 (h, ap line t.0)
-      | inr other ↦
-          elim (chosen (bytes_eq w.text (codes "exit")) (last_word (acts.Exit process) w.after) a_call (Ok act) other.1) [
-            | inl is ↦
-                let t = last_takes (codes "exit") (acts.Exit process) act w is.0 is.1 in
-                subst (λ (a : ScriptAct). SpellsAct a (line (text_from w))) t.1 (h, ap line t.0)
-            | inr neither ↦ call_act_takes process w act h neither.1
-          ]
-    ]
+    let a_resume : Result ScriptAct ℕ = cond (bytes_eq w.text (codes "resume")) (last_word (acts.Resume process) w.after) an_exit in
+    word_or_takes (codes "attach") (acts.Attach process) act w a_resume line (h, refl)
+    (word_or_takes (codes "resume") (acts.Resume process) act w an_exit line (h, refl)
+    (word_or_takes (codes "exit") (acts.Exit process) act w a_call line (h, refl) (call_act_takes process w act h)))
 
 run_act_takes : (w : Word) (act : ScriptAct) → run_act w ≡ Ok act → SpellsAct act (text_from w)
-run_act_takes w act e =
+run_act_takes w act =
     let no_act : Result ScriptAct ℕ = Err w.remaining in
     let a_closing : Result ScriptAct ℕ = cond (bytes_eq w.text (codes "close-run")) (last_word acts.CloseRun w.after) no_act in
-    elim (chosen (bytes_eq w.text (codes "join")) (last_word acts.Join w.after) a_closing (Ok act) e) [
-      | inl is ↦
-          let t = last_takes (codes "join") acts.Join act w is.0 is.1 in
-          subst (λ (a : ScriptAct). SpellsAct a (text_from w)) t.1 t.0
-      | inr other ↦
-          elim (chosen (bytes_eq w.text (codes "close-run")) (last_word acts.CloseRun w.after) no_act (Ok act) other.1) [
-            | inl is ↦
-                let t = last_takes (codes "close-run") acts.CloseRun act w is.0 is.1 in
-                subst (λ (a : ScriptAct). SpellsAct a (text_from w)) t.1 t.0
-            | inr neither ↦ absurd (let f = neither.1 in cc)
-          ]
-    ]
+    word_or_takes (codes "join") acts.Join act w a_closing (λ text. text) refl
+    (word_or_takes (codes "close-run") acts.CloseRun act w no_act (λ text. text) refl (λ e. absurd cc))
 
 act_of_takes : (o : Option ℕ) (w : Word) (act : ScriptAct) → process_of w.text ≡ o → act_of o w ≡ Ok act → SpellsAct act (text_from w)
 act_of_takes None w act is e = run_act_takes w act e
@@ -160,6 +153,7 @@ pub act_again : (act : ScriptAct) (line : List ℕ) → SpellsAct act line → a
 act_again acts.Join line e = ap (λ (l : List ℕ). act_at (Some l)) e
 act_again (acts.Attach process) line p = line_again process line (codes "attach") p.0 p.1
 act_again (acts.Call process call) line p = line_again process line p.0 p.1 p.3 ∙ call_again process call p.0 p.2
+act_again (acts.Resume process) line p = line_again process line (codes "resume") p.0 p.1
 act_again (acts.Exit process) line p = line_again process line (codes "exit") p.0 p.1
 act_again acts.CloseRun line e = ap (λ (l : List ℕ). act_at (Some l)) e
 

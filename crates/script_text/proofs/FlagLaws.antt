@@ -73,20 +73,20 @@ each_choice (suc k) p (false ∷ bs) h len =
 
 -- whether a mode's letters and the chosen suffixes are the word of their bits, which a script may have
 abbrev is_word : List ℕ → ℕ → List Bool → Bool
-is_word front mode bs = bytes_eq (front ++ texts bs suffixes) (flags_word (bits_with bs mode suffixes)) && ltb (bits_with bs mode suffixes) 64
+is_word front mode bs = bytes_eq (front ++ texts bs suffixes) (flags_word (bits_with bs mode suffixes)) && ltb (bits_with bs mode suffixes) 128
 
 -- the word of flags that a script may have
 abbrev pub IsFlags : List ℕ → ℕ → Type 0
-IsFlags word n = (word ≡ flags_word n) × (n < 64)
+IsFlags word n = (word ≡ flags_word n) × (n < 128)
 
 -- a mode's letters before its end
 with_end : (front : List ℕ) (mode n : ℕ) (cs : List ℕ) → all_choices (length suffixes) (is_word front mode) ≡ true → after_mode mode cs ≡ Some n → IsFlags (front ++ cs) n
 with_end front mode n cs all e =
     let end = ends suffixes mode n cs e in
     let bits : ℕ = bits_with end.choice mode suffixes in
-    let parts = and_parts (bytes_eq (front ++ texts end.choice suffixes) (flags_word bits)) (ltb bits 64) (each_choice (length suffixes) (is_word front mode) end.choice all end.many) in
+    let parts = and_parts (bytes_eq (front ++ texts end.choice suffixes) (flags_word bits)) (ltb bits 128) (each_choice (length suffixes) (is_word front mode) end.choice all end.many) in
     let spelled : front ++ texts end.choice suffixes ≡ flags_word bits = (bytes_eq-Decides (front ++ texts end.choice suffixes) (flags_word bits)).0 parts.0 in
-    (ap (λ (t : List ℕ). front ++ t) end.text ∙ spelled ∙ ap flags_word (sym end.bits), subst (λ (m : ℕ). m < 64) (sym end.bits) (ltb-true bits 64 parts.1))
+    (ap (λ (t : List ℕ). front ++ t) end.text ∙ spelled ∙ ap flags_word (sym end.bits), subst (λ (m : ℕ). m < 128) (sym end.bits) (ltb-true bits 128 parts.1))
 
 r_takes : (n : ℕ) (cs : List ℕ) → after_r cs ≡ Some n → IsFlags (114 ∷ cs) n
 r_takes n [] e = with_end (codes "r") 1 n [] refl e
@@ -128,11 +128,11 @@ read_takes : (n : ℕ) (o : Option ℕ) → is_read n o ≡ true → o ≡ Some 
 read_takes n None e = absurd cc
 read_takes n (Some m) e = ap (λ (k : ℕ). Some k) (eqb-true m n e)
 
-fine : (n : ℕ) → n < 64 → (is_read n (flags_of (flags_word n)) ≡ true) × (list_all (λ c. not (eqb c 32)) (flags_word n) ≡ true)
-fine n lt = and_parts (is_read n (flags_of (flags_word n))) (list_all (λ c. not (eqb c 32)) (flags_word n)) (each_below 64 n is_fine refl lt)
+fine : (n : ℕ) → n < 128 → (is_read n (flags_of (flags_word n)) ≡ true) × (list_all (λ c. not (eqb c 32)) (flags_word n) ≡ true)
+fine n lt = and_parts (is_read n (flags_of (flags_word n))) (list_all (λ c. not (eqb c 32)) (flags_word n)) (each_below 128 n is_fine refl lt)
 
-pub flags_again : (n : ℕ) → n < 64 → flags_of (flags_word n) ≡ Some n
+pub flags_again : (n : ℕ) → n < 128 → flags_of (flags_word n) ≡ Some n
 flags_again n lt = read_takes n (flags_of (flags_word n)) (fine n lt).0
 
-pub flags_unbroken : (n : ℕ) → n < 64 → Unbroken (flags_word n)
+pub flags_unbroken : (n : ℕ) → n < 128 → Unbroken (flags_word n)
 flags_unbroken n lt = unbroken (flags_word n) (fine n lt).1

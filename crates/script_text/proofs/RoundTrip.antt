@@ -31,5 +31,6 @@ pub act_read_back : (act : ScriptAct) → IsScriptAct act → reading (script_li
 act_read_back acts.Join h = refl
 act_read_back (acts.Attach process) h = reading_again (script_line (acts.Attach process)) (acts.Attach process) (h, append_assoc (process_word process) (codes " ") (codes "attach"))
 act_read_back (acts.Call process call) h = read_back process call h.0 h.1
+act_read_back (acts.Resume process) h = reading_again (script_line (acts.Resume process)) (acts.Resume process) (h, append_assoc (process_word process) (codes " ") (codes "resume"))
 act_read_back (acts.Exit process) h = reading_again (script_line (acts.Exit process)) (acts.Exit process) (h, append_assoc (process_word process) (codes " ") (codes "exit"))
 act_read_back acts.CloseRun h = refl

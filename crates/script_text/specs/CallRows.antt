@@ -5,7 +5,7 @@ use Rattle.call_types.specs.declared.call.Call.{Call}
 use Rattle.call_types.specs.declared.call.Call.TheVariants as calls
 use Rattle.call_types.specs.declared.whence.Whence.TheVariants as whences
 use Rattle.call_types.specs.declared.act.ScriptAct.TheVariants as acts
-use Rattle.call_types.specs.Flags.{writing, creat}
+use Rattle.call_types.specs.Flags.{writing, creat, nonblocking}
 use Rattle.script_text.specs.ReadingCalls.{reading}
 
 -- a line of process 7, the byte of its call in a request, and the call
@@ -17,7 +17,7 @@ pub record Row : Type 0 where
 -- a row for each call
 abbrev pub call_rows : List Row
 call_rows =
-    record { line = codes "p7 open a%20b w,creat"; byte = 16; call = calls.Open (codes "a b") (record { 0 = bit_or writing creat }) } ∷
+    record { line = codes "p7 open a%20b w,creat,nonblock"; byte = 16; call = calls.Open (codes "a b") (record { 0 = bit_or (bit_or writing creat) nonblocking }) } ∷
     record { line = codes "p7 close 3"; byte = 17; call = calls.Close (pos 3) } ∷
     record { line = codes "p7 read 3 5"; byte = 18; call = calls.Read (pos 3) 5 } ∷
     record { line = codes "p7 write 3 x6869"; byte = 19; call = calls.Write (pos 3) (codes "hi") } ∷
@@ -27,6 +27,8 @@ call_rows =
     record { line = codes "p7 ftruncate 3 4"; byte = 23; call = calls.Ftruncate (pos 3) (pos 4) } ∷
     record { line = codes "p7 dup 3"; byte = 24; call = calls.Dup (pos 3) } ∷
     record { line = codes "p7 dup2 3 4"; byte = 25; call = calls.Dup2 (pos 3) (pos 4) } ∷
+    record { line = codes "p7 pipe"; byte = 26; call = calls.Pipe } ∷
+    record { line = codes "p7 mkfifo a"; byte = 27; call = calls.Mkfifo (codes "a") } ∷
     record { line = codes "p7 link a b"; byte = 28; call = calls.Link (codes "a") (codes "b") } ∷
     record { line = codes "p7 unlink a"; byte = 29; call = calls.Unlink (codes "a") } ∷
     record { line = codes "p7 fstat 3"; byte = 30; call = calls.Fstat (pos 3) } ∷

@@ -171,6 +171,7 @@ abbrev pub script_act_text : ScriptAct → List ℕ
 script_act_text scripts.Join = codes "join"
 script_act_text (scripts.Attach process) = codes "attach"
 script_act_text (scripts.Call process call) = call_text call
+script_act_text (scripts.Resume process) = codes "resume"
 script_act_text (scripts.Exit process) = codes "exit"
 script_act_text scripts.CloseRun = codes "close-run"
 
@@ -184,6 +185,7 @@ abbrev pub script_line : ScriptAct → List ℕ
 script_line scripts.Join = script_act_text scripts.Join
 script_line (scripts.Attach process) = process_word process ++ codes " " ++ script_act_text (scripts.Attach process)
 script_line (scripts.Call process call) = process_word process ++ codes " " ++ script_act_text (scripts.Call process call)
+script_line (scripts.Resume process) = process_word process ++ codes " " ++ script_act_text (scripts.Resume process)
 script_line (scripts.Exit process) = process_word process ++ codes " " ++ script_act_text (scripts.Exit process)
 script_line scripts.CloseRun = script_act_text scripts.CloseRun
 

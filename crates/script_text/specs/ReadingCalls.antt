@@ -55,10 +55,11 @@ last_word act left = do
   end ← ended left
   Ok act
 
--- a process's act, by the word after the process: attach, exit or a call
+-- a process's act, by the word after the process: attach, resume, exit or a call
 abbrev pub process_act : ℕ → Word → Result ScriptAct ℕ
 process_act process w =
     if bytes_eq w.text (codes "attach") then last_word (acts.Attach process) w.after
+    else if bytes_eq w.text (codes "resume") then last_word (acts.Resume process) w.after
     else if bytes_eq w.text (codes "exit") then last_word (acts.Exit process) w.after
     else named_call w >>= λ call. Ok (acts.Call process call)
 

@@ -1,7 +1,7 @@
 -- Words of a script line that are flags, as numbers with a bit for each flag (own).
 use Rattle.std.specs.Prelude.{ℕ, ◌==◌, List, [], ◌∷◌, length, drop, take, fold, codes, bit_or, Option, Some, None, if◌then◌else◌}
 use Rattle.std.specs.Str.{bytes_eq}
-use Rattle.call_types.specs.Flags.{reading, writing, creat, excl, trunc, appending}
+use Rattle.call_types.specs.Flags.{reading, writing, creat, excl, trunc, appending, nonblocking}
 use Rattle.script_text.specs.Reading.{byte_of}
 
 -- a flag as it is written after the mode, and its bit
@@ -16,6 +16,7 @@ suffixes =
     ∷ record { text = codes ",excl"; bit = excl }
     ∷ record { text = codes ",trunc"; bit = trunc }
     ∷ record { text = codes ",append"; bit = appending }
+    ∷ record { text = codes ",nonblock"; bit = nonblocking }
     ∷ []
 
 -- the bits so far, and what is left of the word, after one suffix

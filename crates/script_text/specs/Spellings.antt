@@ -1,6 +1,6 @@
 -- Which lines spell an act, stated apart from how they are read. A number, a flag set or a first word has one
 -- spelling; a name and data may have several (own).
-use Rattle.std.specs.Prelude.{◌≡◌, ◌==◌, ◌≤◌, ◌<◌, ◌^◌, ◌⊎◌, ℕ, List, [], ◌∷◌, ◌++◌, length, replicate, codes, decimal, IsTrue, FitsSigned}
+use Rattle.std.specs.Prelude.{◌≡◌, ◌==◌, ◌≤◌, ◌<◌, ◌^◌, ◌*◌, ◌⊎◌, ℕ, List, [], ◌∷◌, ◌++◌, length, replicate, codes, decimal, IsTrue, FitsSigned}
 use Rattle.std.specs.Int.{w32, w64}
 use Rattle.std.specs.Fmt.{signed_decimal}
 use Rattle.std.specs.List.{AllByRecursion, slice_split}
@@ -44,14 +44,14 @@ SpellsRepeated bytes text = (byte : ℕ) × (count : ℕ) × (byte < 256) × (co
 abbrev pub SpellsData : List ℕ → List ℕ → Type 0
 SpellsData bytes text = SpellsDigits bytes text ⊎ SpellsRepeated bytes text
 
--- a field, by its kind; a script may have every flag but nonblock
+-- a field, by its kind; flags have no bit past that of nonblock, the last one
 abbrev pub SpellsField : (k : FieldKind) → Value k → List ℕ → Type 0
 SpellsField a_descriptor fd word = (word ≡ signed_decimal fd) × FitsSigned w32 fd
 SpellsField a_position start word = (word ≡ signed_decimal start) × FitsSigned w64 start
 SpellsField a_count n word = (word ≡ decimal n) × (n < 2 ^ 32)
 SpellsField a_name name word = SpellsName name word
 SpellsField a_payload bytes word = SpellsData bytes word
-SpellsField some_flags bits word = (word ≡ flags_word bits) × (bits < nonblocking)
+SpellsField some_flags bits word = (word ≡ flags_word bits) × (bits < 2 * nonblocking)
 SpellsField a_whence whence word = word ≡ whence_word whence
 
 -- fields: a space and a word for each
@@ -72,6 +72,7 @@ abbrev pub SpellsAct : ScriptAct → List ℕ → Type 0
 SpellsAct acts.Join line = line ≡ codes "join"
 SpellsAct (acts.Attach process) line = (process < 2 ^ 32) × (line ≡ process_word process ++ codes " attach")
 SpellsAct (acts.Call process call) line = (text : List ℕ) × (process < 2 ^ 32) × SpellsCall call text × (line ≡ process_word process ++ (codes " " ++ text))
+SpellsAct (acts.Resume process) line = (process < 2 ^ 32) × (line ≡ process_word process ++ codes " resume")
 SpellsAct (acts.Exit process) line = (process < 2 ^ 32) × (line ≡ process_word process ++ codes " exit")
 SpellsAct acts.CloseRun line = line ≡ codes "close-run"
 
@@ -86,7 +87,7 @@ FieldFits a_position start = FitsSigned w64 start
 FieldFits a_count n = n < 2 ^ 32
 FieldFits a_name name = AreBytes name × (length name ≤ GIVEN_NAME_MAX)
 FieldFits a_payload bytes = AreBytes bytes × (length bytes ≤ GIVEN_BYTES_MAX)
-FieldFits some_flags bits = bits < nonblocking
+FieldFits some_flags bits = bits < 2 * nonblocking
 FieldFits a_whence whence = Unit {0}
 
 -- each of the fields in its range
@@ -103,6 +104,7 @@ abbrev pub IsScriptAct : ScriptAct → Type 0
 IsScriptAct acts.Join = Unit {0}
 IsScriptAct (acts.Attach process) = process < 2 ^ 32
 IsScriptAct (acts.Call process call) = (process < 2 ^ 32) × IsScriptCall call
+IsScriptAct (acts.Resume process) = process < 2 ^ 32
 IsScriptAct (acts.Exit process) = process < 2 ^ 32
 IsScriptAct acts.CloseRun = Unit {0}
 

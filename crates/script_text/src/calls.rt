@@ -3,7 +3,7 @@
 
 ghost use Rattle.std.specs.Prelude.{◌≡◌};
 ghost use Rattle.std.specs.Option.{option_copied};
-ghost use Rattle.call_types.specs.CallTable.{open_entry, close_entry, read_entry, write_entry, pread_entry, pwrite_entry, lseek_entry, ftruncate_entry, dup_entry, dup2_entry, link_entry, unlink_entry, fstat_entry, fork_entry, position_table};
+ghost use Rattle.call_types.specs.CallTable.{open_entry, close_entry, read_entry, write_entry, pread_entry, pwrite_entry, lseek_entry, ftruncate_entry, dup_entry, dup2_entry, pipe_entry, mkfifo_entry, link_entry, unlink_entry, fstat_entry, fork_entry, position_table};
 ghost use Rattle.script_text.specs.Reading.{Gives, Word};
 ghost use Rattle.script_text.specs.ReadingCalls.{entry_at, one_of, named_call};
 ghost use Rattle.script_text.specs.Writing.{Appends};
@@ -237,6 +237,40 @@ fn put_dup2(out: &mut Vec<u8>, fd: i32, to: i32) -> Result<(), AllocError>
     Ok(())
 }
 
+/// `pipe`
+fn pipe_call(left: Left<'_>) -> Result<Call, WordFault>
+    ensures { Gives (λ x. x) result (entry_at pipe_entry (option_copied left.entry)) }
+{
+    line_end(left)?;
+    Ok(Call::Pipe)
+}
+
+/// Appends a pipe.
+fn put_pipe(out: &mut Vec<u8>) -> Result<(), AllocError>
+    ensures { Appends result out.old.items out.new.items (call_text Call.Pipe) }
+{
+    put(out, b"pipe")?;
+    Ok(())
+}
+
+/// `mkfifo NAME`
+fn mkfifo_call(alloc: Global, left: Left<'_>) -> Result<Call, WordFault>
+    ensures { Gives (λ x. x) result (entry_at mkfifo_entry (option_copied left.entry)) }
+{
+    let (name, left) = fields::name(alloc, left)?;
+    line_end(left)?;
+    Ok(Call::Mkfifo { name })
+}
+
+/// Appends a mkfifo.
+fn put_mkfifo(out: &mut Vec<u8>, name: &Name) -> Result<(), AllocError>
+    ensures { Appends result out.old.items out.new.items (call_text (Call.Mkfifo name.now)) }
+{
+    put(out, b"mkfifo ")?;
+    put_name(out, name.as_slice())?;
+    Ok(())
+}
+
 /// `link NAME NAME`
 fn link_call(alloc: Global, left: Left<'_>) -> Result<Call, WordFault>
     ensures { Gives (λ x. x) result (entry_at link_entry (option_copied left.entry)) }
@@ -326,6 +360,10 @@ pub(crate) fn call(alloc: Global, word: Next<'_>) -> Result<Call, WordFault>
         dup_call(word.after)
     } else if word.is(b"dup2") {
         dup2_call(word.after)
+    } else if word.is(b"pipe") {
+        pipe_call(word.after)
+    } else if word.is(b"mkfifo") {
+        mkfifo_call(alloc, word.after)
     } else if word.is(b"link") {
         link_call(alloc, word.after)
     } else if word.is(b"unlink") {
@@ -374,6 +412,8 @@ pub(crate) fn put_call(out: &mut Vec<u8>, call: &Call) -> Result<(), AllocError>
         Call::Ftruncate { fd, len } => put_ftruncate(out, *fd, *len),
         Call::Dup { fd } => put_dup(out, *fd),
         Call::Dup2 { fd, to } => put_dup2(out, *fd, *to),
+        Call::Pipe => put_pipe(out),
+        Call::Mkfifo { name } => put_mkfifo(out, name),
         Call::Link { old, new } => put_link(out, old, new),
         Call::Unlink { name } => put_unlink(out, name),
         Call::Fstat { fd } => put_fstat(out, *fd),

@@ -42,6 +42,7 @@ fn mode_and_suffixes(mode: OpenFlags, rest: &[u8]) -> Option<OpenFlags>
     let (flags, rest) = with_suffix(flags, rest, b",excl", OpenFlags::EXCL);
     let (flags, rest) = with_suffix(flags, rest, b",trunc", OpenFlags::TRUNC);
     let (flags, rest) = with_suffix(flags, rest, b",append", OpenFlags::APPEND);
+    let (flags, rest) = with_suffix(flags, rest, b",nonblock", OpenFlags::NONBLOCK);
     rest.is_empty().then_some(flags)
 }
 

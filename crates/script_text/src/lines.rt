@@ -60,6 +60,7 @@ fn put_script_act(out: &mut Vec<u8>, act: &ScriptAct) -> Result<(), AllocError>
         ScriptAct::Join => put(out, b"join"),
         ScriptAct::Attach { .. } => put(out, b"attach"),
         ScriptAct::Call { call, .. } => put_call(out, call),
+        ScriptAct::Resume { .. } => put(out, b"resume"),
         ScriptAct::Exit { .. } => put(out, b"exit"),
         ScriptAct::CloseRun => put(out, b"close-run"),
     }
@@ -74,6 +75,7 @@ fn put_script_actor(out: &mut Vec<u8>, actor: u32, act: &ScriptAct) -> Result<()
         ScriptAct::Join
         | ScriptAct::Attach { .. }
         | ScriptAct::Call { .. }
+        | ScriptAct::Resume { .. }
         | ScriptAct::Exit { .. } => put_process(out, actor),
     }
 }

@@ -23,6 +23,10 @@ fn process_act(alloc: Global, process: u32, word: Next<'_>) -> Result<ScriptAct,
         line_end(word.after)?;
         return Ok(ScriptAct::Attach { process });
     }
+    if word.is(b"resume") {
+        line_end(word.after)?;
+        return Ok(ScriptAct::Resume { process });
+    }
     if word.is(b"exit") {
         line_end(word.after)?;
         return Ok(ScriptAct::Exit { process });

@@ -109,6 +109,17 @@ impl<T> Numbered<T> {
         }
         self.entries.reserve(1)
     }
+
+    /// Makes room for so many more entries; an error says that memory or numbers ran out.
+    pub fn reserve_more(&mut self, count: usize) -> Result<(), AllocError>
+        ensures slots { self.new.0 ≡ self.old.0 }
+        ensures room { OnOk result (count ≤ self.new.1) }
+    {
+        if usize::MAX - self.next < count {
+            return Err(AllocError);
+        }
+        self.entries.reserve(count)
+    }
 }
 
 impl<T: Drop> Numbered<T> {

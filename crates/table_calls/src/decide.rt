@@ -10,6 +10,8 @@ use crate::exit::{decide_close_run, decide_exit};
 use crate::fork::decide_fork;
 use crate::join::{decide_join, is_full};
 use crate::link::decide_link;
+use crate::mkfifo::decide_mkfifo;
+use crate::pipe::decide_pipe;
 use crate::unlink::decide_unlink;
 use call_types::act::{Act, HOUSE};
 use call_types::call::Call;
@@ -23,6 +25,7 @@ use file_calls::pread::decide_pread;
 use file_calls::pwrite::decide_pwrite;
 use file_calls::read::decide_read;
 use file_calls::write::decide_write;
+use pipe_calls::resume::decide_resume;
 use posix_model::change::Decided;
 use posix_model::reader::Reader;
 use std::alloc::{AllocError, Global};
@@ -45,11 +48,13 @@ pub fn decide_call<R: Reader>(
     ensures { IfOk result (λ d. d ≡ decided bounds (R.world state.now) process call.now) }
 {
     match call {
-        Call::Open { name, flags } => decide_open(state, process, name, *flags),
+        Call::Open { name, flags } => decide_open(state, alloc, process, name, *flags),
         Call::Close { fd } => Ok(decide_close(state, process, *fd)),
-        Call::Read { fd, count } => decide_read(state, alloc, process, *fd, *count as usize),
+        Call::Read { fd, count } => {
+            decide_read(state, alloc, process, call, *fd, *count as usize)
+        }
         Call::Write { fd, bytes } => {
-            Ok(decide_write(state, bounds, process, *fd, bytes.as_slice()))
+            decide_write(state, alloc, bounds, process, call, *fd, bytes.as_slice())
         }
         Call::Pread { fd, start, count } => {
             decide_pread(state, alloc, process, *fd, *start, *count as usize)
@@ -63,6 +68,8 @@ pub fn decide_call<R: Reader>(
         Call::Ftruncate { fd, len } => Ok(decide_ftruncate(state, bounds, process, *fd, *len)),
         Call::Dup { fd } => Ok(decide_dup(state, process, *fd)),
         Call::Dup2 { fd, to } => Ok(decide_dup2(state, process, *fd, *to)),
+        Call::Pipe => Ok(decide_pipe(state, process)),
+        Call::Mkfifo { name } => decide_mkfifo(state, name),
         Call::Link { old, new } => decide_link(state, old, new),
         Call::Unlink { name } => decide_unlink(state, name),
         Call::Fstat { fd } => Ok(decide_fstat(state, process, *fd)),
@@ -71,8 +78,8 @@ pub fn decide_call<R: Reader>(
 }
 
 /// What an act comes to, or nothing where the rules record none: a join under another number than the next, a call of a
-/// process that may make none, an exit of a process that is not live, a closing by another than the house or of a run
-/// that is closed, and a resume, of which there is none yet. An error says that memory ran out.
+/// process that may make none, a resume of one that waits in no call that is ready, an exit of a process that is not live,
+/// and a closing by another than the house or of a run that is closed. An error says that memory ran out.
 pub fn decide<R: Reader>(
     state: &R,
     alloc: Global,
@@ -88,6 +95,7 @@ pub fn decide<R: Reader>(
             Ok(Some(decide_call(state, alloc, bounds, actor, call)?))
         }
         Act::Attach => Ok(Some(decide_attach(state, actor))),
+        Act::Resume => decide_resume(state, alloc, bounds, actor),
         Act::Exit if state.is_live(actor) => Ok(Some(decide_exit(actor))),
         Act::CloseRun if actor == HOUSE as usize && !state.is_closed() => {
             Ok(Some(decide_close_run()))

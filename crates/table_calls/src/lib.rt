@@ -10,4 +10,6 @@ pub mod fork;
 pub mod given;
 pub mod join;
 pub mod link;
+pub mod mkfifo;
+pub mod pipe;
 pub mod unlink;

@@ -28,7 +28,8 @@ fn description_goes_with_its_last_reference(rt: HostRuntime) -> Result<(), Fail>
         matches!(
             table.drop_one(0),
             Dropped::Gone {
-                target: Target::Regular { file: 3 }
+                target: Target::Regular { file: 3 },
+                mode: Mode::ReadWrite,
             }
         )
     );

@@ -11,17 +11,23 @@ use call_types::refusal::Refusal;
 use call_types::whence::Whence;
 use record_book::book::{Book, Counts};
 use record_book::opening::Opened;
+use record_book::resume::Resumed;
 use record_book::seat::{Receipt, Seat, SpentSeat};
 use std::alloc::{AllocError, Global};
 use std::test::Fail;
 
-/// What a record tells of its act: no value, a number, two bytes, or an error.
+/// What a record tells of its act: no value, a number, two bytes, an error, two numbers, or how many bytes a call that waits
+/// has moved; or that it waits on.
 #[derive(Clone, Copy, Debug, PartialEq, Eq)]
 enum Tells {
     Done,
     Number(u64),
     Bytes(u8, u8),
     Error(Errno),
+    Pair(u32, u32),
+    Parked(u32),
+    Part(u32),
+    Still,
     Other,
 }
 
@@ -34,6 +40,9 @@ fn told_by(receipt: &Receipt) -> Tells {
             _ => Tells::Other,
         },
         Outcome::Reply(Reply::Error(error)) => Tells::Error(*error),
+        Outcome::Reply(Reply::Pair(first, second)) => Tells::Pair(*first, *second),
+        Outcome::Parked { moved } => Tells::Parked(*moved),
+        Outcome::Part { moved } => Tells::Part(*moved),
         _ => Tells::Other,
     }
 }
@@ -72,6 +81,17 @@ fn start(
 ) -> Result<Tells, Refusal> {
     match seat {
         Some(seat) => Ok(told_by(&book.start(alloc, seat, call)?)),
+        None => Err(Refusal::NotHere),
+    }
+}
+
+/// Resumes the call that the process of a seat waits in.
+fn resume(alloc: Global, book: &mut Book, seat: &mut Option<Seat>) -> Result<Tells, Refusal> {
+    match seat {
+        Some(seat) => match book.resume(alloc, seat)? {
+            Resumed::Recorded(receipt) => Ok(told_by(&receipt)),
+            Resumed::Still => Ok(Tells::Still),
+        },
         None => Err(Refusal::NotHere),
     }
 }
@@ -149,6 +169,14 @@ impl Run {
         }
     }
 
+    fn resume(&mut self, alloc: Global, process: u32) -> Result<Tells, Refusal> {
+        if process == 0 {
+            resume(alloc, &mut self.book, &mut self.parent)
+        } else {
+            resume(alloc, &mut self.book, &mut self.child)
+        }
+    }
+
     /// The exit of the child.
     fn exit(&mut self) -> Result<Tells, Refusal> {
         match self.child.take() {
@@ -170,6 +198,7 @@ impl Run {
             ScriptAct::Join => self.join(alloc),
             ScriptAct::Attach { process } => self.attach(alloc, *process),
             ScriptAct::Call { process, call } => self.call(alloc, *process, call),
+            ScriptAct::Resume { process } => self.resume(alloc, *process),
             ScriptAct::Exit { .. } => self.exit(),
             ScriptAct::CloseRun => Ok(Tells::Other),
         }
@@ -313,6 +342,50 @@ fn refusals_are_the_same_though_memory_was_wanting(rt: HostRuntime) -> Result<()
     run.give_all(alloc, &rows)?;
     assert!(rt; run.parent_is_at(&[0, 1, 2, 3, 4, 5, 6]));
     assert_eq!(rt; run.book.counts().records, 7);
+    Ok(())
+}
+
+/// 2,000 bytes. Where memory for them was wanting, it is asked for once more.
+fn many_bytes(alloc: Global) -> Result<Payload, AllocError> {
+    let bytes = match vec![in alloc; 97; 2000] {
+        Ok(bytes) => bytes,
+        Err(_) => vec![in alloc; 97; 2000]?,
+    };
+    Ok(Payload::new(bytes))
+}
+
+/// A read of process 0 from the reading end of its pipe.
+fn read_some(count: u32) -> ScriptAct {
+    call(0, Call::Read { fd: 0, count })
+}
+
+/// The run of `tests/rows/parts-of-a-large-write`.
+fn parts(bytes: Payload) -> [(ScriptAct, Tells); 11] {
+    [
+        (ScriptAct::Join, Tells::Number(0)),
+        (call(0, Call::Pipe), Tells::Pair(0, 1)),
+        (call(0, Call::Fork), Tells::Number(1)),
+        (ScriptAct::Attach { process: 1 }, Tells::Done),
+        (call(1, Call::Write { fd: 1, bytes }), Tells::Parked(1024)),
+        (read_some(500), Tells::Other),
+        (ScriptAct::Resume { process: 1 }, Tells::Part(1524)),
+        (ScriptAct::Resume { process: 1 }, Tells::Still),
+        (read_some(1024), Tells::Other),
+        (ScriptAct::Resume { process: 1 }, Tells::Number(2000)),
+        (read_some(9999), Tells::Other),
+    ]
+}
+
+#[test]
+fn large_write_goes_on_though_memory_was_wanting(rt: HostRuntime) -> Result<(), Fail> {
+    let alloc = rt.alloc();
+    let rows = parts(many_bytes(alloc)?);
+    let mut run = Run::new(alloc, Limits::new(20)?)?;
+    run.give_all(alloc, &rows)?;
+    let counts = run.book.counts();
+    assert_eq!(rt; counts.records, 10);
+    assert_eq!(rt; counts.bytes_in, 2000);
+    assert_eq!(rt; counts.bytes_out, 2000);
     Ok(())
 }
 

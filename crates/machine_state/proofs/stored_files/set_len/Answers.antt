@@ -3,7 +3,7 @@ use Rattle.posix_model.specs.Bytes.{resized}
 use Rattle.slots.specs.Uses.{with_value}
 use Rattle.machine_state.specs.Files.{edited_bytes}
 use Rattle.machine_state.proofs.UseLaws.{edited_as}
-use Rattle.machine_state.proofs.FileLaws.{room_there, state_as}
+use Rattle.machine_state.proofs.FileLaws.{room_there}
 use Rattle.machine_state.proofs.stored_files.set_len.Goals as goal
 
 pub set_len-requires : goal.set_len-requires
@@ -11,8 +11,8 @@ set_len-requires c = rw (room_there c.args.files.now.0 c.args.number c.value_mut
 
 pub returns : goal.returns
 returns c =
-    let new = c.set_len.new.self in (
-      new.room,
-      edited_as c.args.files.now.0 c.args.number (with_value (edited_bytes (λ bytes. resized bytes c.args.len) new.room)) c.value_mut.result.now _ c.value_mut.ensures.value
-          (ap (λ state. record c.value_mut.result.now { value = state }) (state_as new c.value_mut.result.now.value (λ bytes. resized bytes c.args.len) c.set_len.ensures.bytes c.set_len.ensures.links)),
+    let edit = with_value (edited_bytes (λ bytes. resized bytes c.args.len) c.set_len.ensures.0) in
+    let used = c.value_mut.result.now in (
+      c.set_len.ensures.0,
+      edited_as c.args.files.now.0 c.args.number edit used _ c.value_mut.ensures.value (ap (λ stored. record used { value = stored }) c.set_len.ensures.1),
     )

@@ -3,7 +3,7 @@ use Rattle.posix_model.specs.Bytes.{splice}
 use Rattle.slots.specs.Uses.{with_value}
 use Rattle.machine_state.specs.Files.{edited_bytes}
 use Rattle.machine_state.proofs.UseLaws.{edited_as}
-use Rattle.machine_state.proofs.FileLaws.{room_there, state_as}
+use Rattle.machine_state.proofs.FileLaws.{room_there}
 use Rattle.machine_state.proofs.stored_files.write.Goals as goal
 
 pub write-requires : goal.write-requires
@@ -11,8 +11,8 @@ write-requires c = rw (room_there c.args.files.now.0 c.args.number c.value_mut.r
 
 pub returns : goal.returns
 returns c =
-    let new = c.write.new.self in (
-      new.room,
-      edited_as c.args.files.now.0 c.args.number (with_value (edited_bytes (λ bytes. splice bytes c.args.start c.args.new.now) new.room)) c.value_mut.result.now _ c.value_mut.ensures.value
-          (ap (λ state. record c.value_mut.result.now { value = state }) (state_as new c.value_mut.result.now.value (λ bytes. splice bytes c.args.start c.args.new.now) c.write.ensures.bytes c.write.ensures.links)),
+    let edit = with_value (edited_bytes (λ bytes. splice bytes c.args.start c.args.new.now) c.write.ensures.0) in
+    let used = c.value_mut.result.now in (
+      c.write.ensures.0,
+      edited_as c.args.files.now.0 c.args.number edit used _ c.value_mut.ensures.value (ap (λ stored. record used { value = stored }) c.write.ensures.1),
     )

@@ -14,4 +14,9 @@ returns c = record {
   duplicates = record { is_legal = (refl, (refl, (refl, (refl, (refl, (refl, (refl, (refl, (refl, (refl, (refl, (refl, (refl, (refl, (refl, (refl, (refl, tt))))))))))))))))); takes = refl; gives = refl };
   shared_offset = record { is_legal = (refl, (refl, (refl, (refl, (refl, (refl, (refl, (refl, (refl, (refl, tt)))))))))); takes = refl; gives = refl };
   closing = record { is_legal = (refl, (refl, (refl, (refl, (refl, (refl, (refl, (refl, (refl, (refl, tt)))))))))); takes = refl; gives = refl };
+  nonblocking_fifo = record { is_legal = (refl, (refl, (refl, (refl, (refl, (refl, (refl, (refl, (refl, (refl, (refl, tt))))))))))); takes = refl; gives = refl };
+  exit_in_a_write_that_waits = record { is_legal = (refl, (refl, (refl, (refl, (refl, (refl, (refl, (refl, (refl, (refl, (refl, tt))))))))))); takes = refl; gives = refl };
+  last_reader_goes = record { is_legal = (refl, (refl, (refl, (refl, (refl, (refl, (refl, (refl, (refl, tt))))))))); takes = refl; gives = refl };
+  fifo_rendezvous = record { is_legal = (refl, (refl, (refl, (refl, (refl, (refl, (refl, (refl, (refl, tt))))))))); takes = refl; gives = refl };
+  parts_of_a_large_write = record { is_legal = (refl, (refl, (refl, (refl, (refl, (refl, (refl, (refl, (refl, (refl, tt)))))))))); takes = refl; gives = refl };
 }

@@ -1,4 +1,4 @@
-use Rattle.posix_model.proofs.Sound.{acts_are_sound}
+use Rattle.posix_model.proofs.SoundActs.{acts_are_sound}
 use Rattle.posix_model.proofs.laws.acts_are_sound.Goals as goal
 
 pub returns : goal.returns

@@ -1,4 +1,4 @@
-use Rattle.posix_model.proofs.Sound.{calls_are_sound}
+use Rattle.posix_model.proofs.SoundActs.{calls_are_sound}
 use Rattle.posix_model.proofs.laws.calls_are_sound.Goals as goal
 
 pub returns : goal.returns

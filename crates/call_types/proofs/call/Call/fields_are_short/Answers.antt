@@ -10,6 +10,9 @@ returns-in-Write c = rw c.in-Write.is (omega arith, (omega (arith, ap length c.a
 pub returns-in-Pwrite : goal.returns-in-Pwrite
 returns-in-Pwrite c = rw c.in-Pwrite.is (omega arith, (omega arith, (omega (arith, ap length c.as_slice-bytes-in-Pwrite.ensures.value, c.as_slice-bytes-in-Pwrite.ensures.within), tt)))
 
+pub returns-in-Mkfifo : goal.returns-in-Mkfifo
+returns-in-Mkfifo c = rw c.in-Mkfifo.is (omega (arith, ap length c.as_slice-bytes-in-Mkfifo.ensures.value, c.as_slice-bytes-in-Mkfifo.ensures.within), tt)
+
 pub returns-in-Link : goal.returns-in-Link
 returns-in-Link c = rw c.in-Link.is
     (omega (arith, ap length c.as_slice-old.ensures.value, c.as_slice-old.ensures.within), (omega (arith, ap length c.as_slice-new.ensures.value, c.as_slice-new.ensures.within), tt))

@@ -1,7 +1,8 @@
 use Rattle.std.proofs.Common.{sym, ◌∙◌, arith}
 use Rattle.machine_state.specs.Held.{stored_in}
 use Rattle.machine_state.proofs.UseLaws.{there_values}
-use Rattle.machine_state.proofs.StoredLaws.{few_references, after_add, added_world}
+use Rattle.machine_state.proofs.StoredLaws.{few_references}
+use Rattle.machine_state.proofs.ProcessLaws.{after_add, added_world}
 use Rattle.machine_state.proofs.machine.Machine.add_process.Goals as goal
 
 pub hold_entries-requires-clause-there : goal.hold_entries-requires-clause-there

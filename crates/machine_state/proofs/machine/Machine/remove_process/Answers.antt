@@ -1,5 +1,5 @@
 use Rattle.machine_state.specs.Held.{stored_in}
-use Rattle.machine_state.proofs.StoredLaws.{after_remove}
+use Rattle.machine_state.proofs.ProcessLaws.{after_remove}
 use Rattle.machine_state.proofs.machine.Machine.remove_process.Goals as goal
 
 pub invariant_of-self : goal.invariant_of-self

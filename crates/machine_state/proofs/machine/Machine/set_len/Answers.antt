@@ -1,6 +1,5 @@
 use Rattle.std.proofs.Common.{refl}
 use Rattle.posix_model.specs.Bytes.{resized}
-use Rattle.machine_state.specs.Files.{edited_bytes}
 use Rattle.machine_state.specs.Held.{stored_in}
 use Rattle.machine_state.proofs.FileLaws.{regular_there, files_written}
 use Rattle.machine_state.proofs.StoredLaws.{after_bytes}
@@ -11,7 +10,7 @@ set_len-requires-clause-there c = regular_there c.self.inside.files.0 c.args.fil
 
 pub invariant_of-self : goal.invariant_of-self
 invariant_of-self c =
-    rw c.set_len.ensures.1 (after_bytes (stored_in c.self.inside) c.self.invariant c.args.file (edited_bytes (λ bytes. resized bytes c.args.len) c.set_len.ensures.0) (λ _. refl))
+    rw c.set_len.ensures.1 (after_bytes (stored_in c.self.inside) c.self.invariant c.args.file (λ bytes. resized bytes c.args.len) c.set_len.ensures.0)
 
 pub returns-clause-world : goal.returns-clause-world
 returns-clause-world c =

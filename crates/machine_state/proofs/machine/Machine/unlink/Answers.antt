@@ -1,5 +1,5 @@
 use Rattle.machine_state.specs.Held.{stored_in}
-use Rattle.machine_state.proofs.StoredLaws.{some_link, after_unlink}
+use Rattle.machine_state.proofs.DropLaws.{some_link, after_unlink}
 use Rattle.machine_state.proofs.machine.Machine.unlink.Goals as goal
 
 pub drop_link-requires : goal.drop_link-requires

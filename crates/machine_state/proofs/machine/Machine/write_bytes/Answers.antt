@@ -1,6 +1,5 @@
 use Rattle.std.proofs.Common.{refl}
 use Rattle.posix_model.specs.Bytes.{splice}
-use Rattle.machine_state.specs.Files.{edited_bytes}
 use Rattle.machine_state.specs.Held.{stored_in}
 use Rattle.machine_state.proofs.FileLaws.{regular_there, files_written}
 use Rattle.machine_state.proofs.StoredLaws.{after_bytes}
@@ -11,7 +10,7 @@ write-requires-clause-there c = regular_there c.self.inside.files.0 c.args.file 
 
 pub invariant_of-self : goal.invariant_of-self
 invariant_of-self c =
-    rw c.write.ensures.1 (after_bytes (stored_in c.self.inside) c.self.invariant c.args.file (edited_bytes (λ bytes. splice bytes c.args.start c.args.bytes.now) c.write.ensures.0) (λ _. refl))
+    rw c.write.ensures.1 (after_bytes (stored_in c.self.inside) c.self.invariant c.args.file (λ bytes. splice bytes c.args.start c.args.bytes.now) c.write.ensures.0)
 
 pub returns-clause-world : goal.returns-clause-world
 returns-clause-world c =

@@ -1,11 +1,13 @@
-use Rattle.std.proofs.Common.{◌≡◌, ◌≤◌, ◌+◌, ◌∙◌, cond, None, Some, refl, sym, ap, arith, length}
+use Rattle.std.proofs.Common.{◌≡◌, ◌≤◌, ◌+◌, ◌∙◌, cond, None, Some, refl, sym, ap, subst, arith, length}
 use Rattle.std.specs.Arc.{arc_value}
 use Rattle.std.proofs.lemmas.List.{map-append}
 use Rattle.call_types.specs.declared.act.Record.{Record}
 use Rattle.call_types.specs.declared.limits.TheConstants.{GIVEN_BYTES_MAX}
 use Rattle.slots.specs.Slots.{live}
+use Rattle.posix_model.specs.Whole.{EachThere, IsItsFifo}
+use Rattle.posix_model.specs.declared.world.World.{World}
 use Rattle.posix_model.specs.Step.{given, stepped}
-use Rattle.posix_model.specs.Sound.{ended_by, adds, ended, closes}
+use Rattle.posix_model.specs.Sound.{data_of, ended_by, adds, ended, closes}
 use Rattle.posix_model.specs.Turns.{took, gave}
 use Rattle.record_book.specs.Book.{world_now}
 use Rattle.record_book.specs.Inside.{state_of, prepared_closing}
@@ -13,6 +15,12 @@ use Rattle.record_book.specs.Exits.{closing_record, prepared_for}
 use Rattle.record_book.proofs.GrowLemmas.{book_grows, book_stays, closed_same}
 use Rattle.record_book.proofs.ExitLemmas.{exits_changed, prepared_count, house_grows}
 use Rattle.record_book.proofs.book.Book.append.Goals as goal
+
+pub apply-requires-clause-ends : goal.apply-requires-clause-ends
+apply-requires-clause-ends c =
+    let planned = rw (← c.self.view_is) at c.requires.planned in
+    let P : World → Type 0 = λ w. EachThere (λ d. IsItsFifo w.files d.target) w.descriptions in
+    subst P (sym (c.in_ok-reserve_for.ensures.world ∙ c.self.invariant.world)) planned.whole.ends
 
 pub invariant_of-self-2 : goal.invariant_of-self-2
 invariant_of-self-2 c =
@@ -22,8 +30,8 @@ invariant_of-self-2 c =
     let r : Record = record { actor = c.args.actor; act = c.args.act; outcome = c.args.decided.outcome } in
     let item_is : arc_value c.in_ok-item.item ≡ r = c.in_ok-item.ensures.ok in
     let given_is : c.given-bytes.result.now ≡ given c.args.act = rw (c.given-bytes.ensures.bytes, c.deref.ensures, item_is) refl in
-    let took_is : c.took.result ≡ took w r = rw (c.took.ensures, c.deref-2.ensures, item_is, c.in_ok-reserve_for.ensures.world, c.self.invariant.world) refl in
-    let gave_is : c.gave.result ≡ gave w r = rw (c.gave.ensures.bytes w, c.deref-3.ensures, item_is) refl in
+    let took_is : c.took.result ≡ took w r = rw (c.took.ensures, c.deref-3.ensures, item_is, c.in_ok-reserve_for.ensures.world, c.self.invariant.world) refl in
+    let gave_is : c.gave.result ≡ gave w r = rw (c.gave.ensures.bytes w, c.deref-4.ensures, item_is) refl in
     let w_is : b.machine.world ≡ w = c.self.invariant.world in
     let next = (stepped w (given r.act) c.args.decided).world in
     let none : ended_by c.args.decided.change.process ≡ 0 = planned.told.ended ∙ c.requires.ends in
@@ -36,14 +44,16 @@ invariant_of-self-2 c =
       outcome = refl;
       records = rw (c.push_reserved.ensures.items, map-append, item_is) refl;
       limits = refl;
-      world = rw (c.apply.ensures, c.in_ok-reserve_for.ensures.world, c.self.invariant.world, given_is) refl;
+      world = rw (c.apply.ensures.world, c.in_ok-reserve_for.ensures.world, c.self.invariant.world, given_is) refl;
       few_taken =
-          let short : length (given c.args.act) ≤ GIVEN_BYTES_MAX = rw (← given_is) c.given-bytes.ensures.few in
+          let data_is : c.data_of-data.result.now ≡ data_of w c.args.actor c.args.act = rw (c.data_of-data.ensures.bytes, c.deref-2.ensures, item_is, c.in_ok-reserve_for.ensures.world, w_is) refl in
+          let short : length (data_of w c.args.actor c.args.act) ≤ GIVEN_BYTES_MAX = rw (← data_is) c.data_of-data.ensures.few in
           omega (arith, planned.few, short);
       few_given = let few = rw gave_is at c.gave.ensures.few in omega (arith, few);
       taken = rw took_is refl;
       given_is = rw gave_is refl;
       room = c.push_reserved.ensures.capacity;
+      capacity = c.apply.ensures.capacity ∙ c.in_ok-reserve_for.ensures.capacity;
       exits = rw (c.keep_exit.ensures, prepared_is, c.in_ok-prepared.ensures.exits, c.self.invariant.exits, w_is) (sym (exits_changed w (given r.act) c.args.decided.change none));
       closing =
           c.in_ok-prepared.ensures.house.closing ∙ c.self.invariant.closing ∙ ap prepared_closing w_is ∙
@@ -58,6 +68,7 @@ invariant_of-self-2 c =
 pub invariant_of-self-in_err-prepared : goal.invariant_of-self-in_err-prepared
 invariant_of-self-in_err-prepared c = book_stays c.self.inside _ c.self.invariant (record {
   world = c.in_ok-reserve_for.ensures.world;
+  capacity = c.in_ok-reserve_for.ensures.capacity;
   history = refl;
   limits = refl;
   bytes_in = refl;
@@ -69,6 +80,7 @@ invariant_of-self-in_err-prepared c = book_stays c.self.inside _ c.self.invarian
 pub invariant_of-self-in_err-receive : goal.invariant_of-self-in_err-receive
 invariant_of-self-in_err-receive c = book_stays c.self.inside _ c.self.invariant (record {
   world = c.in_ok-reserve_for.ensures.world;
+  capacity = c.in_ok-reserve_for.ensures.capacity;
   history = refl;
   limits = refl;
   bytes_in = refl;

@@ -13,7 +13,8 @@ invariant_of-self c =
     book_shuts c.self.inside _ c.self.invariant (rw (← c.self.view_is, c.decide_close_run-decided.ensures) at c.is_planned.ensures) (record {
       records = rw (c.push_reserved.ensures.items, map-append, c.shares-kept.ensures.kept, closing) refl;
       limits = refl;
-      world = rw (c.apply.ensures, c.decide_close_run-decided.ensures) refl;
+      world = rw (c.apply.ensures.world, c.decide_close_run-decided.ensures) refl;
+      capacity = c.apply.ensures.capacity;
       bytes_in = refl;
       bytes_out = refl;
       room = c.push_reserved.ensures.capacity;

@@ -18,6 +18,7 @@ invariant_of-self c = book_ends c.self.inside _ c.args.process c.self.invariant 
   bytes_in = refl;
   bytes_out = refl;
   room = c.end_process.ensures.capacity;
+  capacity = c.end_process.ensures.pipes;
   exits = c.end_process.ensures.exits;
   closing = refl;
   house = λ k less. room_less (live c.self.inside.machine.world.processes) k c.self.inside.house (omega (arith, less)) c.self.invariant.house;

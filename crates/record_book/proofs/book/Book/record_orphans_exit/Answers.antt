@@ -24,6 +24,7 @@ invariant_of-self c = book_ends c.self.inside _ c.args.process c.self.invariant 
   bytes_in = refl;
   bytes_out = refl;
   room = c.end_process-receipt.ensures.capacity;
+  capacity = c.end_process-receipt.ensures.pipes;
   exits = c.end_process-receipt.ensures.exits;
   closing = rw c.in-Some.is refl;
   house = λ k less. let room = rw c.in-Some.is at c.self.invariant.house in omega (arith, less, room, c.push_reserved.ensures.len, c.push_reserved.ensures.capacity);

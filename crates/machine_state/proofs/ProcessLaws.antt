@@ -1,0 +1,109 @@
+-- Processes that come, change and go.
+use Rattle.std.proofs.Common.{◌≡◌, ℕ, zero, suc, ◌≤◌, ◌<◌, ◌∙◌, Bool, true, List, [], ◌∷◌, ◌++◌, Option, None, Some, length, set, refl, ap, sym, arith}
+use Rattle.std.specs.Prelude.{is_some}
+use Rattle.call_types.specs.declared.limits.TheConstants.{OPEN_MAX, PROCESSES_MAX}
+use Rattle.slots.specs.Slots.{slot, live, edited}
+use Rattle.posix_model.specs.Counts.{refs, refs_of}
+use Rattle.process_table.specs.Processes.{with_entry, table_of, process_with}
+use Rattle.posix_model.specs.Change.{with_processes}
+use Rattle.posix_model.specs.Whole.{EachThere, IsThere}
+use Rattle.posix_model.specs.Fits.{CanAdd, CanSet}
+use Rattle.machine_state.specs.Types.{World, Process, Description}
+use Rattle.posix_model.specs.declared.change.ProcessEdit.TheVariants as on_process
+use Rattle.slots.specs.Uses.{values_in}
+use Rattle.machine_state.specs.Uses.{with_uses}
+use Rattle.machine_state.specs.Held.{Stored, world_in}
+use Rattle.machine_state.specs.Consistent.{IsConsistent}
+use Rattle.machine_state.proofs.SlotLaws.{each_set, each_added, each_edited}
+use Rattle.machine_state.proofs.UseLaws.{there_values, counted_as, counted_uses, values_uses}
+use Rattle.machine_state.proofs.CountLaws.{refs_added, refs_same, refs_without, live_added, live_edited, live_without}
+use Rattle.machine_state.proofs.StoredLaws.{HasAll, facts_of, consistent_of}
+
+module _ (s : Stored) (all : IsConsistent s) where
+  abbrev ds : List (Option Description)
+  ds = values_in s.descriptions
+
+  -- a new process refers to what is there
+  abbrev pub added : List (Option ℕ) → Bool → Stored
+  added table attached = record s { descriptions = with_uses table s.descriptions; processes = s.processes ++ Some (process_with table attached) ∷ [] }
+
+  pub after_add : (table : List (Option ℕ)) (attached : Bool) → CanAdd (world_in s) table → live s.processes < PROCESSES_MAX → IsConsistent (added table attached)
+  after_add table attached can few =
+      let facts = facts_of s all in
+      let child = process_with table attached in
+      let values : values_in (with_uses table s.descriptions) ≡ ds = values_uses table s.descriptions in
+      consistent_of (added table attached) (record {
+        references = counted_uses table s.descriptions (λ n. refs s.processes n) (λ n. refs (added table attached).processes n) facts.references
+            (λ k n is. sym (there_values s.descriptions n) ∙ can.there k n is) (λ n. refs_added s.processes child n);
+        uses = rw values facts.uses;
+        links = facts.links;
+        pipes = rw values facts.pipes;
+        fifos = rw values facts.fifos;
+        spare = facts.spare;
+        tables = each_added HasAll s.processes child facts.tables can.all;
+        few_processes = omega (arith, few, live_added s.processes child);
+        few_descriptions = rw values facts.few_descriptions;
+        few_names = facts.few_names;
+      })
+
+  pub added_world : (table : List (Option ℕ)) (attached : Bool) → world_in (added table attached) ≡ with_processes (world_in s) (on_process.Add table attached)
+  added_world table attached = rw (values_uses table s.descriptions) refl
+
+  -- a process is another, with the descriptors that it had
+  pub after_process : (p : ℕ) (f : Process → Process) → ((x : Process) → (f x).table ≡ x.table) → IsConsistent (record s { processes = edited p f s.processes })
+  after_process p f same =
+      let facts = facts_of s all in
+      let ps = edited p f s.processes in
+      consistent_of (record s { processes = ps }) (record {
+        references = counted_as s.descriptions (λ n. refs s.processes n) (λ n. refs ps n) facts.references (λ n. refs_same s.processes p f n same);
+        uses = facts.uses;
+        links = facts.links;
+        pipes = facts.pipes;
+        fifos = facts.fifos;
+        spare = facts.spare;
+        tables = each_edited HasAll s.processes p f facts.tables (λ x h. ap length (same x) ∙ h);
+        few_processes = omega (arith, facts.few_processes, live_edited s.processes p f);
+        few_descriptions = facts.few_descriptions;
+        few_names = facts.few_names;
+      })
+
+  -- a process that has no open descriptor goes
+  pub after_remove : (p : ℕ) → ((n : ℕ) → refs_of n (slot s.processes p) ≡ 0) → IsConsistent (record s { processes = set s.processes p None })
+  after_remove p bare =
+      let facts = facts_of s all in
+      let ps = set s.processes p None in
+      consistent_of (record s { processes = ps }) (record {
+        references = counted_as s.descriptions (λ n. refs s.processes n) (λ n. refs ps n) facts.references (λ n. refs_without s.processes p n (bare n));
+        uses = facts.uses;
+        links = facts.links;
+        pipes = facts.pipes;
+        fifos = facts.fifos;
+        spare = facts.spare;
+        tables = each_set HasAll s.processes p None facts.tables (λ x h. cc);
+        few_processes = omega (arith, facts.few_processes, live_without s.processes p);
+        few_descriptions = facts.few_descriptions;
+        few_names = facts.few_names;
+      })
+
+-- a descriptor of a process that is there can be closed
+pub can_close : (w : World) (p fd : ℕ) → EachThere (λ process. length process.table ≡ OPEN_MAX) w.processes → IsThere w.processes p → fd < OPEN_MAX → CanSet w p fd None
+can_close w p fd tables there below = by_slot (slot w.processes p) refl there
+  where
+    by_slot : (x : Option Process) → slot w.processes p ≡ x → is_some x ≡ true → CanSet w p fd None
+    by_slot None is some = cc
+    by_slot (Some process) is some = record { process = process; process_is = is; within = omega (arith, below, tables p process is); there = λ n h. cc }
+
+-- a process has no more descriptors than there may be
+pub table_most : (w : World) (p : ℕ) → EachThere (λ process. length process.table ≡ OPEN_MAX) w.processes → length (table_of (slot w.processes p)) ≤ OPEN_MAX
+table_most w p tables = by_slot (slot w.processes p) refl
+  where
+    by_slot : (x : Option Process) → slot w.processes p ≡ x → length (table_of x) ≤ OPEN_MAX
+    by_slot None is = omega arith
+    by_slot (Some process) is = omega (arith, tables p process is)
+
+-- an entry that is written leaves its process where it is
+pub still_there : (ps : List (Option Process)) (p fd : ℕ) (entry : Option ℕ) → IsThere ps p → IsThere (edited p (with_entry fd entry) ps) p
+still_there [] p fd entry there = cc
+still_there (None ∷ ps) zero fd entry there = cc
+still_there (Some x ∷ ps) zero fd entry there = refl
+still_there (x ∷ ps) (suc p) fd entry there = still_there ps p fd entry there

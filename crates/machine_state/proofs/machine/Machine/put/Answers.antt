@@ -1,0 +1,44 @@
+use Rattle.std.proofs.Common.{sym, ◌∙◌, take, length-take-le, arith}
+use Rattle.posix_model.specs.Change.{after_those, rest_of}
+use Rattle.process_table.specs.Processes.{parked_of}
+use Rattle.slots.specs.Slots.{slot}
+use Rattle.machine_state.specs.Held.{stored_in}
+use Rattle.machine_state.proofs.PipeLaws.{pipes_there}
+use Rattle.machine_state.proofs.StoredLaws.{after_written, written_world, fits_ring}
+use Rattle.machine_state.proofs.machine.Machine.put.Goals as goal
+
+pub put-requires-clause-there : goal.put-requires-clause-there
+put-requires-clause-there c = sym (pipes_there c.self.inside.pipes.0 c.args.pipe) ∙ (rw (← c.self.view_is) at c.requires.there)
+
+pub put-requires-clause-room : goal.put-requires-clause-room
+put-requires-clause-room c =
+    let there = rw (← c.self.view_is) at c.requires.there in
+    let holds = rw (← c.self.view_is) at c.requires.holds in
+    let given = rw c.in-Act.is at c.requires.given in
+    omega (arith, length-take-le c.args.count c.args.bytes.now, fits_ring (stored_in c.self.inside) c.self.invariant c.args.pipe c.args.count there holds)
+
+pub invariant_of-self : goal.invariant_of-self
+invariant_of-self c = rw c.put.ensures.slots (after_written (stored_in c.self.inside) c.self.invariant c.args.pipe (after_those (take c.args.count c.args.bytes.now)))
+
+pub put_parked-requires-clause-there : goal.put_parked-requires-clause-there
+put_parked-requires-clause-there c = sym (pipes_there c.self.inside.pipes.0 c.args.pipe) ∙ (rw (← c.self.view_is) at c.requires.there)
+
+pub put_parked-requires-clause-room : goal.put_parked-requires-clause-room
+put_parked-requires-clause-room c =
+    let there = rw (← c.self.view_is) at c.requires.there in
+    let holds = rw (← c.self.view_is) at c.requires.holds in
+    fits_ring (stored_in c.self.inside) c.self.invariant c.args.pipe c.args.count there holds
+
+pub invariant_of-self-in-Parked : goal.invariant_of-self-in-Parked
+invariant_of-self-in-Parked c =
+    rw c.put_parked.ensures.slots
+    (after_written (stored_in c.self.inside) c.self.invariant c.args.pipe (after_those (take c.args.count (rest_of (parked_of (slot c.self.inside.processes.0 c.in-Parked.process))))))
+
+pub returns-in-Act-clause-world : goal.returns-in-Act-clause-world
+returns-in-Act-clause-world c =
+    rw (← c.self.view_is, c.put.ensures.slots, c.in-Act.is) (written_world (stored_in c.self.inside) c.self.invariant c.args.pipe (after_those (take c.args.count c.args.bytes.now)))
+
+pub returns-in-Parked-clause-world : goal.returns-in-Parked-clause-world
+returns-in-Parked-clause-world c =
+    rw (← c.self.view_is, c.put_parked.ensures.slots, c.in-Parked.is)
+    (written_world (stored_in c.self.inside) c.self.invariant c.args.pipe (after_those (take c.args.count (rest_of (parked_of (slot c.self.inside.processes.0 c.in-Parked.process))))))

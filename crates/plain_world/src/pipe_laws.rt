@@ -1,0 +1,43 @@
+//! Laws of pipes and FIFOs. Each function does nothing; its contract is the law.
+
+ghost use Rattle.plain_world.specs.PipeLaws.{ReopenedIsEmpty, ExitTakesBackNothing, WriteLosesNothing, ResumedWriteLosesNothing, SmallWriteIsWhole, UnparkedIsNotReady, UnparkedIsNotResumed, NonblockReadReturns, NonblockWriteReturns, NonblockOpenReturns};
+
+use posix_model::laws::sweep_leaves_wanted;
+
+/// An open of a FIFO of which no end is open leads to a pipe that is empty (page of open).
+pub fn reopened_fifo_is_empty()
+    ensures { ReopenedIsEmpty }
+{}
+
+/// An exit leaves each pipe of which an end is still open with its bytes, also those that a call which waited had put there (page
+/// of exit).
+pub fn exit_takes_back_nothing()
+    ensures { ExitTakesBackNothing }
+{
+    sweep_leaves_wanted();
+}
+
+/// A write leaves the bytes that a pipe held as the first of those that it holds, and so does a resume of a process that waits in a
+/// write (page of write).
+pub fn full_pipe_loses_nothing()
+    ensures write { WriteLosesNothing }
+    ensures resume { ResumedWriteLosesNothing }
+{}
+
+/// Under nonblock a write of at most 512 bytes (PIPE_BUF) moves all of them or none (page of write).
+pub fn small_write_is_whole()
+    ensures { SmallWriteIsWhole }
+{}
+
+/// A process that waits in no call is not ready, and a resume of it is no step.
+pub fn nobody_is_ready_unparked()
+    ensures ready { UnparkedIsNotReady }
+    ensures resumed { UnparkedIsNotResumed }
+{}
+
+/// Under nonblock a read, a write and an open do not wait (pages of read, write and open).
+pub fn nonblock_never_waits()
+    ensures read { NonblockReadReturns }
+    ensures write { NonblockWriteReturns }
+    ensures opens { NonblockOpenReturns }
+{}

@@ -1,0 +1,14 @@
+-- What a resume gives (own).
+use Rattle.std.specs.Prelude.{◌≡◌, true, false}
+use Rattle.call_types.specs.declared.act.Act.TheVariants as act
+use Rattle.record_book.specs.Seat.{SeatState}
+use Rattle.record_book.specs.Book.{BookState, Appends, Receives}
+use Rattle.record_book.specs.Refusals.{is_ready_for}
+use Rattle.record_book.specs.declared.resume.Resumed.{Resumed}
+use Rattle.record_book.specs.declared.resume.Resumed.TheVariants.{Recorded, Still}
+
+-- the call of a seat's process that is ready is taken up, and the seat has the receipt; one that is not ready goes on waiting,
+-- and nothing changes
+abbrev pub Resumes : BookState → BookState → SeatState → SeatState → Resumed → Type 0
+Resumes old new s t (Recorded receipt) = (is_ready_for old s ≡ true) × Appends old new s.pid act.Resume receipt × Receives s t receipt
+Resumes old new s t Still = (is_ready_for old s ≡ false) × (new ≡ old) × (t ≡ s)
