@@ -15,8 +15,11 @@ the output going to a file. The growth is the cost of an act over its cost in th
 descriptor and closes it, among 300 names of a set of 500. `wide` has 60 processes with 15 descriptors each beside
 1,000 names, and writes, seeks, reads, asks, opens and closes among them. `dups` duplicates descriptors, to the
 lowest free number, to one that is free and over one that is open, and closes them. `forks` forks and attaches children,
-which write through the offset that they share with their parent and exit; at most 60 processes are live. `9,000 files` are made, written one byte at
-their end, unlinked and closed, one after another: what went must not stay in memory, so a peak of 80 MiB fails.
+which write through the offset that they share with their parent and exit; at most 60 processes are live. `pipes` writes 64 bytes
+into a pipe and reads them. `parks` has writes of 2,000 bytes that wait, and that two resumes take to their end, between reads. `big` has
+writes of 65,536 bytes to a pipe, each resumed 63 times and read by 1,024 bytes: `big 61*65536` of one byte, `big x6162..` of bytes that
+differ. `9,000 files` are made, written one byte at their end, unlinked and closed, one after another: what went must not stay in
+memory, so a peak of 80 MiB fails.
 
 `64 KiB, ..` has writes of 65,536 bytes spread over files of sixteen writes each, since a file holds
 1,048,576 bytes. In the spelling `61*65536` there are 1,000 of them. In the spelling `x6162..` each
@@ -26,12 +29,17 @@ which cannot be less than what this script itself holds when it starts the child
 
 `8 bytes in ..` has preads and pwrites of 8 bytes, half of each, at positions spread over a file of 1 KiB
 and over one of 1 MiB: an act that costs more in the longer file would cost by what it does not touch.
-`64 KiB pwrites` and `64 KiB preads` move whole transfers at positions. The last line sets the cost of one
+`64 KiB pwrites` and `64 KiB preads` move whole transfers at positions. A line after them sets the cost of one
 such pread beside two copies of its bytes, as this script's own interpreter makes them.
+
+Where valgrind is there, the instructions of an act are counted too, for runs of 10,000 acts, less those of a run of
+one act: they move little from run to run.
 """
 
 import argparse
 import os
+import re
+import shutil
 import subprocess
 import sys
 import tempfile
@@ -43,6 +51,7 @@ FILE_MOST = 1_048_576
 GIVEN_BACK_MOST = 80 * 2**20
 RECORDS_MOST = 1_000_000
 BIG = 65_536
+PIPE_CAPACITY = 1_024
 BURST = 40
 BURST_ACTS = 2 * BURST + 6
 
@@ -264,6 +273,53 @@ def forks(path, acts):
     return script.filled(acts)
 
 
+def pipes(path, acts):
+    """Writes of 64 bytes into a pipe, each read before the next."""
+    script = Script(f"pipes {acts:,}", path)
+    script.act("join")
+    script.act("p0 pipe")
+    while script.acts + 2 <= acts:
+        script.write(1, "61*64", 64)
+        script.read(0, 64)
+    return script.filled(acts)
+
+
+def two_ends(script):
+    """A pipe that process 0 reads at descriptor 0 and its child, process 1, writes at descriptor 1."""
+    script.processes = 2
+    for line in ("join", "p0 pipe", "p0 fork", "p1 attach"):
+        script.act(line)
+
+
+def parks(path, acts):
+    """Writes of 2,000 bytes that wait, move a part and end, between reads that make room."""
+    script = Script(f"parks {acts:,}", path)
+    two_ends(script)
+    while script.acts + 6 <= acts:
+        script.act("p1 write 1 61*2000")
+        script.read(0, 600)
+        script.act("p1 resume")
+        script.read(0, 1_024)
+        script.act("p1 resume")
+        script.read(0, 376)
+        script.bytes_in += 2_000
+    return script.filled(acts)
+
+
+def resumed(path, name, count, spell):
+    """Writes of 65,536 bytes to a pipe, each taken to its end by resumes between reads of 1,024 bytes."""
+    script = Script(name, path)
+    two_ends(script)
+    for at in range(count):
+        script.act(f"p1 write 1 {spell(at)}")
+        for _ in range(BIG // PIPE_CAPACITY - 1):
+            script.read(0, PIPE_CAPACITY)
+            script.act("p1 resume")
+        script.read(0, PIPE_CAPACITY)
+        script.bytes_in += BIG
+    return script.done()
+
+
 def ends(path, files):
     """Files that are made, written one byte at their end and unlinked while they are open, one after another."""
     script = Script(f"{files:,} files", path)
@@ -336,6 +392,25 @@ def measure(program, script, target, runs):
     return Measure(min(it.seconds for it in measures), max(it.memory for it in measures))
 
 
+def instructions(program, script, target):
+    """The instructions of one run of the program on a script, as valgrind counts them."""
+    words = ["valgrind", "--tool=callgrind", "--callgrind-out-file=/dev/null", program, "replay", "--records", str(script.limit())]
+    with open(script.path, "rb") as reading, open(target, "wb") as writing:
+        child = subprocess.run(words, stdin=reading, stdout=writing, stderr=subprocess.PIPE, check=True)
+    return int(re.search(rb"Collected : (\d+)", child.stderr).group(1))
+
+
+def count_instructions(program, path, target):
+    """Prints the instructions of an act of each script of 10,000 acts."""
+    small = None
+    for kind in (mix, lambda path, acts: scattered(path, acts, 1024), churn, wide, dups, forks, pipes, parks):
+        script = kind(path, 10_000)
+        whole_run, acts = instructions(program, script, target), script.acts
+        cost = (whole_run - instructions(program, mix(path, 1), target)) / acts
+        small = small or cost
+        print(f"{script.name:<18} {cost:>9,.0f} instructions an act, {cost / small:.2f} small acts", flush=True)
+
+
 def table(program, runs, folder):
     """Prints a line for each script as it is done, and the growth over all."""
     path, target = os.path.join(folder, "script"), os.path.join(folder, "out")
@@ -360,13 +435,15 @@ def table(program, runs, folder):
     for acts in (10_000, 100_000, 999_000):
         costs.append(line(mix(path, acts), costs[-1] if costs else None))
     print(f"growth of the cost of an act from 10,000 to 999,000 acts: {costs[-1] / costs[0]:.2f}")
-    for kind in (churn, wide, dups, forks):
+    for kind in (churn, wide, dups, forks, pipes, parks):
         few = line(kind(path, 10_000))
         many = line(kind(path, 999_000), few)
         print(f"an act of it over a small act: {few / costs[0]:.2f} of 10,000, {many / costs[-1]:.2f} of 999,000")
     line(ends(path, 9_000), most=GIVEN_BACK_MOST)
     line(big(path, "64 KiB, 61*65536", 1_000, counted))
     line(big(path, "64 KiB, x6162..", 127, spelled))
+    line(resumed(path, "big 61*65536", 100, counted))
+    line(resumed(path, "big x6162..", 100, spelled))
     short = line(scattered(path, 200_000, 1024))
     line(scattered(path, 200_000, FILE_MOST), short)
     line(rewritten(path, 1_000))
@@ -375,6 +452,8 @@ def table(program, runs, folder):
     line(all_of_it)
     each = (measure(program, all_of_it, target, runs).seconds - none) / 2_000 * 1e6
     print(f"a pread of 64 KiB costs {each:.1f} us more than one of nothing, its line included; two copies of its bytes here: {2 * copy_cost():.1f} us")
+    if shutil.which("valgrind"):
+        count_instructions(program, path, target)
 
 
 def main():
