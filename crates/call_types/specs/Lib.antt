@@ -3,3 +3,4 @@ pub mod Flags
 pub mod Names
 pub mod Descriptions
 pub mod CallTable
+pub mod Stored

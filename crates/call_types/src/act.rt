@@ -9,7 +9,7 @@ pub const HOUSE: u32 = 4_294_967_295;
 pub enum Act {
     /// A new process, already attached; the actor is its number.
     Join,
-    /// The actor, a child that waits, is attached.
+    /// The actor, a child that is not attached yet, is attached.
     Attach,
     /// The actor's call.
     Call(Call),
@@ -37,7 +37,7 @@ pub struct Record {
 pub enum ScriptAct {
     /// A new process.
     Join,
-    /// The process of this number, a child that waits, is attached.
+    /// The process of this number, a child that is not attached yet, is attached.
     Attach { process: u32 },
     /// The call of a process, by its number.
     Call { process: u32, call: Call },

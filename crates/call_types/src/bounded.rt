@@ -1,31 +1,68 @@
-ghost use Rattle.std.specs.Prelude.{◌≡◌, ◌≤◌, ◌==◌, List, ℕ, length, IfOk};
+ghost use Rattle.std.specs.Prelude.{◌≡◌, ◌≤◌, ◌==◌, ◌++◌, [], List, ℕ, length, replicate, IfOk, IfSome};
+ghost use Rattle.call_types.specs.declared.limits.TheConstants.{GIVEN_NAME_MAX};
+ghost use Rattle.call_types.specs.Stored.{stored_name, stored_bytes, part_bytes};
 
+use crate::few::{FEW, FewBytes};
+use crate::gathered::{Gathered, Gathering};
 use crate::limits::{GIVEN_BYTES_MAX, GIVEN_NAME_MAX, TRANSFER_MAX};
+use crate::part::Part;
 use std::alloc::{AllocError, Global};
 use std::marker::Model;
+use std::sync::Arc;
 
-/// Bytes of which there are at most `MOST`. Contracts see the list of the bytes.
+/// How a name is kept.
 #[derive(Debug, Drop)]
-pub struct Bounded<const MOST: usize> {
-    items: Vec<u8>,
+enum StoredName {
+    /// In the value itself.
+    Few(FewBytes),
+    /// In memory of its own, which copies share.
+    Many(Arc<Vec<u8>>),
 }
 
-impl<const MOST: usize> Model for Bounded<MOST> {
+/// The name of a file as a call gives it, at most 255 bytes of any value. Contracts see the list of the bytes. A copy takes no memory.
+#[derive(Debug, Drop)]
+pub struct Name {
+    stored: StoredName,
+}
+
+impl Model for Name {
     ghost Value = { List ℕ };
 
-    ghost view = { λ b. b.items.items };
+    ghost view = { λ name. stored_name name.stored };
 
-    ghost invariant = { λ b. length b.items.items ≤ MOST };
+    ghost invariant = { λ name. length (stored_name name.stored) ≤ GIVEN_NAME_MAX };
 }
 
-/// The name of a file as a call gives it, at most 255 bytes of any value.
-pub type Name = Bounded<GIVEN_NAME_MAX>;
+/// How data is kept.
+#[derive(Debug, Drop)]
+enum StoredData {
+    /// In the value itself.
+    Few(FewBytes),
+    /// As one byte, and how many times it stands.
+    Same { byte: u8, count: usize },
+    /// In memory of its own, which copies share.
+    Many(Arc<Vec<u8>>),
+}
+
+/// Data of at most `MOST` bytes. Contracts see the list of the bytes. A copy takes no memory.
+#[derive(Debug, Drop)]
+pub struct Data<const MOST: usize> {
+    stored: StoredData,
+}
+
+impl<const MOST: usize> Model for Data<MOST> {
+    ghost Value = { List ℕ };
+
+    ghost view = { λ b. stored_bytes b.stored };
+
+    ghost invariant = { λ b. length (stored_bytes b.stored) ≤ MOST };
+}
 
 /// What a call gives to write, at most 65,700 bytes.
-pub type Payload = Bounded<GIVEN_BYTES_MAX>;
+pub type Payload = Data<GIVEN_BYTES_MAX>;
 
 /// What a call answers with, at most 65,536 bytes.
-pub type Content = Bounded<TRANSFER_MAX>;
+pub type Content = Data<TRANSFER_MAX>;
 
 /// The greatest lengths of a name, of what a call gives to write and of what it answers with, in bytes.
 pub fn greatest_lengths() -> (usize, usize, usize)
@@ -36,7 +73,87 @@ pub fn greatest_lengths() -> (usize, usize, usize)
     (Name::most(), Payload::most(), Content::most())
 }
 
-impl<const MOST: usize> Bounded<MOST> {
+impl Name {
+    /// How many bytes there may be.
+    pub fn most() -> usize
+        ensures { result ≡ GIVEN_NAME_MAX }
+    {
+        GIVEN_NAME_MAX
+    }
+
+    /// The name of these bytes; an error says that memory ran out.
+    pub fn new(alloc: Global, bytes: Gathered) -> Result<Self, AllocError>
+        requires { length bytes ≤ GIVEN_NAME_MAX }
+        ensures { IfOk result (λ name. name ≡ bytes) }
+    {
+        let stored = match bytes.kept {
+            Gathering::Few(few) => StoredName::Few(few),
+            Gathering::Many(many) => StoredName::Many(Arc::new(alloc, many)?),
+        };
+        Ok(Name { stored })
+    }
+
+    /// A copy of the bytes; an error says that memory ran out.
+    pub fn copied(alloc: Global, bytes: &[u8]) -> Result<Self, AllocError>
+        requires { length bytes.now ≤ GIVEN_NAME_MAX }
+        ensures { IfOk result (λ name. name ≡ bytes.now) }
+    {
+        let stored = if bytes.len() <= FEW {
+            StoredName::Few(FewBytes::copied(bytes))
+        } else {
+            StoredName::Many(Arc::new(alloc, Vec::from_slice(alloc, bytes)?)?)
+        };
+        Ok(Name { stored })
+    }
+
+    /// The bytes, in their order.
+    pub fn as_slice(&self) -> &[u8]
+        ensures value { result.now ≡ self.now }
+        ensures within { length self.now ≤ GIVEN_NAME_MAX }
+    {
+        match &self.stored {
+            StoredName::Few(few) => few.as_slice(),
+            StoredName::Many(many) => many.as_slice(),
+        }
+    }
+}
+
+impl Clone for Name {
+    ghost is_clone = { λ old new. new ≡ old };
+
+    fn clone(&self) -> Result<Self, AllocError> {
+        let stored = match &self.stored {
+            StoredName::Few(few) => StoredName::Few(few.copy()),
+            StoredName::Many(many) => StoredName::Many(many.clone()?),
+        };
+        Ok(Name { stored })
+    }
+}
+
+/// The byte of which these bytes are, where they have one and no other.
+fn one_byte(bytes: &[u8]) -> Option<u8>
+    ensures { IfSome result (λ byte. bytes.now ≡ replicate (length bytes.now) byte) }
+{
+    match bytes {
+        [first, ..] => bytes.iter().all(|byte| *byte == *first).then_some(*first),
+        [] => None,
+    }
+}
+
+/// Many bytes: as one byte and a count where they are all the same, else a copy of them; an error says that memory ran out.
+fn many(alloc: Global, bytes: &[u8]) -> Result<StoredData, AllocError>
+    ensures { IfOk result (λ stored. stored_bytes stored ≡ bytes.now) }
+{
+    if let Some(byte) = one_byte(bytes) {
+        return Ok(StoredData::Same {
+            byte,
+            count: bytes.len(),
+        });
+    }
+    Ok(StoredData::Many(Arc::new(alloc, Vec::from_slice(alloc, bytes)?)?))
+}
+
+impl<const MOST: usize> Data<MOST> {
     /// How many bytes there may be.
     pub fn most() -> usize
         ensures { result ≡ MOST }
@@ -44,12 +161,35 @@ impl<const MOST: usize> Bounded<MOST> {
         MOST
     }
 
-    /// The bytes of a vector, which holds at most `MOST`.
-    pub fn new(items: Vec<u8>) -> Self
-        requires { length items.items ≤ MOST }
-        ensures { result ≡ items.items }
+    /// No byte.
+    pub fn empty() -> Self
+        ensures { result ≡ [] }
     {
-        Bounded { items }
+        Data {
+            stored: StoredData::Few(FewBytes::new()),
+        }
+    }
+
+    /// One byte, so many times.
+    pub fn same(byte: u8, count: usize) -> Self
+        requires { count ≤ MOST }
+        ensures { result ≡ replicate count byte }
+    {
+        Data {
+            stored: StoredData::Same { byte, count },
+        }
+    }
+
+    /// The data of these bytes; an error says that memory ran out.
+    pub fn new(alloc: Global, bytes: Gathered) -> Result<Self, AllocError>
+        requires { length bytes ≤ MOST }
+        ensures { IfOk result (λ made. made ≡ bytes) }
+    {
+        let stored = match bytes.kept {
+            Gathering::Few(few) => StoredData::Few(few),
+            Gathering::Many(many) => StoredData::Many(Arc::new(alloc, many)?),
+        };
+        Ok(Data { stored })
     }
 
     /// A copy of the bytes; an error says that memory ran out.
@@ -57,9 +197,31 @@ impl<const MOST: usize> Bounded<MOST> {
         requires { length bytes.now ≤ MOST }
         ensures { IfOk result (λ copy. copy ≡ bytes.now) }
     {
-        Ok(Bounded {
-            items: Vec::from_slice(alloc, bytes)?,
-        })
+        let stored = if bytes.len() <= FEW {
+            StoredData::Few(FewBytes::copied(bytes))
+        } else {
+            many(alloc, bytes)?
+        };
+        Ok(Data { stored })
+    }
+
+    /// A copy of the bytes of a front and of what is after it; an error says that memory ran out.
+    pub fn joined(alloc: Global, front: &[u8], back: &[u8]) -> Result<Self, AllocError>
+        requires { length (front.now ++ back.now) ≤ MOST }
+        ensures { IfOk result (λ copy. copy ≡ front.now ++ back.now) }
+    {
+        let len = front.len() + back.len();
+        let stored = if len <= FEW {
+            StoredData::Few(FewBytes::joined(front, back))
+        } else if back.is_empty() {
+            many(alloc, front)?
+        } else {
+            let mut joined = Vec::with_capacity(alloc, len)?;
+            joined.extend_from_slice(front)?;
+            joined.extend_from_slice(back)?;
+            StoredData::Many(Arc::new(alloc, joined)?)
+        };
+        Ok(Data { stored })
     }
 
     /// How many bytes there are, at most `MOST`.
@@ -67,31 +229,44 @@ impl<const MOST: usize> Bounded<MOST> {
         ensures exact { result ≡ length self.now }
         ensures within { result ≤ MOST }
     {
-        self.items.len()
+        self.part().len()
     }
 
     /// Whether there is no byte.
     pub fn is_empty(&self) -> bool
         ensures { result ≡ (length self.now == 0) }
     {
-        self.items.is_empty()
+        self.len() == 0
     }
 
-    /// The bytes, in their order.
-    pub fn as_slice(&self) -> &[u8]
-        ensures value { result.now ≡ self.now }
+    /// The bytes, where they are.
+    pub fn part(&self) -> Part<'_>
+        ensures value { part_bytes result ≡ self.now }
         ensures within { length self.now ≤ MOST }
     {
-        self.items.as_slice()
+        match &self.stored {
+            StoredData::Few(few) => Part::Slice(few.as_slice()),
+            StoredData::Same { byte, count } => Part::Same {
+                byte: *byte,
+                count: *count,
+            },
+            StoredData::Many(many) => Part::Slice(many.as_slice()),
+        }
     }
 }
 
-impl<const MOST: usize> Clone for Bounded<MOST> {
+impl<const MOST: usize> Clone for Data<MOST> {
     ghost is_clone = { λ old new. new ≡ old };
 
     fn clone(&self) -> Result<Self, AllocError> {
-        Ok(Bounded {
-            items: self.items.clone()?,
-        })
+        let stored = match &self.stored {
+            StoredData::Few(few) => StoredData::Few(few.copy()),
+            StoredData::Same { byte, count } => StoredData::Same {
+                byte: *byte,
+                count: *count,
+            },
+            StoredData::Many(many) => StoredData::Many(many.clone()?),
+        };
+        Ok(Data { stored })
     }
 }

@@ -106,10 +106,10 @@ impl Call {
                 let _bytes = name.as_slice();
             }
             Call::Write { bytes, .. } => {
-                let _bytes = bytes.as_slice();
+                let _len = bytes.len();
             }
             Call::Pwrite { bytes, .. } => {
-                let _bytes = bytes.as_slice();
+                let _len = bytes.len();
             }
             Call::Mkfifo { name } => {
                 let _bytes = name.as_slice();

@@ -10,7 +10,7 @@ pub enum Errno {
     EINVAL = 2,
     /// Illegal seek: a position on a pipe or FIFO.
     ESPIPE = 3,
-    /// File too large: a write at the size limit or past it.
+    /// File too large: a write at the size limit or past it, or an ftruncate over it.
     EFBIG = 4,
     /// An offset past the greatest of its type.
     EOVERFLOW = 5,
@@ -28,7 +28,7 @@ pub enum Errno {
     ENFILE = 11,
     /// No room for a further name.
     ENOSPC = 12,
-    /// The call would wait, or there are too many processes.
+    /// The call would wait, or there are too many processes, or the run is closed.
     EAGAIN = 13,
     /// A pipe without a reader.
     EPIPE = 14,

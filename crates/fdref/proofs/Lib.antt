@@ -1,3 +1,4 @@
 pub mod Parses
 pub mod OutputLemmas
 pub mod ReplayLemmas
+pub mod RunLemmas

@@ -1,4 +1,4 @@
--- The lines of a run, and what it says that they are written (own).
+-- The lines of a run, and what it says that a front of them is written (own).
 use Rattle.std.specs.Prelude.{◌≡◌, ℕ, List, ◌++◌, Option, length}
 use Rattle.std.specs.List.{flat_map}
 use Rattle.std.specs.Io.KnownBytes.{Appends}
@@ -34,9 +34,3 @@ pub record AppendsFront (old new : Option (List ℕ)) (text : List ℕ) : Type 0
   pub rest : List ℕ
   pub is : text ≡ front ++ rest
   pub appends : Appends old new front
-
--- bytes were given to a writer or still stand in the buffer before it, and the text is after the old ones
-pub record Puts (old new : Option (List ℕ)) (before after : List ℕ) (text : List ℕ) : Type 0 where
-  pub added : List ℕ
-  pub appends : Appends old new added
-  pub is : added ++ after ≡ before ++ text

@@ -1,17 +1,18 @@
 -- What a replay writes, and what its end says (own).
-use Rattle.std.specs.Prelude.{◌≡◌, ◌⊎◌, ℕ, List, [], ◌++◌, Option, Err, IfSome, codes, decimal}
+use Rattle.std.specs.Prelude.{◌≡◌, ℕ, List, [], ◌++◌, Option, Ok, Err, IfSome, codes, decimal}
 use Rattle.std.specs.Io.KnownBytes.{Appends}
 use Rattle.call_types.specs.declared.act.ScriptAct.{ScriptAct}
 use Rattle.call_types.specs.declared.limits.Limits.{Limits}
 use Rattle.posix_model.specs.History.{legal}
 use Rattle.script_text.specs.Spellings.{SpellsScript}
 use Rattle.script_text.specs.ReadingScripts.{script}
+use Rattle.script_text.specs.ReadingResults.{ScriptFails}
 use Rattle.script_text.specs.declared.fault.ScriptFault.{ScriptFault}
 use Rattle.script_text.specs.declared.fault.ScriptFault.TheVariants as faults
 use Rattle.record_book.specs.Book.{BookState, new_book}
-use Rattle.record_book.specs.Runs.{RunTells, Seats}
+use Rattle.record_book.specs.Runs.{RunTells, GoesOn, Seats}
 use Rattle.record_book.specs.declared.run.Told.{Told}
-use Rattle.fdref.specs.Output.{AppendsFront, last_line, told_lines}
+use Rattle.fdref.specs.Output.{AppendsFront, last_line, told_line, told_lines}
 use Rattle.fdref.specs.declared.ended.Ended.{Ended}
 use Rattle.fdref.specs.declared.ended.Ended.TheVariants as ended
 
@@ -33,11 +34,26 @@ RunsActs limits acts old new = (output : List ℕ) × IsOutput limits acts outpu
 abbrev pub WritesFront : Limits → List ScriptAct → Option (List ℕ) → Option (List ℕ) → Type 0
 WritesFront limits acts old new = (output : List ℕ) × IsOutput limits acts output × AppendsFront old new output
 
--- a run of the acts was not written whole: the writer failed, or memory ran out before the run or while it was written
-abbrev pub StopsShort : Limits → List ScriptAct → Option (List ℕ) → Option (List ℕ) → Ended → Type 0
-StopsShort limits acts old new ended.CannotWrite = WritesFront limits acts old new
-StopsShort limits acts old new ended.NoMemory = (new ≡ old) ⊎ WritesFront limits acts old new
-StopsShort limits acts old new other = ⊥
+-- one act more was run, and its lines stand after the others
+pub record RunsNext (old new : BookState) (seats after : Seats) (act : ScriptAct) (lines more : List ℕ) : Type 0 where
+  pub told : Told
+  pub goes_on : GoesOn old new seats after act told
+  pub limits_are : new.limits ≡ old.limits
+  pub lines_are : more ≡ lines ++ told_line told
+
+-- the text is a script, and this is the output of its acts
+abbrev pub RunsScript : Limits → List ℕ → List ℕ → Type 0
+RunsScript limits text output = (acts : List ScriptAct) × (script text ≡ Ok acts) × IsOutput limits acts output
+
+-- the end that a fault of a script is
+abbrev pub ended_by : ScriptFault → Ended
+ended_by (faults.BadLine line column) = ended.BadLine line column
+ended_by faults.TooLong = ended.TooLong
+ended_by faults.NoMemory = ended.NoMemory
+
+-- the end says why the text was not run: by its fault, or for want of memory
+abbrev pub FailsAs : List ℕ → Ended → Type 0
+FailsAs text end = (fault : ScriptFault) × (end ≡ ended_by fault) × ScriptFails fault (script text)
 
 -- the text is a script, and the output of its acts was written, and nothing else
 abbrev pub WritesReplay : Limits → Option (List ℕ) → Option (List ℕ) → List ℕ → Type 0
@@ -67,7 +83,7 @@ Ends limits input old new (ended.BadLine line column) = IfSome input (Refuses (f
 Ends limits input old new ended.TooLong = IfSome input (Refuses faults.TooLong) × (new ≡ old)
 Ends limits input old new ended.CannotRead = new ≡ old
 Ends limits input old new ended.CannotWrite = OfInput input (WritesReplayFront limits old new)
-Ends limits input old new ended.NoMemory = (new ≡ old) ⊎ OfInput input (WritesReplayFront limits old new)
+Ends limits input old new ended.NoMemory = new ≡ old
 
 -- the exit status of an end
 abbrev pub ended_status : Ended → ℕ

@@ -2,6 +2,7 @@
 ghost use Rattle.std.specs.Prelude.{◌≡◌};
 ghost use Rattle.fdref.specs.Replay.{ended_status};
 
+use script_text::fault::ScriptFault;
 use std::alloc::AllocError;
 use std::fmt;
 
@@ -18,7 +19,7 @@ pub enum Ended {
     CannotRead,
     /// The output failed; a front of the right output is written, and nothing else.
     CannotWrite,
-    /// Memory ran out; nothing is written, or a front of the right output.
+    /// Memory ran out; nothing is written.
     NoMemory,
 }
 
@@ -64,5 +65,20 @@ impl From<AllocError> for Ended {
 
     fn from(_error: AllocError) -> Ended {
         Ended::NoMemory
+    }
+}
+
+impl From<ScriptFault> for Ended {
+    ghost use Rattle.std.specs.Prelude.{◌≡◌};
+    ghost use Rattle.fdref.specs.Replay.{ended_by};
+
+    ghost from_gives = { λ fault ended. ended ≡ ended_by fault };
+
+    fn from(fault: ScriptFault) -> Ended {
+        match fault {
+            ScriptFault::BadLine { line, column } => Ended::BadLine { line, column },
+            ScriptFault::TooLong => Ended::TooLong,
+            ScriptFault::NoMemory => Ended::NoMemory,
+        }
     }
 }

@@ -1,20 +1,22 @@
 //! One run of a script: its bytes in, its lines out.
-ghost use Rattle.std.specs.Prelude.{◌≡◌, ◌≤◌, ◌⊎◌, length, IfOk, IfErr, OnOk, IfSome};
+ghost use Rattle.std.specs.Prelude.{◌≡◌, ◌≤◌, ◌⊎◌, length, IfOk, IfErr, IfSome, OnOk};
 ghost use Rattle.script_text.specs.ReadingScripts.{script};
 ghost use Rattle.script_text.specs.declared.script.TheConstants.{SCRIPT_MAX};
-ghost use Rattle.fdref.specs.Replay.{Ends, RunsActs, StopsShort};
+ghost use Rattle.fdref.specs.Replay.{Ends, RunsNext, RunsScript, FailsAs};
 
 use crate::ended::Ended;
 use crate::job::Job;
-use crate::output::write_lines;
+use crate::output::{put_line, write_lines};
 use call_types::act::ScriptAct;
 use call_types::limits::Limits;
 use record_book::book::Book;
-use script_text::fault::ScriptFault;
-use script_text::round_trip::spelled_scripts_are_read;
-use script_text::script::{SCRIPT_MAX, read_script};
-use std::alloc::Global;
+use record_book::seats::Seats;
+use script_text::lines::write_totals;
+use script_text::round_trip::{read_scripts_are_spelled, spelled_scripts_are_read};
+use script_text::script::{SCRIPT_MAX, Script};
+use std::alloc::{AllocError, Global};
 use std::io::{ErrorKind, Read, Write};
+use std::mem::forget;
 
 /// Reads the whole script, or one byte more than a script has.
 fn read_text<R: Read + Drop>(alloc: Global, reader: R) -> Result<Vec<u8>, Ended>
@@ -31,24 +33,51 @@ fn read_text<R: Read + Drop>(alloc: Global, reader: R) -> Result<Vec<u8>, Ended>
     }
 }
 
-/// Runs the acts of a script in a new book, and writes what is told of them.
-fn run_acts<W: Write>(
+/// Runs the next act, and gathers the lines of what is told of it. Neither is taken apart: what they hold is in the book's
+/// record, but for the data of an act that is refused.
+fn run_next(
     alloc: Global,
-    writer: &mut W,
-    limits: Limits,
-    acts: &[ScriptAct],
-) -> Result<(), Ended>
-    ensures output { OnOk result (RunsActs limits acts.now (W.contents writer.old) (W.contents writer.new)) }
-    ensures front { IfErr result (λ ended. StopsShort limits acts.now (W.contents writer.old) (W.contents writer.new) ended) }
+    book: &mut Book,
+    seats: &mut Seats,
+    act: ScriptAct,
+    lines: &mut Vec<u8>,
+) -> Result<(), AllocError>
+    ensures { OnOk result (RunsNext book.old book.new seats.old.0 seats.new.0 act lines.old.items lines.new.items) }
 {
+    let told = book.run_act(alloc, seats, &act);
+    put_line(lines, &told)?;
+    forget(told);
+    forget(act);
+    Ok(())
+}
+
+/// Runs the acts of a script in a new book as they are read, and gathers the lines of what is told of each, and the line of
+/// totals. Nothing is taken apart at the end, since the program ends then.
+fn run_script(alloc: Global, limits: Limits, text: &[u8]) -> Result<Vec<u8>, Ended>
+    ensures lines { IfOk result (λ lines. RunsScript limits text.now lines.items) }
+    ensures fault { IfErr result (λ ended. FailsAs text.now ended) }
+{
+    let mut script = Script::new(text)?;
     let mut book = Book::new(alloc, limits)?;
-    let told = book.run_acts(alloc, acts)?;
+    let mut seats = Seats::new(alloc);
+    let mut lines = Vec::with_capacity(alloc, 2 * text.len())?;
+    while let Some(act) = script.next_act(alloc)? {
+        run_next(alloc, &mut book, &mut seats, act, &mut lines)?;
+    }
     let counts = book.counts();
-    write_lines(alloc, writer, told.as_slice(), counts)
+    write_totals(
+        &mut lines,
+        counts.records,
+        counts.bytes_in,
+        counts.bytes_out,
+    )?;
+    forget(seats);
+    forget(book);
+    Ok(lines)
 }
 
 /// Reads a script, runs its acts in their order in a new book, and writes a line for each record and each act that is
-/// not recorded, and a line of totals. The whole script is read before the first act runs.
+/// not recorded, and a line of totals. Nothing is written before the whole script is read and run.
 pub fn replay<R: Read + Drop, W: Write>(
     alloc: Global,
     reader: R,
@@ -58,18 +87,16 @@ pub fn replay<R: Read + Drop, W: Write>(
     ensures { Ends limits (R.remaining reader) (W.contents writer.old) (W.contents writer.new) result }
 {
     spelled_scripts_are_read();
+    read_scripts_are_spelled();
     let text = match read_text(alloc, reader) {
         Ok(text) => text,
         Err(ended) => return ended,
     };
-    let acts = match read_script(alloc, text.as_slice()) {
-        Ok(acts) => acts,
-        Err(ScriptFault::BadLine { line, column }) => return Ended::BadLine { line, column },
-        Err(ScriptFault::TooLong) => return Ended::TooLong,
-        Err(ScriptFault::NoMemory) => return Ended::NoMemory,
+    let lines = match run_script(alloc, limits, text.as_slice()) {
+        Ok(lines) => lines,
+        Err(ended) => return ended,
     };
-    drop(text);
-    match run_acts(alloc, writer, limits, acts.as_slice()) {
+    match write_lines(writer, lines.as_slice()) {
         Ok(()) => Ended::Done,
         Err(ended) => ended,
     }

@@ -1,19 +1,20 @@
 ghost use Rattle.std.specs.Prelude.{◌≡◌};
 ghost use Rattle.posix_model.specs.Write.{is_past_limit, fitting, puts};
 
+use call_types::bounded::Payload;
 use call_types::limits::Bounds;
 use call_types::outcome::Reply;
 use posix_model::change::{Decided, FileEdit, TableEdit, does, tells};
 
 /// Whether some bytes would begin at the size limit or past it.
-pub(crate) fn is_past_limit(bounds: Bounds, start: u64, bytes: &[u8]) -> bool
+pub(crate) fn is_past_limit(bounds: Bounds, start: u64, bytes: &Payload) -> bool
     ensures { result ≡ is_past_limit bounds start bytes.now }
 {
     !bytes.is_empty() && bounds.file_size <= start
 }
 
 /// How many of the bytes fit below the size limit.
-pub(crate) fn fitting(bounds: Bounds, start: u64, bytes: &[u8]) -> usize
+pub(crate) fn fitting(bounds: Bounds, start: u64, bytes: &Payload) -> usize
     ensures { result ≡ fitting bounds start bytes.now }
 {
     bytes
@@ -23,7 +24,7 @@ pub(crate) fn fitting(bounds: Bounds, start: u64, bytes: &[u8]) -> usize
 
 /// So many bytes are put into a file, with an edit of the offset; no bytes are no change.
 pub(crate) fn puts(
-    bytes: &[u8],
+    bytes: &Payload,
     file: usize,
     start: usize,
     count: usize,

@@ -5,6 +5,7 @@ ghost use Rattle.posix_model.specs.Pwrite.{pwrite_faults, pwrite};
 
 use crate::puts::{fitting, is_past_limit, puts};
 use crate::targets::{file_at, is_regular};
+use call_types::bounded::Payload;
 use call_types::errno::Errno;
 use call_types::limits::{Bounds, TRANSFER_MAX};
 use posix_model::change::{Decided, TableEdit, refused};
@@ -16,7 +17,7 @@ fn pwrite_fault(
     bounds: Bounds,
     descriptor: OpenDescriptor,
     start: i64,
-    bytes: &[u8],
+    bytes: &Payload,
 ) -> Option<Errno>
     ensures { result ≡ first_fault (pwrite_faults bounds start bytes.now descriptor) }
 {
@@ -46,7 +47,7 @@ pub fn decide_pwrite<R: Reader>(
     process: usize,
     fd: i32,
     start: i64,
-    bytes: &[u8],
+    bytes: &Payload,
 ) -> Decided
     ensures { result ≡ on_open (opened (R.world state.now) process fd) (pwrite bounds start bytes.now) }
 {

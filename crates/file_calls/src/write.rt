@@ -7,6 +7,7 @@ ghost use Rattle.pipe_calls.specs.Refusals.{is_refusal};
 
 use crate::puts::{fitting, is_past_limit, puts};
 use crate::targets::{file_at, is_regular};
+use call_types::bounded::Payload;
 use call_types::call::Call;
 use call_types::errno::Errno;
 use call_types::limits::{Bounds, TRANSFER_MAX};
@@ -33,7 +34,7 @@ fn write_fault(
     bounds: Bounds,
     descriptor: OpenDescriptor,
     start: u64,
-    bytes: &[u8],
+    bytes: &Payload,
 ) -> Option<Errno>
     ensures { result ≡ first_fault (write_faults bounds start bytes.now descriptor) }
 {
@@ -50,7 +51,7 @@ fn write_fault(
 }
 
 /// A write to a regular file from a position on: what fits, and the offset goes past it.
-fn write_file(bounds: Bounds, start: u64, bytes: &[u8], descriptor: OpenDescriptor) -> Decided
+fn write_file(bounds: Bounds, start: u64, bytes: &Payload, descriptor: OpenDescriptor) -> Decided
     ensures { result ≡ write_file bounds start bytes.now descriptor }
 {
     let count = fitting(bounds, start, bytes);
@@ -70,7 +71,7 @@ pub fn decide_write<R: Reader>(
     process: usize,
     call: &Call,
     fd: i32,
-    bytes: &[u8],
+    bytes: &Payload,
 ) -> Result<Decided, AllocError>
     requires { call.now ≡ Call.Write fd bytes.now }
     ensures page { IfOk result (λ d. d ≡ on_open (opened (R.world state.now) process fd) (write bounds (R.world state.now) process call.now bytes.now)) }

@@ -1,4 +1,5 @@
 ghost use Rattle.std.specs.Prelude.{◌≡◌, false};
+ghost use Rattle.call_types.specs.Stored.{part_bytes};
 ghost use Rattle.posix_model.specs.Change.{with_files, with_processes, with_table, changed};
 ghost use Rattle.posix_model.specs.Fits.{FilesFit, ProcessFits, TableFits, removes, ends, Fits, FilesProper, ProcessProper, TableProper, IsProper, PutsWithin};
 ghost use Rattle.posix_model.specs.Whole.{EachThere, IsItsFifo};
@@ -8,24 +9,26 @@ ghost use Rattle.machine_state.specs.Room.{HasFileRoom, HasProcessRoom, HasTable
 
 use crate::machine::Machine;
 use crate::stored_file::FileBody;
+use call_types::part::Part;
 use posix_model::change::{Change, FileEdit, ProcessEdit, TableEdit};
 use posix_model::laws::sweep_releases;
 
 impl Machine {
     /// Makes an edit of files that takes no name away, with the bytes of the act. Nothing waits for a sweep after it.
-    fn apply_files(&mut self, bytes: &[u8], edit: FileEdit)
+    #[inline(always)]
+    fn apply_files(&mut self, bytes: Part<'_>, edit: FileEdit)
         requires fits { FilesFit self.old.world edit }
-        requires proper { FilesProper self.old.world bytes.now edit }
+        requires proper { FilesProper self.old.world (part_bytes bytes) edit }
         requires room { HasFileRoom self.old.room edit }
         requires holds { PutsWithin self.old.room.capacity self.old.world edit }
         requires stays { removes edit ≡ false }
-        ensures world { self.new.world ≡ with_files self.old.world bytes.now edit }
+        ensures world { self.new.world ≡ with_files self.old.world (part_bytes bytes.entry) edit }
         ensures tables { KeepsTableRoom self.old self.new }
     {
         match edit {
             FileEdit::Nothing => {}
             FileEdit::Bytes { file, start, count } => {
-                self.write_bytes(file, start, &bytes[..count]);
+                self.write_bytes(file, start, bytes.cut(0, count));
             }
             FileEdit::Resize { file, len } => self.set_len(file, len),
             FileEdit::AddName { name, file } => self.link(name, file),
@@ -42,6 +45,7 @@ impl Machine {
     }
 
     /// Makes an edit of processes that ends none. Nothing waits for a sweep after it.
+    #[inline(always)]
     fn apply_process(&mut self, edit: ProcessEdit)
         requires fits { ProcessFits self.old.world edit }
         requires proper { ProcessProper self.old.world edit }
@@ -63,6 +67,7 @@ impl Machine {
     }
 
     /// Makes an edit of descriptors and open file descriptions, and sweeps after it.
+    #[inline(always)]
     fn apply_table(&mut self, edit: TableEdit)
         requires fits { TableFits self.old.world edit }
         requires proper { TableProper self.old.world edit }
@@ -102,13 +107,13 @@ impl Machine {
 
     /// Makes a change, and sweeps after it. It cannot fail for want of memory: its room stands reserved.
     #[inline(always)]
-    pub fn apply(&mut self, bytes: &[u8], change: Change)
-        requires fits { Fits self.old.world bytes.now change }
-        requires proper { IsProper self.old.world bytes.now change }
+    pub fn apply(&mut self, bytes: Part<'_>, change: Change)
+        requires fits { Fits self.old.world (part_bytes bytes) change }
+        requires proper { IsProper self.old.world (part_bytes bytes) change }
         requires room { HasRoom self.old change }
         requires holds { PutsWithin self.old.room.capacity self.old.world change.files }
         requires ends { EachThere (λ description. IsItsFifo self.old.world.files description.target) self.old.world.descriptions }
-        ensures world { self.new.world ≡ sweep (changed self.old.world bytes.now change) }
+        ensures world { self.new.world ≡ sweep (changed self.old.world (part_bytes bytes.entry) change) }
         ensures capacity { self.new.room.capacity ≡ self.old.room.capacity }
     {
         let Change {

@@ -1,6 +1,8 @@
 ghost use Rattle.std.specs.Prelude.{◌≡◌, ◌+◌, ◌≤◌, [], length, OnOk};
+ghost use Rattle.call_types.specs.Stored.{part_bytes};
 ghost use Rattle.posix_model.specs.Bytes.{splice, resized};
 
+use call_types::part::Part;
 use posix_model::contents::{overwrite, pad};
 use std::alloc::{AllocError, Global};
 use std::marker::Model;
@@ -49,9 +51,9 @@ impl FileBytes {
     }
 
     /// Writes `new` from the byte `start` on; a gap before it is filled with zeros.
-    pub(crate) fn write(&mut self, start: usize, new: &[u8])
-        requires { start + length new.now ≤ self.old.room }
-        ensures { self.new.bytes ≡ splice self.old.bytes start new.now }
+    pub(crate) fn write(&mut self, start: usize, new: Part<'_>)
+        requires { start + length (part_bytes new) ≤ self.old.room }
+        ensures { self.new.bytes ≡ splice self.old.bytes start (part_bytes new.entry) }
     {
         pad(&mut self.bytes, start);
         overwrite(&mut self.bytes, start, new);

@@ -20,12 +20,14 @@ impl Reader for Machine {
 
     fn opened_at(&self, process: usize, fd: usize) -> Option<OpenDescriptor> {
         let number = self.processes.descriptor(process, fd)?;
-        let description = *self.descriptions.get(number)?;
-        Some(OpenDescriptor {
-            fd,
-            number,
-            description,
-        })
+        match self.descriptions.get(number) {
+            Some(description) => Some(OpenDescriptor {
+                fd,
+                number,
+                description: *description,
+            }),
+            None => None,
+        }
     }
 
     fn lowest_free(&self, process: usize) -> Option<usize> {

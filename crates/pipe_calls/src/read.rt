@@ -36,7 +36,7 @@ pub fn read_try<R: Reader>(
     if state.has_writer(pipe) {
         return Ok(Try::Waits { moved: 0, edit });
     }
-    let reply = Reply::Data(Content::new(Vec::new(alloc)));
+    let reply = Reply::Data(Content::empty());
     Ok(Try::Ends { reply, edit })
 }
 
@@ -57,7 +57,7 @@ pub fn decide_read_end<R: Reader>(
     ensures needed { OnErr result (is_refusal (read_end (R.world state.now) process call.now count descriptor pipe) ≡ false) }
 {
     if count == 0 {
-        return Ok(tells(Reply::Data(Content::new(Vec::new(alloc)))));
+        return Ok(tells(Reply::Data(Content::empty())));
     }
     let tried = read_try(state, alloc, pipe, count)?;
     first_try(alloc, process, call, descriptor, tried)

@@ -6,6 +6,7 @@ ghost use Rattle.posix_model.specs.Write.{write_end};
 ghost use Rattle.pipe_calls.specs.Refusals.{is_refusal};
 
 use crate::tries::first_try;
+use call_types::bounded::Payload;
 use call_types::call::Call;
 use call_types::errno::Errno;
 use call_types::limits::{Bounds, GIVEN_BYTES_MAX, PIPE_BUF};
@@ -85,7 +86,7 @@ pub fn decide_write_end<R: Reader>(
     bounds: Bounds,
     process: usize,
     call: &Call,
-    bytes: &[u8],
+    bytes: &Payload,
     descriptor: OpenDescriptor,
     pipe: usize,
 ) -> Result<Decided, AllocError>

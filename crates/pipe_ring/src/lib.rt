@@ -2,11 +2,14 @@
 //! overwritten.
 #![tactic(auto)]
 
-ghost use Rattle.std.specs.Prelude.{◌≡◌, ◌-◌, ◌≤◌, ◌==◌, [], ◌++◌, length, min, take, drop, IfOk};
+ghost use Rattle.std.specs.Prelude.{◌≡◌, ◌-◌, ◌≤◌, ◌==◌, [], ◌++◌, length, min, take, drop, replicate, IfOk};
 
 use circular_buffer::HeapCircularBuffer;
 use std::alloc::{AllocError, Global};
 use std::marker::Model;
+
+/// How many bytes are put at once where they are all the same.
+const BLOCK: usize = 512;
 
 /// The bytes that a pipe or FIFO holds; those written first are read first (page of pipe). Contracts see the list of them, in the order of reading, and
 /// the capacity in bytes.
@@ -85,17 +88,29 @@ impl PipeRing {
         self.ring.fill_from_slice(bytes)
     }
 
-    /// A copy of the first bytes, at most this many; they stay in the ring. An error says that memory ran out.
-    pub fn peek(&self, alloc: Global, count: usize) -> Result<Vec<u8>, AllocError>
-        ensures { IfOk result (λ copy. copy.items ≡ take count self.now.bytes) }
+    /// Puts one byte, so many times, after those that it holds; there is room for all of them (page of write). It takes no memory.
+    pub fn put_same(&mut self, byte: u8, count: usize)
+        requires { count ≤ self.old.capacity - length self.old.bytes }
+        ensures bytes { self.new.bytes ≡ self.old.bytes ++ replicate count byte }
+        ensures capacity { self.new.capacity ≡ self.old.capacity }
+    {
+        let block = [byte; BLOCK];
+        let mut left = count;
+        while left > 0 {
+            let here = left.min(BLOCK);
+            self.put_all(&block[..here]);
+            left -= here;
+        }
+    }
+
+    /// The first bytes, at most this many, in two slices of which the second follows the first; they stay in the ring. It takes no memory.
+    pub fn first(&self, count: usize) -> (&[u8], &[u8])
+        ensures { result.0.now ++ result.1.now ≡ take count self.now.bytes }
     {
         let (front, back) = self.ring.as_slices();
         let from_front = count.min(front.len());
         let from_back = (count - from_front).min(back.len());
-        let mut copy = Vec::with_capacity(alloc, from_front + from_back)?;
-        copy.extend_from_slice(&front[..from_front])?;
-        copy.extend_from_slice(&back[..from_back])?;
-        Ok(copy)
+        (&front[..from_front], &back[..from_back])
     }
 
     /// Moves the first bytes to the front of the target, as many as it has room for, and gives their number (page of read). The rest of the target stays

@@ -5,7 +5,6 @@ use Rattle.std.specs.Option.{option_map}
 use Rattle.call_types.specs.declared.act.Act.TheVariants as act
 use Rattle.call_types.specs.declared.call.Call.TheVariants as call
 use Rattle.slots.specs.Slots.{slot, edited}
-use Rattle.posix_model.specs.Numbers.{IsLowest}
 use Rattle.call_types.specs.Names.{file_of}
 use Rattle.process_table.specs.Processes.{table_of, process_with, with_connection, with_parked, with_total, with_entry}
 use Rattle.posix_model.specs.Descriptors.{opened, opened_number, bytes_of}
@@ -34,16 +33,11 @@ use Rattle.plain_world.specs.DescriptorLaws.{OpenGivesLowest, CloseCloses, NotOp
 use Rattle.plain_world.proofs.PageLemmas.{page_has, on_open_has, if_has}
 use Rattle.plain_world.proofs.OpenedLemmas.{IsOpenAt, opened_stands}
 use Rattle.plain_world.proofs.ChangeLemmas.{files_leave}
-use Rattle.plain_world.proofs.OpenLaws.{told_lowest}
-use Rattle.plain_world.proofs.StepLaws.{lowest_is_least}
+use Rattle.plain_world.proofs.OpenLaws.{open_describes}
 use Rattle.plain_world.proofs.SlotLemmas.{slot_pushed, slot_edited, slot_freed, other_slot}
 
 pub open_gives_lowest : OpenGivesLowest
-open_gives_lowest bounds w p name flags fd told =
-    let found = file_of name w.names in
-    let table = table_of (slot w.processes p) in
-    page_has (λ d. d.outcome ≡ Replied (Number fd) → IsLowest table fd) (open_file w p name flags) (λ error refused. cc)
-    (λ free opens. lowest_is_least table fd (told_lowest w p name flags found fd free opens)) told
+open_gives_lowest bounds w p name flags no_error = (open_describes bounds w p name flags no_error).gives
 
 table_freed : (there : Option Process) (fd : ℕ) → slot (table_of (option_map (with_entry fd None) there)) fd ≡ None
 table_freed None fd = refl

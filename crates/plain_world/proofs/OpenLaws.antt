@@ -1,16 +1,16 @@
 -- What an open does.
-use Rattle.std.proofs.Common.{◌≡◌, ◌≢◌, ℕ, zero, suc, pos, ◌∙◌, ◌||◌, Bool, true, false, cond, List, [], ◌∷◌, ◌++◌, Option, None, Some, length, set, refl, ap, sym, subst}
+use Rattle.std.proofs.Common.{◌≡◌, ◌≢◌, ℕ, zero, suc, pos, ◌∙◌, ◌||◌, Bool, true, false, cond, List, [], ◌∷◌, ◌++◌, Option, None, Some, length, set, inl, inr, refl, ap, sym, subst}
 use Rattle.std.proofs.lemmas.List.{get_or-set_other, get_or-set_same}
 use Rattle.std.proofs.lemmas.List.Quantifiers.{position-Some}
 use Rattle.std.specs.Option.{is_none, is_some, option_map, unwrap_or}
 use Rattle.call_types.specs.Flags.{has}
 use Rattle.call_types.specs.Flags as flag
-use Rattle.plain_world.specs.Types.{Errno, OpenFlags, World, Process, Description, Target, Mode, Fifo, File, Decided, EMFILE, Replied, Number}
+use Rattle.plain_world.specs.Types.{Errno, OpenFlags, World, Process, Parked, Description, Target, Mode, Fifo, File, Decided, EMFILE, Replied, Number}
 use Rattle.slots.specs.Slots.{slot, lowest, edited}
 use Rattle.call_types.specs.Names.{file_of}
-use Rattle.process_table.specs.Processes.{table_of, with_entry}
+use Rattle.process_table.specs.Processes.{table_of, parked_of, with_parked, with_entry}
 use Rattle.posix_model.specs.Descriptors.{opened, opened_number, opened_description, file_bytes}
-use Rattle.posix_model.specs.Change.{with_files, with_description, changed}
+use Rattle.posix_model.specs.Change.{with_files, with_description, with_table, changed}
 use Rattle.posix_model.specs.Pages.{first_fault}
 use Rattle.posix_model.specs.Open.{flag_faults, name_faults, found_faults, room_faults, open_faults, mode_of, new_description, free_descriptor, emptied, opens_end, open_there, open_found, open_file}
 use Rattle.posix_model.specs.Pipes.{fifo_at, is_met, opposite_openings, pipe_between, opened_file, with_opening}
@@ -19,10 +19,12 @@ use Rattle.call_types.specs.declared.call.Call.TheVariants as call
 use Rattle.call_types.specs.declared.description.Target.TheVariants as target
 use Rattle.posix_model.specs.declared.world.File.TheVariants as file
 use Rattle.posix_model.specs.declared.change.FileEdit.TheVariants as on_files
-use Rattle.plain_world.specs.FileLaws.{target_on, Opens, OpenDescribes, ExclOpensNew, EmptiesFile, TruncOpenEmpties, OpenKeepsFiles, OpenKeepsOthers, OpenMakesEmpty}
+use Rattle.plain_world.specs.Calls.{IsNoError, WaitsWith, GivesDescriptor}
+use Rattle.plain_world.specs.FileLaws.{target_on, Opens, OpensLowest, OpenDescribes, ExclOpensNew, EmptiesFile, TruncOpenEmpties, OpenKeepsFiles, OpenKeepsOthers, OpenMakesEmpty}
 use Rattle.plain_world.proofs.NameLaws.{named_file}
 use Rattle.plain_world.proofs.PageLemmas.{page_has, if_has, no_fault_after}
 use Rattle.plain_world.proofs.ChangeLemmas.{files_leave}
+use Rattle.plain_world.proofs.StepLaws.{lowest_is_least}
 use Rattle.plain_world.proofs.SlotLemmas.{slot_at_end, slot_set_there, slot_edited, other_slot}
 
 -- what an open without a fault finds, and the room that there is for it
@@ -59,10 +61,10 @@ opened_leads v p d k low =
     let n = length v.descriptions in
     ap (opened_number (with_description v p k d) k) (entry_stands v.processes p k n (slot v.processes p) refl low) ∙ ap (opened_description k n) (slot_at_end v.descriptions (Some d))
 
-opens_with : (w v : World) (p : ℕ) (name : List ℕ) (flags : OpenFlags) (file k : ℕ) (t : Target) → (v.descriptions ≡ w.descriptions) × (v.processes ≡ w.processes) →
+opens_with : (w v : World) (p : ℕ) (name : List ℕ) (flags : OpenFlags) (file k : ℕ) (t : Target) → v.descriptions ≡ w.descriptions →
     file_of name v.names ≡ Some file → t ≡ target_on w file (fifo_at (slot w.files file)) → lowest (table_of (slot w.processes p)) ≡ Some k →
-    Opens w (with_description v p (free_descriptor w p) (new_description t flags)) p name flags k
-opens_with w v p name flags file k t same named on low =
+    lowest (table_of (slot v.processes p)) ≡ Some k → Opens w (with_description v p (free_descriptor w p) (new_description t flags)) p name flags k
+opens_with w v p name flags file k t same named on low still =
     let d = new_description t flags in
     let free : free_descriptor w p ≡ k = ap (λ l. unwrap_or l 0) low in
     subst (λ fd. Opens w (with_description v p fd d) p name flags k) (sym free) (record {
@@ -74,10 +76,8 @@ opens_with w v p name flags file k t same named on low =
       mode_is = refl;
       append_is = refl;
       nonblock_is = refl;
-      appended = ap (λ ds. ds ++ Some d ∷ []) same.0;
-      leads =
-          opened_leads v p d k (ap (λ ps. lowest (table_of (slot ps p))) same.1 ∙ low) ∙
-          ap (λ ds. Some (record { fd = k; number = length ds; description = d })) same.0;
+      appended = ap (λ ds. ds ++ Some d ∷ []) same;
+      leads = opened_leads v p d k still ∙ ap (λ ds. Some (record { fd = k; number = length ds; description = d })) same;
     })
 
 emptied_names : (w : World) (n : ℕ) (flags : OpenFlags) → (with_files w [] (emptied n flags)).names ≡ w.names
@@ -88,62 +88,102 @@ none_past : (files : List (Option File)) → fifo_at (slot files (length files))
 none_past [] = refl
 none_past (f ∷ files) = none_past files
 
--- what an open that is not refused leaves, where it tells a number
-abbrev Opened : World → ℕ → List ℕ → OpenFlags → ℕ → Decided → Type 0
-Opened w p name flags k d = d.outcome ≡ Replied (Number k) → Opens w (changed w [] d.change) p name flags k
+-- a process that waits has its descriptors
+pub still_lowest : (ps : List (Option Process)) (p k : ℕ) (parked : Parked) → lowest (table_of (slot ps p)) ≡ Some k → lowest (table_of (slot (edited p (with_parked (Some parked)) ps) p)) ≡ Some k
+still_lowest ps p k parked low = ap (λ x. lowest (table_of x)) (slot_edited ps p (with_parked (Some parked))) ∙ (ap lowest (same_table (slot ps p)) ∙ low)
+  where
+    same_table : (x : Option Process) → table_of (option_map (with_parked (Some parked)) x) ≡ table_of x
+    same_table None = refl
+    same_table (Some process) = refl
 
-opens_end_with : (w : World) (p : ℕ) (name : List ℕ) (flags : OpenFlags) (n k : ℕ) (fifo : Fifo) → file_of name w.names ≡ Some n → fifo_at (slot w.files n) ≡ Some fifo →
-    lowest (table_of (slot w.processes p)) ≡ Some k → Opens w (changed w [] (opens_end w p flags n fifo).change) p name flags k
-opens_end_with w p name flags n k fifo is stands low =
-    opens_with w (with_opening w n (mode_of flags)) p name flags n k (target.Fifo n (pipe_between w (Some fifo))) (refl, refl) is (ap (target_on w n) (sym stands)) low
+-- a process that has a free descriptor, and waits, waits on once the descriptor is taken
+still_waits : (ps : List (Option Process)) (p k fd : ℕ) (entry : Option ℕ) (parked : Parked) → lowest (table_of (slot ps p)) ≡ Some k →
+    parked_of (slot (edited p (with_entry fd entry) (edited p (with_parked (Some parked)) ps)) p) ≡ Some parked
+still_waits ps p k fd entry parked low =
+    let waiting = edited p (with_parked (Some parked)) ps in
+    ap parked_of (slot_edited waiting p (with_entry fd entry)) ∙
+    (ap (λ x. parked_of (option_map (with_entry fd entry) x)) (slot_edited ps p (with_parked (Some parked))) ∙ by_process (slot ps p) low)
+  where
+    by_process : (there : Option Process) → lowest (table_of there) ≡ Some k → parked_of (option_map (with_entry fd entry) (option_map (with_parked (Some parked)) there)) ≡ Some parked
+    by_process None low = cc
+    by_process (Some process) low = refl
+
+-- what an open that is not refused leaves, where this descriptor is the lowest free one
+record Opened (w : World) (p : ℕ) (name : List ℕ) (flags : OpenFlags) (k : ℕ) (d : Decided) : Type 0 where
+  given : GivesDescriptor (changed w [] d.change) p (call.Open name flags) d.outcome k
+  opens : Opens w (changed w [] d.change) p name flags k
+
+-- the number that is told is that of the lowest free descriptor
+told_free : (w : World) (p k : ℕ) → lowest (table_of (slot w.processes p)) ≡ Some k → Replied (Number (free_descriptor w p)) ≡ Replied (Number k)
+told_free w p k low = ap (λ l. Replied (Number (unwrap_or l 0))) low
+
+-- an end of a FIFO is opened, where the processes are these
+opens_end_with : (w : World) (ps : List (Option Process)) (p : ℕ) (name : List ℕ) (flags : OpenFlags) (n k : ℕ) (fifo : Fifo) → file_of name w.names ≡ Some n →
+    fifo_at (slot w.files n) ≡ Some fifo → lowest (table_of (slot w.processes p)) ≡ Some k → lowest (table_of (slot ps p)) ≡ Some k →
+    Opens w (with_table (record w { processes = ps }) (opens_end w p flags n fifo).change.table) p name flags k
+opens_end_with w ps p name flags n k fifo is stands low still =
+    let v = with_opening (record w { processes = ps }) n (mode_of flags) in
+    opens_with w v p name flags n k (target.Fifo n (pipe_between w (Some fifo))) refl is (ap (target_on w n) (sym stands)) low still
+
+-- and its process waits in the open
+waits_with : (w : World) (p : ℕ) (name : List ℕ) (flags : OpenFlags) (n k openings : ℕ) (fifo : Fifo) → lowest (table_of (slot w.processes p)) ≡ Some k →
+    WaitsWith (changed w [] (parks p (waiting (call.Open name flags) (free_descriptor w p) 0 openings) (opens_end w p flags n fifo)).change) p (call.Open name flags) k
+waits_with w p name flags n k openings fifo low =
+    let parked = waiting (call.Open name flags) (free_descriptor w p) 0 openings in
+    record {
+      parked = parked;
+      waits = still_waits w.processes p k (free_descriptor w p) (Some (length w.descriptions)) parked low;
+      call_is = refl;
+      keeps = ap (λ l. unwrap_or l 0) low;
+      unmoved = refl;
+    }
 
 opens_there : (w : World) (p : ℕ) (name : List ℕ) (flags : OpenFlags) (n k : ℕ) (fifo : Option Fifo) → file_of name w.names ≡ Some n → fifo_at (slot w.files n) ≡ fifo →
     lowest (table_of (slot w.processes p)) ≡ Some k → Opened w p name flags k (open_there w p name flags n fifo)
-opens_there w p name flags n k None is stands low told =
+opens_there w p name flags n k None is stands low =
     let e = emptied n flags in
-    opens_with w (with_files w [] e) p name flags n k (target.Regular n) (files_leave w [] e) (ap (file_of name) (emptied_names w n flags) ∙ is) (ap (target_on w n) (sym stands)) low
-opens_there w p name flags n k (Some fifo) is stands low told =
+    let v = with_files w [] e in
+    let leaves = files_leave w [] e in
+    let still = ap (λ ps. lowest (table_of (slot ps p))) leaves.1 ∙ low in
+    record {
+      given = inl (told_free w p k low);
+      opens = opens_with w v p name flags n k (target.Regular n) leaves.0 (ap (file_of name) (emptied_names w n flags) ∙ is) (ap (target_on w n) (sym stands)) low still;
+    }
+opens_there w p name flags n k (Some fifo) is stands low =
     let opens = opens_end w p flags n fifo in
-    let parked = waiting (call.Open name flags) (free_descriptor w p) 0 (opposite_openings (mode_of flags) (Some fifo)) in
+    let openings = opposite_openings (mode_of flags) (Some fifo) in
+    let parked = waiting (call.Open name flags) (free_descriptor w p) 0 openings in
+    let ps = edited p (with_parked (Some parked)) w.processes in
     if_has (Opened w p name flags k) (has flags flag.nonblocking || is_met w (mode_of flags) fifo) opens (parks p parked opens)
-    (λ _ _. opens_end_with w p name flags n k fifo is stands low) (λ _ h. cc) told
+    (λ _. record { given = inl (told_free w p k low); opens = opens_end_with w w.processes p name flags n k fifo is stands low low })
+    (λ _. record {
+      given = inr (refl, waits_with w p name flags n k openings fifo low);
+      opens = opens_end_with w ps p name flags n k fifo is stands low (still_lowest w.processes p k parked low);
+    })
 
 opens_found : (w : World) (p : ℕ) (name : List ℕ) (flags : OpenFlags) (found : Option ℕ) (k : ℕ) → file_of name w.names ≡ found → lowest (table_of (slot w.processes p)) ≡ Some k →
     Opened w p name flags k (open_found w p name flags found)
-opens_found w p name flags None k is low told =
+opens_found w p name flags None k is low =
     let e = on_files.MakeFile name in
-    opens_with w (with_files w [] e) p name flags (length w.files) k (target.Regular (length w.files)) (files_leave w [] e) (named_file name (length w.files) w.names)
-    (ap (target_on w (length w.files)) (sym (none_past w.files))) low
-opens_found w p name flags (Some n) k is low told = opens_there w p name flags n k (fifo_at (slot w.files n)) is refl low told
-
--- the number that an open tells is that of its free descriptor
-abbrev TellsFree : World → ℕ → ℕ → Decided → Type 0
-TellsFree w p fd d = d.outcome ≡ Replied (Number fd) → free_descriptor w p ≡ fd
-
-told_there : (w : World) (p : ℕ) (name : List ℕ) (flags : OpenFlags) (n fd : ℕ) (fifo : Option Fifo) → TellsFree w p fd (open_there w p name flags n fifo)
-told_there w p name flags n fd None told = cc
-told_there w p name flags n fd (Some fifo) told =
-    let opens = opens_end w p flags n fifo in
-    let parked = waiting (call.Open name flags) (free_descriptor w p) 0 (opposite_openings (mode_of flags) (Some fifo)) in
-    if_has (TellsFree w p fd) (has flags flag.nonblocking || is_met w (mode_of flags) fifo) opens (parks p parked opens) (λ _ h. cc) (λ _ h. cc) told
-
-told_found : (w : World) (p : ℕ) (name : List ℕ) (flags : OpenFlags) (found : Option ℕ) (fd : ℕ) → TellsFree w p fd (open_found w p name flags found)
-told_found w p name flags None fd told = cc
-told_found w p name flags (Some n) fd told = told_there w p name flags n fd (fifo_at (slot w.files n)) told
-
--- and it is the lowest free one
-pub told_lowest : (w : World) (p : ℕ) (name : List ℕ) (flags : OpenFlags) (found : Option ℕ) (fd : ℕ) → first_fault (open_faults w p name flags found) ≡ None →
-    (open_found w p name flags found).outcome ≡ Replied (Number fd) → lowest (table_of (slot w.processes p)) ≡ Some fd
-told_lowest w p name flags found fd free opens =
-    let low = has_free w p name flags found free in
-    let same : low.0 ≡ fd = sym (ap (λ l. unwrap_or l 0) low.1) ∙ told_found w p name flags found fd opens in
-    low.1 ∙ ap (λ (k : ℕ). Some k) same
+    let v = with_files w [] e in
+    let next = length w.files in
+    let leaves = files_leave w [] e in
+    let still = ap (λ ps. lowest (table_of (slot ps p))) leaves.1 ∙ low in
+    record {
+      given = inl (told_free w p k low);
+      opens = opens_with w v p name flags next k (target.Regular next) leaves.0 (named_file name next w.names) (ap (target_on w next) (sym (none_past w.files))) low still;
+    }
+opens_found w p name flags (Some n) k is low = opens_there w p name flags n k (fifo_at (slot w.files n)) is refl low
 
 pub open_describes : OpenDescribes
-open_describes bounds w p name flags fd told =
+open_describes bounds w p name flags no_error =
     let found = file_of name w.names in
-    page_has (Opened w p name flags fd) (open_file w p name flags) (λ error refused. cc)
-    (λ free opens. opens_found w p name flags found fd refl (told_lowest w p name flags found fd free opens) opens) told
+    let table = table_of (slot w.processes p) in
+    page_has (λ d. IsNoError d.outcome → OpensLowest w (changed w [] d.change) p name flags d.outcome) (open_file w p name flags) (λ error no_error. absurd (no_error error refl))
+    (λ free _.
+    let low = has_free w p name flags found free in
+    let opened = opens_found w p name flags found low.0 refl low.1 in
+    record { gives = record { fd = low.0; is_lowest = lowest_is_least table low.0 low.1; given = opened.given }; opens = opened.opens }) no_error
 
 -- under excl and creat a name that is there is a fault
 excl_refuses : (w : World) (flags : OpenFlags) (n : ℕ) (rest : List (Bool × Errno)) → has flags flag.excl ≡ true → has flags flag.creat ≡ true →
@@ -159,10 +199,10 @@ excl_found w p flags (Some n) excl creat free =
     cc
 
 pub excl_opens_new : ExclOpensNew
-excl_opens_new bounds w p name flags fd excl creat told =
+excl_opens_new bounds w p name flags excl creat no_error =
     let found = file_of name w.names in
-    page_has (λ d. d.outcome ≡ Replied (Number fd) → found ≡ None) (open_file w p name flags) (λ error refused. cc)
-    (λ free _. excl_found w p flags found excl creat (later_clear w p name flags found free)) told
+    page_has (λ d. IsNoError d.outcome → found ≡ None) (open_file w p name flags) (λ error no_error. absurd (no_error error refl))
+    (λ free _. excl_found w p flags found excl creat (later_clear w p name flags found free)) no_error
 
 emptied_bytes : (files : List (Option File)) (n : ℕ) → file_bytes (slot (set files n (Some (file.Regular []))) n) ≡ []
 emptied_bytes [] n = refl
@@ -208,9 +248,9 @@ trunc_found w p name flags found n is trunc =
     subst (λ (x : Option ℕ). EmptiesFile n w (changed w [] (open_found w p name flags x).change)) (sym is) (trunc_there w p name flags n (fifo_at (slot w.files n)) refl trunc)
 
 pub trunc_open_empties : TruncOpenEmpties
-trunc_open_empties bounds w p name flags fd n is trunc told =
-    page_has (λ d. d.outcome ≡ Replied (Number fd) → EmptiesFile n w (changed w [] d.change)) (open_file w p name flags) (λ error refused. cc)
-    (λ _ _. trunc_found w p name flags (file_of name w.names) n is trunc) told
+trunc_open_empties bounds w p name flags n is trunc no_error =
+    page_has (λ d. IsNoError d.outcome → EmptiesFile n w (changed w [] d.change)) (open_file w p name flags) (λ error no_error. absurd (no_error error refl))
+    (λ _ _. trunc_found w p name flags (file_of name w.names) n is trunc) no_error
 
 kept_found : (w : World) (p : ℕ) (name : List ℕ) (flags : OpenFlags) (found : Option ℕ) (n : ℕ) → found ≡ Some n → fifo_at (slot w.files n) ≡ None → has flags flag.trunc ≡ false →
     (changed w [] (open_found w p name flags found).change).files ≡ w.files
@@ -242,7 +282,7 @@ open_keeps_others bounds w p name flags n m is other =
     (λ _. subst (λ (x : Option ℕ). slot (changed w [] (open_found w p name flags x).change).files m ≡ slot w.files m) (sym is) (other_stays w p name flags n m (fifo_at (slot w.files n)) other))
 
 pub open_makes_empty : OpenMakesEmpty
-open_makes_empty bounds w p name flags fd is told =
+open_makes_empty bounds w p name flags is no_error =
     let new = Some (file.Regular []) in
-    page_has (λ d. d.outcome ≡ Replied (Number fd) → (changed w [] d.change).files ≡ w.files ++ new ∷ []) (open_file w p name flags) (λ error refused. cc)
-    (λ _ _. subst (λ (x : Option ℕ). (changed w [] (open_found w p name flags x).change).files ≡ w.files ++ new ∷ []) (sym is) refl) told
+    page_has (λ d. IsNoError d.outcome → (changed w [] d.change).files ≡ w.files ++ new ∷ []) (open_file w p name flags) (λ error no_error. absurd (no_error error refl))
+    (λ _ _. subst (λ (x : Option ℕ). (changed w [] (open_found w p name flags x).change).files ≡ w.files ++ new ∷ []) (sym is) refl) no_error

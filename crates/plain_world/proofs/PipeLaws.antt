@@ -36,10 +36,11 @@ use Rattle.posix_model.specs.declared.change.FileEdit.TheVariants as on_files
 use Rattle.posix_model.specs.declared.change.TableEdit.TheVariants as on_table
 use Rattle.posix_model.specs.declared.change.Try.TheVariants.{Ends, Waits}
 use Rattle.plain_world.specs.Types.{Call, Errno, OpenFlags, Bounds, World, Process, Parked, Source, Mode, File, Fifo, OpenDescriptor, FileEdit, Decided, Try, EAGAIN, Number, Error}
-use Rattle.plain_world.specs.PipeLaws.{IsNoError, OpensEmpty, ReopenedIsEmpty, ExitTakesBackNothing, HoldsAfter, WriteLosesNothing, ResumedWriteLosesNothing, WholeOrNone, SmallWriteIsWhole, UnparkedIsNotReady, UnparkedIsNotResumed, WaitsNot, NonblockReadReturns, NonblockWriteReturns, NonblockOpenReturns}
+use Rattle.plain_world.specs.Calls.{IsNoError}
+use Rattle.plain_world.specs.PipeLaws.{OpensEmpty, ReopenedIsEmpty, ExitTakesBackNothing, HoldsAfter, WriteLosesNothing, ResumedWriteLosesNothing, WholeOrNone, SmallWriteIsWhole, UnparkedIsNotReady, UnparkedIsNotResumed, WaitsNot, NonblockReadReturns, NonblockWriteReturns, NonblockOpenReturns}
 use Rattle.plain_world.proofs.PageLemmas.{page_has, on_open_has, opened_has, if_has, where_may, step_parts}
 use Rattle.plain_world.proofs.ChangeLemmas.{pipes_after}
-use Rattle.plain_world.proofs.OpenLaws.{has_free, opened_leads}
+use Rattle.plain_world.proofs.OpenLaws.{has_free, opened_leads, still_lowest}
 use Rattle.plain_world.proofs.SlotLemmas.{slot_at_end, slot_edited}
 
 exit_pipes : SweepLeaves → (w : World) (p pipe : ℕ) →
@@ -332,14 +333,6 @@ end_opens_empty w ps p flags n k fifo stands none low still =
           (opened_has_next m (pipe_between w (fifo_at (slot w.files n))) (slot w.files n) fifo stands ∙ ap (λ (pipe : ℕ). Some pipe) between);
       empty = ap (λ x. slot (with_pipe_for x w.pipes) next) had ∙ slot_at_end w.pipes (Some []);
     }
-
--- a process that waits has its descriptors
-still_lowest : (ps : List (Option Process)) (p k : ℕ) (parked : Parked) → lowest (table_of (slot ps p)) ≡ Some k → lowest (table_of (slot (edited p (with_parked (Some parked)) ps) p)) ≡ Some k
-still_lowest ps p k parked low = ap (λ x. lowest (table_of x)) (slot_edited ps p (with_parked (Some parked))) ∙ (ap lowest (same_table (slot ps p)) ∙ low)
-  where
-    same_table : (x : Option Process) → table_of (option_map (with_parked (Some parked)) x) ≡ table_of x
-    same_table None = refl
-    same_table (Some process) = refl
 
 open_end_empty : (w : World) (p : ℕ) (name : List ℕ) (flags : OpenFlags) (n k : ℕ) (fifo : Fifo) → fifo_at (slot w.files n) ≡ Some fifo → fifo.pipe ≡ None →
     lowest (table_of (slot w.processes p)) ≡ Some k → OpensEmpty w (changed w [] (open_end w p name flags n fifo).change) p n

@@ -1,19 +1,25 @@
 -- What holds of the descriptors of processes, in words that the pages use.
 use Rattle.std.specs.Prelude.{◌≡◌, ◌≢◌, ◌<◌, ℕ, ℤ, pos, true, List, None, Some, is_some, length}
 use Rattle.call_types.specs.CallTable.{descriptor_of}
-use Rattle.plain_world.specs.Types.{Call, OpenFlags, Bounds, World, OPEN_MAX, EBADF, Replied, Number, Done, Error}
+use Rattle.plain_world.specs.Types.{Call, Outcome, OpenFlags, Bounds, World, OPEN_MAX, EBADF, Replied, Number, Done, Error}
 use Rattle.call_types.specs.declared.call.Call.TheVariants as call
 use Rattle.slots.specs.Slots.{slot}
 use Rattle.posix_model.specs.Whole.{EachThere}
 use Rattle.posix_model.specs.Numbers.{IsLowest}
 use Rattle.process_table.specs.Processes.{table_of}
 use Rattle.posix_model.specs.Descriptors.{opened, number_of}
-use Rattle.plain_world.specs.Calls.{outcome_of, before_sweep}
+use Rattle.plain_world.specs.Calls.{outcome_of, before_sweep, IsNoError, GivesDescriptor}
 
--- an open that is not refused tells the least descriptor that is free (page of open)
+-- a call that leads from one world to another gives the least descriptor that was free in the first (page of open)
+pub record GivesLowest (w v : World) (process : ℕ) (c : Call) (outcome : Outcome) : Type 0 where
+  pub fd : ℕ
+  pub is_lowest : IsLowest (table_of (slot w.processes process)) fd
+  pub given : GivesDescriptor v process c outcome fd
+
+-- so does each open that is not refused (page of open; own: of one that waits); what one that waits keeps, its resume tells: `ReadyOpenEnds` of posix_model
 abbrev pub OpenGivesLowest : Type 0
-OpenGivesLowest = (bounds : Bounds) (w : World) (process : ℕ) (name : List ℕ) (flags : OpenFlags) (fd : ℕ) →
-    outcome_of bounds w process (call.Open name flags) ≡ Replied (Number fd) → IsLowest (table_of (slot w.processes process)) fd
+OpenGivesLowest = (bounds : Bounds) (w : World) (process : ℕ) (name : List ℕ) (flags : OpenFlags) → IsNoError (outcome_of bounds w process (call.Open name flags)) →
+    GivesLowest w (before_sweep bounds w process (call.Open name flags)) process (call.Open name flags) (outcome_of bounds w process (call.Open name flags))
 
 -- a close that is not refused leaves its descriptor not open (page of close)
 abbrev pub CloseCloses : Type 0

@@ -2,7 +2,7 @@
 use Rattle.std.specs.Prelude.{◌≡◌, ◌≢◌, ℕ, ℤ, pos, ◌+◌, ◌-◌, ◌+ℤ◌, ◌≤◌, ◌<◌, Bool, true, false, max, min, List, [], ◌∷◌, ◌++◌, Option, None, Some, length, take, slice_index, slice_set}
 use Rattle.call_types.specs.Flags.{has}
 use Rattle.call_types.specs.Flags as flag
-use Rattle.plain_world.specs.Types.{Act, Call, Decided, OpenFlags, Bounds, World, Description, Target, Fifo, OpenDescriptor, Replied, Number, Done}
+use Rattle.plain_world.specs.Types.{Act, Call, Outcome, Decided, OpenFlags, Bounds, World, Description, Target, Fifo, OpenDescriptor, Replied, Number, Done}
 use Rattle.call_types.specs.declared.act.Act.TheVariants as act
 use Rattle.call_types.specs.declared.call.Call.TheVariants as call
 use Rattle.call_types.specs.declared.whence.Whence.TheVariants.{Set, Cur, End}
@@ -22,7 +22,8 @@ use Rattle.posix_model.specs.Step.{given, comes_to}
 use Rattle.posix_model.specs.Types.{Data}
 use Rattle.posix_model.specs.declared.world.File.TheVariants as file
 use Rattle.call_types.specs.declared.description.Target.TheVariants as target
-use Rattle.plain_world.specs.Calls.{outcome_of, before_sweep}
+use Rattle.plain_world.specs.Calls.{outcome_of, before_sweep, IsNoError}
+use Rattle.plain_world.specs.DescriptorLaws.{GivesLowest}
 
 -- the bytes after a write: the new ones where they were put, else those that were there, else zeros (page of write)
 pub record Spliced (bytes : List ℕ) (start : ℕ) (new : List ℕ) : Type 0 where
@@ -204,15 +205,20 @@ pub record Opens (w v : World) (process : ℕ) (name : List ℕ) (flags : OpenFl
   pub appended : v.descriptions ≡ w.descriptions ++ Some description ∷ []
   pub leads : opened v process (pos fd) ≡ Some (record { fd = fd; number = length w.descriptions; description = description })
 
--- each open that is not refused has a description of its own, to which the descriptor that is told leads (page of open)
+-- an open gives the least descriptor that was free, and that descriptor leads to a description of its own (page of open)
+pub record OpensLowest (w v : World) (process : ℕ) (name : List ℕ) (flags : OpenFlags) (outcome : Outcome) : Type 0 where
+  pub gives : GivesLowest w v process (call.Open name flags) outcome
+  pub opens : Opens w v process name flags gives.fd
+
+-- so does each open that is not refused, whether it tells its descriptor or waits (page of open; own: of one that waits)
 abbrev pub OpenDescribes : Type 0
-OpenDescribes = (bounds : Bounds) (w : World) (process : ℕ) (name : List ℕ) (flags : OpenFlags) (fd : ℕ) →
-    outcome_of bounds w process (call.Open name flags) ≡ Replied (Number fd) → Opens w (before_sweep bounds w process (call.Open name flags)) process name flags fd
+OpenDescribes = (bounds : Bounds) (w : World) (process : ℕ) (name : List ℕ) (flags : OpenFlags) → IsNoError (outcome_of bounds w process (call.Open name flags)) →
+    OpensLowest w (before_sweep bounds w process (call.Open name flags)) process name flags (outcome_of bounds w process (call.Open name flags))
 
 -- an open under excl and creat that is not refused is of a name that was not there (page of open)
 abbrev pub ExclOpensNew : Type 0
-ExclOpensNew = (bounds : Bounds) (w : World) (process : ℕ) (name : List ℕ) (flags : OpenFlags) (fd : ℕ) → has flags flag.excl ≡ true → has flags flag.creat ≡ true →
-    outcome_of bounds w process (call.Open name flags) ≡ Replied (Number fd) → file_of name w.names ≡ None
+ExclOpensNew = (bounds : Bounds) (w : World) (process : ℕ) (name : List ℕ) (flags : OpenFlags) → has flags flag.excl ≡ true → has flags flag.creat ≡ true →
+    IsNoError (outcome_of bounds w process (call.Open name flags)) → file_of name w.names ≡ None
 
 -- the second world has no byte in the file of this number, and every other file as it was
 pub record EmptiesFile (number : ℕ) (w v : World) : Type 0 where
@@ -221,8 +227,8 @@ pub record EmptiesFile (number : ℕ) (w v : World) : Type 0 where
 
 -- an open under trunc that is not refused leaves the file of its name empty, and no other is changed (page of open)
 abbrev pub TruncOpenEmpties : Type 0
-TruncOpenEmpties = (bounds : Bounds) (w : World) (process : ℕ) (name : List ℕ) (flags : OpenFlags) (fd number : ℕ) → file_of name w.names ≡ Some number →
-    has flags flag.trunc ≡ true → outcome_of bounds w process (call.Open name flags) ≡ Replied (Number fd) →
+TruncOpenEmpties = (bounds : Bounds) (w : World) (process : ℕ) (name : List ℕ) (flags : OpenFlags) (number : ℕ) → file_of name w.names ≡ Some number →
+    has flags flag.trunc ≡ true → IsNoError (outcome_of bounds w process (call.Open name flags)) →
     EmptiesFile number w (before_sweep bounds w process (call.Open name flags))
 
 -- an open without trunc of a name that is there, and leads to no FIFO, changes no file (page of open)
@@ -237,5 +243,5 @@ OpenKeepsOthers = (bounds : Bounds) (w : World) (process : ℕ) (name : List ℕ
 
 -- an open of a new name that is not refused adds an empty regular file, and changes no other (page of open)
 abbrev pub OpenMakesEmpty : Type 0
-OpenMakesEmpty = (bounds : Bounds) (w : World) (process : ℕ) (name : List ℕ) (flags : OpenFlags) (fd : ℕ) → file_of name w.names ≡ None →
-    outcome_of bounds w process (call.Open name flags) ≡ Replied (Number fd) → (before_sweep bounds w process (call.Open name flags)).files ≡ w.files ++ Some (file.Regular []) ∷ []
+OpenMakesEmpty = (bounds : Bounds) (w : World) (process : ℕ) (name : List ℕ) (flags : OpenFlags) → file_of name w.names ≡ None →
+    IsNoError (outcome_of bounds w process (call.Open name flags)) → (before_sweep bounds w process (call.Open name flags)).files ≡ w.files ++ Some (file.Regular []) ∷ []

@@ -16,12 +16,8 @@ use Rattle.posix_model.specs.Sweep.{is_open}
 use Rattle.posix_model.specs.Resume.{is_ready}
 use Rattle.posix_model.specs.Step.{comes_to, Stepped, step}
 use Rattle.posix_model.specs.Types.{PIPE_BUF, ParkedAt}
-use Rattle.plain_world.specs.Types.{Errno, Outcome, OpenFlags, Bounds, World, Parked, Fifo, OpenDescriptor, Decided, Replied, Number, Error}
-use Rattle.plain_world.specs.Calls.{outcome_of, before_sweep}
-
--- an outcome is no error
-abbrev pub IsNoError : Outcome → Type 0
-IsNoError outcome = (error : Errno) → outcome ≢ Replied (Error error)
+use Rattle.plain_world.specs.Types.{Outcome, OpenFlags, Bounds, World, Parked, Fifo, OpenDescriptor, Decided, Replied, Number}
+use Rattle.plain_world.specs.Calls.{outcome_of, before_sweep, IsNoError}
 
 -- a FIFO has the next pipe, which is empty, and the lowest free descriptor leads to it
 pub record OpensEmpty (w v : World) (process number : ℕ) : Type 0 where

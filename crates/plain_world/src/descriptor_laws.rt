@@ -2,7 +2,8 @@
 
 ghost use Rattle.plain_world.specs.DescriptorLaws.{OpenGivesLowest, DupLeads, Dup2Leads, Dup2KeepsEqual, CloseCloses, NotOpenIsBad, ProcessesAreApart};
 
-/// An open gives the least descriptor of the process that is free (page of open).
+/// An open that is not refused gives the least descriptor of its process that is free: it tells the number, or, where it waits, its
+/// process keeps the descriptor (page of open; of one that waits own). A resume tells what was kept: `posix_model::pipe_laws::ready_moves`.
 pub fn open_gives_the_lowest()
     ensures { OpenGivesLowest }
 {}

@@ -82,8 +82,9 @@ pub fn ftruncate_keeps_offsets()
     ensures { FtruncateKeepsOffsets }
 {}
 
-/// Two opens of one file have two open file descriptions, each at the start of the file or FIFO that the name leads to, in the
-/// mode and with the flags that were asked, and the descriptor that is told leads to it (page of open).
+/// Each open that is not refused has an open file description of its own, at the start of the file or FIFO that the name leads to,
+/// in the mode and with the flags that were asked; so two opens of one file have two. The least free descriptor leads to it, which
+/// the open tells, or which its process keeps where it waits (page of open; of one that waits own).
 pub fn open_describes()
     ensures { OpenDescribes }
 {}
@@ -93,13 +94,13 @@ pub fn excl_opens_new()
     ensures { ExclOpensNew }
 {}
 
-/// An open under trunc empties its file, and changes no other (page of open).
+/// An open under trunc that is not refused empties its file, and changes no other (page of open).
 pub fn trunc_empties()
     ensures { TruncOpenEmpties }
 {}
 
 /// An open without trunc of a name that is there, and leads to no FIFO, changes no file, and one of a name that is there no
-/// other file; one of a new name adds an empty regular file (page of open).
+/// other file; one of a new name that is not refused adds an empty regular file (page of open).
 pub fn open_keeps_files()
     ensures present { OpenKeepsFiles }
     ensures others { OpenKeepsOthers }

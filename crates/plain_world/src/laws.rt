@@ -7,8 +7,8 @@ use posix_model::laws::{
     acts_are_sound, numbers_rise, sweep_leaves_wanted, sweep_releases, sweep_settles,
 };
 
-/// A step that records an error changes nothing, where the world was its own sweep, as it is in a history. (A call that
-/// waits and is taken up may have moved bytes before.)
+/// A step that records an error changes nothing, where the world was its own sweep, as it is in a history. (The one
+/// error of a resume, EPIPE, ends the call that waited: `resume_breaks_alone` of `posix_model`.)
 pub fn refusal_keeps_world()
     ensures step { RefusedStepKeepsWorld }
     ensures history { RefusedNextKeepsWorld }

@@ -4,6 +4,7 @@ ghost use Rattle.std.specs.Prelude.{◌≡◌, ◌+◌, ◌<◌, ◌≤◌, ◌^
 ghost use Rattle.posix_model.specs.Bytes.{splice, resized};
 ghost use Rattle.slots.specs.Slots.{slot, edited};
 ghost use Rattle.call_types.specs.Names.{file_of};
+ghost use Rattle.call_types.specs.Stored.{part_bytes};
 ghost use Rattle.call_types.specs.Descriptions.{at_offset};
 ghost use Rattle.process_table.specs.Processes.{with_connection, with_parked, with_total, with_entry};
 ghost use Rattle.posix_model.specs.Descriptors.{file_bytes};
@@ -16,6 +17,7 @@ use crate::pipes::{
 };
 use call_types::bounded::Name;
 use call_types::description::{Description, Mode};
+use call_types::part::Part;
 use posix_model::change::{Change, FileEdit, ProcessEdit, Source, TableEdit};
 use posix_model::contents::Contents;
 use posix_model::world::{Fifo, File, World};
@@ -48,10 +50,10 @@ fn write_bytes(
     files: &mut Slots<File>,
     file: usize,
     start: usize,
-    bytes: &[u8],
+    bytes: Part<'_>,
 ) -> Result<(), AllocError>
-    requires { start + length bytes.now < 2 ^ 63 }
-    ensures { OnOk result (files.new ≡ slice_set files.old file (Some (File.Regular (splice (file_bytes (slot files.old file)) start bytes.now)))) }
+    requires { start + length (part_bytes bytes) < 2 ^ 63 }
+    ensures { OnOk result (files.new ≡ slice_set files.old file (Some (File.Regular (splice (file_bytes (slot files.old file)) start (part_bytes bytes.entry))))) }
 {
     let mut contents = take_bytes(alloc, files, file);
     contents.write_at(start, bytes)?;
@@ -83,19 +85,19 @@ fn make_file(world: &mut World, name: Name, new: File) -> Result<(), AllocError>
 /// Puts the first bytes of the act, or of a call that waits, into a pipe.
 fn put_into(
     world: &mut World,
-    bytes: &[u8],
+    bytes: Part<'_>,
     pipe: usize,
     source: Source,
     count: usize,
 ) -> Result<(), AllocError>
-    requires { count ≤ length (bytes_from world.old bytes.now source) }
-    ensures { OnOk result (world.new ≡ with_files world.old bytes.now (FileEdit.Put pipe source count)) }
+    requires { count ≤ length (bytes_from world.old (part_bytes bytes) source) }
+    ensures { OnOk result (world.new ≡ with_files world.old (part_bytes bytes.entry) (FileEdit.Put pipe source count)) }
 {
     match source {
-        Source::Act => put_bytes(&mut world.pipes, pipe, &bytes[..count]),
+        Source::Act => put_bytes(&mut world.pipes, pipe, bytes.cut(0, count)),
         Source::Parked { process } => {
             let rest = parked_bytes(&world.processes, process);
-            put_bytes(&mut world.pipes, pipe, &rest[..count])
+            put_bytes(&mut world.pipes, pipe, rest.cut(0, count))
         }
     }
 }
@@ -104,16 +106,16 @@ fn put_into(
 fn make_files(
     alloc: Global,
     world: &mut World,
-    bytes: &[u8],
+    bytes: Part<'_>,
     edit: FileEdit,
 ) -> Result<(), AllocError>
-    requires { FilesProper world.old bytes.now edit }
-    ensures { OnOk result (world.new ≡ with_files world.old bytes.now edit) }
+    requires { FilesProper world.old (part_bytes bytes) edit }
+    ensures { OnOk result (world.new ≡ with_files world.old (part_bytes bytes.entry) edit) }
 {
     match edit {
         FileEdit::Nothing => Ok(()),
         FileEdit::Bytes { file, start, count } => {
-            write_bytes(alloc, &mut world.files, file, start, &bytes[..count])
+            write_bytes(alloc, &mut world.files, file, start, bytes.cut(0, count))
         }
         FileEdit::Resize { file, len } => resize(alloc, &mut world.files, file, len),
         FileEdit::AddName { name, file } => world.names.put(name, file),
@@ -298,11 +300,11 @@ fn make_table(alloc: Global, world: &mut World, edit: TableEdit) -> Result<(), A
 pub(crate) fn make(
     alloc: Global,
     world: &mut World,
-    bytes: &[u8],
+    bytes: Part<'_>,
     change: Change,
 ) -> Result<(), AllocError>
-    requires { IsProper world.old bytes.now change }
-    ensures { OnOk result (world.new ≡ changed world.old bytes.now change) }
+    requires { IsProper world.old (part_bytes bytes) change }
+    ensures { OnOk result (world.new ≡ changed world.old (part_bytes bytes.entry) change) }
 {
     let Change {
         files,

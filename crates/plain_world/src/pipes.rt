@@ -2,6 +2,7 @@
 
 ghost use Rattle.std.specs.Prelude.{[], ◌≡◌, ◌+◌, drop, unwrap_or, length, IfOk, OnOk};
 ghost use Rattle.call_types.specs.CallTable.{payload_of};
+ghost use Rattle.call_types.specs.Stored.{part_bytes};
 ghost use Rattle.slots.specs.Slots.{slot, edited};
 ghost use Rattle.process_table.specs.Processes.{parked_of};
 ghost use Rattle.posix_model.specs.Change.{rest_of, after_those, end_of};
@@ -9,6 +10,7 @@ ghost use Rattle.posix_model.specs.Pipes.{fifo_at, pipe_of_fifo, with_pipe_for, 
 
 use call_types::call::Call;
 use call_types::description::{Description, Mode, Target};
+use call_types::part::Part;
 use posix_model::contents::Contents;
 use posix_model::world::{Fifo, File};
 use process_table::process::{Parked, Process};
@@ -16,46 +18,46 @@ use slots::dense::Slots;
 use std::alloc::{AllocError, Global};
 
 /// The data of a call that writes; none of any other.
-fn payload_of(call: &Call) -> &[u8]
-    ensures { result.now ≡ unwrap_or (payload_of call.now) [] }
+fn payload_of(call: &Call) -> Part<'_>
+    ensures { part_bytes result ≡ unwrap_or (payload_of call.now) [] }
 {
     match call.payload() {
-        Some(bytes) => bytes.as_slice(),
-        None => &[],
+        Some(bytes) => bytes.part(),
+        None => Part::Slice(&[]),
     }
 }
 
 /// The bytes of a list after the first ones.
-fn after_first(bytes: &[u8], count: usize) -> &[u8]
-    ensures { result.now ≡ drop count bytes.now }
+fn after_first(bytes: Part<'_>, count: usize) -> Part<'_>
+    ensures { part_bytes result ≡ drop count (part_bytes bytes.entry) }
 {
-    &bytes[count.min(bytes.len())..]
+    bytes.cut(count, bytes.len())
 }
 
 /// The data of a call that waits, after the bytes that it moved.
-fn rest_of(parked: &Parked) -> &[u8]
-    ensures { result.now ≡ rest_of (Some parked.now) }
+fn rest_of(parked: &Parked) -> Part<'_>
+    ensures { part_bytes result ≡ rest_of (Some parked.now) }
 {
     after_first(payload_of(parked.call.get()), parked.moved as usize)
 }
 
 /// The data of the call that a process waits in, after the bytes that it moved.
-pub(crate) fn parked_bytes(processes: &Slots<Process>, process: usize) -> &[u8]
-    ensures { result.now ≡ rest_of (parked_of (slot processes.now process)) }
+pub(crate) fn parked_bytes(processes: &Slots<Process>, process: usize) -> Part<'_>
+    ensures { part_bytes result ≡ rest_of (parked_of (slot processes.now process)) }
 {
     match processes.get(process) {
         Some(process) => match &process.parked {
             Some(parked) => rest_of(parked),
-            None => &[],
+            None => Part::Slice(&[]),
         },
-        None => &[],
+        None => Part::Slice(&[]),
     }
 }
 
 #[tactic(auto, using(crate::proofs::BytesLaws::added_at_end))]
 /// Adds bytes at the end; an error says that memory ran out.
-fn add_bytes(contents: &mut Contents, bytes: &[u8]) -> Result<(), AllocError>
-    ensures { OnOk result (contents.new ≡ after_those bytes.now contents.old) }
+fn add_bytes(contents: &mut Contents, bytes: Part<'_>) -> Result<(), AllocError>
+    ensures { OnOk result (contents.new ≡ after_those (part_bytes bytes.entry) contents.old) }
 {
     let held = contents.len();
     match held.checked_add(bytes.len()) {
@@ -69,9 +71,9 @@ fn add_bytes(contents: &mut Contents, bytes: &[u8]) -> Result<(), AllocError>
 pub(crate) fn put_bytes(
     pipes: &mut Slots<Contents>,
     pipe: usize,
-    bytes: &[u8],
+    bytes: Part<'_>,
 ) -> Result<(), AllocError>
-    ensures { OnOk result (pipes.new ≡ edited pipe (after_those bytes.now) pipes.old) }
+    ensures { OnOk result (pipes.new ≡ edited pipe (after_those (part_bytes bytes.entry)) pipes.old) }
 {
     if let Some(mut contents) = pipes.take(pipe) {
         add_bytes(&mut contents, bytes)?;
@@ -86,7 +88,10 @@ fn left_of(alloc: Global, contents: &Contents, count: usize) -> Result<Contents,
     ensures { IfOk result (λ left. left ≡ drop count contents.now) }
 {
     let mut left = Contents::new(alloc);
-    add_bytes(&mut left, after_first(contents.as_slice(), count))?;
+    add_bytes(
+        &mut left,
+        after_first(Part::Slice(contents.as_slice()), count),
+    )?;
     Ok(left)
 }
 

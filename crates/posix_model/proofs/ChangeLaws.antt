@@ -13,12 +13,13 @@ use Rattle.call_types.specs.Names.{Entries, with_name, without_name}
 use Rattle.call_types.specs.Descriptions.{at_offset}
 use Rattle.process_table.specs.Processes.{with_entry, process_with, with_parked, moved_in}
 use Rattle.posix_model.specs.Descriptors.{with_descriptor, with_offset}
+use Rattle.posix_model.specs.Pipes.{fifo_at, pipe_of_fifo}
 use Rattle.posix_model.specs.Change.{with_processes, with_bytes, created, with_description}
 use Rattle.posix_model.specs.Fits.{CanAdd}
 use Rattle.posix_model.specs.Types.{World, Process, Parked, Description, Target, File, Fifo, OPEN_MAX}
 use Rattle.posix_model.specs.declared.change.ProcessEdit.TheVariants as on_process
 use Rattle.posix_model.specs.Numbers.{Rises, NumbersRise, StaysSame}
-use Rattle.posix_model.specs.Whole.{EachThere, PipeIsThere, IsItsFifo, PipesApart, WaitsForFew, IsWhole}
+use Rattle.posix_model.specs.Whole.{EachThere, PipeIsThere, IsItsFifo, IsOnItsPipe, PipesApart, WaitsForFew, IsWhole}
 use Rattle.process_table.specs.Waits.{AsksFew}
 use Rattle.posix_model.specs.declared.world.File.TheVariants as file
 use Rattle.call_types.specs.declared.description.Target.TheVariants as target
@@ -118,6 +119,34 @@ apart_from files more was apart f g x y p h k e i =
     let other = was g p (record { fifo = y; stands = k; its_pipe = i }) in
     apart f g one.fifo other.fifo p one.stands other.stands one.its_pipe other.its_pipe
 
+-- the pipe that a FIFO has, if a FIFO stands there
+abbrev pub pipe_in : Option File → Option ℕ
+pipe_in x = pipe_of_fifo (fifo_at x)
+
+-- no FIFO has lost the pipe that it had
+abbrev pub PipesStay : List (Option File) → List (Option File) → Type 0
+PipesStay files more = (f p : ℕ) → pipe_in (slot files f) ≡ Some p → pipe_in (slot more f) ≡ Some p
+
+-- so an end of a FIFO stays on its pipe
+pub on_stays : (files more : List (Option File)) → PipesStay files more → (t : Target) → IsOnItsPipe files t → IsOnItsPipe more t
+on_stays files more stay (target.Regular f) h = tt
+on_stays files more stay (target.Pipe p) h = tt
+on_stays files more stay (target.Fifo f p) h = stay f p h
+
+-- a regular file has no pipe
+regular_has_none : (x : Option File) → is_regular_file x ≡ true → pipe_in x ≡ None
+regular_has_none None h = cc
+regular_has_none (Some (file.Regular bytes)) h = refl
+regular_has_none (Some (file.Fifo fifo)) h = cc
+
+-- what has a pipe is there
+pub pipe_in_there : (x : Option File) (p : ℕ) → pipe_in x ≡ Some p → is_some x ≡ true
+pipe_in_there None p h = cc
+pipe_in_there (Some x) p h = refl
+
+stay_push : (files : List (Option File)) (y : File) → PipesStay files (files ++ Some y ∷ [])
+stay_push files y f p h = ap pipe_in (slot_pushed files (Some y) f (there_below files f (pipe_in_there (slot files f) p h))) ∙ h
+
 -- a file is another, which has no pipe: the others have the pipes that they had
 had_set : (xs : List (Option File)) (m : ℕ) (y : Option File) → ((p : ℕ) (x : Fifo) → y ≡ Some (file.Fifo x) → x.pipe ≡ Some p → ⊥) →
     (g p : ℕ) → HasPipe (set xs m y) g p → HasPipe xs g p
@@ -171,16 +200,17 @@ offset_goes w n k whole =
         fifos = whole.fifos;
         ends = each_set (λ d. IsItsFifo w.files d.target) ds n moved whole.ends (λ d h. offset_edited (IsItsFifo w.files) k (slot ds n) d (whole.ends n) h);
         apart = whole.apart;
+        pipes = each_set (λ d. IsOnItsPipe w.files d.target) ds n moved whole.pipes (λ d h. offset_edited (IsOnItsPipe w.files) k (slot ds n) d (whole.pipes n) h);
         processes = λ p process at m x h. adds.there x (whole.processes p process at m x h);
         waits = whole.waits;
         tables = whole.tables;
       };
     }
 
--- the files of a world are others, of which none went, and none has a pipe that it had not
+-- the files of a world are others, of which none went, and none has a pipe that it had not or lost one
 files_go : (w : World) (files : List (Option File)) → IsWhole w → FilesAdd w.files files → EachThere (PipeIsThere w.pipes) files → ((g p : ℕ) → HasPipe files g p → HasPipe w.files g p) →
-    Goes w (record w { files = files })
-files_go w files whole add fifos had = record {
+    PipesStay w.files files → Goes w (record w { files = files })
+files_go w files whole add fifos had stay = record {
   rises = record {
     files = add.adds.rises;
     pipes = (adds_same w.pipes).rises;
@@ -196,6 +226,7 @@ files_go w files whole add fifos had = record {
     fifos = fifos;
     ends = λ n d h. its_from w.files files d.target had (whole.ends n d h);
     apart = apart_from w.files files had whole.apart;
+    pipes = λ n d h. on_stays w.files files stay d.target (whole.pipes n d h);
     processes = whole.processes;
     waits = whole.waits;
     tables = whole.tables;
@@ -208,7 +239,7 @@ bytes_go w f bytes whole there =
     let parts = regular_parts (slot w.files f) there in
     files_go w (set w.files f (Some (file.Regular bytes))) whole (files_set w.files f (Some (file.Regular bytes)) (sym parts.0) (sym there) (sym parts.1))
     (each_set (PipeIsThere w.pipes) w.files f (Some (file.Regular bytes)) whole.fifos (λ x h. let e : file.Regular bytes ≡ x = cc in subst (PipeIsThere w.pipes) e tt))
-    (had_set w.files f (Some (file.Regular bytes)) (λ p x h. cc))
+    (had_set w.files f (Some (file.Regular bytes)) (λ p x h. cc)) (λ g p h. test_set pipe_in w.files f (Some (file.Regular bytes)) g (sym (regular_has_none (slot w.files f) there)) ∙ h)
 
 -- a name is put at a file that is there
 pub names_with : (files : List (Option File)) (name : List ℕ) (f : ℕ) (es : Entries) → IsThere files f →
@@ -239,14 +270,14 @@ names_go w names whole all =
     let same = same_rises w in
     record {
       rises = record { files = same.files; pipes = same.pipes; descriptions = same.descriptions; processes = same.processes; kinds = same.kinds; targets = same.targets; modes = same.modes };
-      whole = record { names = all; descriptions = whole.descriptions; fifos = whole.fifos; ends = whole.ends; apart = whole.apart; processes = whole.processes; waits = whole.waits; tables = whole.tables };
+      whole = record { names = all; descriptions = whole.descriptions; fifos = whole.fifos; ends = whole.ends; apart = whole.apart; pipes = whole.pipes; processes = whole.processes; waits = whole.waits; tables = whole.tables };
     }
 
 -- a new file, which has no pipe
 pub created_goes : (w : World) (name : List ℕ) (new : File) → IsWhole w → PipeIsThere w.pipes new → ((p : ℕ) (x : Fifo) → new ≡ file.Fifo x → x.pipe ≡ Some p → ⊥) → Goes w (created w name new)
 created_goes w name new whole there none =
     let files = w.files ++ Some new ∷ [] in
-    let moved = files_go w files whole (files_push w.files new) (each_push (PipeIsThere w.pipes) w.files new whole.fifos there) (had_push w.files new none) in
+    let moved = files_go w files whole (files_push w.files new) (each_push (PipeIsThere w.pipes) w.files new whole.fifos there) (had_push w.files new none) (stay_push w.files new) in
     record {
       rises = record { files = moved.rises.files; pipes = moved.rises.pipes; descriptions = moved.rises.descriptions; processes = moved.rises.processes; kinds = moved.rises.kinds; targets = moved.rises.targets; modes = moved.rises.modes };
       whole = record {
@@ -255,6 +286,7 @@ created_goes w name new whole there none =
         fifos = moved.whole.fifos;
         ends = moved.whole.ends;
         apart = moved.whole.apart;
+        pipes = moved.whole.pipes;
         processes = moved.whole.processes;
         waits = moved.whole.waits;
         tables = moved.whole.tables;
@@ -310,6 +342,7 @@ descriptor_goes w process fd entry whole new =
         fifos = whole.fifos;
         ends = whole.ends;
         apart = whole.apart;
+        pipes = whole.pipes;
         waits = each_set WaitsForFew w.processes process edited whole.waits (λ x h. edited_has WaitsForFew (with_entry fd entry) (slot w.processes process) x (λ y has. has) (whole.waits process) h);
         processes = each_set (Refers w.descriptions) w.processes process edited whole.processes
             (λ x h. entry_edited w.descriptions fd entry (slot w.processes process) x new (whole.processes process) h);
@@ -318,8 +351,8 @@ descriptor_goes w process fd entry whole new =
     }
 
 -- one more description, of what is there
-pub described_goes : (w : World) (d : Description) → IsWhole w → TargetIsThere w.files w.pipes d.target → IsItsFifo w.files d.target → Goes w (record w { descriptions = w.descriptions ++ Some d ∷ [] })
-described_goes w d whole there its =
+pub described_goes : (w : World) (d : Description) → IsWhole w → TargetIsThere w.files w.pipes d.target → IsItsFifo w.files d.target → IsOnItsPipe w.files d.target → Goes w (record w { descriptions = w.descriptions ++ Some d ∷ [] })
+described_goes w d whole there its on =
     let adds = adds_push w.descriptions (Some d) in
     record {
       rises = record {
@@ -337,6 +370,7 @@ described_goes w d whole there its =
         fifos = whole.fifos;
         ends = each_push (λ x. IsItsFifo w.files x.target) w.descriptions d whole.ends its;
         apart = whole.apart;
+        pipes = each_push (λ x. IsOnItsPipe w.files x.target) w.descriptions d whole.pipes on;
         processes = λ p process at n x h. adds.there x (whole.processes p process at n x h);
         waits = whole.waits;
         tables = whole.tables;
@@ -350,7 +384,7 @@ processes_go w ps whole rises refers few all =
     let same = same_rises w in
     record {
       rises = record { files = same.files; pipes = same.pipes; descriptions = same.descriptions; processes = rises; kinds = same.kinds; targets = same.targets; modes = same.modes };
-      whole = record { names = whole.names; descriptions = whole.descriptions; fifos = whole.fifos; ends = whole.ends; apart = whole.apart; processes = refers; waits = few; tables = all };
+      whole = record { names = whole.names; descriptions = whole.descriptions; fifos = whole.fifos; ends = whole.ends; apart = whole.apart; pipes = whole.pipes; processes = refers; waits = few; tables = all };
     }
 
 pub added_goes : (w : World) (table : List (Option ℕ)) (attached : Bool) → IsWhole w → CanAdd w table → Goes w (with_processes w (on_process.Add table attached))
@@ -390,12 +424,12 @@ closed_goes w whole =
     let same = same_rises w in
     record {
       rises = record { files = same.files; pipes = same.pipes; descriptions = same.descriptions; processes = same.processes; kinds = same.kinds; targets = same.targets; modes = same.modes };
-      whole = record { names = whole.names; descriptions = whole.descriptions; fifos = whole.fifos; ends = whole.ends; apart = whole.apart; processes = whole.processes; waits = whole.waits; tables = whole.tables };
+      whole = record { names = whole.names; descriptions = whole.descriptions; fifos = whole.fifos; ends = whole.ends; apart = whole.apart; pipes = whole.pipes; processes = whole.processes; waits = whole.waits; tables = whole.tables };
     }
 
-pub opened_goes : (w : World) (process fd : ℕ) (d : Description) → IsWhole w → TargetIsThere w.files w.pipes d.target → IsItsFifo w.files d.target → Goes w (with_description w process fd d)
-opened_goes w process fd d whole there its =
+pub opened_goes : (w : World) (process fd : ℕ) (d : Description) → IsWhole w → TargetIsThere w.files w.pipes d.target → IsItsFifo w.files d.target → IsOnItsPipe w.files d.target → Goes w (with_description w process fd d)
+opened_goes w process fd d whole there its on =
     let more : World = record w { descriptions = w.descriptions ++ Some d ∷ [] } in
-    let first = described_goes w d whole there its in
+    let first = described_goes w d whole there its on in
     let at_end : (n : ℕ) → Some (length w.descriptions) ≡ Some n → IsThere more.descriptions n = λ n h. let same : length w.descriptions ≡ n = cc in subst (IsThere more.descriptions) same (pushed_there w.descriptions d) in
     goes_twice w more (with_description w process fd d) first (descriptor_goes more process fd (Some (length w.descriptions)) first.whole at_end)

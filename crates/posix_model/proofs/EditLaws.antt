@@ -50,7 +50,7 @@ processes_go_on w on_process.Close whole fits = closed_goes w whole
 table_goes_on : (w : World) (e : TableEdit) → IsWhole w → TableFits w e → Goes w (with_table w e)
 table_goes_on w on_table.Nothing whole fits = goes_nowhere w whole
 table_goes_on w (on_table.Offset number offset) whole fits = offset_goes w number offset whole
-table_goes_on w (on_table.Open process fd d) whole fits = opened_goes w process fd d whole fits.0.there fits.1
+table_goes_on w (on_table.Open process fd d) whole fits = opened_goes w process fd d whole fits.0.there fits.1 fits.2
 table_goes_on w (on_table.OpenPair process reading writing) whole fits = pair_goes w process reading writing whole
 table_goes_on w (on_table.OpenEnd process fd f d) whole fits = end_goes w process fd f d whole fits
 table_goes_on w (on_table.Entry process fd entry) whole fits = descriptor_goes w process fd entry whole fits.there

@@ -17,7 +17,7 @@ use Rattle.posix_model.proofs.SweepWhole.{sweep_goes}
 use Rattle.posix_model.proofs.SoundActs.{acts_are_sound}
 
 -- what holds of a world, and of the world of each step from it, holds after any act
-stepped_or_not : (Has : World → Type 0) (w : World) (e : Option Stepped) → Has w → ((s : Stepped) → e ≡ Some s → Has s.world) → Has (option_map_or (λ s. s.world) e w)
+pub stepped_or_not : (Has : World → Type 0) (w : World) (e : Option Stepped) → Has w → ((s : Stepped) → e ≡ Some s → Has s.world) → Has (option_map_or (λ s. s.world) e w)
 stepped_or_not Has w None here all = here
 stepped_or_not Has w (Some s) here all = all s refl
 
@@ -50,6 +50,7 @@ empty_whole = record {
   fifos = λ n x h. cc;
   ends = λ n d h. cc;
   apart = λ f g x y p h. cc;
+  pipes = λ n d h. cc;
   processes = λ n p h. cc;
   waits = λ n p h. cc;
   tables = λ n p h. cc;

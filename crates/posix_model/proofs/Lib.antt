@@ -9,12 +9,14 @@ pub mod DropLaws
 pub mod PageLaws
 pub mod Sound
 pub mod SoundTries
+pub mod Resuming
 pub mod SoundActs
 pub mod ProcessLaws
 pub mod LengthLaws
 pub mod HistoryLaws
+pub mod Waiting
+pub mod ReadyLaws
 pub mod Flows
-pub mod Owing
 pub mod Moving
 pub mod MovingCalls
 pub mod PipeLaws

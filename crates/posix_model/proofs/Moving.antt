@@ -1,5 +1,5 @@
 -- What is decided moves the bytes that its outcome tells.
-use Rattle.std.proofs.Common.{◌≡◌, ◌∙◌, ℕ, ℤ, ◌+◌, ◌-◌, ◌<◌, ◌≤◌, Bool, true, false, not, cond, List, [], Some, length, take, drop, refl, ap, sym, subst, arith, eqb, leb}
+use Rattle.std.proofs.Common.{◌≡◌, ◌∙◌, ℕ, ℤ, ◌+◌, ◌-◌, ◌<◌, ◌≤◌, Bool, true, false, not, cond, List, [], Some, length, take, drop, refl, ap, sym, arith, eqb, leb}
 use Rattle.std.specs.Option.{is_some}
 use Rattle.std.proofs.lemmas.Bool.Decides.{nat_tests}
 use Rattle.slots.specs.Slots.{slot}
@@ -13,11 +13,10 @@ use Rattle.posix_model.specs.Pipes.{room_in, has_reader, has_writer}
 use Rattle.posix_model.specs.Change.{bytes_from}
 use Rattle.posix_model.specs.Tries.{read_try, write_try, broken, first_try, next_try}
 use Rattle.posix_model.specs.Turns.{Turn, total, took_in, data_in}
-use Rattle.posix_model.specs.PipeRecord.{data_given}
+use Rattle.posix_model.specs.Given.{data_given}
 use Rattle.posix_model.specs.declared.change.FileEdit.TheVariants as on_files
 use Rattle.posix_model.specs.declared.change.Try.TheVariants.{Ends, Waits}
 use Rattle.posix_model.proofs.Flows.{edit_put, edit_got, cond_same}
-use Rattle.posix_model.proofs.Owing.{Owes, ParkFits}
 
 -- the turn of a call that moved so many bytes before
 abbrev pub turn_of : Call → ℕ → Turn
@@ -35,7 +34,6 @@ TakesAll t now = length (data_given t.call) ≤ PIPE_BUF → 0 < took_in now t �
 pub record Tells (w : World) (bytes : List ℕ) (on : ℕ → Bool) (t : Turn) (d : Decided) : Type 0 where
   pub put : (q : ℕ) → edit_put w bytes q d.change.files ≡ cond (on q) (part_of t (total d.outcome)) []
   pub got : (q : ℕ) → edit_got w q d.change.files ≡ cond (on q) (data_in d.outcome) []
-  pub process : ParkFits w.processes d.change.process
   pub whole : (q : ℕ) → on q ≡ true → TakesAll t (total d.outcome)
 
 -- the total, the data and the edit of a try
@@ -51,17 +49,11 @@ abbrev edit_of : Try → FileEdit
 edit_of (Ends reply edit) = edit
 edit_of (Waits moved edit) = edit
 
--- a try that waits owes
-abbrev WaitsFit : Call → Try → Type 0
-WaitsFit c (Ends reply edit) = Unit {0}
-WaitsFit c (Waits moved edit) = Owes c moved
-
 -- the same of a try
 pub record Fair (w : World) (bytes : List ℕ) (on : ℕ → Bool) (t : Turn) (d : Try) : Type 0 where
   pub put : (q : ℕ) → edit_put w bytes q (edit_of d) ≡ cond (on q) (part_of t (total_of d)) []
   pub got : (q : ℕ) → edit_got w q (edit_of d) ≡ cond (on q) (told_of d) []
   pub whole : TakesAll t (total_of d)
-  pub waits : WaitsFit t.call d
 
 none : (b : Bool) (x : List ℕ) → x ≡ [] → [] ≡ cond b x []
 none b x h = rw h (sym (cond_same b []))
@@ -74,12 +66,11 @@ took_zero : (t : Turn) → took_in 0 t ≡ 0
 took_zero t = let P : Bool → Type 0 = λ b. cond b (0 - t.moved) 0 ≡ 0 in elim (is_some (payload_of t.call)) as P [ true ↦ omega arith | false ↦ refl ]
 
 -- a try that moves nothing
-pub fair_still : (w : World) (bytes : List ℕ) (on : ℕ → Bool) (t : Turn) (d : Try) → edit_of d ≡ on_files.Nothing → took_in (total_of d) t ≡ 0 → told_of d ≡ [] → WaitsFit t.call d → Fair w bytes on t d
-fair_still w bytes on t d still no_bytes no_data waits = record {
+pub fair_still : (w : World) (bytes : List ℕ) (on : ℕ → Bool) (t : Turn) (d : Try) → edit_of d ≡ on_files.Nothing → took_in (total_of d) t ≡ 0 → told_of d ≡ [] → Fair w bytes on t d
+fair_still w bytes on t d still no_bytes no_data = record {
   put = λ q. rw still (none_took (on q) (took_in (total_of d) t) (drop t.moved (data_given t.call)) no_bytes);
   got = λ q. rw still (none (on q) (told_of d) no_data);
   whole = λ s h. absurd (omega arith);
-  waits = waits;
 }
 
 abbrev FairRead : World → List ℕ → ℕ → ℤ → ℕ → ℕ → Try → Type 0
@@ -93,10 +84,10 @@ pub fair_read : (w : World) (bytes : List ℕ) (pipe : ℕ) (fd : ℤ) (count mo
 fair_read w bytes pipe fd count moved =
     let t = turn_of (call.Read fd count) moved in
     if_at (FairRead w bytes pipe fd count moved) (not (eqb (held_in w pipe) 0)) _ _
-    (λ e. record { put = λ q. none (eqb pipe q) (part_of t 0) refl; got = λ q. refl; whole = λ s h. absurd (omega arith); waits = tt })
+    (λ e. record { put = λ q. none (eqb pipe q) (part_of t 0) refl; got = λ q. refl; whole = λ s h. absurd (omega arith) })
     (λ e. if_at (FairRead w bytes pipe fd count moved) (has_writer w pipe) _ _
-    (λ e. fair_still w bytes (eqb pipe) t (Waits 0 on_files.Nothing) refl refl refl (λ s. refl))
-    (λ e. fair_still w bytes (eqb pipe) t (Ends (Data []) on_files.Nothing) refl refl refl tt))
+    (λ e. fair_still w bytes (eqb pipe) t (Waits 0 on_files.Nothing) refl refl refl)
+    (λ e. fair_still w bytes (eqb pipe) t (Ends (Data []) on_files.Nothing) refl refl refl))
 
 abbrev FairWrite : World → List ℕ → ℕ → ℤ → List ℕ → ℕ → Try → Type 0
 FairWrite w bytes pipe fd new moved d = Fair w bytes (eqb pipe) (turn_of (call.Write fd new) moved) d
@@ -109,8 +100,8 @@ fair_broken : (w : World) (bytes : List ℕ) (pipe : ℕ) (fd : ℤ) (new : List
 fair_broken w bytes pipe fd new moved =
     let t = turn_of (call.Write fd new) moved in
     if_at (λ r. FairWrite w bytes pipe fd new moved (Ends r on_files.Nothing)) (eqb moved 0) (Error EPIPE) (Number moved)
-    (λ e. fair_still w bytes (eqb pipe) t (Ends (Error EPIPE) on_files.Nothing) refl (omega arith) refl tt)
-    (λ e. fair_still w bytes (eqb pipe) t (Ends (Number moved) on_files.Nothing) refl (omega arith) refl tt)
+    (λ e. fair_still w bytes (eqb pipe) t (Ends (Error EPIPE) on_files.Nothing) refl (omega arith) refl)
+    (λ e. fair_still w bytes (eqb pipe) t (Ends (Number moved) on_files.Nothing) refl (omega arith) refl)
 
 pub fair_write : (bounds : Bounds) (w : World) (bytes : List ℕ) (pipe : ℕ) (s : Source) (fd : ℤ) (new : List ℕ) (moved : ℕ) →
     bytes_from w bytes s ≡ drop moved new → (length new ≤ PIPE_BUF → moved ≡ 0) → FairWrite w bytes pipe fd new moved (write_try bounds w pipe s (length new) moved)
@@ -123,9 +114,9 @@ fair_write bounds w bytes pipe s fd new moved from small =
     λ n q. ap (λ l. cond (eqb pipe q) l []) (ap (λ l. take n l) from ∙ part_more fd new moved n) in
     if_at Has (not (has_reader w pipe)) _ _ (λ e. fair_broken w bytes pipe fd new moved)
     (λ e. if_at Has (leb rest free) _ _
-    (λ e. record { put = put rest; got = λ q. none (eqb pipe q) [] refl; whole = λ s h. let z = small s in omega arith; waits = tt })
-    (λ less. if_at Has (leb (length new) PIPE_BUF) _ _ (λ e. fair_still w bytes (eqb pipe) t (Waits moved on_files.Nothing) refl (omega arith) refl small)
-    (λ large. record { put = put free; got = λ q. none (eqb pipe q) [] refl; whole = λ s h. absurd (grind (arith, nat_tests)); waits = λ s. absurd (grind (arith, nat_tests)) })))
+    (λ e. record { put = put rest; got = λ q. none (eqb pipe q) [] refl; whole = λ s h. let z = small s in omega arith })
+    (λ less. if_at Has (leb (length new) PIPE_BUF) _ _ (λ e. fair_still w bytes (eqb pipe) t (Waits moved on_files.Nothing) refl (omega arith) refl)
+    (λ large. record { put = put free; got = λ q. none (eqb pipe q) [] refl; whole = λ s h. absurd (grind (arith, nat_tests)) })))
 
 -- an edit of files that moves no bytes
 abbrev pub IsStill : FileEdit → Type 0
@@ -149,42 +140,35 @@ still_moves w bytes (on_files.Put pipe source count) s = absurd s
 still_moves w bytes (on_files.Take pipe count) s = absurd s
 
 -- nothing is told, and nothing moves
-pub tells_none : (w : World) (bytes : List ℕ) (on : ℕ → Bool) (t : Turn) (d : Decided) → took_in (total d.outcome) t ≡ 0 → data_in d.outcome ≡ [] → IsStill d.change.files → ParkFits w.processes d.change.process → Tells w bytes on t d
-tells_none w bytes on t d no_bytes no_data still parks = let moves = still_moves w bytes d.change.files still in record {
+pub tells_none : (w : World) (bytes : List ℕ) (on : ℕ → Bool) (t : Turn) (d : Decided) → took_in (total d.outcome) t ≡ 0 → data_in d.outcome ≡ [] → IsStill d.change.files → Tells w bytes on t d
+tells_none w bytes on t d no_bytes no_data still = let moves = still_moves w bytes d.change.files still in record {
   put = λ q. moves.puts q ∙ none_took (on q) (took_in (total d.outcome) t) (drop t.moved (data_given t.call)) no_bytes;
   got = λ q. moves.gets q ∙ none (on q) (data_in d.outcome) no_data;
-  process = parks;
   whole = λ q e s h. absurd (omega arith);
 }
 
 -- the call is on no pipe, and nothing moves there
-pub tells_elsewhere : (w : World) (bytes : List ℕ) (on : ℕ → Bool) (t : Turn) (d : Decided) → ((q : ℕ) → on q ≡ false) → IsStill d.change.files → ParkFits w.processes d.change.process → Tells w bytes on t d
-tells_elsewhere w bytes on t d off still parks = let moves = still_moves w bytes d.change.files still in record {
+pub tells_elsewhere : (w : World) (bytes : List ℕ) (on : ℕ → Bool) (t : Turn) (d : Decided) → ((q : ℕ) → on q ≡ false) → IsStill d.change.files → Tells w bytes on t d
+tells_elsewhere w bytes on t d off still = let moves = still_moves w bytes d.change.files still in record {
   put = λ q. moves.puts q ∙ sym (ap (λ b. cond b (part_of t (total d.outcome)) []) (off q));
   got = λ q. moves.gets q ∙ sym (ap (λ b. cond b (data_in d.outcome) []) (off q));
-  process = parks;
   whole = λ q e s h. let no = off q in cc;
 }
 
 pub tells_refused : (w : World) (bytes : List ℕ) (on : ℕ → Bool) (t : Turn) (error : Errno) → Tells w bytes on t (refused error)
-tells_refused w bytes on t error = tells_none w bytes on t (refused error) (took_zero t) refl tt tt
+tells_refused w bytes on t error = tells_none w bytes on t (refused error) (took_zero t) refl tt
 
 -- the first try of a call
 pub tells_first : (w : World) (bytes : List ℕ) (on : ℕ → Bool) (p : ℕ) (c : Call) (o : OpenDescriptor) (d : Try) → Fair w bytes on (turn_of c 0) d → Tells w bytes on (turn_of c 0) (first_try p c o d)
-tells_first w bytes on p c o (Ends reply edit) h = record { put = h.put; got = h.got; process = tt; whole = λ q e. h.whole }
+tells_first w bytes on p c o (Ends reply edit) h = record { put = h.put; got = h.got; whole = λ q e. h.whole }
 tells_first w bytes on p c o (Waits moved edit) h =
     let Has = Tells w bytes on (turn_of c 0) in
     if_at Has o.description.nonblock _ _
-    (λ e. if_at Has (eqb moved 0) _ _ (λ e. tells_refused w bytes on (turn_of c 0) EAGAIN) (λ e. record { put = h.put; got = h.got; process = tt; whole = λ q e. h.whole }))
-    (λ e. record { put = h.put; got = h.got; process = h.waits; whole = λ q e. h.whole })
+    (λ e. if_at Has (eqb moved 0) _ _ (λ e. tells_refused w bytes on (turn_of c 0) EAGAIN) (λ e. record { put = h.put; got = h.got; whole = λ q e. h.whole }))
+    (λ e. record { put = h.put; got = h.got; whole = λ q e. h.whole })
 
 -- a further try of the call that a process waits in
 pub tells_next : (w : World) (bytes : List ℕ) (on : ℕ → Bool) (p : ℕ) (parked : Parked) (d : Try) → parked_of (slot w.processes p) ≡ Some parked → Fair w bytes on (turn_of parked.call parked.moved) d →
     Tells w bytes on (turn_of parked.call parked.moved) (next_try p d)
-tells_next w bytes on p parked (Ends reply edit) is h = record { put = h.put; got = h.got; process = tt; whole = λ q e. h.whole }
-tells_next w bytes on p parked (Waits moved edit) is h = record {
-  put = h.put;
-  got = h.got;
-  whole = λ q e. h.whole;
-  process = λ other e. let same : parked ≡ other = cc in subst (λ (y : Parked). Owes y.call moved) same h.waits;
-}
+tells_next w bytes on p parked (Ends reply edit) is h = record { put = h.put; got = h.got; whole = λ q e. h.whole }
+tells_next w bytes on p parked (Waits moved edit) is h = record { put = h.put; got = h.got; whole = λ q e. h.whole }

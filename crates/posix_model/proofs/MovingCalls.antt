@@ -1,8 +1,9 @@
 -- Each act moves the bytes that its outcome tells: one case for each call.
-use Rattle.std.proofs.Common.{◌≡◌, ◌∙◌, ℕ, ℤ, pos, ◌+◌, Bool, true, false, not, ◌&&◌, cond, List, [], Option, None, Some, length, drop, refl, ap, subst, rules, eqb}
+use Rattle.std.proofs.Common.{◌≡◌, ◌∙◌, ℕ, ℤ, pos, ◌+◌, ◌≤◌, Bool, true, false, not, ◌&&◌, cond, List, [], Option, None, Some, length, drop, refl, ap, subst, rules, eqb}
 use Rattle.std.specs.Option.{option_map, is_some}
 use Rattle.slots.specs.Slots.{slot}
 use Rattle.process_table.specs.Processes.{parked_of, is_here}
+use Rattle.call_types.specs.CallTable.{descriptor_of}
 use Rattle.call_types.specs.Flags.{has}
 use Rattle.call_types.specs.Flags as flag
 use Rattle.call_types.specs.Names.{file_of}
@@ -10,7 +11,7 @@ use Rattle.call_types.specs.declared.act.TheConstants.{HOUSE}
 use Rattle.call_types.specs.declared.call.Call.TheVariants as call
 use Rattle.call_types.specs.declared.act.Act.TheVariants as act
 use Rattle.call_types.specs.declared.description.Target.TheVariants as target
-use Rattle.posix_model.specs.Types.{Call, Act, Errno, Reply, Process, FileEdit, TableEdit, Replied, Error, World, Bounds, Parked, Fifo, Target, OpenFlags, OpenDescriptor, Decided, Try, Number, Data}
+use Rattle.posix_model.specs.Types.{Call, Act, Errno, Reply, FileEdit, TableEdit, Replied, Error, World, Bounds, Parked, Fifo, Target, OpenFlags, OpenDescriptor, Decided, Try, PIPE_BUF, Number, Data}
 use Rattle.posix_model.specs.Pages.{Page, first_fault, tells, does, acts, refused, decided_by, on_open}
 use Rattle.posix_model.specs.Counts.{is_pipe}
 use Rattle.posix_model.specs.Descriptors.{opened, bytes_of}
@@ -30,16 +31,37 @@ use Rattle.posix_model.specs.Exit.{exit, close_run}
 use Rattle.posix_model.specs.Bytes.{bytes_at}
 use Rattle.posix_model.specs.Change.{rest_of}
 use Rattle.posix_model.specs.Step.{can_call, decided, comes_to, given}
-use Rattle.posix_model.specs.Turns.{Turn, new_turn, total, took_in, data_in}
-use Rattle.posix_model.specs.PipeRecord.{TurnOn, new_turn_on, next_turn_on, turn_on, is_on, data_given}
+use Rattle.posix_model.specs.Waiting.{HasLeft, EachWaitsWell}
+use Rattle.posix_model.specs.Turns.{Turn, new_turn, next_turn, total, took_in, data_in}
+use Rattle.posix_model.specs.PipeRecord.{TurnOn, opened_if, turn_with, parked_on, turn_on, is_on, data_given}
 use Rattle.posix_model.specs.declared.change.Source.TheVariants as source
 use Rattle.posix_model.specs.declared.change.FileEdit.TheVariants as on_files
 use Rattle.posix_model.specs.declared.change.ProcessEdit.TheVariants as on_process
 use Rattle.posix_model.specs.declared.change.TableEdit.TheVariants as on_table
 use Rattle.posix_model.specs.declared.change.Try.TheVariants.{Ends}
 use Rattle.posix_model.proofs.PageLaws.{page_has, on_open_has, if_has, unmet}
-use Rattle.posix_model.proofs.Owing.{Owes, ParkFits, EachOwes, parked_owes}
 use Rattle.posix_model.proofs.Moving.{IsStill, Tells, Fair, turn_of, if_at, fair_read, fair_write, fair_still, tells_none, tells_elsewhere, tells_refused, tells_first, tells_next}
+
+-- the turn of a new call, on the first descriptor that it names
+abbrev pub new_turn_on : World → ℕ → Call → TurnOn
+new_turn_on w p c = turn_with (opened_if w p (descriptor_of c)) (new_turn c)
+
+-- the turn of a call that a process waits in, on the descriptor that it waits on
+abbrev pub next_turn_on : World → ℕ → Parked → TurnOn
+next_turn_on w p parked = turn_with (opened w p (pos parked.fd)) (next_turn parked)
+
+-- the turn of a resume is that
+pub resumed_on : (w : World) (p : ℕ) (x : Option Parked) → option_map (next_turn_on w p) x ≡ option_map (turn_with (parked_on w p x)) (option_map next_turn x)
+resumed_on w p None = refl
+resumed_on w p (Some parked) = refl
+
+-- a call that waits has moved nothing if its data is small
+abbrev pub Owes : Call → ℕ → Type 0
+Owes c moved = length (data_given c) ≤ PIPE_BUF → moved ≡ 0
+
+pub owes_of : (c : Call) (moved : ℕ) → HasLeft c moved → Owes c moved
+owes_of (call.Write fd bytes) moved left = left.1
+owes_of other moved left = λ _. left
 
 -- whether a target is this pipe
 abbrev on_target : Target → ℕ → Bool
@@ -58,29 +80,28 @@ tells_open : (w : World) (bytes : List ℕ) (t : Turn) (x : Option OpenDescripto
 tells_open w bytes t None page all = tells_refused w bytes (λ q. false) t _
 tells_open w bytes t (Some o) page all = page_has (Tells w bytes (on_target o.description.target) t) (page o) (tells_refused w bytes (on_target o.description.target) t) (all o refl)
 
--- nothing is told, no byte moves, and what a process is made to wait in owes
+-- nothing is told, and no byte moves
 record IsQuiet (d : Decided) : Type 0 where
   told : data_in d.outcome ≡ []
   still : IsStill d.change.files
-  parks : (processes : List (Option Process)) → ParkFits processes d.change.process
 
 quiet_tells : (reply : Reply) → data_in (Replied reply) ≡ [] → IsQuiet (tells reply)
-quiet_tells reply told = record { told = told; still = tt; parks = λ processes. tt }
+quiet_tells reply told = record { told = told; still = tt }
 
 quiet_does : (reply : Reply) (files : FileEdit) (table : TableEdit) → data_in (Replied reply) ≡ [] → IsStill files → IsQuiet (does reply files table)
-quiet_does reply files table told still = record { told = told; still = still; parks = λ processes. tt }
+quiet_does reply files table told still = record { told = told; still = still }
 
 quiet_adds : (reply : Reply) (table : List (Option ℕ)) (attached : Bool) → data_in (Replied reply) ≡ [] → IsQuiet (acts reply (on_process.Add table attached))
-quiet_adds reply table attached told = record { told = told; still = tt; parks = λ processes. tt }
+quiet_adds reply table attached told = record { told = told; still = tt }
 
 quiet_attaches : (reply : Reply) (process : ℕ) → data_in (Replied reply) ≡ [] → IsQuiet (acts reply (on_process.Attach process))
-quiet_attaches reply process told = record { told = told; still = tt; parks = λ processes. tt }
+quiet_attaches reply process told = record { told = told; still = tt }
 
 quiet_exits : (reply : Reply) (process : ℕ) → data_in (Replied reply) ≡ [] → IsQuiet (acts reply (on_process.Exit process))
-quiet_exits reply process told = record { told = told; still = tt; parks = λ processes. tt }
+quiet_exits reply process told = record { told = told; still = tt }
 
 quiet_parks : (p : ℕ) (c : Call) (fd openings : ℕ) (d : Decided) → IsQuiet d → IsQuiet (parks p (waiting c fd 0 openings) d)
-quiet_parks p c fd openings d quiet = record { told = refl; still = quiet.still; parks = λ processes s. refl }
+quiet_parks p c fd openings d quiet = record { told = refl; still = quiet.still }
 
 quiet_if : (b : Bool) (d e : Decided) → IsQuiet d → IsQuiet e → IsQuiet (cond b d e)
 quiet_if b d e h k = if_has IsQuiet b d e (λ _. h) (λ _. k)
@@ -102,14 +123,14 @@ ruleset quiet_rules = (quiet_tells, quiet_does, quiet_adds, quiet_attaches, quie
 
 -- so it moves what it tells, which is nothing
 quiet_moves : (w : World) (bytes : List ℕ) (on : ℕ → Bool) (t : Turn) (d : Decided) → ((now : ℕ) → took_in now t ≡ 0) → IsQuiet d → Tells w bytes on t d
-quiet_moves w bytes on t d takes quiet = tells_none w bytes on t d (takes (total d.outcome)) quiet.told quiet.still (quiet.parks w.processes)
+quiet_moves w bytes on t d takes quiet = tells_none w bytes on t d (takes (total d.outcome)) quiet.told quiet.still
 
 -- a read of an end of a pipe
 read_end_tells : (w : World) (p : ℕ) (fd : ℤ) (count : ℕ) (o : OpenDescriptor) (pipe : ℕ) →
     Tells w [] (eqb pipe) (turn_of (call.Read fd count) 0) (read_end w p (call.Read fd count) count o pipe)
 read_end_tells w p fd count o pipe =
     let c = call.Read fd count in
-    if_at (Tells w [] (eqb pipe) (turn_of c 0)) (eqb count 0) _ _ (λ e. tells_none w [] (eqb pipe) (turn_of c 0) (tells (Data [])) refl refl tt tt)
+    if_at (Tells w [] (eqb pipe) (turn_of c 0)) (eqb count 0) _ _ (λ e. tells_none w [] (eqb pipe) (turn_of c 0) (tells (Data [])) refl refl tt)
     (λ e. tells_first w [] (eqb pipe) p c o (read_try w pipe count) (fair_read w [] pipe fd count 0))
 
 -- a read of what a target is
@@ -120,8 +141,8 @@ read_tells w p fd count o (target.Regular f) =
     let c = turn_of (call.Read fd count) 0 in
     let got = bytes_at (bytes_of w (file_at o)) o.description.offset count in
     if_at (Tells w [] on c) (eqb (length got) 0) (tells (Data got)) (does (Data got) on_files.Nothing (on_table.Offset o.number (o.description.offset + length got)))
-    (λ e. tells_elsewhere w [] on c (tells (Data got)) (λ q. refl) tt tt)
-    (λ e. tells_elsewhere w [] on c (does (Data got) on_files.Nothing (on_table.Offset o.number (o.description.offset + length got))) (λ q. refl) tt tt)
+    (λ e. tells_elsewhere w [] on c (tells (Data got)) (λ q. refl) tt)
+    (λ e. tells_elsewhere w [] on c (does (Data got) on_files.Nothing (on_table.Offset o.number (o.description.offset + length got))) (λ q. refl) tt)
 read_tells w p fd count o (target.Pipe pipe) = read_end_tells w p fd count o pipe
 read_tells w p fd count o (target.Fifo f pipe) = read_end_tells w p fd count o pipe
 
@@ -130,15 +151,15 @@ puts_tells : (w : World) (bytes new : List ℕ) (on : ℕ → Bool) (t : Turn) (
     Tells w bytes on t (puts new file start n e)
 puts_tells w bytes new on t file start n e off =
     if_at (Tells w bytes on t) (eqb (length new) 0) (tells (Number 0)) (does (Number n) (on_files.Bytes file start n) e)
-    (λ h. tells_elsewhere w bytes on t (tells (Number 0)) off tt tt)
-    (λ h. tells_elsewhere w bytes on t (does (Number n) (on_files.Bytes file start n) e) off tt tt)
+    (λ h. tells_elsewhere w bytes on t (tells (Number 0)) off tt)
+    (λ h. tells_elsewhere w bytes on t (does (Number n) (on_files.Bytes file start n) e) off tt)
 
 -- a write to an end of a pipe
 write_end_tells : (bounds : Bounds) (w : World) (p : ℕ) (fd : ℤ) (new : List ℕ) (o : OpenDescriptor) (pipe : ℕ) →
     Tells w new (eqb pipe) (turn_of (call.Write fd new) 0) (write_end bounds w p (call.Write fd new) new o pipe)
 write_end_tells bounds w p fd new o pipe =
     let c = call.Write fd new in
-    if_at (Tells w new (eqb pipe) (turn_of c 0)) (eqb (length new) 0) _ _ (λ e. tells_none w new (eqb pipe) (turn_of c 0) (tells (Number 0)) refl refl tt tt)
+    if_at (Tells w new (eqb pipe) (turn_of c 0)) (eqb (length new) 0) _ _ (λ e. tells_none w new (eqb pipe) (turn_of c 0) (tells (Number 0)) refl refl tt)
     (λ e. tells_first w new (eqb pipe) p c o (write_try bounds w pipe source.Act (length new) 0) (fair_write bounds w new pipe source.Act fd new 0 refl (λ s. refl)))
 
 -- a write to what a target is
@@ -170,7 +191,7 @@ call_tells bounds w p (call.Write fd new) =
     (λ o e free. write_tells bounds w p fd new (write_start o.description (length (bytes_of w (file_at o)))) o o.description.target)
 call_tells bounds w p (call.Pread fd start count) =
     tells_open w [] (turn_of (call.Pread fd start count) 0) (opened w p fd) (pread w start count)
-    (λ o e free. tells_elsewhere w [] (on_target o.description.target) _ (pread w start count o).effect (no_pipe o.description.target (unmet (pread w start count o).faults free (not (is_regular o)) (search rules))) tt tt)
+    (λ o e free. tells_elsewhere w [] (on_target o.description.target) _ (pread w start count o).effect (no_pipe o.description.target (unmet (pread w start count o).faults free (not (is_regular o)) (search rules))) tt)
 call_tells bounds w p (call.Pwrite fd start new) =
     tells_open w new (turn_of (call.Pwrite fd start new) 0) (opened w p fd) (pwrite bounds start new)
     (λ o e free. puts_tells w new new (on_target o.description.target) _ (file_at o) (bytes_before start) (fitting bounds (bytes_before start) new) on_table.Nothing
@@ -199,7 +220,7 @@ again_fair bounds w p o parked pipe (call.Write fd new) same is owes =
 again_fair bounds w p o parked pipe (call.Open name flags) same is owes =
     let t = turn_of (call.Open name flags) parked.moved in
     let d = Ends (Number o.fd) on_files.Nothing in
-    if_ready (Fair w [] (eqb pipe) t) (open_ready w o pipe parked.openings) d (fair_still w [] (eqb pipe) t d refl refl refl tt)
+    if_ready (Fair w [] (eqb pipe) t) (open_ready w o pipe parked.openings) d (fair_still w [] (eqb pipe) t d refl refl refl)
 again_fair bounds w p o parked pipe other same is owes = tt
 
 -- the next try of a call that waits on what a target is
@@ -229,7 +250,7 @@ try_tells w p parked on None d is fair h = cc
 try_tells w p parked on (Some t) d is fair h = let e : next_try p t ≡ d = cc in subst (Tells w [] on (turn_of parked.call parked.moved)) e (tells_next w [] on p parked t is fair)
 
 -- a resume
-resume_tells : (bounds : Bounds) (w : World) (p : ℕ) (d : Decided) → EachOwes w.processes → resume bounds w p ≡ Some d → TellsOn w [] (option_map (next_turn_on w p) (parked_of (slot w.processes p))) d
+resume_tells : (bounds : Bounds) (w : World) (p : ℕ) (d : Decided) → EachWaitsWell w → resume bounds w p ≡ Some d → TellsOn w [] (option_map (next_turn_on w p) (parked_of (slot w.processes p))) d
 resume_tells bounds w p d each h = at (parked_of (slot w.processes p)) (is_here (slot w.processes p)) refl h
   where
     at : (x : Option Parked) (here : Bool) → parked_of (slot w.processes p) ≡ x → option_map (next_try p) (cond here (try_parked bounds w p x) None) ≡ Some d → TellsOn w [] (option_map (next_turn_on w p) x) d
@@ -237,14 +258,14 @@ resume_tells bounds w p d each h = at (parked_of (slot w.processes p)) (is_here 
     at None true e k = cc
     at (Some parked) true e k =
         try_tells w p parked (λ q. is_on q (opened w p (pos parked.fd))) (try_opened bounds w p parked (opened w p (pos parked.fd))) d e
-        (next_fair bounds w p parked e (parked_owes w.processes p parked each e) (opened w p (pos parked.fd))) k
+        (next_fair bounds w p parked e (owes_of parked.call parked.moved (each p parked e).moved) (opened w p (pos parked.fd))) k
 
 -- an act about no call
 idle_moves : (w : World) (d : Decided) → IsQuiet d → TellsOn w [] None d
 idle_moves w d quiet = quiet_moves w [] (λ q. false) (turn_of call.Fork 0) d (λ now. refl) quiet
 
 -- one case for each act
-pub act_tells : (bounds : Bounds) (w : World) (actor : ℕ) (a : Act) (d : Decided) → EachOwes w.processes → comes_to bounds w actor a ≡ Some d → TellsOn w (given a) (turn_on w actor a) d
+pub act_tells : (bounds : Bounds) (w : World) (actor : ℕ) (a : Act) (d : Decided) → EachWaitsWell w → comes_to bounds w actor a ≡ Some d → TellsOn w (given a) (turn_on w actor a) d
 act_tells bounds w actor act.Join d each h = at (eqb actor (length w.processes)) h
   where
     at : (b : Bool) → cond b (Some (decided_by (join w))) None ≡ Some d → TellsOn w [] None d
@@ -257,7 +278,7 @@ act_tells bounds w actor (act.Call c) d each h = at (can_call (slot w.processes 
     at : (b : Bool) → cond b (Some (decided bounds w actor c)) None ≡ Some d → TellsOn w (given (act.Call c)) (turn_on w actor (act.Call c)) d
     at false k = cc
     at true k = let e : decided bounds w actor c ≡ d = cc in subst (TellsOn w (given (act.Call c)) (turn_on w actor (act.Call c))) e (call_tells bounds w actor c)
-act_tells bounds w actor act.Resume d each h = resume_tells bounds w actor d each h
+act_tells bounds w actor act.Resume d each h = subst (λ x. TellsOn w [] x d) (resumed_on w actor (parked_of (slot w.processes actor))) (resume_tells bounds w actor d each h)
 act_tells bounds w actor act.Exit d each h = at (is_some (slot w.processes actor)) h
   where
     at : (b : Bool) → cond b (Some (exit actor)) None ≡ Some d → TellsOn w [] None d
@@ -267,4 +288,4 @@ act_tells bounds w actor act.CloseRun d each h = at (eqb actor HOUSE && not w.cl
   where
     at : (b : Bool) → cond b (Some close_run) None ≡ Some d → TellsOn w [] None d
     at false k = cc
-    at true k = let e : close_run ≡ d = cc in subst (TellsOn w [] None) e (idle_moves w close_run (record { told = refl; still = tt; parks = λ processes. tt }))
+    at true k = let e : close_run ≡ d = cc in subst (TellsOn w [] None) e (idle_moves w close_run (record { told = refl; still = tt }))

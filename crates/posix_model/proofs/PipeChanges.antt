@@ -4,7 +4,7 @@ use Rattle.std.specs.Option.{option_map, is_some}
 use Rattle.slots.specs.Slots.{slot}
 use Rattle.posix_model.specs.Types.{World, Description, Mode, Target, File, Fifo}
 use Rattle.posix_model.specs.Counts.{is_pipe, is_file}
-use Rattle.posix_model.specs.Whole.{IsThere, EachThere, is_fifo, is_regular_file, TargetIsThere, PipeIsThere, IsItsFifo, PipesApart, IsWhole}
+use Rattle.posix_model.specs.Whole.{IsThere, EachThere, is_fifo, is_regular_file, TargetIsThere, PipeIsThere, IsItsFifo, IsOnItsPipe, PipesApart, IsWhole}
 use Rattle.posix_model.specs.Pipes.{fifo_at, pipe_of_fifo, pipe_between, with_pipe_for, opened_once, opened_file, with_opening, with_pipe}
 use Rattle.posix_model.specs.Change.{end_of, with_description, with_table}
 use Rattle.posix_model.specs.Fits.{CanOpenEnd}
@@ -13,7 +13,7 @@ use Rattle.call_types.specs.declared.description.Target.TheVariants as target
 use Rattle.call_types.specs.declared.description.Mode.TheVariants as mode
 use Rattle.posix_model.specs.declared.change.TableEdit.TheVariants as on_table
 use Rattle.posix_model.proofs.SlotLaws.{there_below, Adds, adds_same, adds_push, pushed_there, stays_as_is, each_set}
-use Rattle.posix_model.proofs.ChangeLaws.{Goes, goes_twice, FilesAdd, files_set, HasPipe, pipe_there, opened_goes}
+use Rattle.posix_model.proofs.ChangeLaws.{Goes, goes_twice, FilesAdd, files_set, HasPipe, pipe_there, pipe_in, PipesStay, on_stays, opened_goes}
 
 -- the pipe of a FIFO stays where pipes are added
 fifo_pipe_stays : (pipes more : List (Option (List ℕ))) → Adds pipes more → (x : File) → PipeIsThere pipes x → PipeIsThere more x
@@ -31,8 +31,8 @@ files_same files = record { adds = adds_same files; regular = λ n h. h; fifo = 
 
 -- files and pipes of a world are others, of which none went
 contents_go : (w : World) (files : List (Option File)) (pipes : List (Option (List ℕ))) → IsWhole w → FilesAdd w.files files → Adds w.pipes pipes → EachThere (PipeIsThere pipes) files →
-    EachThere (λ d. IsItsFifo files d.target) w.descriptions → PipesApart files → Goes w (record w { files = files; pipes = pipes })
-contents_go w files pipes whole more added fifos ends apart = record {
+    EachThere (λ d. IsItsFifo files d.target) w.descriptions → PipesApart files → PipesStay w.files files → Goes w (record w { files = files; pipes = pipes })
+contents_go w files pipes whole more added fifos ends apart stay = record {
   rises = record {
     files = more.adds.rises;
     pipes = added.rises;
@@ -48,6 +48,7 @@ contents_go w files pipes whole more added fifos ends apart = record {
     fifos = fifos;
     ends = ends;
     apart = apart;
+    pipes = λ n d h. on_stays w.files files stay d.target (whole.pipes n d h);
     processes = whole.processes;
     waits = whole.waits;
     tables = whole.tables;
@@ -57,7 +58,7 @@ contents_go w files pipes whole more added fifos ends apart = record {
 -- pipes are added, or hold other bytes
 pub pipes_go : (w : World) (pipes : List (Option (List ℕ))) → IsWhole w → Adds w.pipes pipes → Goes w (record w { pipes = pipes })
 pipes_go w pipes whole added =
-    let more = contents_go w w.files pipes whole (files_same w.files) added (λ n x h. fifo_pipe_stays w.pipes pipes added x (whole.fifos n x h)) whole.ends whole.apart in
+    let more = contents_go w w.files pipes whole (files_same w.files) added (λ n x h. fifo_pipe_stays w.pipes pipes added x (whole.fifos n x h)) whole.ends whole.apart (λ f p h. h) in
     record {
       rises = record { files = more.rises.files; pipes = more.rises.pipes; descriptions = more.rises.descriptions; processes = more.rises.processes; kinds = more.rises.kinds; targets = more.rises.targets; modes = more.rises.modes };
       whole = record {
@@ -66,6 +67,7 @@ pipes_go w pipes whole added =
         fifos = more.whole.fifos;
         ends = more.whole.ends;
         apart = more.whole.apart;
+        pipes = more.whole.pipes;
         processes = more.whole.processes;
         waits = more.whole.waits;
         tables = more.whole.tables;
@@ -93,8 +95,8 @@ pair_goes w process reading writing whole =
     let same : p ≡ q = eqb-true p q is in let below = below_next w g q whole (record { fifo = x; stands = h; its_pipe = k }) in absurd (omega (arith, same, below)) in
     let v = with_description u process reading (end_of p mode.Read) in
     let last = with_description v process writing (end_of p mode.Write) in
-    let second = opened_goes u process reading (end_of p mode.Read) first.whole there its in
-    let third = opened_goes v process writing (end_of p mode.Write) second.whole there its in
+    let second = opened_goes u process reading (end_of p mode.Read) first.whole there its tt in
+    let third = opened_goes v process writing (end_of p mode.Write) second.whole there its tt in
     goes_twice w u last first (goes_twice u v last second third)
 
 -- a file of which an end is opened is of its kind
@@ -131,11 +133,30 @@ opened_has (z ∷ xs) (suc f) q mode (suc g) p h = further (opened_has xs f q mo
     further (inl old) = inl (record { fifo = old.fifo; stands = old.stands; its_pipe = old.its_pipe })
     further (inr new) = inr (ap suc new.0, new.1)
 
+-- the other FIFOs keep their pipes, and so does it where it is opened on its own
+opened_stay : (xs : List (Option File)) (f q : ℕ) (mode : Mode) → ((p : ℕ) → pipe_in (slot xs f) ≡ Some p → q ≡ p) → PipesStay xs (set xs f (option_map (opened_file mode q) (slot xs f)))
+opened_stay [] f q mode same g p h = h
+opened_stay (None ∷ xs) zero q mode same zero p h = cc
+opened_stay (Some (file.Regular bytes) ∷ xs) zero q mode same zero p h = cc
+opened_stay (Some (file.Fifo x) ∷ xs) zero q mode same zero p h = opened_pipe mode q x ∙ ap Some (same p h)
+opened_stay (z ∷ xs) zero q mode same (suc g) p h = h
+opened_stay (z ∷ xs) (suc f) q mode same zero p h = h
+opened_stay (z ∷ xs) (suc f) q mode same (suc g) p h = opened_stay xs f q mode same g p h
+
+-- and it has that pipe then
+opened_on : (xs : List (Option File)) (f q : ℕ) (mode : Mode) → is_fifo (slot xs f) ≡ true → pipe_in (slot (set xs f (option_map (opened_file mode q) (slot xs f))) f) ≡ Some q
+opened_on [] f q mode h = cc
+opened_on (None ∷ xs) zero q mode h = cc
+opened_on (Some (file.Regular bytes) ∷ xs) zero q mode h = cc
+opened_on (Some (file.Fifo x) ∷ xs) zero q mode h = opened_pipe mode q x
+opened_on (z ∷ xs) (suc f) q mode h = opened_on xs f q mode h
+
 -- an end of a FIFO is opened on a pipe that is its own, or that neither a FIFO nor a description has
 record OpensOn (w : World) (f q : ℕ) (pipes : List (Option (List ℕ))) : Type 0 where
   added : Adds w.pipes pipes
   there : IsThere pipes q
   own : (g : ℕ) → HasPipe w.files g q → g ≡ f
+  same : (p : ℕ) → pipe_in (slot w.files f) ≡ Some p → q ≡ p
   ends : (n : ℕ) (d : Description) → slot w.descriptions n ≡ Some d → is_pipe q d.target ≡ true → is_file f d.target ≡ true
 
 -- the files after it
@@ -147,6 +168,7 @@ record Opening (w : World) (f q : ℕ) (mode : Mode) (pipes : List (Option (List
   goes : Goes w (record w { files = files_opened w f q mode; pipes = pipes })
   there : TargetIsThere (files_opened w f q mode) pipes (target.Fifo f q)
   its : IsItsFifo (files_opened w f q mode) (target.Fifo f q)
+  on : IsOnItsPipe (files_opened w f q mode) (target.Fifo f q)
 
 opening_on : (w : World) (f q : ℕ) (mode : Mode) (pipes : List (Option (List ℕ))) → IsWhole w → is_fifo (slot w.files f) ≡ true → OpensOn w f q pipes → Opening w f q mode pipes
 opening_on w f q mode pipes whole fifo on =
@@ -157,7 +179,9 @@ opening_on w f q mode pipes whole fifo on =
       goes = contents_go w (files_opened w f q mode) pipes whole more on.added
           (each_set (PipeIsThere pipes) w.files f new (λ n x h. fifo_pipe_stays w.pipes pipes on.added x (whole.fifos n x h)) (λ x h. opened_there old x h))
           (λ n d h g x p k i is. by_end n d h g p is (opened_has w.files f q mode g p (record { fifo = x; stands = k; its_pipe = i })))
-          (λ a b x y p h k i j. by_both a b p (opened_has w.files f q mode a p (record { fifo = x; stands = h; its_pipe = i })) (opened_has w.files f q mode b p (record { fifo = y; stands = k; its_pipe = j })));
+          (λ a b x y p h k i j. by_both a b p (opened_has w.files f q mode a p (record { fifo = x; stands = h; its_pipe = i })) (opened_has w.files f q mode b p (record { fifo = y; stands = k; its_pipe = j })))
+          (opened_stay w.files f q mode on.same);
+      on = opened_on w.files f q mode fifo;
       there = (more.fifo f fifo, on.there);
       its = λ g x p k i is. by_own g p (eqb-true q p is) (opened_has w.files f q mode g p (record { fifo = x; stands = k; its_pipe = i }));
     }
@@ -191,15 +215,17 @@ opens_own w f q whole has = record {
   added = adds_same w.pipes;
   there = pipe_there w.pipes w.files whole.fifos f q has;
   own = λ g other. whole.apart g f other.fifo has.fifo q other.stands has.stands other.its_pipe has.its_pipe;
+  same = λ p h. let is : Some q ≡ Some p = sym has.its_pipe ∙ (ap pipe_in (sym has.stands) ∙ h) in cc;
   ends = λ n d h is. whole.ends n d h f has.fifo q has.stands has.its_pipe is;
 }
 
 -- on the next one
-opens_next : (w : World) (f : ℕ) → IsWhole w → OpensOn w f (length w.pipes) (w.pipes ++ Some [] ∷ [])
-opens_next w f whole = record {
+opens_next : (w : World) (f : ℕ) → IsWhole w → pipe_in (slot w.files f) ≡ None → OpensOn w f (length w.pipes) (w.pipes ++ Some [] ∷ [])
+opens_next w f whole none = record {
   added = adds_push w.pipes (Some []);
   there = pushed_there w.pipes [];
   own = λ g other. let below = below_next w g (length w.pipes) whole other in absurd (omega (arith, below));
+  same = λ p h. let bad : ◌≡◌ {A = Option ℕ} None (Some p) = sym none ∙ h in cc;
   ends = λ n d h is. let below = target_below w.files w.pipes d.target (length w.pipes) (whole.descriptions n d h) is in absurd (omega (arith, below));
 }
 
@@ -211,7 +237,7 @@ opens_between w f (Some (file.Regular bytes)) e fifo whole = cc
 opens_between w f (Some (file.Fifo x)) e fifo whole = by_pipe x.pipe refl
   where
     by_pipe : (p : Option ℕ) → x.pipe ≡ p → OpensOn w f (pipe_between w (Some x)) (with_pipe_for x.pipe w.pipes)
-    by_pipe None h = rw h (opens_next w f whole)
+    by_pipe None h = rw h (opens_next w f whole (ap pipe_in e ∙ h))
     by_pipe (Some q) h = rw h (opens_own w f q whole (record { fifo = x; stands = e; its_pipe = h }))
 
 -- a new description of an end of a FIFO
@@ -223,4 +249,5 @@ end_goes w process fd f d whole can =
     let on = opening_on w f q d.mode pipes whole can.there (opens_between w f (slot w.files f) refl can.there whole) in
     let there = subst (TargetIsThere u.files u.pipes) (sym can.target_is) on.there in
     let its = subst (IsItsFifo u.files) (sym can.target_is) on.its in
-    goes_twice w u (with_description u process fd d) on.goes (opened_goes u process fd d on.goes.whole there its)
+    let on_it = subst (IsOnItsPipe u.files) (sym can.target_is) on.on in
+    goes_twice w u (with_description u process fd d) on.goes (opened_goes u process fd d on.goes.whole there its on_it)

@@ -43,8 +43,8 @@ pub record Adds {T : Type 0} (xs ys : List (Option T)) : Type 0 where
 pub adds_same : {T : Type 0} (xs : List (Option T)) → Adds xs xs
 adds_same xs = record { rises = record { longer = omega arith; gone = λ n below h. h }; there = λ n h. h }
 
--- a place is written, and its test stays as it was: so do all tests
-pub test_set : {T : Type 0} (p : Option T → Bool) (xs : List (Option T)) (m : ℕ) (y : Option T) (n : ℕ) → p y ≡ p (slot xs m) → p (slot (set xs m y) n) ≡ p (slot xs n)
+-- a place is written, and is as it was in this respect: so are all places
+pub test_set : {T K : Type 0} (p : Option T → K) (xs : List (Option T)) (m : ℕ) (y : Option T) (n : ℕ) → p y ≡ p (slot xs m) → p (slot (set xs m y) n) ≡ p (slot xs n)
 test_set p [] m y n e = refl
 test_set p (x ∷ xs) zero y zero e = e
 test_set p (x ∷ xs) zero y (suc n) e = refl

@@ -429,11 +429,11 @@ fits_emptied w p f flags free there =
       | true ↦ record {
         files = there;
         process = tt;
-        table = (record { free = free_stays w (with_bytes w f []) p (free_descriptor w p) refl free; there = test_set is_regular_file w.files f (Some (file.Regular [])) f (sym there) ∙ there }, λ g x q _ _ h. cc);
+        table = (record { free = free_stays w (with_bytes w f []) p (free_descriptor w p) refl free; there = test_set is_regular_file w.files f (Some (file.Regular [])) f (sym there) ∙ there }, λ g x q _ _ h. cc, tt);
         alone = λ h. cc;
         goes_alone = λ h. cc;
       }
-      | false ↦ record { files = tt; process = tt; table = (record { free = free; there = there }, λ g x q _ _ h. cc); alone = λ h. cc; goes_alone = λ h. cc }
+      | false ↦ record { files = tt; process = tt; table = (record { free = free; there = there }, λ g x q _ _ h. cc, tt); alone = λ h. cc; goes_alone = λ h. cc }
     ]
 
 -- what is there and no FIFO is a regular file
@@ -527,7 +527,7 @@ sound_open bounds w p name flags None is can = record {
   brief = λ _. omega arith;
   few = omega arith;
   proper = λ _. record { files = (is, can.name refl); process = tt; table = can.descriptions };
-  fits = λ _. record { files = tt; process = tt; table = (record { free = free_stays w (created w name (file.Regular [])) p (free_descriptor w p) refl can.free; there = regular_pushed w.files }, λ g x q _ _ h. cc); alone = λ h. cc; goes_alone = λ h. cc };
+  fits = λ _. record { files = tt; process = tt; table = (record { free = free_stays w (created w name (file.Regular [])) p (free_descriptor w p) refl can.free; there = regular_pushed w.files }, λ g x q _ _ h. cc, tt); alone = λ h. cc; goes_alone = λ h. cc };
   puts = tt;
   within_files = tt;
   within_table = λ _ _. omega arith;

@@ -137,7 +137,7 @@ sound_exit bounds w actor there = alone_sound bounds w actor act.Exit (on_proces
 sound_close_run : (bounds : Bounds) (w : World) (actor : ℕ) → Sound bounds w actor act.CloseRun close_run
 sound_close_run bounds w actor = alone_sound bounds w actor act.CloseRun on_process.Close (record { added = refl; planned = refl; ended = refl; closed = refl; there = λ p h. cc }) (omega arith) tt (λ _. tt)
 
-where_may : (Has : Decided → Type 0) (b : Bool) (x d : Decided) → (b ≡ true → Has x) → cond b (Some x) None ≡ Some d → Has d
+pub where_may : (Has : Decided → Type 0) (b : Bool) (x d : Decided) → (b ≡ true → Has x) → cond b (Some x) None ≡ Some d → Has d
 where_may Has true x d has h = let is : x ≡ d = cc in subst Has is (has refl)
 where_may Has false x d has h = cc
 

@@ -1,9 +1,8 @@
 -- What the tries of calls that may wait come to is sound.
 use Rattle.std.proofs.Common.{rules, ◌≡◌, ◌∙◌, ℕ, ℤ, pos, ◌+◌, ◌-◌, ◌≤◌, Bool, true, false, not, cond, List, [], Option, None, Some, length, take, length-drop, refl, ap, sym, subst, arith, leb, ltb, eqb}
-use Rattle.std.specs.Option.{option_map, is_some, unwrap_or}
+use Rattle.std.specs.Option.{option_map, is_some}
 use Rattle.std.proofs.lemmas.Grind.{common_steps}
 use Rattle.std.proofs.lemmas.Bool.Decides.{nat_tests}
-use Rattle.call_types.specs.CallTable.{payload_of}
 use Rattle.call_types.specs.declared.act.Act.TheVariants as act
 use Rattle.call_types.specs.declared.call.Call.TheVariants as call
 use Rattle.call_types.specs.declared.description.Target.TheVariants as target
@@ -23,6 +22,7 @@ use Rattle.posix_model.specs.Read.{read_faults, read_from}
 use Rattle.posix_model.specs.Write.{write_faults, write_to}
 use Rattle.posix_model.specs.Resume.{read_ready, write_ready, open_ready, try_again, try_on, try_opened, try_parked, resume}
 use Rattle.posix_model.specs.Step.{given}
+use Rattle.posix_model.specs.Given.{data_given}
 use Rattle.posix_model.specs.Turns.{Turn, next_turn, total, took_in, took, data_in}
 use Rattle.posix_model.specs.Sound.{added, adds, data_of, data_most, is_of_pipes, may_change_pipes, FilesWithin, Sound}
 use Rattle.posix_model.specs.declared.change.Source.TheVariants as source
@@ -50,7 +50,7 @@ asked_by other = 0
 
 -- the data that a turn is to take bytes from
 abbrev data_by : Turn → List ℕ
-data_by t = unwrap_or (payload_of t.call) []
+data_by t = data_given t.call
 
 -- an edit of no bytes but those of pipes, which takes no name away
 record IsPiped (bounds : Bounds) (w : World) (bytes : List ℕ) (e : FileEdit) : Type 0 where
@@ -72,7 +72,7 @@ nothing_piped : (bounds : Bounds) (w : World) (bytes : List ℕ) → IsPiped bou
 nothing_piped bounds w bytes = record { fits = λ _. tt; proper = tt; puts = tt; pipes = λ _. refl; stays = refl; within = tt }
 
 -- what holds of both tries holds of the one that is chosen
-try_has : (Has : Try → Type 0) (b : Bool) (x y : Try) → (b ≡ true → Has x) → (b ≡ false → Has y) → Has (cond b x y)
+pub try_has : (Has : Try → Type 0) (b : Bool) (x y : Try) → (b ≡ true → Has x) → (b ≡ false → Has y) → Has (cond b x y)
 try_has Has true x y h k = h refl
 try_has Has false x y h k = k refl
 
@@ -150,7 +150,7 @@ files_stay w bytes other = refl
 
 -- a first try that ends, or that tells what it moved where it would wait
 sound_does : (bounds : Bounds) (w : World) (p : ℕ) (c : Call) (reply : Reply) (e : FileEdit) → MayWait w p c → IsPiped bounds w (given (act.Call c)) e → ((error : Errno) → Replied reply ≡ Replied (Error error) → e ≡ on_files.Nothing) →
-    length (data_in (Replied reply)) ≤ asked_by c → took_in (total (Replied reply)) (record { call = c; moved = 0 }) ≤ length (unwrap_or (payload_of c) []) → Answers bounds w p c (does reply e on_table.Nothing)
+    length (data_in (Replied reply)) ≤ asked_by c → took_in (total (Replied reply)) (record { call = c; moved = 0 }) ≤ length (data_given c) → Answers bounds w p c (does reply e on_table.Nothing)
 sound_does bounds w p c reply e may piped refusal brief few = record {
   refusal = λ _ error h. ap (λ (x : FileEdit). (does reply x on_table.Nothing).change) (refusal error h);
   processes = as_before w (may.adds_none (Replied reply)) may.plans_none refl refl;
@@ -168,7 +168,7 @@ sound_does bounds w p c reply e may piped refusal brief few = record {
 
 -- a first try that waits
 sound_parks : (bounds : Bounds) (w : World) (p : ℕ) (c : Call) (fd moved openings : ℕ) (e : FileEdit) → IsThere w.processes p → MayWait w p c → IsPiped bounds w (given (act.Call c)) e →
-    took_in moved (record { call = c; moved = 0 }) ≤ length (unwrap_or (payload_of c) []) → Answers bounds w p c (parks p (waiting c fd moved openings) (does (Number moved) e on_table.Nothing))
+    took_in moved (record { call = c; moved = 0 }) ≤ length (data_given c) → Answers bounds w p c (parks p (waiting c fd moved openings) (does (Number moved) e on_table.Nothing))
 sound_parks bounds w p c fd moved openings e there may piped few = record {
   refusal = λ _ error h. cc;
   processes = record { added = sym (may.adds_none (ParkedAt moved)); planned = sym may.plans_none; ended = refl; closed = refl; there = λ q h. cc };
@@ -292,7 +292,7 @@ sound_next bounds w p parked x is try_is = by_try x try_is
     }
 
 -- a try, where there is one
-some_try : (Has : Try → Type 0) (b : Bool) (x y : Try) → Has x → cond b (Some x) None ≡ Some y → Has y
+pub some_try : (Has : Try → Type 0) (b : Bool) (x y : Try) → Has x → cond b (Some x) None ≡ Some y → Has y
 some_try Has true x y has h = let same : x ≡ y = cc in subst Has same has
 some_try Has false x y has h = cc
 

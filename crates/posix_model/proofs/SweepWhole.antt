@@ -8,14 +8,14 @@ use Rattle.slots.specs.Slots.{slot, kept}
 use Rattle.call_types.specs.Names.{Entries}
 use Rattle.posix_model.specs.Counts.{links, refs, refs_of, refers, holders, holds, readers, reads, writers, writes, is_file, is_pipe}
 use Rattle.posix_model.specs.Sweep.{is_referred, is_open, is_wanted, open_pipe, without_gone_pipe, sweep}
-use Rattle.posix_model.specs.Whole.{is_fifo, is_regular_file, TargetIsThere, PipeIsThere, IsWhole}
+use Rattle.posix_model.specs.Whole.{is_fifo, is_regular_file, TargetIsThere, PipeIsThere, IsOnItsPipe, IsWhole}
 use Rattle.posix_model.specs.Numbers.{StaysSame, Rises, NumbersRise}
 use Rattle.posix_model.specs.Types.{World, Process, Description, Target, Mode, File, Fifo}
 use Rattle.posix_model.specs.declared.world.File.TheVariants as file
 use Rattle.call_types.specs.declared.description.Mode.TheVariants as mode
 use Rattle.call_types.specs.declared.description.Target.TheVariants as target
 use Rattle.posix_model.proofs.SlotLaws.{kept_as_is, stays_thinned, there_below, stands_there, not_there, kept_stood, length_kept, counted}
-use Rattle.posix_model.proofs.ChangeLaws.{Goes, HasPipe, its_from, apart_from}
+use Rattle.posix_model.proofs.ChangeLaws.{Goes, HasPipe, its_from, apart_from, pipe_in}
 use Rattle.posix_model.proofs.SweepLaws.{length_mapped, slot_mapped, sweep_leaves_there}
 
 rises_thinned : {T : Type 0} (xs ys : List (Option T)) (keeps : ℕ → Bool) → length ys ≡ length xs →
@@ -125,6 +125,24 @@ target_kept w n d (target.Fifo f pipe) h e there =
       stays (is_some (slot (sweep w).pipes pipe)) (is_some (slot w.pipes pipe)) (is_open ds pipe) ((sweep_leaves_there w).pipes pipe) there.1 (end_counted ds n d pipe h pipe_is),
     )
 
+-- a swept FIFO keeps a pipe of which an end is open
+fifo_keeps : (ds : List (Option Description)) (x : Option File) (p : ℕ) → is_open ds p ≡ true → pipe_in x ≡ Some p → pipe_in (without_gone_pipe ds x) ≡ Some p
+fifo_keeps ds None p open_is h = h
+fifo_keeps ds (Some (file.Regular bytes)) p open_is h = h
+fifo_keeps ds (Some (file.Fifo fifo)) p open_is h = ap (open_pipe ds) h ∙ ap (λ b. cond b (Some p) None) open_is
+
+-- so each end that is left is on its pipe
+on_kept : (w : World) (n : ℕ) (d : Description) (t : Target) → slot (sweep w).descriptions n ≡ Some d → d.target ≡ t → IsOnItsPipe w.files t → IsOnItsPipe (sweep w).files t
+on_kept w n d (target.Regular f) h e on = tt
+on_kept w n d (target.Pipe pipe) h e on = tt
+on_kept w n d (target.Fifo f pipe) h e on =
+    let ds = (sweep w).descriptions in
+    let first : 0 + f ≡ f = omega arith in
+    let wanted = held_wanted w.names ds n d f h (ap (is_file f) e ∙ same_number f) in
+    ap pipe_in (kept_as_is (is_wanted w.names ds) 0 (map (without_gone_pipe ds) w.files) f (ap (is_wanted w.names ds) first ∙ wanted)) ∙
+    (ap pipe_in (slot_mapped (without_gone_pipe ds) refl w.files f) ∙
+    fifo_keeps ds (slot w.files f) pipe (end_counted ds n d pipe h (ap (is_pipe pipe) e ∙ same_number pipe)) on)
+
 -- the pipe that a swept FIFO has is open
 open_stays : (ds : List (Option Description)) (old : Option ℕ) (pipe : ℕ) → open_pipe ds old ≡ Some pipe → (is_open ds pipe ≡ true) × (old ≡ Some pipe)
 open_stays ds None pipe h = cc
@@ -145,7 +163,7 @@ fifo_kept w (Some (file.Fifo fifo)) x h all =
     stays (is_some (slot (sweep w).pipes pipe)) (is_some (slot w.pipes pipe)) (is_open ds pipe) ((sweep_leaves_there w).pipes pipe) (all (file.Fifo fifo) refl pipe was.1) was.0)
 
 -- a descriptor is counted among all of them
-descriptor_counted : (ps : List (Option Process)) (p : ℕ) (process : Process) (fd n : ℕ) → slot ps p ≡ Some process → slot process.table fd ≡ Some n → is_referred ps n ≡ true
+pub descriptor_counted : (ps : List (Option Process)) (p : ℕ) (process : Process) (fd n : ℕ) → slot ps p ≡ Some process → slot process.table fd ≡ Some n → is_referred ps n ≡ true
 descriptor_counted ps p process fd n h k =
     let mine : 0 < count_by (refers n) process.table = counted (refers n) process.table fd None (there_below process.table fd (stands_there process.table fd n k)) (ap (refers n) k ∙ same_number n) in
     let least = rw h at (get_or-le-sum_by (refs_of n) ps p None (there_below ps p (stands_there ps p process h))) in
@@ -180,6 +198,7 @@ sweep_whole w whole =
           stays (is_some (slot ds n)) (is_some (slot w.descriptions n)) (is_referred w.processes n) ((sweep_leaves_there w).descriptions n) (whole.processes p process h fd n k) (descriptor_counted w.processes p process fd n h k);
       ends = λ n d h. its_from w.files (sweep w).files d.target (had_pipe w) (whole.ends n d (kept_stood (is_referred w.processes) 0 w.descriptions n d h));
       apart = apart_from w.files (sweep w).files (had_pipe w) whole.apart;
+      pipes = λ n d h. on_kept w n d d.target h refl (whole.pipes n d (kept_stood (is_referred w.processes) 0 w.descriptions n d h));
       waits = whole.waits;
       tables = whole.tables;
     }

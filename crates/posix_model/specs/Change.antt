@@ -1,6 +1,6 @@
 -- What an act changes in a world, as data: one edit at most of files and pipes, of processes, and of descriptors and
 -- open file descriptions.
-use Rattle.std.specs.Prelude.{ℕ, true, false, List, [], ◌∷◌, ◌++◌, Option, None, Some, length, take, drop, slice_set, unwrap_or}
+use Rattle.std.specs.Prelude.{ℕ, true, false, List, [], ◌∷◌, ◌++◌, Option, None, Some, length, take, drop, slice_set}
 use Rattle.posix_model.specs.Bytes.{splice, resized}
 use Rattle.call_types.specs.Names.{with_name, without_name}
 use Rattle.slots.specs.Slots.{slot, edited}
@@ -8,7 +8,7 @@ use Rattle.process_table.specs.Processes.{process_with, with_connection, parked_
 use Rattle.posix_model.specs.Descriptors.{with_descriptor, with_offset, bytes_of}
 use Rattle.posix_model.specs.Pipes.{unopened, with_pipe, with_opening}
 use Rattle.posix_model.specs.Types.{World, File, Description, Mode, Parked, Source, FileEdit, ProcessEdit, TableEdit, Change}
-use Rattle.call_types.specs.CallTable.{payload_of}
+use Rattle.posix_model.specs.Given.{data_given}
 use Rattle.posix_model.specs.declared.world.File.TheVariants as file
 use Rattle.call_types.specs.declared.description.Mode.TheVariants as mode
 use Rattle.call_types.specs.declared.description.Target.TheVariants as target
@@ -28,7 +28,7 @@ created w name new = record w { files = w.files ++ Some new ∷ []; names = with
 -- the data of a call that waits, after the bytes that it moved
 abbrev pub rest_of : Option Parked → List ℕ
 rest_of None = []
-rest_of (Some parked) = drop parked.moved (unwrap_or (payload_of parked.call) [])
+rest_of (Some parked) = drop parked.moved (data_given parked.call)
 
 -- the bytes that go into a pipe, where the act gives these
 abbrev pub bytes_from : World → List ℕ → Source → List ℕ

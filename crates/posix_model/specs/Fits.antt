@@ -2,7 +2,7 @@
 use Rattle.std.specs.Prelude.{◌≡◌, ◌≢◌, ℕ, ◌+◌, ◌-◌, ◌≤◌, ◌<◌, Bool, true, false, List, Option, None, Some, length, is_some}
 use Rattle.slots.specs.Slots.{slot, live}
 use Rattle.call_types.specs.Names.{file_of}
-use Rattle.posix_model.specs.Whole.{IsThere, EachThere, is_regular_file, is_fifo, TargetIsThere, IsItsFifo}
+use Rattle.posix_model.specs.Whole.{IsThere, EachThere, is_regular_file, is_fifo, TargetIsThere, IsItsFifo, IsOnItsPipe}
 use Rattle.process_table.specs.Waits.{AsksFew}
 use Rattle.posix_model.specs.Descriptors.{held_in}
 use Rattle.posix_model.specs.Pipes.{fifo_at, pipe_between}
@@ -79,7 +79,7 @@ ProcessFits w on_process.Close = Unit {0}
 abbrev pub TableFits : World → TableEdit → Type 0
 TableFits w on_table.Nothing = Unit {0}
 TableFits w (on_table.Offset number offset) = IsThere w.descriptions number
-TableFits w (on_table.Open process fd description) = CanOpen w process fd description × IsItsFifo w.files description.target
+TableFits w (on_table.Open process fd description) = CanOpen w process fd description × IsItsFifo w.files description.target × IsOnItsPipe w.files description.target
 TableFits w (on_table.OpenPair process reading writing) = CanOpenPair w process reading writing
 TableFits w (on_table.OpenEnd process fd file description) = CanOpenEnd w process fd file description
 TableFits w (on_table.Entry process fd entry) = CanSet w process fd entry

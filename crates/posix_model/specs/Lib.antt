@@ -7,6 +7,7 @@ pub mod Numbers
 pub mod Descriptors
 pub mod Positions
 pub mod Pipes
+pub mod Given
 pub mod Change
 pub mod Pages
 pub mod Tries
@@ -41,3 +42,4 @@ pub mod Drops
 pub mod Laws
 pub mod PipeRecord
 pub mod WaitLaws
+pub mod Waiting

@@ -1,8 +1,8 @@
 -- What a history puts into a pipe, and what it gets from it; and the law of the bytes.
-use Rattle.std.specs.Prelude.{◌≡◌, ℕ, pos, ℤ, ◌<◌, ◌≤◌, Bool, true, false, List, [], ◌∷◌, ◌++◌, Option, None, Some, length, take, drop, is_some, unwrap_or, if◌then◌else◌}
+use Rattle.std.specs.Prelude.{◌≡◌, ℕ, pos, ℤ, ◌<◌, ◌≤◌, Bool, true, false, List, [], ◌∷◌, ◌++◌, Option, None, Some, length, take, drop, is_some, if◌then◌else◌}
 use Rattle.std.specs.Option.{option_map, option_map_or}
-use Rattle.call_types.specs.CallTable.{descriptor_of, payload_of}
-use Rattle.posix_model.specs.Types.{Call, Act, Record, Outcome, Bounds, World, Parked, OpenDescriptor, PIPE_BUF}
+use Rattle.call_types.specs.CallTable.{descriptor_of}
+use Rattle.posix_model.specs.Types.{Act, Record, Outcome, Bounds, World, Parked, OpenDescriptor, PIPE_BUF}
 use Rattle.call_types.specs.declared.act.Act.TheVariants as act
 use Rattle.slots.specs.Slots.{slot}
 use Rattle.process_table.specs.Processes.{parked_of}
@@ -10,40 +10,42 @@ use Rattle.posix_model.specs.Counts.{is_pipe}
 use Rattle.posix_model.specs.Descriptors.{opened}
 use Rattle.posix_model.specs.Pipes.{held_bytes}
 use Rattle.posix_model.specs.History.{empty_world, after, world_of, legal}
-use Rattle.posix_model.specs.Turns.{Turn, new_turn, next_turn, total, took_in, took, data_in}
+pub use Rattle.posix_model.specs.Given.{data_given}
+use Rattle.posix_model.specs.Turns.{Turn, turn, total, took_in, took, data_in}
 
 -- what a descriptor leads to, if there is one and it is open
 abbrev pub opened_if : World → ℕ → Option ℤ → Option OpenDescriptor
 opened_if w process None = None
 opened_if w process (Some fd) = opened w process fd
 
--- the turn of an act, with what the descriptor of its call leads to (own)
+-- a turn, with what the descriptor of its call leads to (own)
 pub record TurnOn : Type 0 where
   pub turn : Turn
   pub on : Option OpenDescriptor
 
--- of a new call: the first descriptor that it names
-abbrev pub new_turn_on : World → ℕ → Call → TurnOn
-new_turn_on w process c = record { turn = new_turn c; on = opened_if w process (descriptor_of c) }
+-- a turn, on this
+abbrev pub turn_with : Option OpenDescriptor → Turn → TurnOn
+turn_with on turn = record { turn = turn; on = on }
 
--- of a call that a process waits in: the descriptor that it waits on
-abbrev pub next_turn_on : World → ℕ → Parked → TurnOn
-next_turn_on w process parked = record { turn = next_turn parked; on = opened w process (pos parked.fd) }
+-- what the descriptor that a process waits on leads to
+abbrev pub parked_on : World → ℕ → Option Parked → Option OpenDescriptor
+parked_on w process None = None
+parked_on w process (Some parked) = opened w process (pos parked.fd)
 
--- of an act; one that is about no call has none
+-- what the descriptor of an act's call leads to: the first that a new call names, or the one that the process waits on
+abbrev pub act_on : World → ℕ → Act → Option OpenDescriptor
+act_on w actor (act.Call c) = opened_if w actor (descriptor_of c)
+act_on w actor act.Resume = parked_on w actor (parked_of (slot w.processes actor))
+act_on w actor other = None
+
+-- the turn of an act, on what its descriptor leads to; an act that is about no call has none
 abbrev pub turn_on : World → ℕ → Act → Option TurnOn
-turn_on w actor (act.Call c) = Some (new_turn_on w actor c)
-turn_on w actor act.Resume = option_map (next_turn_on w actor) (parked_of (slot w.processes actor))
-turn_on w actor other = None
+turn_on w actor act = option_map (turn_with (act_on w actor act)) (turn w actor act)
 
 -- whether a descriptor is on this pipe
 abbrev pub is_on : ℕ → Option OpenDescriptor → Bool
 is_on pipe None = false
 is_on pipe (Some o) = is_pipe pipe o.description.target
-
--- the data of a call; none where it gives none
-abbrev pub data_given : Call → List ℕ
-data_given c = unwrap_or (payload_of c) []
 
 -- the bytes that a turn with this outcome takes: of its call's data, after what it moved before
 abbrev pub taken_in : Outcome → Turn → List ℕ

@@ -1,5 +1,5 @@
 -- What holds of all that acts come to: one record, which is proved by one lemma for each call.
-use Rattle.std.specs.Prelude.{◌≡◌, ℕ, ◌+◌, ◌≤◌, Bool, true, false, List, [], Option, None, Some, length, is_some, is_none, ◌&&◌, if◌then◌else◌, unwrap_or}
+use Rattle.std.specs.Prelude.{◌≡◌, ℕ, ◌+◌, ◌≤◌, Bool, true, false, List, [], Option, None, Some, length, is_some, is_none, ◌&&◌, if◌then◌else◌}
 use Rattle.std.specs.Option.{option_map_or}
 use Rattle.call_types.specs.CallTable.{descriptor_of, payload_of}
 use Rattle.posix_model.specs.Types.{Call, Act, Outcome, Errno, Bounds, World, FileEdit, ProcessEdit, TableEdit, Change, Decided, OPEN_MAX, NAMES_MAX, DESCRIPTIONS_MAX, PROCESSES_MAX, OFFSET_MAX, TRANSFER_MAX, Replied, Error, Number}
@@ -11,6 +11,7 @@ use Rattle.posix_model.specs.Descriptors.{number_of, bytes_of, held_in}
 use Rattle.posix_model.specs.Pages.{no_change}
 use Rattle.posix_model.specs.Join.{is_full}
 use Rattle.posix_model.specs.Fits.{Fits, IsProper, PutsWithin}
+use Rattle.posix_model.specs.Given.{data_given}
 use Rattle.posix_model.specs.Step.{given, decided, comes_to}
 use Rattle.posix_model.specs.Turns.{turn, took, data_in}
 use Rattle.posix_model.specs.declared.change.FileEdit.TheVariants as on_files
@@ -48,7 +49,7 @@ abbrev pub closes : Act → Bool
 closes act.CloseRun = true
 closes other = false
 
--- whether an act takes up a call that waits, which may have moved bytes before (own)
+-- whether an act takes up a call that waits; its refusal ends that call (own)
 abbrev pub is_resume : Act → Bool
 is_resume act.Resume = true
 is_resume other = false
@@ -61,7 +62,7 @@ data_most other = 0
 
 -- the data that an act is to take bytes from: that of its own call, or of the one that its process waits in
 abbrev pub data_of : World → ℕ → Act → List ℕ
-data_of w actor act = option_map_or (λ t. unwrap_or (payload_of t.call) []) (turn w actor act) []
+data_of w actor act = option_map_or (λ t. data_given t.call) (turn w actor act) []
 
 -- how many processes an act is to add, before its outcome is known
 abbrev pub adds : World → Act → ℕ
@@ -158,9 +159,10 @@ TableWithin (on_table.Open process fd description) = description.offset ≤ OFFS
 TableWithin (on_table.OpenEnd process fd file description) = description.offset ≤ OFFSET_MAX
 TableWithin other = Unit {0}
 
--- what an act comes to: a refusal changes nothing, but for that of a resume; it adds and ends as many processes as it tells; it moves no offset but that of its
--- own descriptor; it changes no file, name or pipe where it may not; it takes no more bytes than its call gives, and is told no more
--- than it may be; it puts no more into a pipe than it has room for; and its change can be made, within all limits. The limit of sizes is at most the greatest offset
+-- what an act comes to: a refusal changes nothing, but for that of a resume, which ends the call that waited; it adds and ends as many
+-- processes as it tells; it moves no offset but that of its own descriptor; it changes no file, name or pipe where it may not; it takes no
+-- more bytes than its call gives, and is told no more than it may be; it puts no more into a pipe than it has room for; and its change can
+-- be made, within all limits. The limit of sizes is at most the greatest offset
 pub record Sound (bounds : Bounds) (w : World) (actor : ℕ) (act : Act) (d : Decided) : Type 0 where
   pub refusal : is_resume act ≡ false → (error : Errno) → d.outcome ≡ Replied (Error error) → d.change ≡ no_change
   pub processes : IsTold w act d.outcome d.change.process

@@ -1,7 +1,7 @@
 -- One step of the model: an act of an actor in a world.
-use Rattle.std.specs.Prelude.{ℕ, List, [], Bool, false, ◌&&◌, ◌==◌, Option, None, Some, length, is_some, not, unwrap_or, if◌then◌else◌}
+use Rattle.std.specs.Prelude.{ℕ, List, [], Bool, false, ◌&&◌, ◌==◌, Option, None, Some, length, is_some, not, if◌then◌else◌}
 use Rattle.std.specs.Option.{option_map}
-use Rattle.call_types.specs.CallTable.{payload_of}
+use Rattle.posix_model.specs.Given.{data_given}
 use Rattle.call_types.specs.declared.act.TheConstants.{HOUSE}
 use Rattle.posix_model.specs.Types.{Call, Act, Outcome, Bounds, World, Process, Decided}
 use Rattle.call_types.specs.declared.call.Call.TheVariants as call
@@ -74,7 +74,7 @@ comes_to bounds w actor act.CloseRun = if actor == HOUSE && not w.closed then So
 
 -- the bytes that an act gives: the data of a call that writes
 abbrev pub given : Act → List ℕ
-given (act.Call c) = unwrap_or (payload_of c) []
+given (act.Call c) = data_given c
 given other = []
 
 -- the world after a step, and what is recorded of it

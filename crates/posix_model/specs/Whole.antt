@@ -4,6 +4,7 @@ use Rattle.slots.specs.Slots.{slot}
 use Rattle.posix_model.specs.Types.{World, Process, Parked, Target, File, Fifo, OPEN_MAX}
 use Rattle.process_table.specs.Waits.{AsksFew}
 use Rattle.posix_model.specs.Counts.{is_pipe, is_file}
+use Rattle.posix_model.specs.Pipes.{fifo_at, pipe_of_fifo}
 use Rattle.call_types.specs.declared.description.Target.TheVariants as target
 use Rattle.posix_model.specs.declared.world.File.TheVariants as file
 
@@ -42,6 +43,12 @@ PipeIsThere pipes (file.Fifo fifo) = (pipe : ℕ) → fifo.pipe ≡ Some pipe �
 abbrev pub IsItsFifo : List (Option File) → Target → Type 0
 IsItsFifo files t = (g : ℕ) (x : Fifo) (p : ℕ) → slot files g ≡ Some (file.Fifo x) → x.pipe ≡ Some p → is_pipe p t ≡ true → is_file g t ≡ true
 
+-- an end of a FIFO is on the pipe that the FIFO has (own)
+abbrev pub IsOnItsPipe : List (Option File) → Target → Type 0
+IsOnItsPipe files (target.Regular file) = Unit {0}
+IsOnItsPipe files (target.Pipe pipe) = Unit {0}
+IsOnItsPipe files (target.Fifo file pipe) = pipe_of_fifo (fifo_at (slot files file)) ≡ Some pipe
+
 -- no two FIFOs have the same pipe (own)
 abbrev pub PipesApart : List (Option File) → Type 0
 PipesApart files = (f g : ℕ) (x y : Fifo) (p : ℕ) → slot files f ≡ Some (file.Fifo x) → slot files g ≡ Some (file.Fifo y) → x.pipe ≡ Some p → y.pipe ≡ Some p → f ≡ g
@@ -50,8 +57,8 @@ PipesApart files = (f g : ℕ) (x y : Fifo) (p : ℕ) → slot files f ≡ Some 
 abbrev pub WaitsForFew : Process → Type 0
 WaitsForFew process = (parked : Parked) → process.parked ≡ Some parked → AsksFew parked.call
 
--- nothing refers to what is gone: no name, no description, no FIFO and no descriptor; no two FIFOs have the same pipe, and an end of a
--- FIFO's pipe is one of that FIFO;
+-- nothing refers to what is gone: no name, no description, no FIFO and no descriptor; no two FIFOs have the same pipe, an end of a
+-- FIFO's pipe is one of that FIFO, and each end of a FIFO is on its pipe;
 -- each process has so many descriptors, and asks for no more bytes than one transfer has in the call that it waits in (own)
 pub record IsWhole (w : World) : Type 0 where
   pub names : All (λ entry. IsThere w.files entry.1) w.names
@@ -60,5 +67,6 @@ pub record IsWhole (w : World) : Type 0 where
   pub processes : EachThere (λ process. EachThere (IsThere w.descriptions) process.table) w.processes
   pub ends : EachThere (λ description. IsItsFifo w.files description.target) w.descriptions
   pub apart : PipesApart w.files
+  pub pipes : EachThere (λ description. IsOnItsPipe w.files description.target) w.descriptions
   pub waits : EachThere WaitsForFew w.processes
   pub tables : EachThere (λ process. length process.table ≡ OPEN_MAX) w.processes

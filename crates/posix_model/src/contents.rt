@@ -1,6 +1,8 @@
-ghost use Rattle.std.specs.Prelude.{◌≡◌, ◌+◌, ◌≤◌, ◌<◌, ◌^◌, [], List, ℕ, length, vec_len, vec_capacity, OnOk, OnErr};
+ghost use Rattle.std.specs.Prelude.{◌≡◌, ◌+◌, ◌≤◌, ◌<◌, ◌^◌, [], List, ℕ, length, replicate, vec_len, vec_capacity, OnOk, OnErr};
+ghost use Rattle.call_types.specs.Stored.{part_bytes};
 ghost use Rattle.posix_model.specs.Bytes.{padded_to, overwritten, splice, bytes_at, resized};
 
+use call_types::part::Part;
 use std::alloc::{AllocError, Global};
 use std::marker::Model;
 
@@ -24,8 +26,30 @@ pub fn pad(bytes: &mut Vec<u8>, len: usize)
     }
 }
 
-/// Writes new bytes from `start` on, over what is there and after it.
-pub fn overwrite(bytes: &mut Vec<u8>, start: usize, new: &[u8])
+/// Makes each byte of a part the same.
+fn fill(part: &mut [u8], byte: u8)
+    ensures { part.new ≡ replicate (length part.old) byte }
+{
+    part.fill(byte);
+}
+
+/// Writes one byte so many times from `start` on, over what is there and after it.
+fn overwrite_same(bytes: &mut Vec<u8>, start: usize, byte: u8, count: usize)
+    requires within { start ≤ vec_len bytes.old }
+    requires room { start + count ≤ vec_capacity bytes.old }
+    ensures items { bytes.new.items ≡ overwritten bytes.old.items start (replicate count byte) }
+    ensures capacity { vec_capacity bytes.old ≤ vec_capacity bytes.new }
+{
+    if count <= bytes.len() - start {
+        fill(&mut bytes[start..start + count], byte);
+    } else {
+        bytes.truncate(start);
+        bytes.resize(start + count, byte).unwrap();
+    }
+}
+
+/// Writes a slice of new bytes from `start` on, over what is there and after it.
+fn overwrite_slice(bytes: &mut Vec<u8>, start: usize, new: &[u8])
     requires within { start ≤ vec_len bytes.old }
     requires room { start + length new.now ≤ vec_capacity bytes.old }
     ensures items { bytes.new.items ≡ overwritten bytes.old.items start new.now }
@@ -35,7 +59,22 @@ pub fn overwrite(bytes: &mut Vec<u8>, start: usize, new: &[u8])
     let (over, behind) = new.split_at(here);
     let part = &mut bytes[start..start + here];
     part.copy_from_slice(over);
-    bytes.extend_from_slice(behind).unwrap();
+    if !behind.is_empty() {
+        bytes.extend_from_slice(behind).unwrap();
+    }
+}
+
+/// Writes new bytes from `start` on, over what is there and after it.
+pub fn overwrite(bytes: &mut Vec<u8>, start: usize, new: Part<'_>)
+    requires within { start ≤ vec_len bytes.old }
+    requires room { start + length (part_bytes new) ≤ vec_capacity bytes.old }
+    ensures items { bytes.new.items ≡ overwritten bytes.old.items start (part_bytes new.entry) }
+    ensures capacity { vec_capacity bytes.old ≤ vec_capacity bytes.new }
+{
+    match new {
+        Part::Slice(new) => overwrite_slice(bytes, start, new),
+        Part::Same { byte, count } => overwrite_same(bytes, start, byte, count),
+    }
 }
 
 /// The bytes of a regular file. Contracts see their list.
@@ -75,9 +114,9 @@ impl Contents {
     }
 
     /// Writes `new` from `start` on; a gap before it is filled with zeros.
-    pub fn write_at(&mut self, start: usize, new: &[u8]) -> Result<(), AllocError>
-        requires { start + length new.now < 2 ^ 63 }
-        ensures ok { OnOk result (self.new ≡ splice self.old start new.now) }
+    pub fn write_at(&mut self, start: usize, new: Part<'_>) -> Result<(), AllocError>
+        requires { start + length (part_bytes new) < 2 ^ 63 }
+        ensures ok { OnOk result (self.new ≡ splice self.old start (part_bytes new.entry)) }
         ensures err { OnErr result (self.new ≡ self.old) }
     {
         let end = start + new.len();

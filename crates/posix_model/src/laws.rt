@@ -6,8 +6,9 @@ ghost use Rattle.posix_model.specs.Released.{SweptIsSettled, SettledStays, Sweep
 ghost use Rattle.posix_model.specs.Drops.{ExitCloses, ClosedIsBare, CloseThenSet};
 ghost use Rattle.posix_model.specs.Laws.{StepRaisesNumbers, StepKeepsWhole, HistoryIsWhole, HistoryRaisesNumbers, SweepSettles, StepSettles, HistorySettles, SweepLeaves, StepTellsProcesses, StepPlansProcesses};
 
-/// What each act comes to can be made, within all limits; a refusal changes nothing, and no act moves an offset but that
-/// of its own descriptor, changes a file, a name or a pipe where it may not, or takes more bytes than it gives.
+/// What each act comes to can be made, within all limits; a refusal changes nothing (that of a resume ends its call:
+/// `resume_breaks_alone`), and no act moves an offset but that of its own descriptor, changes a file, a name or a pipe
+/// where it may not, or takes more bytes than it gives.
 pub fn acts_are_sound()
     ensures { ActsAreSound }
 {}

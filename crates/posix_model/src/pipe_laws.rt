@@ -1,7 +1,8 @@
 //! Laws of pipes and of calls that wait. None of these functions does anything; each contract is its law.
 
 ghost use Rattle.posix_model.specs.PipeRecord.{BytesOfPipe, SmallWritesUnbroken};
-ghost use Rattle.posix_model.specs.WaitLaws.{NonblockNeverWaits, ReadyReads, ReadyWrites};
+ghost use Rattle.posix_model.specs.Waiting.{HistoryWaits, ReadyOpenEnds, StepKeepsWaits, WaitingReadIsReady, WaitingWriteIsReady};
+ghost use Rattle.posix_model.specs.WaitLaws.{BrokenNextUnparks, BrokenStepUnparks, NonblockNeverWaits, ReadyReads, ReadyWrites, ResumeBreaksAlone};
 
 /// What was put into a pipe that is there is what was got from it, followed by what it holds; and the data of a write of at
 /// most PIPE_BUF bytes stands there unbroken.
@@ -10,9 +11,28 @@ pub fn bytes_of_pipe()
     ensures small { SmallWritesUnbroken }
 {}
 
-/// A read or a write that waits is ready exactly where its next try ends or moves more; and no call under nonblock waits.
+/// A read or a write that waits is ready exactly where its next try ends or moves more, an open that is taken up ends with its
+/// descriptor, and no call under nonblock waits.
 pub fn ready_moves()
     ensures reads { ReadyReads }
     ensures writes { ReadyWrites }
     ensures nonblock { NonblockNeverWaits }
+    ensures waiting_reads { WaitingReadIsReady }
+    ensures waiting_writes { WaitingWriteIsReady }
+    ensures waiting_opens { ReadyOpenEnds }
+{}
+
+/// A resume is refused with EPIPE alone, of a write that moved nothing into a pipe that nobody reads, and that changes
+/// nothing but that the write waits no more.
+pub fn resume_breaks_alone()
+    ensures decided { ResumeBreaksAlone }
+    ensures step { BrokenStepUnparks }
+    ensures history { BrokenNextUnparks }
+{}
+
+/// In every world of a history a process that waits has a connection, and waits in a read, a write or an open on an end that
+/// is open for it, with something left to do.
+pub fn calls_wait_on_ends()
+    ensures step { StepKeepsWaits }
+    ensures history { HistoryWaits }
 {}

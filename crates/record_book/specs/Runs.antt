@@ -155,3 +155,9 @@ RunTells old new seats after [] told = (told ≡ []) × Unchanged old new seats 
 RunTells old new seats after (a ∷ acts) told =
     (mid : BookState) × (between : Seats) × (first : List Told) × (more : List Told) ×
     (told ≡ first ++ more) × Tells old mid seats between a first × RunTells mid new between after acts more
+
+-- whatever was told before, what is told of one act more goes on from it
+abbrev pub GoesOn : BookState → BookState → Seats → Seats → ScriptAct → Told → Type 0
+GoesOn old new seats after a told =
+    (first : BookState) → (opened : Seats) → (acts : List ScriptAct) → (before : List Told) →
+    RunTells first old opened seats acts before → RunTells first new opened after (acts ++ a ∷ []) (before ++ told ∷ [])

@@ -9,6 +9,7 @@ ghost use Rattle.record_book.specs.Ends.{Ends, OrphansEnd, Closes};
 use crate::book::Book;
 use crate::seat::{Receipt, SpentSeat};
 use call_types::act::{Act, HOUSE};
+use call_types::part::Part;
 use posix_model::change::Decided;
 use posix_model::laws::processes_are_counted;
 use posix_model::reader::Reader;
@@ -40,7 +41,7 @@ impl Book {
         let (kept, told) = house.closing.shares();
         let mut receipts = house.receipts;
         let Decided { change, .. } = decided;
-        self.machine.apply(&[], change);
+        self.machine.apply(Part::Slice(&[]), change);
         self.history.push_reserved(kept);
         receipts.push_reserved(Receipt::new(place, told));
         SpentSeat::new(HOUSE, place + 1, receipts)

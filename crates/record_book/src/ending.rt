@@ -17,6 +17,7 @@ use crate::book::Book;
 use crate::prepared::Prepared;
 use crate::seat::{Receipt, Seat, SpentSeat};
 use call_types::act::{Act, Record};
+use call_types::part::Part;
 use call_types::refusal::Refusal;
 use machine_state::machine::Machine;
 use posix_model::change::Decided;
@@ -57,7 +58,7 @@ fn end_process(
         None => unreachable!(),
     };
     let Decided { change, .. } = decide_exit(process);
-    machine.apply(&[], change);
+    machine.apply(Part::Slice(&[]), change);
     history.push_reserved(kept);
     Receipt::new(place, told)
 }

@@ -13,5 +13,5 @@ mod prepared;
 pub mod resume;
 pub mod run;
 pub mod seat;
-mod seats;
+pub mod seats;
 pub mod start;

@@ -59,7 +59,7 @@ impl Book {
     }
 
     ghost use Rattle.slots.specs.Slots.{slot};
-    ghost use Rattle.record_book.specs.Runs.{Seats as ScriptSeats, JoinRuns, AttachRuns, CallRuns, ResumeGoes, ExitRuns, Tells, RunTells};
+    ghost use Rattle.record_book.specs.Runs.{Seats as ScriptSeats, JoinRuns, AttachRuns, CallRuns, ResumeGoes, ExitRuns, Tells, GoesOn, RunTells};
 
     /// Runs a join of a script; where it makes a process, its seat is put among the others.
     fn run_join(&mut self, alloc: Global, seats: &mut Seats) -> Result<Receipt, Refusal>
@@ -175,7 +175,7 @@ impl Book {
     }
 
     /// Runs one act of a script, and tells of it.
-    fn run_act<'a>(&mut self, alloc: Global, seats: &mut Seats, act: &'a ScriptAct) -> Told<'a>
+    fn run_one<'a>(&mut self, alloc: Global, seats: &mut Seats, act: &'a ScriptAct) -> Told<'a>
         ensures tells { Tells self.old self.new seats.old.0 seats.new.0 act.now (result ∷ []) }
         ensures limits { self.new.limits ≡ self.old.limits }
     {
@@ -208,6 +208,17 @@ impl Book {
                 refusal,
             },
         }
+    }
+
+    /// Runs the next act of a script, and tells of it; the seats are those that the script opened. What was told of the acts
+    /// before and this are what is told of all of them.
+    #[inline(always)]
+    pub fn run_act<'a>(&mut self, alloc: Global, seats: &mut Seats, act: &'a ScriptAct) -> Told<'a>
+        ensures tells { Tells self.old self.new seats.old.0 seats.new.0 act.now (result ∷ []) }
+        ensures goes_on { GoesOn self.old self.new seats.old.0 seats.new.0 act.now result }
+        ensures limits { self.new.limits ≡ self.old.limits }
+    {
+        self.run_one(alloc, seats, act)
     }
 
     /// Runs the acts of a script in their order, and tells of each. Only the room for what is told can be wanting as a

@@ -21,7 +21,7 @@ fn pad(slots: &mut Vec<Option<Seat>>, len: usize)
 /// The seats that a script opened: that of a process stands at the process's number. Contracts see the slots, and for how
 /// many there is room.
 #[derive(Drop)]
-pub(crate) struct Seats {
+pub struct Seats {
     pub(crate) slots: Vec<Option<Seat>>,
 }
 
@@ -36,7 +36,7 @@ impl Model for Seats {
 
 impl Seats {
     /// No seat.
-    pub(crate) fn new(alloc: Global) -> Self
+    pub fn new(alloc: Global) -> Self
         ensures { result.0 ≡ [] }
     {
         Seats {

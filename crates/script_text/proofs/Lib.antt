@@ -3,6 +3,7 @@ pub mod Names
 pub mod Scripts
 pub mod Fronts
 pub mod Hex
+pub mod Repeated
 pub mod Numerals
 pub mod WordLaws
 pub mod NameLaws

@@ -1,8 +1,7 @@
 -- A script is read from its spellings alone.
-use Rattle.std.proofs.Common.{◌≡◌, ℕ, ◌+◌, ◌≤◌, eqb, ltb, List, [], ◌∷◌, ◌++◌, length, Result, Ok, Err, refl, sym, ap, subst, ◌∙◌}
-use Rattle.std.specs.Prelude.{IfOk}
+use Rattle.std.proofs.Common.{◌≡◌, ℕ, ◌+◌, ◌≤◌, ◌<◌, eqb, ltb, List, [], ◌∷◌, ◌++◌, length, Result, Ok, Err, refl, sym, ap, subst, ◌∙◌, inl, inr}
 use Rattle.std.specs.List.{slice_split}
-use Rattle.std.proofs.lemmas.Bool.{le-ltb, cond-false}
+use Rattle.std.proofs.lemmas.Bool.{le-ltb, lt-ltb, cond-true, cond-false, cases_lt}
 use Rattle.call_types.specs.declared.act.ScriptAct.{ScriptAct}
 use Rattle.script_text.specs.declared.fault.ScriptFault.{ScriptFault}
 use Rattle.script_text.specs.declared.fault.ScriptFault.TheVariants as faults
@@ -10,7 +9,6 @@ use Rattle.script_text.specs.declared.script.TheConstants.{SCRIPT_MAX}
 use Rattle.script_text.specs.Reading.{◌>>=◌, line_feed}
 use Rattle.script_text.specs.ReadingCalls.{reading}
 use Rattle.script_text.specs.ReadingScripts.{numbered, line_acts, lines_acts, followed, script_acts, script}
-use Rattle.script_text.specs.ReadingResults.{ScriptGives}
 use Rattle.script_text.specs.Spellings.{SpellsLine, SpellsLines, SpellsScript}
 use Rattle.script_text.proofs.WordLaws.{ok_is, bind_ok}
 use Rattle.script_text.proofs.CallLaws.{reading_takes, reading_again}
@@ -46,16 +44,22 @@ lines_again : (n : ℕ) (lines : List (List ℕ)) (acts : List ScriptAct) → Sp
 lines_again n [] acts s = ap (λ (a : List ScriptAct). Ok a) (sym s)
 lines_again n (line ∷ lines) acts s = line_again n line acts s.0 (lines_acts (n + 1) lines) s.1 (lines_again (n + 1) lines s.0 s.2)
 
+-- a script that is not too long is its lines
+pub within : (text : List ℕ) → length text ≤ SCRIPT_MAX → script text ≡ script_acts text
+within text short = cond-false (ltb SCRIPT_MAX (length text)) (Err faults.TooLong) (script_acts text) (le-ltb _ _ short)
+
+-- one that is too long has that fault
+pub beyond : (text : List ℕ) → SCRIPT_MAX < length text → script text ≡ Err faults.TooLong
+beyond text long = cond-true (ltb SCRIPT_MAX (length text)) (Err faults.TooLong) (script_acts text) (lt-ltb _ _ long)
+
 pub script_again : (text : List ℕ) (acts : List ScriptAct) → SpellsScript acts text → script text ≡ Ok acts
 script_again text acts s =
-    cond-false (ltb SCRIPT_MAX (length text)) (Err faults.TooLong) (script_acts text) (le-ltb _ _ s.0)
+    within text s.0
     ∙ lines_again 1 (slice_split (λ c. eqb c line_feed) text) acts s.1
 
--- ---- the two directions, of what a reader of lines returns
-
-pub found : {X : Type 0} (view : X → List ScriptAct) (text : List ℕ) (result : Result X ScriptFault) → length text ≤ SCRIPT_MAX → ScriptGives view result (script_acts text) → IfOk result (λ acts. SpellsScript (view acts) text)
-found view text (Ok acts) short e = (short, lines_takes 1 (slice_split (λ c. eqb c line_feed) text) (view acts) e)
-found view text (Err fault) short e = tt
-
-pub only : {X : Type 0} (view : X → List ScriptAct) (text : List ℕ) (result : Result X ScriptFault) (acts : List ScriptAct) → ScriptGives view result (script_acts text) → SpellsScript acts text → ScriptGives view result (Ok acts)
-only view text result acts g s = subst (ScriptGives view result) (lines_again 1 (slice_split (λ c. eqb c line_feed) text) acts s.1) g
+pub script_takes : (text : List ℕ) (acts : List ScriptAct) → script text ≡ Ok acts → SpellsScript acts text
+script_takes text acts e =
+    elim (cases_lt SCRIPT_MAX (length text)) [
+      | inl long ↦ absurd (let fault : script text ≡ Err faults.TooLong = beyond text long in cc)
+      | inr short ↦ (short, lines_takes 1 (slice_split (λ c. eqb c line_feed) text) acts (sym (within text short) ∙ e))
+    ]

@@ -1,6 +1,8 @@
 -- What a reader returns, where memory may run out (own).
-use Rattle.std.specs.Prelude.{◌≡◌, ℕ, List, ◌++◌, Result, Ok, Err}
+use Rattle.std.specs.Prelude.{◌≡◌, ◌≤◌, ℕ, List, [], ◌∷◌, length, Option, Some, None, Result, Ok, Err}
 use Rattle.call_types.specs.declared.act.ScriptAct.{ScriptAct}
+use Rattle.script_text.specs.ReadingScripts.{script, followed, Rest}
+use Rattle.script_text.specs.declared.script.TheConstants.{SCRIPT_MAX}
 use Rattle.script_text.specs.declared.fault.ReadFault.{ReadFault}
 use Rattle.script_text.specs.declared.fault.ReadFault.TheVariants as faults
 use Rattle.script_text.specs.declared.fault.ScriptFault.{ScriptFault}
@@ -23,7 +25,13 @@ abbrev pub ScriptGives : {X : Type 0} → (X → List ScriptAct) → Result X Sc
 ScriptGives view (Ok acts) read = read ≡ Ok (view acts)
 ScriptGives view (Err fault) read = ScriptFails fault read
 
--- a line's acts stand after those before, or it has the fault, unless memory ran out
-abbrev pub LineAdds : List ScriptAct → List ScriptAct → Result (Unit {0}) ScriptFault → Result (List ScriptAct) ScriptFault → Type 0
-LineAdds old new (Ok done) read = (acts : List ScriptAct) × (read ≡ Ok acts) × (new ≡ old ++ acts)
-LineAdds old new (Err fault) read = ScriptFails fault read
+-- a script is opened as what reading its text gives, which then is not too long; one that is too long is not opened, and that is the only fault
+abbrev pub Opens : Result Rest ScriptFault → List ℕ → Type 0
+Opens (Ok rest) text = (length text ≤ SCRIPT_MAX) × (rest.read ≡ script text)
+Opens (Err fault) text = (fault ≡ scripts.TooLong) × (script text ≡ Err scripts.TooLong)
+
+-- the next act stands before those that follow it, no act is left, or the rest has the fault, unless memory ran out
+abbrev pub NextGives : Result (List ScriptAct) ScriptFault → Result (List ScriptAct) ScriptFault → Result (Option ScriptAct) ScriptFault → Type 0
+NextGives old new (Ok None) = old ≡ Ok []
+NextGives old new (Ok (Some act)) = old ≡ followed (act ∷ []) new
+NextGives old new (Err fault) = ScriptFails fault old

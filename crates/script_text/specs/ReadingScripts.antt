@@ -1,11 +1,11 @@
 -- Reading a whole script, line by line (own).
-use Rattle.std.specs.Prelude.{ℕ, ◌+◌, ◌==◌, nat_lt, List, [], ◌∷◌, ◌++◌, length, Result, Ok, Err, if◌then◌else◌}
+use Rattle.std.specs.Prelude.{ℕ, ◌+◌, ◌==◌, nat_lt, List, [], ◌∷◌, ◌++◌, length, Some, None, Result, Ok, Err, if◌then◌else◌}
 use Rattle.std.specs.List.{slice_split}
 use Rattle.call_types.specs.declared.act.ScriptAct.{ScriptAct}
 use Rattle.script_text.specs.declared.fault.ScriptFault.{ScriptFault}
 use Rattle.script_text.specs.declared.fault.ScriptFault.TheVariants as faults
 use Rattle.script_text.specs.declared.script.TheConstants.{SCRIPT_MAX}
-use Rattle.script_text.specs.Reading.{◌>>=◌, line_feed}
+use Rattle.script_text.specs.Reading.{◌>>=◌, Left, line_feed}
 use Rattle.script_text.specs.ReadingCalls.{reading}
 
 -- a line's act, or the fault with the line's number
@@ -35,3 +35,26 @@ script_acts text = lines_acts 1 (slice_split (λ c. c == line_feed) text)
 -- the acts of a script, or its first fault; one that is too long has that fault, whatever its lines are
 abbrev pub script : List ℕ → Result (List ScriptAct) ScriptFault
 script text = if nat_lt SCRIPT_MAX (length text) then Err faults.TooLong else script_acts text
+
+-- the lines of what is left of a script
+abbrev pub left_lines : Left → List (List ℕ)
+left_lines None = []
+left_lines (Some bytes) = slice_split (λ c. c == line_feed) bytes
+
+-- how many lines are left at most
+abbrev pub left_size : Left → ℕ
+left_size None = 0
+left_size (Some bytes) = length bytes + 1
+
+-- what is left of a script: its acts or its first fault, and how many lines it has at most
+pub record Rest : Type 0 where
+  pub read : Result (List ScriptAct) ScriptFault
+  pub most : ℕ
+
+-- the acts of what is left after so many lines, or the first fault
+abbrev pub left_acts : ℕ → Left → Result (List ScriptAct) ScriptFault
+left_acts number left = lines_acts (number + 1) (left_lines left)
+
+-- what is left after so many lines
+abbrev pub rest_of : ℕ → Left → Rest
+rest_of number left = record { read = left_acts number left; most = left_size left }

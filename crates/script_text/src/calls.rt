@@ -1,11 +1,12 @@
-//! Each call, read from a line and written to one.
+//! Each call, read from a line and written to one. What is not inlined keeps the room of its values, which is cleared at
+//! each entry, out of the way of reads and writes.
 #![tactic(auto, using(crate::proofs::Fronts::keeps_after), unfolding(crate::specs::Lines::call_text))]
 
 ghost use Rattle.std.specs.Prelude.{◌≡◌};
 ghost use Rattle.std.specs.Option.{option_copied};
 ghost use Rattle.call_types.specs.CallTable.{open_entry, close_entry, read_entry, write_entry, pread_entry, pwrite_entry, lseek_entry, ftruncate_entry, dup_entry, dup2_entry, pipe_entry, mkfifo_entry, link_entry, unlink_entry, fstat_entry, fork_entry, position_table};
 ghost use Rattle.script_text.specs.Reading.{Gives, Word};
-ghost use Rattle.script_text.specs.ReadingCalls.{entry_at, one_of, named_call};
+ghost use Rattle.script_text.specs.ReadingCalls.{entry_at, one_of, named_call, later_table};
 ghost use Rattle.script_text.specs.Writing.{Appends};
 ghost use Rattle.script_text.specs.Lines.{call_text};
 
@@ -25,6 +26,7 @@ use call_types::whence::Whence;
 use std::alloc::{AllocError, Global};
 
 /// `open NAME FLAGS`, after its first word.
+#[inline(never)]
 fn open_call(alloc: Global, left: Left<'_>) -> Result<Call, WordFault>
     ensures { Gives (λ x. x) result (entry_at open_entry (option_copied left.entry)) }
 {
@@ -101,7 +103,7 @@ fn put_write(out: &mut Vec<u8>, fd: i32, bytes: &Payload) -> Result<(), AllocErr
     put(out, b"write ")?;
     put_descriptor(out, fd)?;
     put(out, b" ")?;
-    put_data(out, bytes.as_slice())?;
+    put_data(out, bytes.part())?;
     Ok(())
 }
 
@@ -149,7 +151,7 @@ fn put_pwrite(out: &mut Vec<u8>, fd: i32, start: i64, bytes: &Payload) -> Result
     put(out, b" ")?;
     put_position(out, start)?;
     put(out, b" ")?;
-    put_data(out, bytes.as_slice())?;
+    put_data(out, bytes.part())?;
     Ok(())
 }
 
@@ -356,7 +358,17 @@ pub(crate) fn call(alloc: Global, word: Next<'_>) -> Result<Call, WordFault>
         read_call(word.after)
     } else if word.is(b"write") {
         write_call(alloc, word.after)
-    } else if word.is(b"dup") {
+    } else {
+        later_call(alloc, word)
+    }
+}
+
+/// The call that a first word names, of those that come later in the table and are less common.
+#[inline(never)]
+fn later_call(alloc: Global, word: Next<'_>) -> Result<Call, WordFault>
+    ensures { Gives (λ x. x) result (one_of later_table (record { text = word.entry.text.now; remaining = word.entry.remaining; after = option_copied word.entry.after })) }
+{
+    if word.is(b"dup") {
         dup_call(word.after)
     } else if word.is(b"dup2") {
         dup2_call(word.after)
@@ -378,6 +390,7 @@ pub(crate) fn call(alloc: Global, word: Next<'_>) -> Result<Call, WordFault>
 }
 
 /// The call with a position, an offset or a length that a first word names.
+#[inline(never)]
 fn position_call(alloc: Global, word: Next<'_>) -> Result<Call, WordFault>
     ensures { Gives (λ x. x) result (one_of position_table (record { text = word.entry.text.now; remaining = word.entry.remaining; after = option_copied word.entry.after })) }
 {

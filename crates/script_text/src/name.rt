@@ -11,6 +11,7 @@ ghost use Rattle.script_text.specs.ReadingNames.{decoded, first_decoded, name_of
 use crate::hexadecimal::{byte_value, put_hex};
 use crate::put::put;
 use call_types::bounded::Name;
+use call_types::gathered::Gathered;
 use call_types::limits::GIVEN_NAME_MAX;
 use std::alloc::{AllocError, Global};
 
@@ -33,29 +34,29 @@ fn first_byte(word: &[u8]) -> Option<(u8, &[u8])>
 }
 
 /// The bytes that a word of a name stands for.
-fn decoded_bytes(alloc: Global, word: &[u8]) -> Result<Option<Vec<u8>>, AllocError>
-    ensures { IfOk result (λ bytes. option_map (λ v. v.items) bytes ≡ decoded word.now) }
+fn decoded_bytes(alloc: Global, word: &[u8]) -> Result<Option<Gathered>, AllocError>
+    ensures { IfOk result (λ bytes. bytes ≡ decoded word.now) }
 {
-    let mut bytes = Vec::with_capacity(alloc, word.len())?;
+    let mut bytes = Gathered::with_room(alloc, word.len())?;
     let mut rest = word;
     while !rest.is_empty() {
         let Some((byte, after)) = first_byte(rest) else {
             return Ok(None);
         };
-        bytes.push(byte)?;
+        bytes.push(alloc, byte)?;
         rest = after;
     }
     Ok(Some(bytes))
 }
 
 /// A name, unless it is longer than a call may give it.
-fn short_name(bytes: Vec<u8>) -> Option<Name>
-    ensures { result ≡ at_most GIVEN_NAME_MAX (Some bytes.items) }
+fn short_name(alloc: Global, bytes: Gathered) -> Result<Option<Name>, AllocError>
+    ensures { IfOk result (λ name. name ≡ at_most GIVEN_NAME_MAX (Some bytes)) }
 {
     if bytes.len() > GIVEN_NAME_MAX {
-        return None;
+        return Ok(None);
     }
-    Some(Name::new(bytes))
+    Ok(Some(Name::new(alloc, bytes)?))
 }
 
 /// The name that a word spells.
@@ -64,10 +65,10 @@ pub(crate) fn name_value(alloc: Global, word: &[u8]) -> Result<Option<Name>, All
 {
     match word {
         [] => Ok(None),
-        [b'%'] => Ok(Some(Name::new(Vec::new(alloc)))),
+        [b'%'] => Ok(Some(Name::copied(alloc, b"")?)),
         _ => match decoded_bytes(alloc, word)? {
             None => Ok(None),
-            Some(bytes) => Ok(short_name(bytes)),
+            Some(bytes) => short_name(alloc, bytes),
         },
     }
 }

@@ -84,7 +84,7 @@ fn put_reply(out: &mut Vec<u8>, reply: &Reply) -> Result<(), AllocError>
     match reply {
         Reply::Done => put(out, b"ok"),
         Reply::Number(number) => put_number(out, *number),
-        Reply::Data(bytes) => put_data(out, bytes.as_slice()),
+        Reply::Data(bytes) => put_data(out, bytes.part()),
         Reply::Pair(first, second) => put_pair(out, *first, *second),
         Reply::Stat(stat) => put_stat(out, *stat),
         Reply::Error(errno) => put_error(out, *errno),

@@ -5,6 +5,7 @@ ghost use Rattle.std.specs.Prelude.{◌≡◌, ◌≤◌, ◌++◌, ◌==◌, co
 ghost use Rattle.std.specs.Option.{option_map};
 ghost use Rattle.std.specs.List.{flat_map, list_all};
 ghost use Rattle.call_types.specs.declared.limits.TheConstants.{GIVEN_BYTES_MAX};
+ghost use Rattle.call_types.specs.Stored.{part_bytes};
 ghost use Rattle.script_text.specs.Lines.{hex_pair, one_byte, data_word};
 ghost use Rattle.script_text.specs.Writing.{Appends};
 ghost use Rattle.script_text.specs.ReadingData.{first_paired, hex_bytes, hex_data, repeated_data, data_of};
@@ -13,7 +14,9 @@ use crate::hexadecimal::{byte_value, put_hex};
 use crate::number::number_value;
 use crate::put::{put, put_number};
 use call_types::bounded::Payload;
+use call_types::gathered::Gathered;
 use call_types::limits::GIVEN_BYTES_MAX;
+use call_types::part::Part;
 use hex::encode_to_slice;
 use std::alloc::{AllocError, Global};
 
@@ -31,16 +34,16 @@ fn first_pair(digits: &[u8]) -> Option<(u8, &[u8])>
 }
 
 /// The bytes that pairs of digits stand for.
-fn paired_bytes(alloc: Global, digits: &[u8]) -> Result<Option<Vec<u8>>, AllocError>
-    ensures { IfOk result (λ bytes. option_map (λ v. v.items) bytes ≡ hex_bytes digits.now) }
+fn paired_bytes(alloc: Global, digits: &[u8]) -> Result<Option<Gathered>, AllocError>
+    ensures { IfOk result (λ bytes. bytes ≡ hex_bytes digits.now) }
 {
-    let mut bytes = Vec::with_capacity(alloc, digits.len() / 2)?;
+    let mut bytes = Gathered::with_room(alloc, digits.len() / 2)?;
     let mut rest = digits;
     while !rest.is_empty() {
         let Some((byte, after)) = first_pair(rest) else {
             return Ok(None);
         };
-        bytes.push(byte)?;
+        bytes.push(alloc, byte)?;
         rest = after;
     }
     Ok(Some(bytes))
@@ -55,34 +58,20 @@ fn hex_value(alloc: Global, digits: &[u8]) -> Result<Option<Payload>, AllocError
     }
     match paired_bytes(alloc, digits)? {
         None => Ok(None),
-        Some(bytes) => Ok(Some(Payload::new(bytes))),
+        Some(bytes) => Ok(Some(Payload::new(alloc, bytes)?)),
     }
-}
-
-/// A byte so many times.
-fn filled(alloc: Global, byte: u8, count: u32) -> Result<Payload, AllocError>
-    requires { count ≤ GIVEN_BYTES_MAX }
-    ensures { IfOk result (λ payload. payload ≡ replicate count byte) }
-{
-    let mut bytes = Vec::with_capacity(alloc, count as usize)?;
-    bytes.resize(count as usize, byte)?;
-    Ok(Payload::new(bytes))
 }
 
 /// The data that two digits, a `*` and a count stand for.
-fn repeated_value(alloc: Global, word: &[u8]) -> Result<Option<Payload>, AllocError>
-    ensures { IfOk result (λ payload. payload ≡ repeated_data word.now) }
+fn repeated_value(word: &[u8]) -> Option<Payload>
+    ensures { result ≡ repeated_data word.now }
 {
     let [high, low, b'*', digits @ ..] = word else {
-        return Ok(None);
+        return None;
     };
-    match (
-        byte_value(*high, *low),
-        number_value(GIVEN_BYTES_MAX as u32, digits),
-    ) {
-        (Some(byte), Some(count)) => Ok(Some(filled(alloc, byte, count)?)),
-        _ => Ok(None),
-    }
+    let byte = byte_value(*high, *low)?;
+    let count = number_value(GIVEN_BYTES_MAX as u32, digits)?;
+    Some(Payload::same(byte, count as usize))
 }
 
 /// The data that a word spells.
@@ -91,7 +80,7 @@ pub(crate) fn data_value(alloc: Global, word: &[u8]) -> Result<Option<Payload>, 
 {
     match word {
         [b'x', digits @ ..] => hex_value(alloc, digits),
-        _ => repeated_value(alloc, word),
+        _ => Ok(repeated_value(word)),
     }
 }
 
@@ -145,13 +134,53 @@ fn repeated_byte(bytes: &[u8]) -> Option<u8>
     }
 }
 
-/// Appends data.
-pub(crate) fn put_data(out: &mut Vec<u8>, bytes: &[u8]) -> Result<(), AllocError>
+/// Appends data that stands in memory.
+fn put_slice(out: &mut Vec<u8>, bytes: &[u8]) -> Result<(), AllocError>
     requires few { length bytes.now ≤ GIVEN_BYTES_MAX }
     ensures { Appends result out.old.items out.new.items (data_word bytes.now) }
 {
     match repeated_byte(bytes) {
         None => put_digits(out, bytes),
         Some(byte) => put_repeated(out, byte, bytes.len() as u64),
+    }
+}
+
+/// Appends the digits of a byte, so many times.
+fn put_pairs(out: &mut Vec<u8>, byte: u8, count: usize) -> Result<(), AllocError>
+    ensures { Appends result out.old.items out.new.items (flat_map hex_pair (replicate count byte)) }
+{
+    for _written in 0..count {
+        put_hex(out, byte)?;
+    }
+    Ok(())
+}
+
+/// Appends an `x` and the digits of a byte, so many times.
+fn put_few(out: &mut Vec<u8>, byte: u8, count: usize) -> Result<(), AllocError>
+    ensures { Appends result out.old.items out.new.items (codes "x" ++ flat_map hex_pair (replicate count byte)) }
+{
+    put(out, b"x")?;
+    put_pairs(out, byte, count)?;
+    Ok(())
+}
+
+/// Appends data of one byte, which stands so many times.
+fn put_same(out: &mut Vec<u8>, byte: u8, count: usize) -> Result<(), AllocError>
+    ensures { Appends result out.old.items out.new.items (data_word (replicate count byte)) }
+{
+    if count > WRITTEN_OUT_MAX {
+        return put_repeated(out, byte, count as u64);
+    }
+    put_few(out, byte, count)
+}
+
+/// Appends data.
+pub(crate) fn put_data(out: &mut Vec<u8>, part: Part<'_>) -> Result<(), AllocError>
+    requires few { length (part_bytes part) ≤ GIVEN_BYTES_MAX }
+    ensures { Appends result out.old.items out.new.items (data_word (part_bytes part.entry)) }
+{
+    match part {
+        Part::Slice(bytes) => put_slice(out, bytes),
+        Part::Same { byte, count } => put_same(out, byte, count),
     }
 }

@@ -18,7 +18,21 @@ pub(crate) fn put(out: &mut Vec<u8>, text: &[u8]) -> Result<(), AllocError>
 }
 
 /// Appends a number.
+#[inline]
+#[tactic(auto, using(crate::proofs::Fronts::keeps, std::proofs::lemmas::Fmt::decimal_digit))]
 pub(crate) fn put_number(out: &mut Vec<u8>, number: u64) -> Result<(), AllocError>
+    ensures { Appends result out.old.items out.new.items (decimal number) }
+{
+    if number < 10 {
+        out.push(b'0' + number as u8)?;
+        return Ok(());
+    }
+    put_long_number(out, number)
+}
+
+/// Appends a number that may have many digits. It stands apart, so that one digit needs no buffer.
+#[inline(never)]
+fn put_long_number(out: &mut Vec<u8>, number: u64) -> Result<(), AllocError>
     ensures { Appends result out.old.items out.new.items (decimal number) }
 {
     let mut buffer = Buffer::new();
@@ -27,20 +41,30 @@ pub(crate) fn put_number(out: &mut Vec<u8>, number: u64) -> Result<(), AllocErro
 }
 
 /// Appends a descriptor.
+#[inline]
 pub(crate) fn put_descriptor(out: &mut Vec<u8>, fd: i32) -> Result<(), AllocError>
     ensures { Appends result out.old.items out.new.items (signed_decimal fd) }
 {
-    let mut buffer = Buffer::new();
-    out.extend_from_slice(buffer.format(fd).as_bytes())?;
-    Ok(())
+    put_position(out, i64::from(fd))
 }
 
 /// Appends a position, an offset or a length.
+#[inline]
 pub(crate) fn put_position(out: &mut Vec<u8>, start: i64) -> Result<(), AllocError>
     ensures { Appends result out.old.items out.new.items (signed_decimal start) }
 {
+    if start < 0 {
+        return put_signed(out, start);
+    }
+    put_number(out, start.unsigned_abs())
+}
+
+/// Appends a number that may have a sign.
+fn put_signed(out: &mut Vec<u8>, number: i64) -> Result<(), AllocError>
+    ensures { Appends result out.old.items out.new.items (signed_decimal number) }
+{
     let mut buffer = Buffer::new();
-    out.extend_from_slice(buffer.format(start).as_bytes())?;
+    out.extend_from_slice(buffer.format(number).as_bytes())?;
     Ok(())
 }
 

@@ -23,6 +23,11 @@ pub fn spelled_scripts_are_read()
     ensures { (acts : List ScriptAct) (text : List ℕ) → SpellsScript acts text → script text ≡ Ok acts }
 {}
 
+/// A text that is read as acts spells these.
+pub fn read_scripts_are_spelled()
+    ensures { (acts : List ScriptAct) (text : List ℕ) → script text ≡ Ok acts → SpellsScript acts text }
+{}
+
 /// The words of the calls, their request bytes, the order of their fields and the greatest length of a script, each said
 /// once more: what is read and what is written both go by the one table of calls and the one constant.
 pub fn calls_as_read()

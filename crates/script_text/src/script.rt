@@ -1,37 +1,49 @@
-//! Reading a whole script.
+//! Reading a script, act by act.
 
-ghost use Rattle.std.specs.Prelude.{◌≡◌, List, Ok, IfOk};
-ghost use Rattle.script_text.specs.ReadingScripts.{line_acts, script_acts, script};
-ghost use Rattle.script_text.specs.Spellings.{SpellsScript};
+ghost use Rattle.std.specs.Prelude.{◌≡◌, ◌<◌, ◌∷◌, [], List, true, is_some, IfOk};
+ghost use Rattle.script_text.specs.ReadingCalls.{reading};
+ghost use Rattle.script_text.specs.ReadingScripts.{numbered};
 ghost use Rattle.call_types.specs.declared.act.ScriptAct.{ScriptAct};
-ghost use Rattle.script_text.specs.ReadingResults.{ScriptGives, LineAdds};
+ghost use Rattle.script_text.specs.ReadingResults.{ScriptGives, Opens, NextGives};
 
-use crate::cutting::cut_at;
+use crate::cutting::{Left, cut_at};
 use crate::fault::{ReadFault, ScriptFault};
 use crate::reading::read_act;
 use call_types::act::ScriptAct;
 use std::alloc::Global;
+use std::marker::Model;
 
 /// The bytes of a script, at most.
 pub const SCRIPT_MAX: usize = 16_777_216;
 
-/// Adds the act of line `number`, if the line isn't empty.
-fn push_line(
-    alloc: Global,
-    acts: &mut Vec<ScriptAct>,
+/// What is left of a script. Contracts see the acts that are still to be read, or the first fault of the lines that are left,
+/// and how many lines there are at most.
+#[derive(Debug, Drop)]
+pub struct Script<'a> {
+    /// How many lines were read.
     number: usize,
-    line: &[u8],
-) -> Result<(), ScriptFault>
-    ensures { LineAdds acts.old.items acts.new.items result (line_acts number line.now) }
+    left: Left<'a>,
+}
+
+impl<'a> Model for Script<'a> {
+    ghost use Rattle.std.specs.Prelude.{◌≤◌, ◌+◌};
+    ghost use Rattle.std.specs.Option.{option_copied};
+    ghost use Rattle.script_text.specs.declared.script.TheConstants.{SCRIPT_MAX};
+    ghost use Rattle.script_text.specs.ReadingScripts.{Rest, rest_of, left_size};
+
+    ghost Value = { Rest };
+
+    ghost view = { λ script. rest_of script.number (option_copied script.left) };
+
+    ghost invariant = { λ script. script.number + left_size (option_copied script.left) ≤ SCRIPT_MAX + 1 };
+}
+
+/// The act of line `number`, which isn't empty.
+fn line_act(alloc: Global, number: usize, line: &[u8]) -> Result<ScriptAct, ScriptFault>
+    ensures { ScriptGives (λ act. act ∷ []) result (numbered number (reading line.now)) }
 {
-    if line.is_empty() {
-        return Ok(());
-    }
     match read_act(alloc, line) {
-        Ok(act) => match acts.push(act) {
-            Ok(()) => Ok(()),
-            Err(_) => Err(ScriptFault::NoMemory),
-        },
+        Ok(act) => Ok(act),
         Err(ReadFault::NoMemory) => Err(ScriptFault::NoMemory),
         Err(ReadFault::BadLine { column }) => Err(ScriptFault::BadLine {
             line: number,
@@ -40,33 +52,34 @@ fn push_line(
     }
 }
 
-/// The acts of all lines.
-fn read_lines(alloc: Global, text: &[u8]) -> Result<Vec<ScriptAct>, ScriptFault>
-    ensures { ScriptGives (λ v. v.items) result (script_acts text.now) }
-{
-    let mut acts = Vec::new(alloc);
-    let mut number = 0;
-    let mut left = Some(text);
-    while let Some(rest) = left {
-        let (line, after) = cut_at(b'\n', rest);
-        number += 1;
-        push_line(alloc, &mut acts, number, line)?;
-        left = after;
+impl<'a> Script<'a> {
+    /// The script of a text. One of more than `SCRIPT_MAX` bytes is too long, which is the only fault here: no line is read yet.
+    pub fn new(text: &'a [u8]) -> Result<Script<'a>, ScriptFault>
+        ensures opened { Opens result text.now }
+    {
+        if text.len() > SCRIPT_MAX {
+            return Err(ScriptFault::TooLong);
+        }
+        Ok(Script {
+            number: 0,
+            left: Some(text),
+        })
     }
-    Ok(acts)
-}
 
-/// Reads the acts of a script, of at most `SCRIPT_MAX` bytes.
-pub fn read_script(alloc: Global, text: &[u8]) -> Result<Vec<ScriptAct>, ScriptFault>
-    // What is read is spelled so.
-    ensures found { IfOk result (λ acts. SpellsScript acts.items text.now) }
-    // What is spelled so is read, unless memory runs out.
-    ensures only { (acts : List ScriptAct) → SpellsScript acts text.now → ScriptGives (λ v. v.items) result (Ok acts) }
-    // Which fault it is.
-    ensures exact { ScriptGives (λ v. v.items) result (script text.now) }
-{
-    if text.len() > SCRIPT_MAX {
-        return Err(ScriptFault::TooLong);
+    /// Reads the next act; `None` at the end of the script. A fault is a line that is no act, with its number from 1 and its
+    /// column, or says that memory ran out. After a fault nothing is promised of what is left.
+    pub fn next_act(&mut self, alloc: Global) -> Result<Option<ScriptAct>, ScriptFault>
+        ensures gives { NextGives self.old.read self.new.read result }
+        ensures shorter { IfOk result (λ next. is_some next ≡ true → self.new.most < self.old.most) }
+    {
+        while let Some(rest) = self.left {
+            let (line, after) = cut_at(b'\n', rest);
+            self.number += 1;
+            self.left = after;
+            if !line.is_empty() {
+                return Ok(Some(line_act(alloc, self.number, line)?));
+            }
+        }
+        Ok(None)
     }
-    read_lines(alloc, text)
 }

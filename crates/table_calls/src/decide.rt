@@ -54,13 +54,13 @@ pub fn decide_call<R: Reader>(
             decide_read(state, alloc, process, call, *fd, *count as usize)
         }
         Call::Write { fd, bytes } => {
-            decide_write(state, alloc, bounds, process, call, *fd, bytes.as_slice())
+            decide_write(state, alloc, bounds, process, call, *fd, bytes)
         }
         Call::Pread { fd, start, count } => {
             decide_pread(state, alloc, process, *fd, *start, *count as usize)
         }
         Call::Pwrite { fd, start, bytes } => {
-            Ok(decide_pwrite(state, bounds, process, *fd, *start, bytes.as_slice()))
+            Ok(decide_pwrite(state, bounds, process, *fd, *start, bytes))
         }
         Call::Lseek { fd, offset, whence } => {
             Ok(decide_lseek(state, process, *fd, *offset, *whence))

@@ -7,6 +7,7 @@ use call_types::errno::Errno;
 use call_types::flags::OpenFlags;
 use call_types::limits::Limits;
 use call_types::outcome::{Outcome, Reply};
+use call_types::part::Part;
 use call_types::refusal::Refusal;
 use call_types::whence::Whence;
 use record_book::book::{Book, Counts};
@@ -35,8 +36,8 @@ fn told_by(receipt: &Receipt) -> Tells {
     match &receipt.record().outcome {
         Outcome::Reply(Reply::Done) => Tells::Done,
         Outcome::Reply(Reply::Number(number)) => Tells::Number(*number),
-        Outcome::Reply(Reply::Data(content)) => match content.as_slice() {
-            [first, second] => Tells::Bytes(*first, *second),
+        Outcome::Reply(Reply::Data(content)) => match content.part() {
+            Part::Slice([first, second]) => Tells::Bytes(*first, *second),
             _ => Tells::Other,
         },
         Outcome::Reply(Reply::Error(error)) => Tells::Error(*error),
@@ -345,15 +346,6 @@ fn refusals_are_the_same_though_memory_was_wanting(rt: HostRuntime) -> Result<()
     Ok(())
 }
 
-/// 2,000 bytes. Where memory for them was wanting, it is asked for once more.
-fn many_bytes(alloc: Global) -> Result<Payload, AllocError> {
-    let bytes = match vec![in alloc; 97; 2000] {
-        Ok(bytes) => bytes,
-        Err(_) => vec![in alloc; 97; 2000]?,
-    };
-    Ok(Payload::new(bytes))
-}
-
 /// A read of process 0 from the reading end of its pipe.
 fn read_some(count: u32) -> ScriptAct {
     call(0, Call::Read { fd: 0, count })
@@ -379,7 +371,7 @@ fn parts(bytes: Payload) -> [(ScriptAct, Tells); 11] {
 #[test]
 fn large_write_goes_on_though_memory_was_wanting(rt: HostRuntime) -> Result<(), Fail> {
     let alloc = rt.alloc();
-    let rows = parts(many_bytes(alloc)?);
+    let rows = parts(Payload::same(b'a', 2000));
     let mut run = Run::new(alloc, Limits::new(20)?)?;
     run.give_all(alloc, &rows)?;
     let counts = run.book.counts();

@@ -7,4 +7,4 @@ abbrev pub decreases-loop-rest : goal.decreases-loop-rest
 decreases-loop-rest l = length l.rest
 
 abbrev pub invariant-loop-rest : goal.invariant-loop-rest
-invariant-loop-rest l = joined l.bytes.items (decoded l.rest) ≡ decoded l.word
+invariant-loop-rest l = joined l.bytes (decoded l.rest) ≡ decoded l.word

@@ -7,4 +7,4 @@ abbrev pub decreases-loop-rest : goal.decreases-loop-rest
 decreases-loop-rest l = length l.rest
 
 abbrev pub invariant-loop-rest : goal.invariant-loop-rest
-invariant-loop-rest l = joined l.bytes.items (hex_bytes l.rest) ≡ hex_bytes l.digits
+invariant-loop-rest l = joined l.bytes (hex_bytes l.rest) ≡ hex_bytes l.digits

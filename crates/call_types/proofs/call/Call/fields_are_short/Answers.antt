@@ -5,10 +5,10 @@ pub returns-in-Open : goal.returns-in-Open
 returns-in-Open c = rw c.in-Open.is (omega (arith, ap length c.as_slice-bytes.ensures.value, c.as_slice-bytes.ensures.within), (omega arith, tt))
 
 pub returns-in-Write : goal.returns-in-Write
-returns-in-Write c = rw c.in-Write.is (omega arith, (omega (arith, ap length c.as_slice-bytes-in-Write.ensures.value, c.as_slice-bytes-in-Write.ensures.within), tt))
+returns-in-Write c = rw c.in-Write.is (omega arith, (omega (arith, c.len-len.ensures.exact, c.len-len.ensures.within), tt))
 
 pub returns-in-Pwrite : goal.returns-in-Pwrite
-returns-in-Pwrite c = rw c.in-Pwrite.is (omega arith, (omega arith, (omega (arith, ap length c.as_slice-bytes-in-Pwrite.ensures.value, c.as_slice-bytes-in-Pwrite.ensures.within), tt)))
+returns-in-Pwrite c = rw c.in-Pwrite.is (omega arith, (omega arith, (omega (arith, c.len-len-in-Pwrite.ensures.exact, c.len-len-in-Pwrite.ensures.within), tt)))
 
 pub returns-in-Mkfifo : goal.returns-in-Mkfifo
 returns-in-Mkfifo c = rw c.in-Mkfifo.is (omega (arith, ap length c.as_slice-bytes-in-Mkfifo.ensures.value, c.as_slice-bytes-in-Mkfifo.ensures.within), tt)

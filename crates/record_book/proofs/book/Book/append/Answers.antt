@@ -3,6 +3,7 @@ use Rattle.std.specs.Arc.{arc_value}
 use Rattle.std.proofs.lemmas.List.{map-append}
 use Rattle.call_types.specs.declared.act.Record.{Record}
 use Rattle.call_types.specs.declared.limits.TheConstants.{GIVEN_BYTES_MAX}
+use Rattle.call_types.specs.Stored.{part_bytes}
 use Rattle.slots.specs.Slots.{live}
 use Rattle.posix_model.specs.Whole.{EachThere, IsItsFifo}
 use Rattle.posix_model.specs.declared.world.World.{World}
@@ -29,7 +30,7 @@ invariant_of-self-2 c =
     let planned = rw (← c.self.view_is) at c.requires.planned in
     let r : Record = record { actor = c.args.actor; act = c.args.act; outcome = c.args.decided.outcome } in
     let item_is : arc_value c.in_ok-item.item ≡ r = c.in_ok-item.ensures.ok in
-    let given_is : c.given-bytes.result.now ≡ given c.args.act = rw (c.given-bytes.ensures.bytes, c.deref.ensures, item_is) refl in
+    let given_is : part_bytes c.given-bytes.result ≡ given c.args.act = rw (c.given-bytes.ensures.bytes, c.deref.ensures, item_is) refl in
     let took_is : c.took.result ≡ took w r = rw (c.took.ensures, c.deref-3.ensures, item_is, c.in_ok-reserve_for.ensures.world, c.self.invariant.world) refl in
     let gave_is : c.gave.result ≡ gave w r = rw (c.gave.ensures.bytes w, c.deref-4.ensures, item_is) refl in
     let w_is : b.machine.world ≡ w = c.self.invariant.world in
@@ -46,7 +47,7 @@ invariant_of-self-2 c =
       limits = refl;
       world = rw (c.apply.ensures.world, c.in_ok-reserve_for.ensures.world, c.self.invariant.world, given_is) refl;
       few_taken =
-          let data_is : c.data_of-data.result.now ≡ data_of w c.args.actor c.args.act = rw (c.data_of-data.ensures.bytes, c.deref-2.ensures, item_is, c.in_ok-reserve_for.ensures.world, w_is) refl in
+          let data_is : part_bytes c.data_of-data.result ≡ data_of w c.args.actor c.args.act = rw (c.data_of-data.ensures.bytes, c.deref-2.ensures, item_is, c.in_ok-reserve_for.ensures.world, w_is) refl in
           let short : length (data_of w c.args.actor c.args.act) ≤ GIVEN_BYTES_MAX = rw (← data_is) c.data_of-data.ensures.few in
           omega (arith, planned.few, short);
       few_given = let few = rw gave_is at c.gave.ensures.few in omega (arith, few);

@@ -1,0 +1,32 @@
+-- The bytes of names and data, however they are kept (own).
+use Rattle.std.specs.Prelude.{ℕ, List, replicate}
+use Rattle.std.specs.Arc.{arc_value}
+use Rattle.call_types.specs.declared.gathered.Gathering.{Gathering}
+use Rattle.call_types.specs.declared.gathered.Gathering.TheVariants as gathering
+use Rattle.call_types.specs.declared.bounded.StoredName.{StoredName}
+use Rattle.call_types.specs.declared.bounded.StoredName.TheVariants as names
+use Rattle.call_types.specs.declared.bounded.StoredData.{StoredData}
+use Rattle.call_types.specs.declared.bounded.StoredData.TheVariants as kept
+use Rattle.call_types.specs.declared.part.Part.{Part}
+use Rattle.call_types.specs.declared.part.Part.TheVariants as parts
+
+-- the bytes that are gathered
+abbrev pub gathered_bytes : Gathering → List ℕ
+gathered_bytes (gathering.Few few) = few
+gathered_bytes (gathering.Many many) = many.items
+
+-- the bytes of a name
+abbrev pub stored_name : StoredName → List ℕ
+stored_name (names.Few few) = few
+stored_name (names.Many many) = (arc_value many).items
+
+-- the bytes of data
+abbrev pub stored_bytes : StoredData → List ℕ
+stored_bytes (kept.Few few) = few
+stored_bytes (kept.Same byte count) = replicate count byte
+stored_bytes (kept.Many many) = (arc_value many).items
+
+-- the bytes of a part
+abbrev pub part_bytes : Part → List ℕ
+part_bytes (parts.Slice bytes) = bytes.now
+part_bytes (parts.Same byte count) = replicate count byte

@@ -1,0 +1,113 @@
+-- A run of a script as it is read: what was read so far was run, and its lines are gathered.
+use Rattle.std.proofs.Common.{◌≡◌, ℕ, List, [], ◌∷◌, ◌++◌, Option, None, Some, Result, Ok, Err, refl, ◌∙◌, ap, sym, subst}
+use Rattle.std.specs.Prelude.{IfSome}
+use Rattle.std.proofs.lemmas.List.{append_assoc, append-nil}
+use Rattle.std.proofs.lemmas.Grind.{flat_map-append}
+use Rattle.call_types.specs.declared.act.ScriptAct.{ScriptAct}
+use Rattle.call_types.specs.declared.limits.Limits.{Limits}
+use Rattle.script_text.specs.ReadingScripts.{script, followed}
+use Rattle.script_text.specs.ReadingResults.{ScriptFails, NextGives}
+use Rattle.script_text.specs.declared.fault.ScriptFault.{ScriptFault}
+use Rattle.record_book.specs.Book.{BookState, new_book}
+use Rattle.record_book.specs.Runs.{RunTells, Seats}
+use Rattle.record_book.specs.declared.run.Told.{Told}
+use Rattle.script_text.specs.Spellings.{SpellsScript}
+use Rattle.script_text.specs.declared.fault.ScriptFault.TheVariants as faults
+use Rattle.posix_model.specs.History.{legal}
+use Rattle.fdref.specs.Output.{last_line, told_line, told_lines}
+use Rattle.fdref.specs.Replay.{RunsNext, RunsScript, FailsAs, Refuses, Ends}
+use Rattle.fdref.specs.declared.ended.Ended.{Ended}
+
+-- the acts that were read were run in a new book, and lines are those of what was told; read is what the rest is read as
+pub record RunSoFar (limits : Limits) (text : List ℕ) (read : Result (List ScriptAct) ScriptFault) (book : BookState) (seats : Seats) (lines : List ℕ) : Type 0 where
+  pub acts : List ScriptAct
+  pub told : List Told
+  pub is_read : script text ≡ followed acts read
+  pub runs : RunTells (new_book limits) book [] seats acts told
+  pub lines_are : lines ≡ told_lines told
+  pub limits_are : book.limits ≡ limits
+
+-- nothing goes before
+followed_none : (read : Result (List ScriptAct) ScriptFault) → followed [] read ≡ read
+followed_none (Ok acts) = refl
+followed_none (Err fault) = refl
+
+-- acts that follow others
+followed_on : (acts next : List ScriptAct) (read : Result (List ScriptAct) ScriptFault) → followed acts (followed next read) ≡ followed (acts ++ next) read
+followed_on acts next (Ok others) = ap (λ l. Ok l) (sym (append_assoc acts next others))
+followed_on acts next (Err fault) = refl
+
+-- one line more
+lines_next : (told : List Told) (one : Told) → told_lines (told ++ one ∷ []) ≡ told_lines told ++ told_line one
+lines_next told one = flat_map-append told_line told (one ∷ []) ∙ ap (λ l. told_lines told ++ l) (append-nil (told_line one))
+
+-- at first nothing was read
+pub run_begins : (limits : Limits) (text : List ℕ) (read : Result (List ScriptAct) ScriptFault) (book : BookState) (seats : Seats) (lines : List ℕ)
+    → read ≡ script text → book ≡ new_book limits → seats ≡ [] → lines ≡ [] → RunSoFar limits text read book seats lines
+run_begins limits text read book seats lines is_read new empty none = record {
+  acts = [];
+  told = [];
+  is_read = sym is_read ∙ sym (followed_none read);
+  runs = (refl, record { book = new; seats_are = empty });
+  lines_are = none;
+  limits_are = ap (λ b. b.limits) new;
+}
+
+-- one act more was read and run
+pub run_goes_on : (limits : Limits) (text : List ℕ) (read rest : Result (List ScriptAct) ScriptFault) (book new : BookState) (seats after : Seats) (lines more : List ℕ) (act : ScriptAct)
+    → RunSoFar limits text read book seats lines → read ≡ followed (act ∷ []) rest → RunsNext book new seats after act lines more → RunSoFar limits text rest new after more
+run_goes_on limits text read rest book new seats after lines more act so_far is_next next = record {
+  acts = so_far.acts ++ act ∷ [];
+  told = so_far.told ++ next.told ∷ [];
+  is_read = so_far.is_read ∙ ap (followed so_far.acts) is_next ∙ followed_on so_far.acts (act ∷ []) rest;
+  runs = next.goes_on (new_book limits) [] so_far.acts so_far.told so_far.runs;
+  lines_are = next.lines_are ∙ ap (λ l. l ++ told_line next.told) so_far.lines_are ∙ sym (lines_next so_far.told next.told);
+  limits_are = next.limits_are ∙ so_far.limits_are;
+}
+
+-- a fault of the rest is one of the text
+pub fails_so_far : (limits : Limits) (text : List ℕ) (read : Result (List ScriptAct) ScriptFault) (book : BookState) (seats : Seats) (lines : List ℕ) (fault : ScriptFault)
+    → RunSoFar limits text read book seats lines → ScriptFails fault read → ScriptFails fault (script text)
+fails_so_far limits text read book seats lines faults.NoMemory so_far fails = tt
+fails_so_far limits text read book seats lines (faults.BadLine line column) so_far fails = so_far.is_read ∙ ap (followed so_far.acts) fails
+fails_so_far limits text read book seats lines faults.TooLong so_far fails = so_far.is_read ∙ ap (followed so_far.acts) fails
+
+-- no act was read, so none is left
+pub nothing_left : (read rest : Result (List ScriptAct) ScriptFault) (next : Option ScriptAct) → ((act : ScriptAct) → next ≡ Some act → ⊥) → NextGives read rest (Ok next) → read ≡ Ok []
+nothing_left read rest None none gives = gives
+nothing_left read rest (Some act) none gives = absurd (none act refl)
+
+-- at the end all acts were run, and the lines with that of the totals are their output
+pub run_ends : (limits : Limits) (text : List ℕ) (read : Result (List ScriptAct) ScriptFault) (book : BookState) (seats : Seats) (lines output : List ℕ)
+    → RunSoFar limits text read book seats lines → read ≡ Ok [] → legal book.limits.bounds book.history → output ≡ lines ++ last_line book → RunsScript limits text output
+run_ends limits text read book seats lines output so_far done sound is = (
+  so_far.acts,
+  so_far.is_read ∙ ap (followed so_far.acts) done ∙ ap (λ l. Ok l) (append-nil so_far.acts),
+  record {
+    told = so_far.told;
+    book = book;
+    seats = seats;
+    runs = so_far.runs;
+    is_legal = subst (λ l. legal l.bounds book.history) so_far.limits_are sound;
+    output_is = is ∙ ap (λ l. l ++ last_line book) so_far.lines_are;
+  },
+)
+
+-- ---- what is said of it
+
+-- an input that is read with a fault spells no acts
+refused : (input : Option (List ℕ)) (fault : ScriptFault) (text : List ℕ)
+    → ((acts : List ScriptAct) (other : List ℕ) → SpellsScript acts other → script other ≡ Ok acts) → IfSome input (λ known. script text ≡ script known)
+    → script text ≡ Err fault → IfSome input (Refuses fault)
+refused None fault text spelled same fails = tt
+refused (Some known) fault text spelled same fails =
+    let is : script known ≡ Err fault = sym same ∙ fails in
+    record { unspelled = λ acts spells. let e : script known ≡ Ok acts = spelled acts known spells in cc; fault_is = is }
+
+-- a run that was not made has written nothing
+pub fails_ends : (limits : Limits) (input old : Option (List ℕ)) (text : List ℕ) (end : Ended)
+    → ((acts : List ScriptAct) (other : List ℕ) → SpellsScript acts other → script other ≡ Ok acts) → IfSome input (λ known. script text ≡ script known)
+    → FailsAs text end → Ends limits input old old end
+fails_ends limits input old text end spelled same (faults.NoMemory, is, fails) = subst (Ends limits input old old) (sym is) refl
+fails_ends limits input old text end spelled same (faults.TooLong, is, fails) = subst (Ends limits input old old) (sym is) (refused input faults.TooLong text spelled same fails, refl)
+fails_ends limits input old text end spelled same (faults.BadLine line column, is, fails) = subst (Ends limits input old old) (sym is) (refused input (faults.BadLine line column) text spelled same fails, refl)
