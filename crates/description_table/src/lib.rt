@@ -123,6 +123,7 @@ impl DescriptionTable {
     pub fn reserve(&mut self) -> Result<(), AllocError>
         ensures slots { self.new.0 ≡ self.old.0 }
         ensures room { OnOk result (0 < self.new.1) }
+        ensures kept { self.old.1 ≤ self.new.1 }
     {
         self.descriptions.reserve()
     }
@@ -131,6 +132,7 @@ impl DescriptionTable {
     pub fn reserve_two(&mut self) -> Result<(), AllocError>
         ensures slots { self.new.0 ≡ self.old.0 }
         ensures room { OnOk result (2 ≤ self.new.1) }
+        ensures kept { self.old.1 ≤ self.new.1 }
     {
         self.descriptions.reserve_more(2)
     }

@@ -1,4 +1,4 @@
-use Rattle.std.proofs.Common.{◌≡◌, ℕ, zero, suc, ◌∙◌, true, false, cond, List, [], ◌∷◌, Option, None, Some, set, refl, ap, sym}
+use Rattle.std.proofs.Common.{◌≡◌, ℕ, zero, suc, ◌≤◌, ◌∙◌, true, false, cond, List, [], ◌∷◌, Option, None, Some, set, refl, ap, sym, arith}
 use Rattle.std.specs.Prelude.{slice_index, is_some}
 use Rattle.std.specs.Option.{option_map}
 use Rattle.std.proofs.lemmas.List.{map-set}
@@ -13,7 +13,7 @@ use Rattle.machine_state.specs.Types.{Description, File, Used, FileBody, StoredF
 use Rattle.posix_model.specs.declared.world.File.TheVariants as file
 use Rattle.slots.specs.Uses.{value_at, values_in, with_value}
 use Rattle.machine_state.specs.declared.stored_file.FileBody.TheVariants as body
-use Rattle.machine_state.specs.Files.{file_in, room_in, edited_body, edited_bytes, file_slot, file_slots, room_slot, room_slots}
+use Rattle.machine_state.specs.Files.{file_in, room_in, edited_body, edited_bytes, file_slot, file_slots, room_slot, used_room, room_slots}
 use Rattle.machine_state.proofs.SlotLaws.{slot_set, is_itself}
 use Rattle.machine_state.proofs.UseLaws.{slot_values, there_values, values_edited}
 
@@ -37,6 +37,23 @@ module _ (xs : Files) (n : ℕ) where
 
   pub bytes_gone : slot xs n ≡ None → file_bytes (slot (file_slots (values_in xs)) n) ≡ []
   bytes_gone is = ap file_bytes (slot_files (values_in xs) n ∙ ap file_slot (slot_values xs n ∙ ap value_at is))
+
+-- a slot of which the room is no less than this
+room_grows : (room : ℕ) (x : Option StoredFile) → room_slot x ≤ room → room_slot x ≤ room_slot (option_map (edited_bytes (λ bytes. bytes) room) x)
+room_grows room None more = omega arith
+room_grows room (Some stored) more = by_body stored.body more
+  where
+    by_body : (b : FileBody) → room_in b ≤ room → room_in b ≤ room_in (edited_body (λ bytes. bytes) room b)
+    by_body (body.Regular bytes) more = more
+    by_body (body.Fifo fifo) more = omega arith
+
+rooms_grow : (room : ℕ) (states : List (Option StoredFile)) (n : ℕ) → room_slot (slot states n) ≤ room → (k : ℕ) →
+    slice_index (room_slots states) k ≤ slice_index (room_slots (edited n (edited_bytes (λ bytes. bytes) room) states)) k
+rooms_grow room [] n more k = omega arith
+rooms_grow room (x ∷ states) zero more zero = room_grows room x more
+rooms_grow room (x ∷ states) zero more (suc k) = omega arith
+rooms_grow room (x ∷ states) (suc n) more zero = omega arith
+rooms_grow room (x ∷ states) (suc n) more (suc k) = rooms_grow room states n more k
 
 -- what stands at a number, as the file of the world
 pub stands : (xs : Files) (n : ℕ) (used : Used StoredFile) → slot xs n ≡ Some used → slot (file_slots (values_in xs)) n ≡ Some (file_in used.value.body)
@@ -111,6 +128,11 @@ module _ (xs : Files) (n : ℕ) where
           let regular : is_regular_file (Some (file_in used.value.body)) ≡ true = ap is_regular_file (sym (stands xs n used is)) ∙ there in
           room_there (edited n edit xs) n (edit used) (ap (λ ys. slot ys n) written ∙ (slot_set xs n used (Some (edit used)) n is ∙ ap (λ b. cond b (Some (edit used)) (slot xs n)) (is_itself n))) ∙
           room_edited (λ bytes. bytes) room used.value.body regular
+
+  -- where its room is no less, no file has less
+  pub rooms_kept : (room : ℕ) → used_room (slot xs n) ≤ room → (k : ℕ) →
+      slice_index (room_slots (values_in xs)) k ≤ slice_index (room_slots (values_in (edited n (with_value (edited_bytes (λ bytes. bytes) room)) xs))) k
+  rooms_kept room more k = rw (values_edited xs n (edited_bytes (λ bytes. bytes) room)) (rooms_grow room (values_in xs) n (rw (slot_values xs n) more) k)
 
   -- a file has other bytes
   pub files_written : (edit : List ℕ → List ℕ) (room : ℕ) → is_regular_file (slot (file_slots (values_in xs)) n) ≡ true →

@@ -1,7 +1,7 @@
 -- The files of a machine.
 use Rattle.std.specs.Prelude.{ℕ, ◌+◌, ◌-◌, ◌==◌, List, Option, None, Some, map, if◌then◌else◌}
 use Rattle.slots.specs.Slots.{edited}
-use Rattle.slots.specs.Uses.{with_value}
+use Rattle.slots.specs.Uses.{value_at, with_value}
 use Rattle.posix_model.specs.Pipes.{opened_once}
 use Rattle.machine_state.specs.Types.{File, Fifo, Mode, Target, Used, FileBody, StoredFile}
 use Rattle.posix_model.specs.declared.world.File.TheVariants as file
@@ -78,6 +78,10 @@ file_slots slots = map file_slot slots
 abbrev pub room_slot : Option StoredFile → ℕ
 room_slot None = 0
 room_slot (Some stored) = room_in stored.body
+
+-- the same where uses are counted
+abbrev pub used_room : Option (Used StoredFile) → ℕ
+used_room x = room_slot (value_at x)
 
 -- the same for each slot
 abbrev pub room_slots : List (Option StoredFile) → List ℕ

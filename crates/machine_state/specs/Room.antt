@@ -42,6 +42,16 @@ pub record HasRoom (m : Held) (c : Change) : Type 0 where
   pub process : HasProcessRoom m.room.processes c.process
   pub table : HasTableRoom m c.table
 
+-- no room is less than it was, and a pipe holds as many bytes
+pub record KeepsRoom (old new : Room) : Type 0 where
+  pub files : old.files ≤ new.files
+  pub pipes : old.pipes ≤ new.pipes
+  pub descriptions : old.descriptions ≤ new.descriptions
+  pub processes : old.processes ≤ new.processes
+  pub names : old.names ≤ new.names
+  pub bytes : (file : ℕ) → slice_index old.bytes file ≤ slice_index new.bytes file
+  pub capacity : new.capacity ≡ old.capacity
+
 -- descriptions and pipes have the room that they had, and a pipe holds as many bytes
 pub record KeepsOpenRoom (old new : Held) : Type 0 where
   pub descriptions : new.room.descriptions ≡ old.room.descriptions

@@ -43,6 +43,7 @@ impl FileBytes {
     pub(crate) fn reserve(&mut self, len: usize) -> Result<(), AllocError>
         ensures bytes { self.new.bytes ≡ self.old.bytes }
         ensures room { OnOk result (len ≤ self.new.room) }
+        ensures kept { self.old.room ≤ self.new.room }
     {
         if len > self.bytes.len() {
             self.bytes.reserve(len - self.bytes.len())?;

@@ -10,7 +10,7 @@ ghost use Rattle.posix_model.specs.Descriptors.{bytes_of};
 ghost use Rattle.posix_model.specs.Change.{with_bytes, created};
 ghost use Rattle.posix_model.specs.Pipes.{fifo_at, pipe_of_fifo};
 ghost use Rattle.machine_state.specs.Files.{file_in};
-ghost use Rattle.machine_state.specs.Room.{KeepsTableRoom};
+ghost use Rattle.machine_state.specs.Room.{KeepsRoom, KeepsTableRoom};
 
 use crate::machine::Machine;
 use crate::stored_file::{FileBody, StoredFile};
@@ -28,6 +28,7 @@ impl Machine {
         ensures world { self.new.world ≡ self.old.world }
         ensures room { OnOk result (len ≤ slice_index self.new.room.bytes file) }
         ensures tables { KeepsTableRoom self.old self.new }
+        ensures kept { KeepsRoom self.old.room self.new.room }
     {
         reserve_bytes(&mut self.files, file, len)
     }

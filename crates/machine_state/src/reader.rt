@@ -20,14 +20,12 @@ impl Reader for Machine {
 
     fn opened_at(&self, process: usize, fd: usize) -> Option<OpenDescriptor> {
         let number = self.processes.descriptor(process, fd)?;
-        match self.descriptions.get(number) {
-            Some(description) => Some(OpenDescriptor {
-                fd,
-                number,
-                description: *description,
-            }),
-            None => None,
-        }
+        let description = *self.descriptions.get(number)?;
+        Some(OpenDescriptor {
+            fd,
+            number,
+            description,
+        })
     }
 
     fn lowest_free(&self, process: usize) -> Option<usize> {

@@ -1,6 +1,6 @@
 ghost use Rattle.std.specs.Prelude.{◌≡◌, ℕ, ◌<◌, ◌≤◌, List, OnOk};
 ghost use Rattle.posix_model.specs.Fits.{FilesFit, FilesProper, IsProper};
-ghost use Rattle.machine_state.specs.Room.{HasEndRoom, HasFileRoom, HasProcessRoom, HasTableRoom, HasRoom, KeepsOpenRoom, KeepsTableRoom};
+ghost use Rattle.machine_state.specs.Room.{HasEndRoom, HasFileRoom, HasProcessRoom, HasTableRoom, HasRoom, KeepsRoom, KeepsOpenRoom, KeepsTableRoom};
 
 use crate::descriptors::pipe_of_fifo;
 use crate::machine::Machine;
@@ -16,7 +16,7 @@ impl Machine {
     fn reserve_pipe(&mut self) -> Result<(), AllocError>
         ensures world { self.new.world ≡ self.old.world }
         ensures room { OnOk result (0 < self.new.room.pipes) }
-        ensures capacity { self.new.room.capacity ≡ self.old.room.capacity }
+        ensures kept { KeepsRoom self.old.room self.new.room }
     {
         if self.spare.is_none() {
             self.spare = Some(PipeRing::new(self.alloc, self.capacity)?);
@@ -29,7 +29,7 @@ impl Machine {
         ensures world { self.new.world ≡ self.old.world }
         ensures room { OnOk result (0 < self.new.room.descriptions) }
         ensures pipes { self.new.room.pipes ≡ self.old.room.pipes }
-        ensures capacity { self.new.room.capacity ≡ self.old.room.capacity }
+        ensures kept { KeepsRoom self.old.room self.new.room }
     {
         self.descriptions.reserve()
     }
@@ -38,7 +38,7 @@ impl Machine {
     fn reserve_pair(&mut self) -> Result<(), AllocError>
         ensures world { self.new.world ≡ self.old.world }
         ensures room { OnOk result ((2 ≤ self.new.room.descriptions) × (0 < self.new.room.pipes)) }
-        ensures capacity { self.new.room.capacity ≡ self.old.room.capacity }
+        ensures kept { KeepsRoom self.old.room self.new.room }
     {
         self.reserve_pipe()?;
         self.descriptions.reserve_two()
@@ -48,7 +48,7 @@ impl Machine {
     fn reserve_end(&mut self, file: usize, mode: Mode) -> Result<(), AllocError>
         ensures world { self.new.world ≡ self.old.world }
         ensures room { OnOk result (HasEndRoom self.new file mode) }
-        ensures capacity { self.new.room.capacity ≡ self.old.room.capacity }
+        ensures kept { KeepsRoom self.old.room self.new.room }
     {
         let fifo = fifo_of(&self.files, file);
         if openings(mode, fifo) == u64::MAX {
@@ -64,7 +64,7 @@ impl Machine {
     fn reserve_table(&mut self, edit: &TableEdit) -> Result<(), AllocError>
         ensures world { self.new.world ≡ self.old.world }
         ensures room { OnOk result (HasTableRoom self.new edit.now) }
-        ensures capacity { self.new.room.capacity ≡ self.old.room.capacity }
+        ensures kept { KeepsRoom self.old.room self.new.room }
     {
         match edit {
             TableEdit::Open { .. } => self.reserve_description(),
@@ -83,6 +83,7 @@ impl Machine {
         ensures world { self.new.world ≡ self.old.world }
         ensures room { OnOk result (HasProcessRoom self.new.room.processes edit.now) }
         ensures tables { KeepsOpenRoom self.old self.new }
+        ensures kept { KeepsRoom self.old.room self.new.room }
     {
         match edit {
             ProcessEdit::Add { .. } => self.processes.reserve(),
@@ -103,6 +104,7 @@ impl Machine {
         ensures world { self.new.world ≡ self.old.world }
         ensures room { OnOk result (HasFileRoom self.new.room edit.now) }
         ensures tables { KeepsTableRoom self.old self.new }
+        ensures kept { KeepsRoom self.old.room self.new.room }
     {
         match edit {
             FileEdit::Nothing => Ok(()),
@@ -117,12 +119,14 @@ impl Machine {
         }
     }
 
-    /// Makes the room of a change; an error says that memory or numbers ran out. On an error as on success the world stays.
+    /// Makes the room of a change; an error says that memory or numbers ran out. On an error as on success the world stays, and no
+    /// room is less than it was.
     pub fn reserve_for(&mut self, change: &Change) -> Result<(), AllocError>
         requires fits { FilesFit self.old.world change.now.files }
         requires proper { (bytes : List ℕ) × IsProper self.old.world bytes change.now }
         ensures world { self.new.world ≡ self.old.world }
         ensures room { OnOk result (HasRoom self.new change.now) }
+        ensures kept { KeepsRoom self.old.room self.new.room }
         ensures capacity { self.new.room.capacity ≡ self.old.room.capacity }
     {
         self.reserve_table(&change.table)?;

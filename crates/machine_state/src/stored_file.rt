@@ -119,7 +119,7 @@ impl StoredFile {
 
     /// Makes room for `len` bytes in all in a regular file. An error says that memory ran out.
     pub(crate) fn reserve(&mut self, len: usize) -> Result<(), AllocError>
-        ensures { (room : ℕ) × (self.new ≡ edited_bytes (λ bytes. bytes) room self.old) × OnOk result (len ≤ room) }
+        ensures { (room : ℕ) × (self.new ≡ edited_bytes (λ bytes. bytes) room self.old) × OnOk result (len ≤ room) × (room_in self.old.body ≤ room) }
     {
         match &mut self.body {
             FileBody::Regular(bytes) => bytes.reserve(len),

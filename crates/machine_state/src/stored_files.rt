@@ -9,7 +9,7 @@ ghost use Rattle.posix_model.specs.Descriptors.{file_bytes};
 ghost use Rattle.posix_model.specs.Pipes.{fifo_at};
 ghost use Rattle.machine_state.specs.Uses.{with_use, without_use};
 ghost use Rattle.machine_state.specs.Targets.{file_of_target};
-ghost use Rattle.machine_state.specs.Files.{edited_bytes, opened_stored, forgotten, openings, named, unnamed, file_slots, room_slots, links_at};
+ghost use Rattle.machine_state.specs.Files.{edited_bytes, opened_stored, forgotten, openings, named, unnamed, file_slots, room_slots, links_at, used_room};
 
 use crate::stored_file::StoredFile;
 use call_types::description::{Mode, Target};
@@ -56,7 +56,8 @@ pub(crate) fn reserve_bytes(
     len: usize,
 ) -> Result<(), AllocError>
     requires { is_some (slot files.old.0 number) ≡ true }
-    ensures { (room : ℕ) × (files.new.0 ≡ edited number (with_value (edited_bytes (λ bytes. bytes) room)) files.old.0) × OnOk result (len ≤ room) }
+    ensures room { files.new.1 ≡ files.old.1 }
+    ensures bytes { (room : ℕ) × (files.new.0 ≡ edited number (with_value (edited_bytes (λ bytes. bytes) room)) files.old.0) × OnOk result (len ≤ room) × (used_room (slot files.old.0 number) ≤ room) }
 {
     files.value_mut(number).value.reserve(len)
 }

@@ -2,7 +2,7 @@
 #![tactic(auto)]
 
 ghost use Rattle.std.specs.Prelude.{◌≡◌, ◌+◌, ◌≤◌, ◌<◌, ◌==◌, ℕ, [], None, length, count_by, if◌then◌else◌, IfSome, OnOk};
-ghost use Rattle.std.specs.Ordering.{nat_cmp, is_eq};
+ghost use Rattle.std.specs.Ordering.{nat_cmp, is_eq, is_gt};
 ghost use Rattle.std.specs.Cmp.Lexicographic.{slice_cmp};
 ghost use Rattle.call_types.specs.Names.{file_of, with_name, without_name};
 ghost use Rattle.name_table.specs.Places.{rank_of, IsPlaceOf};
@@ -15,7 +15,20 @@ use std::marker::Model;
 fn is_name_of(entry: &(Name, usize), name: &[u8]) -> bool
     ensures { result ≡ is_eq (slice_cmp nat_cmp name.now entry.now.0) }
 {
-    name.cmp(&entry.0.as_slice()).is_eq()
+    name == entry.0.as_slice()
+}
+
+/// Whether a name stands after another, in the order of their bytes. Names are short and differ early, so they are read byte by byte.
+fn is_after(name: &[u8], other: &[u8]) -> bool
+    ensures { result ≡ is_gt (slice_cmp nat_cmp name.now other.now) }
+{
+    let both = name.len().min(other.len());
+    for at in 0..both {
+        if name[at] != other[at] {
+            return name[at] > other[at];
+        }
+    }
+    name.len() > other.len()
 }
 
 /// Names, each with the number of a file, and room for more. Contracts see the entries in the order of their names' bytes,
@@ -67,7 +80,7 @@ impl NameTable {
         ensures within { result ≤ length self.now.0 }
     {
         self.entries
-            .partition_point(|entry| name.cmp(&entry.0.as_slice()).is_gt())
+            .partition_point(|entry| is_after(name, entry.0.as_slice()))
     }
 
     /// Where a name stands, if it is there.
@@ -97,6 +110,7 @@ impl NameTable {
     pub fn reserve(&mut self) -> Result<(), AllocError>
         ensures entries { self.new.0 ≡ self.old.0 }
         ensures room { OnOk result (0 < self.new.1) }
+        ensures kept { self.old.1 ≤ self.new.1 }
     {
         self.entries.reserve(1)
     }

@@ -131,6 +131,7 @@ impl ProcessTable {
     pub fn reserve(&mut self) -> Result<(), AllocError>
         ensures slots { self.new.0 ≡ self.old.0 }
         ensures room { OnOk result (0 < self.new.1) }
+        ensures kept { self.old.1 ≤ self.new.1 }
     {
         self.processes.reserve()
     }

@@ -103,6 +103,7 @@ impl<T> Numbered<T> {
     pub fn reserve(&mut self) -> Result<(), AllocError>
         ensures slots { self.new.0 ≡ self.old.0 }
         ensures room { OnOk result (0 < self.new.1) }
+        ensures kept { self.old.1 ≤ self.new.1 }
     {
         if self.next == usize::MAX {
             return Err(AllocError);
@@ -114,6 +115,7 @@ impl<T> Numbered<T> {
     pub fn reserve_more(&mut self, count: usize) -> Result<(), AllocError>
         ensures slots { self.new.0 ≡ self.old.0 }
         ensures room { OnOk result (count ≤ self.new.1) }
+        ensures kept { self.old.1 ≤ self.new.1 }
     {
         if usize::MAX - self.next < count {
             return Err(AllocError);
