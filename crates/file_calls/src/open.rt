@@ -5,12 +5,12 @@ ghost use Rattle.posix_model.specs.Pages.{first_fault, decided_by};
 ghost use Rattle.posix_model.specs.Pipes.{fifo_at};
 ghost use Rattle.posix_model.specs.Open.{found_fifo, is_both, is_unread, found_faults, room_faults, open_faults, opens, emptied, open_there, open_found, open_file};
 
-use crate::opening::{flag_fault, name_fault};
+use crate::opening::{flag_fault, name_fault, names_full};
 use call_types::bounded::Name;
 use call_types::description::{Description, Mode, Target};
 use call_types::errno::Errno;
 use call_types::flags::OpenFlags;
-use call_types::limits::{DESCRIPTIONS_MAX, NAMES_MAX};
+use call_types::limits::DESCRIPTIONS_MAX;
 use call_types::outcome::Reply;
 use pipe_calls::open_end::{decide_open_end, is_met};
 use pipe_calls::opening::{free_descriptor, new_description};
@@ -80,7 +80,7 @@ fn room_fault<R: Reader>(state: &R, process: usize, found: Option<usize>) -> Opt
     if state.live_descriptions() >= DESCRIPTIONS_MAX {
         return Some(Errno::ENFILE);
     }
-    if found.is_none() && state.name_count() >= NAMES_MAX {
+    if found.is_none() && names_full(state) {
         return Some(Errno::ENOSPC);
     }
     None

@@ -1,11 +1,12 @@
 ghost use Rattle.std.specs.Prelude.{◌≡◌};
 ghost use Rattle.std.specs.List.{list_all};
 ghost use Rattle.posix_model.specs.Pages.{first_fault};
-ghost use Rattle.posix_model.specs.Open.{is_name_byte, is_dots, name_faults, flag_faults};
+ghost use Rattle.posix_model.specs.Open.{is_name_byte, is_dots, name_faults, flag_faults, names_full};
 
 use call_types::errno::Errno;
 use call_types::flags::OpenFlags;
-use call_types::limits::NAME_MAX;
+use call_types::limits::{NAME_MAX, NAMES_MAX};
+use posix_model::reader::Reader;
 
 /// Whether a byte may stand in a name (XBD 3, Portable Filename Character Set).
 fn is_name_byte(byte: u8) -> bool
@@ -42,6 +43,13 @@ pub fn name_fault(name: &[u8]) -> Option<Errno>
         return Some(Errno::EINVAL);
     }
     None
+}
+
+/// Whether there may be no further name.
+pub fn names_full<R: Reader>(state: &R) -> bool
+    ensures { result ≡ names_full (R.world state.now) }
+{
+    state.name_count() >= NAMES_MAX
 }
 
 /// The first refusal of flags: EINVAL of those that the standard leaves undefined.

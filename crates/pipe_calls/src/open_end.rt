@@ -17,13 +17,15 @@ use process_table::kept_call::KeptCall;
 use process_table::process::Parked;
 use std::alloc::{AllocError, Global};
 
-/// Whether an end of a pipe opposite to one of this mode is open.
+/// Whether an end of a pipe opposite to one of this mode is open. One for reading and writing has none: an open of a FIFO for
+/// both is refused.
 pub(crate) fn has_opposite<R: Reader>(state: &R, mode: Mode, pipe: usize) -> bool
     ensures { result ≡ has_opposite (R.world state.now) mode pipe }
 {
     match mode {
         Mode::Read => state.has_writer(pipe),
-        Mode::Write | Mode::ReadWrite => state.has_reader(pipe),
+        Mode::Write => state.has_reader(pipe),
+        Mode::ReadWrite => false,
     }
 }
 
@@ -45,7 +47,8 @@ pub(crate) fn opposite_openings(mode: Mode, fifo: Option<Fifo>) -> u64
         None => 0,
         Some(fifo) => match mode {
             Mode::Read => fifo.writer_openings,
-            Mode::Write | Mode::ReadWrite => fifo.reader_openings,
+            Mode::Write => fifo.reader_openings,
+            Mode::ReadWrite => 0,
         },
     }
 }

@@ -1,4 +1,4 @@
-ghost use Rattle.std.specs.Prelude.{◌≡◌, ◌≤◌, false, length, IfOk, OnErr};
+ghost use Rattle.std.specs.Prelude.{◌≡◌, ◌≤◌, false, IfOk, OnErr};
 ghost use Rattle.process_table.specs.Waits.{AsksFew};
 ghost use Rattle.posix_model.specs.Pipes.{room_in};
 ghost use Rattle.posix_model.specs.Tries.{broken, write_try};
@@ -90,8 +90,7 @@ pub fn decide_write_end<R: Reader>(
     descriptor: OpenDescriptor,
     pipe: usize,
 ) -> Result<Decided, AllocError>
-    requires few { length bytes.now ≤ GIVEN_BYTES_MAX }
-    requires kept { AsksFew call.now }
+    requires { AsksFew call.now }
     ensures effect { IfOk result (λ d. d ≡ write_end bounds (R.world state.now) process call.now bytes.now descriptor pipe) }
     ensures needed { OnErr result (is_refusal (write_end bounds (R.world state.now) process call.now bytes.now descriptor pipe) ≡ false) }
 {

@@ -1,5 +1,5 @@
 -- What calls on an open descriptor do.
-use Rattle.std.proofs.Common.{rules, ◌≡◌, ◌≢◌, ℕ, zero, suc, ◌+◌, ℤ, pos, negsuc, nat_abs, ◌+ℤ◌, ◌∙◌, Bool, true, false, cond, List, [], ◌∷◌, ◌++◌, Option, None, Some, length, set, take, refl, ap, sym, subst, append-nil, arith, eqb}
+use Rattle.std.proofs.Common.{rules, ◌≡◌, ◌≢◌, ℕ, zero, suc, ◌+◌, ℤ, pos, negsuc, nat_abs, ◌+ℤ◌, ◌∙◌, ◌-◌, ◌&&◌, ◌⊎◌, inl, inr, Bool, true, false, not, cond, List, [], ◌∷◌, ◌++◌, Option, None, Some, length, set, take, refl, ap, sym, subst, append-nil, arith, eqb, leb}
 use Rattle.std.proofs.Math.Dec.{eqb-suc-zero}
 use Rattle.std.proofs.Math.Seq.{take-nil}
 use Rattle.std.proofs.Math.IntN.{+ℤ_idl}
@@ -11,15 +11,15 @@ use Rattle.call_types.specs.declared.call.Call.TheVariants as call
 use Rattle.call_types.specs.declared.whence.Whence.{Whence}
 use Rattle.call_types.specs.declared.whence.Whence.TheVariants.{Set, Cur, End}
 use Rattle.posix_model.specs.Bytes.{splice, resized, bytes_at}
-use Rattle.slots.specs.Slots.{slot}
-use Rattle.posix_model.specs.Positions.{bytes_before, regular_file, file_at}
-use Rattle.call_types.specs.Descriptions.{at_offset}
+use Rattle.slots.specs.Slots.{slot, edited}
+use Rattle.posix_model.specs.Positions.{bytes_before, regular_file, is_regular, file_at}
+use Rattle.call_types.specs.Descriptions.{at_offset, can_read, can_write}
 use Rattle.posix_model.specs.Descriptors.{opened, opened_number, opened_description, file_bytes, bytes_of}
 use Rattle.posix_model.specs.Change.{with_files, changed}
 use Rattle.posix_model.specs.Whole.{is_regular_file}
 use Rattle.posix_model.specs.Pages.{first_fault, tells, does, on_open}
 use Rattle.posix_model.specs.Read.{gives, read_from, read}
-use Rattle.posix_model.specs.Write.{fitting, puts, write_start, write_to, write}
+use Rattle.posix_model.specs.Write.{is_past_limit, fitting, puts, write_start, write_to, write}
 use Rattle.posix_model.specs.Pread.{pread}
 use Rattle.posix_model.specs.Pwrite.{pwrite}
 use Rattle.posix_model.specs.Lseek.{base_of, lseek_faults, lseek}
@@ -28,12 +28,14 @@ use Rattle.posix_model.specs.Step.{given, decided}
 use Rattle.posix_model.specs.Sound.{opens_fifo, CallsAreSound, ActsAreSound}
 use Rattle.posix_model.specs.Pipes.{pipe_at}
 use Rattle.posix_model.specs.Types.{Data}
-use Rattle.plain_world.specs.Types.{Errno, Bounds, World, File, Target, OpenDescriptor, TableEdit, Decided, Replied, Number, Done}
+use Rattle.plain_world.specs.Types.{Errno, Bounds, World, File, Target, OpenDescriptor, TableEdit, Decided, EBADF, EINVAL, EFBIG, Replied, Number, Done}
 use Rattle.posix_model.specs.declared.world.File.TheVariants as file
 use Rattle.call_types.specs.declared.description.Target.TheVariants as target
 use Rattle.posix_model.specs.declared.change.FileEdit.TheVariants as on_files
 use Rattle.posix_model.specs.declared.change.TableEdit.TheVariants as on_table
-use Rattle.plain_world.specs.FileLaws.{OpenOn, WritePuts, PwritePuts, WriteAppends, IsRead, ReadGives, PreadGives, ReadMoves, SeekTells, PreadKeepsWorld, NothingRead, NothingWritten, NothingPwritten, PwriteKeepsOffsets, with_append, with_appending, PwriteSameUnderAppend, OwnFileAlone, FilesStay, PipesStay, ActsLeaveFiles, ActsLeavePipes, FtruncateLeavesResized, FtruncateKeepsOffsets}
+use Rattle.plain_world.specs.FileLaws.{OpenOn, WritePuts, PwritePuts, WriteMoves, WriteTakesAll, WriteAppends, IsRead, ReadGives, PreadGives, ReadMoves, SeekTells, SeekMoves, PreadKeepsWorld, NothingRead, NothingWritten, NothingPwritten, PwriteKeepsOffsets, with_append, with_appending, PwriteSameUnderAppend, OwnFileAlone, FilesStay, PipesStay, ActsLeaveFiles, ActsLeavePipes, FtruncateLeavesResized, FtruncateKeepsOffsets}
+use Rattle.plain_world.specs.Calls.{IsNoError}
+use Rattle.plain_world.specs.DescriptorLaws.{AccessIsNeeded}
 use Rattle.plain_world.proofs.PageLemmas.{on_open_has, opened_has, if_has}
 use Rattle.plain_world.proofs.ChangeLemmas.{files_after_table, same_files, files_same, pipes_same}
 use Rattle.plain_world.proofs.BytesLaws.{added_at_end, is_read}
@@ -125,6 +127,74 @@ write_puts bounds w process fd bytes o f n is some told =
     opened_has (Leaves w bytes f (start f) n) (opened w process fd) o (write bounds w process c bytes) is.opened_is (λ error refused. cc)
     (λ _. subst Ends (sym (no_pipe w process fd o f is))
     (subst Puts (sym (file_is w process fd o f is)) (puts_leave w f (start f) count (on_table.Offset o.number (start f + count)) n bytes refl some is.there))) told
+
+-- what a decided write of some bytes that tells a number leaves of the description of its descriptor
+abbrev LeavesAfter : World → List ℕ → OpenDescriptor → ℕ → ℕ → Decided → Type 0
+LeavesAfter w bytes o start n d = d.outcome ≡ Replied (Number n) → slot (changed w bytes d.change).descriptions o.number ≡ Some (at_offset (start + n) o.description)
+
+-- the description of an open descriptor, with another offset
+offset_edited : (w : World) (o : OpenDescriptor) (to : ℕ) → slot w.descriptions o.number ≡ Some o.description →
+    slot (edited o.number (at_offset to) w.descriptions) o.number ≡ Some (at_offset to o.description)
+offset_edited w o to there = slot_edited w.descriptions o.number (at_offset to) ∙ ap (option_map (at_offset to)) there
+
+puts_leave_after : (w : World) (o : OpenDescriptor) (f start count n : ℕ) (bytes : List ℕ) → slot w.descriptions o.number ≡ Some o.description → bytes ≢ [] →
+    LeavesAfter w bytes o start n (puts bytes f start count (on_table.Offset o.number (start + count)))
+puts_leave_after w o f start count n bytes there some =
+    subst (λ empty. LeavesAfter w bytes o start n (cond empty (tells (Number 0)) (does (Number count) (on_files.Bytes f start count) (on_table.Offset o.number (start + count))))) (sym (not_none bytes some))
+    (λ told. let same : count ≡ n = cc in offset_edited w o (start + count) there ∙ ap (λ k. Some (at_offset (start + k) o.description)) same)
+
+pub write_moves : WriteMoves
+write_moves bounds w process fd bytes o f n is some told =
+    let start : ℕ → ℕ = λ g. write_start o.description (length (bytes_of w g)) in
+    let Puts : ℕ → Type 0 = λ g. let count = fitting bounds (start g) bytes in LeavesAfter w bytes o (start f) n (puts bytes g (start g) count (on_table.Offset o.number (start g + count))) in
+    let c = call.Write fd bytes in
+    let Ends : Option ℕ → Type 0 = λ on. LeavesAfter w bytes o (start f) n (write_to bounds w process c (start (file_at o)) bytes o on) in
+    opened_has (LeavesAfter w bytes o (start f) n) (opened w process fd) o (write bounds w process c bytes) is.opened_is (λ error refused. cc)
+    (λ _. subst Ends (sym (no_pipe w process fd o f is))
+    (subst Puts (sym (file_is w process fd o f is)) (puts_leave_after w o f (start f) (fitting bounds (start f) bytes) n bytes (opened_stands w process fd o is.opened_is).description_is some))) told
+
+-- of three faults, of which none is due, the last one is not
+last_unmet : (a b c : Bool) (x y z : Errno) → first_fault ((a, x) ∷ (b, y) ∷ (c, z) ∷ []) ≡ None → c ≡ false
+last_unmet a b false x y z free = refl
+last_unmet false false true x y z free = cc
+last_unmet false true true x y z free = cc
+last_unmet true b true x y z free = cc
+
+-- some bytes that do not begin at the size limit fit, or reach it
+fit_or_reach : (bounds : Bounds) (start : ℕ) (bytes : List ℕ) → bytes ≢ [] → is_past_limit bounds start bytes ≡ false →
+    (fitting bounds start bytes ≡ length bytes) ⊎ (start + fitting bounds start bytes ≡ bounds.file_size)
+fit_or_reach bounds start bytes some below = by_room (leb (length bytes) (bounds.file_size - start)) refl
+  where
+    within : leb bounds.file_size start ≡ false
+    within = subst (λ empty. (not empty && leb bounds.file_size start) ≡ false) (not_none bytes some) below
+
+    by_room : (b : Bool) → leb (length bytes) (bounds.file_size - start) ≡ b → (fitting bounds start bytes ≡ length bytes) ⊎ (start + fitting bounds start bytes ≡ bounds.file_size)
+    by_room true fits = inl (grind (arith, nat_tests))
+    by_room false fits = inr (grind (arith, nat_tests, within))
+
+-- a decided write of some bytes tells how many are put
+puts_tell : (bytes : List ℕ) (f start count : ℕ) (moved : TableEdit) (n : ℕ) → bytes ≢ [] → (puts bytes f start count moved).outcome ≡ Replied (Number n) → count ≡ n
+puts_tell bytes f start count moved n some =
+    subst (λ empty. (cond empty (tells (Number 0)) (does (Number count) (on_files.Bytes f start count) moved)).outcome ≡ Replied (Number n) → count ≡ n) (sym (not_none bytes some)) (λ told. cc)
+
+pub write_takes_all : WriteTakesAll
+write_takes_all bounds w process fd bytes o f n is some told =
+    let start : ℕ → ℕ = λ g. write_start o.description (length (bytes_of w g)) in
+    let All : Decided → Type 0 = λ d. d.outcome ≡ Replied (Number n) → (n ≡ length bytes) ⊎ (start f + n ≡ bounds.file_size) in
+    let Ends : Option ℕ → Type 0 = λ on. All (write_to bounds w process (call.Write fd bytes) (start (file_at o)) bytes o on) in
+    let Puts : ℕ → Type 0 = λ g. let count = fitting bounds (start g) bytes in All (puts bytes g (start g) count (on_table.Offset o.number (start g + count))) in
+    let at = file_is w process fd o f is in
+    let count = fitting bounds (start f) bytes in
+    opened_has All (opened w process fd) o (write bounds w process (call.Write fd bytes) bytes) is.opened_is (λ error refused. cc)
+    (λ free.
+    let met : (is_regular o && is_past_limit bounds (start (file_at o)) bytes) ≡ false = last_unmet _ _ _ EBADF EINVAL EFBIG free in
+    let past : is_past_limit bounds (start (file_at o)) bytes ≡ false = ap (λ t. is_some (regular_file t) && is_past_limit bounds (start (file_at o)) bytes) (sym is.target_is) ∙ met in
+    let below : is_past_limit bounds (start f) bytes ≡ false = subst (λ g. is_past_limit bounds (start g) bytes ≡ false) at past in
+    subst Ends (sym (no_pipe w process fd o f is))
+    (subst Puts (sym at)
+    (λ told.
+    subst (λ k. (k ≡ length bytes) ⊎ (start f + k ≡ bounds.file_size)) (puts_tell bytes f (start f) count (on_table.Offset o.number (start f + count)) n some told)
+    (fit_or_reach bounds (start f) bytes some below)))) told
 
 pub pwrite_puts : PwritePuts
 pwrite_puts bounds w process fd start bytes o f n is some told =
@@ -268,6 +338,13 @@ seek_tells bounds w process fd offset o f n is = record {
   end = λ told. place_told w process fd offset End o n is.opened_is told ∙ ap (λ (g : ℕ). pos (length (bytes_of w g)) +ℤ offset) (file_is w process fd o f is);
 }
 
+pub seek_moves : SeekMoves
+seek_moves bounds w process fd offset from o n is told =
+    let to = nat_abs (pos (base_of w o from) +ℤ offset) in
+    opened_has (λ d. d.outcome ≡ Replied (Number n) → slot (changed w [] d.change).descriptions o.number ≡ Some (at_offset n o.description)) (opened w process fd) o (lseek w offset from) is
+    (λ error refused. cc)
+    (λ _ told. let number : to ≡ n = cc in offset_edited w o to (opened_stands w process fd o is).description_is ∙ ap (λ (k : ℕ). Some (at_offset k o.description)) number) told
+
 -- what a decided write puts is not put into another file
 puts_apart : (w : World) (f start count n : ℕ) (bytes : List ℕ) (moved : TableEdit) → opens_fifo moved ≡ false → n ≢ f →
     slot (changed w bytes (puts bytes f start count moved).change).files n ≡ slot w.files n
@@ -296,4 +373,31 @@ own_file_alone bounds w process fd start len bytes o f n is other =
       ftruncate =
           opened_has (Apart []) (opened w process fd) o (ftruncate bounds len) is.opened_is (λ _. refl)
           (λ _. get_or-set_other w.files g n (Some (file.Regular (resized (bytes_of w g) (bytes_before len)))) None away);
+    }
+
+-- where a fault is not due, what it asks for is there
+not_due : (b : Bool) (error : Errno) (rest : Option Errno) → cond (not b) (Some error) rest ≡ None → b ≡ true
+not_due true error rest free = refl
+not_due false error rest free = cc
+
+-- nor is the one after it
+rest_not_due : (b : Bool) (error : Errno) (rest : Option Errno) → cond b (Some error) rest ≡ None → rest ≡ None
+rest_not_due true error rest free = cc
+rest_not_due false error rest free = free
+
+pub access_is_needed : AccessIsNeeded
+access_is_needed bounds w process fd o is =
+    let reads = can_read o.description.mode in
+    let writes = can_write o.description.mode in
+    let Reads : Decided → Type 0 = λ d. IsNoError d.outcome → reads ≡ true in
+    let Writes : Decided → Type 0 = λ d. IsNoError d.outcome → writes ≡ true in
+    let here = opened w process fd in
+    record {
+      read = λ count. opened_has Reads here o (read w process (call.Read fd count) count) is (λ error no_error. absurd (no_error error refl)) (λ free _. not_due reads EBADF _ free);
+      pread = λ start count. opened_has Reads here o (pread w start count) is (λ error no_error. absurd (no_error error refl)) (λ free _. not_due reads EBADF _ free);
+      write = λ bytes. opened_has Writes here o (write bounds w process (call.Write fd bytes) bytes) is (λ error no_error. absurd (no_error error refl)) (λ free _. not_due writes EBADF _ free);
+      pwrite = λ start bytes. opened_has Writes here o (pwrite bounds start bytes) is (λ error no_error. absurd (no_error error refl)) (λ free _. not_due writes EBADF _ free);
+      ftruncate = λ len.
+          opened_has Writes here o (ftruncate bounds len) is (λ error no_error. absurd (no_error error refl))
+          (λ free _. not_due writes EINVAL _ (rest_not_due _ EINVAL _ (rest_not_due _ EINVAL _ free)));
     }

@@ -62,7 +62,7 @@ module _ (w : World) (p n : ℕ) (from : ℤ) (o : OpenDescriptor) (is : opened 
       }
 
 -- nothing changes, and the descriptor is that of the description
-pub same_leads : (w : World) (p : ℕ) (from : ℤ) (o : OpenDescriptor) → opened w p from ≡ Some o → Leads w w p o.fd from
+same_leads : (w : World) (p : ℕ) (from : ℤ) (o : OpenDescriptor) → opened w p from ≡ Some o → Leads w w p o.fd from
 same_leads w p from o is = record {
   there = ap (λ x. is_some (option_map (λ x. x.number) x)) is;
   leads = ap (number_of w p) (opened_stands w p from o is).fd_is;

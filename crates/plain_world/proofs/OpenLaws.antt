@@ -1,11 +1,12 @@
 -- What an open does.
-use Rattle.std.proofs.Common.{◌≡◌, ◌≢◌, ℕ, zero, suc, pos, ◌∙◌, ◌||◌, Bool, true, false, cond, List, [], ◌∷◌, ◌++◌, Option, None, Some, length, set, inl, inr, refl, ap, sym, subst}
+use Rattle.std.proofs.Common.{rules, ◌≡◌, ◌≢◌, ℕ, zero, suc, pos, ◌∙◌, ◌||◌, Bool, true, false, not, cond, List, [], ◌∷◌, ◌++◌, Option, None, Some, length, set, inl, inr, refl, ap, sym, subst}
 use Rattle.std.proofs.lemmas.List.{get_or-set_other, get_or-set_same}
 use Rattle.std.proofs.lemmas.List.Quantifiers.{position-Some}
 use Rattle.std.specs.Option.{is_none, is_some, option_map, unwrap_or}
 use Rattle.call_types.specs.Flags.{has}
 use Rattle.call_types.specs.Flags as flag
-use Rattle.plain_world.specs.Types.{Errno, OpenFlags, World, Process, Parked, Description, Target, Mode, Fifo, File, Decided, EMFILE, Replied, Number}
+use Rattle.call_types.specs.Descriptions.{can_read, can_write}
+use Rattle.plain_world.specs.Types.{Errno, OpenFlags, World, Process, Parked, Description, Target, Mode, Fifo, File, Decided, EINVAL, EMFILE, Replied, Number}
 use Rattle.slots.specs.Slots.{slot, lowest, edited}
 use Rattle.call_types.specs.Names.{file_of}
 use Rattle.process_table.specs.Processes.{table_of, parked_of, with_parked, with_entry}
@@ -16,11 +17,13 @@ use Rattle.posix_model.specs.Open.{flag_faults, name_faults, found_faults, room_
 use Rattle.posix_model.specs.Pipes.{fifo_at, is_met, opposite_openings, pipe_between, opened_file, with_opening}
 use Rattle.posix_model.specs.Tries.{waiting, parks}
 use Rattle.call_types.specs.declared.call.Call.TheVariants as call
+use Rattle.call_types.specs.declared.description.Mode.TheVariants as mode
 use Rattle.call_types.specs.declared.description.Target.TheVariants as target
 use Rattle.posix_model.specs.declared.world.File.TheVariants as file
 use Rattle.posix_model.specs.declared.change.FileEdit.TheVariants as on_files
 use Rattle.plain_world.specs.Calls.{IsNoError, WaitsWith, GivesDescriptor}
-use Rattle.plain_world.specs.FileLaws.{target_on, Opens, OpensLowest, OpenDescribes, ExclOpensNew, EmptiesFile, TruncOpenEmpties, OpenKeepsFiles, OpenKeepsOthers, OpenMakesEmpty}
+use Rattle.plain_world.specs.FileLaws.{target_on, Opens, OpensLowest, OpenDescribes, IsForAsked, OpenIsForAsked, ExclOpensNew, EmptiesFile, TruncOpenEmpties, OpenKeepsFiles, OpenKeepsOthers, OpenMakesEmpty}
+use Rattle.plain_world.specs.PipeLaws.{FifoOpensOneWay}
 use Rattle.plain_world.proofs.NameLaws.{named_file}
 use Rattle.plain_world.proofs.PageLemmas.{page_has, if_has, no_fault_after}
 use Rattle.plain_world.proofs.ChangeLemmas.{files_leave}
@@ -185,6 +188,19 @@ open_describes bounds w p name flags no_error =
     let opened = opens_found w p name flags found low.0 refl low.1 in
     record { gives = record { fd = low.0; is_lowest = lowest_is_least table low.0 low.1; given = opened.given }; opens = opened.opens }) no_error
 
+-- flags that ask for reading or for writing
+for_asked : (reads writes : Bool) (error : Errno) (rest : Option Errno) → cond (not (reads || writes)) (Some error) rest ≡ None →
+    let mode = cond reads (cond writes mode.ReadWrite mode.Read) mode.Write in (can_read mode ≡ reads) × (can_write mode ≡ writes)
+for_asked true true error rest free = (refl, refl)
+for_asked true false error rest free = (refl, refl)
+for_asked false true error rest free = (refl, refl)
+for_asked false false error rest free = cc
+
+pub open_is_for_asked : OpenIsForAsked
+open_is_for_asked bounds w p name flags no_error =
+    page_has (λ d. IsNoError d.outcome → IsForAsked (mode_of flags) flags) (open_file w p name flags) (λ error no_error. absurd (no_error error refl))
+    (λ free _. let asked = for_asked (has flags flag.reading) (has flags flag.writing) EINVAL _ free in record { reads = asked.0; writes = asked.1 }) no_error
+
 -- under excl and creat a name that is there is a fault
 excl_refuses : (w : World) (flags : OpenFlags) (n : ℕ) (rest : List (Bool × Errno)) → has flags flag.excl ≡ true → has flags flag.creat ≡ true →
     is_some (first_fault (found_faults w flags (Some n) ++ rest)) ≡ true
@@ -203,6 +219,28 @@ excl_opens_new bounds w p name flags excl creat no_error =
     let found = file_of name w.names in
     page_has (λ d. IsNoError d.outcome → found ≡ None) (open_file w p name flags) (λ error no_error. absurd (no_error error refl))
     (λ free _. excl_found w p flags found excl creat (later_clear w p name flags found free)) no_error
+
+-- a FIFO that would be opened for both is a fault
+both_refuses : (w : World) (flags : OpenFlags) (n : ℕ) (rest : List (Bool × Errno)) (fifo : Fifo) → fifo_at (slot w.files n) ≡ Some fifo → has flags flag.reading ≡ true →
+    has flags flag.writing ≡ true → is_some (first_fault (found_faults w flags (Some n) ++ rest)) ≡ true
+both_refuses w flags n rest fifo stands reads writes = rw (stands, reads, writes) (search rules)
+
+-- flags that ask for both
+asks_both : (reads writes : Bool) → cond reads (cond writes mode.ReadWrite mode.Read) mode.Write ≡ mode.ReadWrite → (reads ≡ true) × (writes ≡ true)
+asks_both true true h = (refl, refl)
+asks_both true false h = cc
+asks_both false writes h = cc
+
+pub fifo_opens_one_way : FifoOpensOneWay
+fifo_opens_one_way bounds w p name flags n fifo is stands no_error =
+    let found = file_of name w.names in
+    page_has (λ d. IsNoError d.outcome → mode_of flags ≢ mode.ReadWrite) (open_file w p name flags) (λ error no_error. absurd (no_error error refl))
+    (λ free _ both.
+    let asked = asks_both (has flags flag.reading) (has flags flag.writing) both in
+    let clear = subst (λ (x : Option ℕ). first_fault (found_faults w flags x ++ room_faults w p x) ≡ None) is (later_clear w p name flags found free) in
+    let fault = both_refuses w flags n (room_faults w p (Some n)) fifo stands asked.0 asked.1 in
+    let none : is_some (first_fault (found_faults w flags (Some n) ++ room_faults w p (Some n))) ≡ false = ap is_some clear in
+    cc) no_error
 
 emptied_bytes : (files : List (Option File)) (n : ℕ) → file_bytes (slot (set files n (Some (file.Regular []))) n) ≡ []
 emptied_bytes [] n = refl

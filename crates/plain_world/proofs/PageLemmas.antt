@@ -6,7 +6,7 @@ use Rattle.plain_world.specs.Types.{Act, Errno, Bounds, World, OpenDescriptor, D
 use Rattle.posix_model.specs.Pages.{Page, first_fault, unless, refused, decided_by, on_open}
 use Rattle.posix_model.specs.Step.{given, comes_to, Stepped, stepped, step}
 
-pub unless_has : (Has : Decided → Type 0) (fault : Option Errno) (effect : Decided) → ((error : Errno) → Has (refused error)) → (fault ≡ None → Has effect) → Has (unless fault effect)
+unless_has : (Has : Decided → Type 0) (fault : Option Errno) (effect : Decided) → ((error : Errno) → Has (refused error)) → (fault ≡ None → Has effect) → Has (unless fault effect)
 unless_has Has None effect refuses all = all refl
 unless_has Has (Some error) effect refuses all = refuses error
 

@@ -6,13 +6,13 @@ use Rattle.std.proofs.lemmas.Bool.Decides.{nat_tests}
 use Rattle.std.specs.Option.{option_map, is_some, unwrap_or}
 use Rattle.call_types.specs.Flags.{has}
 use Rattle.call_types.specs.Flags as flag
+use Rattle.call_types.specs.Descriptions.{can_read, can_write}
 use Rattle.call_types.specs.Names.{file_of}
 use Rattle.call_types.specs.declared.act.Act.TheVariants as act
 use Rattle.call_types.specs.declared.call.Call.TheVariants as call
 use Rattle.call_types.specs.declared.description.Target.TheVariants as target
 use Rattle.slots.specs.Slots.{slot, lowest, edited}
 use Rattle.process_table.specs.Processes.{table_of, is_here, parked_of, with_parked}
-use Rattle.posix_model.specs.Bytes.{bytes_at}
 use Rattle.posix_model.specs.Positions.{file_at}
 use Rattle.posix_model.specs.Descriptors.{opened, bytes_of}
 use Rattle.posix_model.specs.Pipes.{pipe_at, room_in, has_reader, fifo_at, pipe_of_fifo, is_met, opposite_openings, pipe_between, with_pipe_for, opened_once, opened_file, with_opening}
@@ -20,15 +20,14 @@ use Rattle.posix_model.specs.Change.{after_those, with_files, with_description, 
 use Rattle.posix_model.specs.Sweep.{is_open}
 use Rattle.posix_model.specs.Pages.{refused, tells, does}
 use Rattle.posix_model.specs.Exit.{exit}
-use Rattle.posix_model.specs.Tries.{read_try, broken, write_try, waiting, parks, instead, first_try, next_try}
-use Rattle.posix_model.specs.Read.{read_from, read}
+use Rattle.posix_model.specs.Tries.{broken, write_try, waiting, parks, instead, first_try, next_try}
 use Rattle.posix_model.specs.Write.{fitting, write_start, write_end, write_to, write}
 use Rattle.posix_model.specs.Open.{mode_of, new_description, free_descriptor, opens_end, open_end, open_there, open_found, open_file}
 use Rattle.posix_model.specs.Resume.{write_ready, try_again, try_on, try_opened, try_parked, next_of, resume}
 use Rattle.posix_model.specs.Step.{Stepped, stepped}
 use Rattle.posix_model.specs.Sound.{makes_pipe, opens_fifo}
 use Rattle.posix_model.specs.Laws.{SweepLeaves}
-use Rattle.posix_model.specs.Types.{Data, PIPE_BUF, EPIPE}
+use Rattle.posix_model.specs.Types.{PIPE_BUF, EPIPE}
 use Rattle.posix_model.specs.declared.world.File.TheVariants as file
 use Rattle.call_types.specs.declared.description.Mode.TheVariants as mode
 use Rattle.posix_model.specs.declared.change.Source.TheVariants as source
@@ -37,10 +36,10 @@ use Rattle.posix_model.specs.declared.change.TableEdit.TheVariants as on_table
 use Rattle.posix_model.specs.declared.change.Try.TheVariants.{Ends, Waits}
 use Rattle.plain_world.specs.Types.{Call, Errno, OpenFlags, Bounds, World, Process, Parked, Source, Mode, File, Fifo, OpenDescriptor, FileEdit, Decided, Try, EAGAIN, Number, Error}
 use Rattle.plain_world.specs.Calls.{IsNoError}
-use Rattle.plain_world.specs.PipeLaws.{OpensEmpty, ReopenedIsEmpty, ExitTakesBackNothing, HoldsAfter, WriteLosesNothing, ResumedWriteLosesNothing, WholeOrNone, SmallWriteIsWhole, UnparkedIsNotReady, UnparkedIsNotResumed, WaitsNot, NonblockReadReturns, NonblockWriteReturns, NonblockOpenReturns}
+use Rattle.plain_world.specs.PipeLaws.{CountsOpening, FifoCountsOpenings, OpensEmpty, ReopenedIsEmpty, ExitTakesBackNothing, HoldsAfter, WriteLosesNothing, ResumedWriteLosesNothing, WholeOrNone, SmallWriteIsWhole, UnparkedIsNotReady, UnparkedIsNotResumed}
 use Rattle.plain_world.proofs.PageLemmas.{page_has, on_open_has, opened_has, if_has, where_may, step_parts}
 use Rattle.plain_world.proofs.ChangeLemmas.{pipes_after}
-use Rattle.plain_world.proofs.OpenLaws.{has_free, opened_leads, still_lowest}
+use Rattle.plain_world.proofs.OpenLaws.{has_free, fifo_opens_one_way, opened_leads, still_lowest}
 use Rattle.plain_world.proofs.SlotLemmas.{slot_at_end, slot_edited}
 
 exit_pipes : SweepLeaves → (w : World) (p pipe : ℕ) →
@@ -64,60 +63,6 @@ unparked_is_not_ready bounds w p none = ap is_some (none_next bounds w p none)
 
 pub unparked_is_not_resumed : UnparkedIsNotResumed
 unparked_is_not_resumed bounds w p none = ap (λ x. option_map (stepped w []) (option_map (next_try p) x)) (none_next bounds w p none)
-
--- what is decided does not wait
-abbrev Returns : Decided → Type 0
-Returns d = WaitsNot d.outcome
-
--- a first try under nonblock
-first_returns : (p : ℕ) (c : Call) (o : OpenDescriptor) (x : Try) → o.description.nonblock ≡ true → Returns (first_try p c o x)
-first_returns p c o (Ends reply edit) nonblock = λ moved h. cc
-first_returns p c o (Waits n edit) nonblock =
-    if_has Returns o.description.nonblock (instead n edit) (parks p (waiting c o.fd n 0) (does (Number n) edit on_table.Nothing))
-    (λ _. if_has Returns (eqb n 0) (refused EAGAIN) (does (Number n) edit on_table.Nothing) (λ _ moved h. cc) (λ _ moved h. cc))
-    (λ blocks. absurd (apart o.description.nonblock nonblock blocks))
-  where
-    apart : (b : Bool) → b ≡ true → b ≢ false
-    apart b h k = let bad : true ≡ false = sym h ∙ k in cc
-
-read_returns : (w : World) (p : ℕ) (c : Call) (count : ℕ) (o : OpenDescriptor) (on : Option ℕ) → o.description.nonblock ≡ true → Returns (read_from w p c count o on)
-read_returns w p c count o None nonblock =
-    let got = bytes_at (bytes_of w (file_at o)) o.description.offset count in
-    if_has Returns (eqb (length got) 0) (tells (Data got)) (does (Data got) on_files.Nothing (on_table.Offset o.number (o.description.offset + length got))) (λ _ moved h. cc) (λ _ moved h. cc)
-read_returns w p c count o (Some pipe) nonblock =
-    if_has Returns (eqb count 0) (tells (Data [])) (first_try p c o (read_try w pipe count)) (λ _ moved h. cc) (λ _. first_returns p c o (read_try w pipe count) nonblock)
-
-pub nonblock_read_returns : NonblockReadReturns
-nonblock_read_returns bounds w p fd count o is nonblock =
-    let c = call.Read fd count in
-    opened_has Returns (opened w p fd) o (read w p c count) is (λ error moved h. cc) (λ _. read_returns w p c count o (pipe_at o.description.target) nonblock)
-
-write_returns : (bounds : Bounds) (w : World) (p : ℕ) (c : Call) (start : ℕ) (bytes : List ℕ) (o : OpenDescriptor) (on : Option ℕ) → o.description.nonblock ≡ true →
-    Returns (write_to bounds w p c start bytes o on)
-write_returns bounds w p c start bytes o None nonblock =
-    let n = fitting bounds start bytes in
-    if_has Returns (eqb (length bytes) 0) (tells (Number 0)) (does (Number n) (on_files.Bytes (file_at o) start n) (on_table.Offset o.number (start + n))) (λ _ moved h. cc) (λ _ moved h. cc)
-write_returns bounds w p c start bytes o (Some pipe) nonblock =
-    let x = write_try bounds w pipe source.Act (length bytes) 0 in
-    if_has Returns (eqb (length bytes) 0) (tells (Number 0)) (first_try p c o x) (λ _ moved h. cc) (λ _. first_returns p c o x nonblock)
-
-pub nonblock_write_returns : NonblockWriteReturns
-nonblock_write_returns bounds w p fd bytes o is nonblock =
-    let c = call.Write fd bytes in
-    let start = write_start o.description (length (bytes_of w (file_at o))) in
-    opened_has Returns (opened w p fd) o (write bounds w p c bytes) is (λ error moved h. cc) (λ _. write_returns bounds w p c start bytes o (pipe_at o.description.target) nonblock)
-
-open_there_returns : (w : World) (p : ℕ) (name : List ℕ) (flags : OpenFlags) (n : ℕ) (fifo : Option Fifo) → has flags flag.nonblocking ≡ true → Returns (open_there w p name flags n fifo)
-open_there_returns w p name flags n None nonblock = λ moved h. cc
-open_there_returns w p name flags n (Some fifo) nonblock = rw nonblock (λ moved h. cc)
-
-open_returns : (w : World) (p : ℕ) (name : List ℕ) (flags : OpenFlags) (found : Option ℕ) → has flags flag.nonblocking ≡ true → Returns (open_found w p name flags found)
-open_returns w p name flags None nonblock = λ moved h. cc
-open_returns w p name flags (Some n) nonblock = open_there_returns w p name flags n (fifo_at (slot w.files n)) nonblock
-
-pub nonblock_open_returns : NonblockOpenReturns
-nonblock_open_returns bounds w p name flags nonblock =
-    page_has Returns (open_file w p name flags) (λ error moved h. cc) (λ _. open_returns w p name flags (file_of name w.names) nonblock)
 
 -- bytes that are there stay the first, where some are put after those of any pipe
 held_first : (new : List ℕ) (pipes : List (Option (List ℕ))) (q pipe : ℕ) (there : List ℕ) → slot pipes pipe ≡ Some there → HoldsAfter there (slot (edited q (after_those new) pipes) pipe)
@@ -359,3 +304,51 @@ reopened_is_empty bounds w p name flags n fifo is stands none told =
     let found = file_of name w.names in
     page_has (Reopens w p n) (open_file w p name flags) (λ error no_error. absurd (no_error error refl))
     (λ free _. let low = has_free w p name flags found free in open_found_empty w p name flags found n low.0 fifo is stands none low.1) told
+
+-- a FIFO of which an end is opened once more
+opened_stands_once : (m : Mode) (q : ℕ) (x : Option File) (fifo : Fifo) → fifo_at x ≡ Some fifo → fifo_at (option_map (opened_file m q) x) ≡ Some (opened_once m q fifo)
+opened_stands_once m q None fifo h = cc
+opened_stands_once m q (Some (file.Regular bytes)) fifo h = cc
+opened_stands_once m q (Some (file.Fifo x)) fifo h = let same : x ≡ fifo = cc in ap (λ (y : Fifo). Some (opened_once m q y)) same
+
+counted : (m : Mode) (q : ℕ) (fifo : Fifo) → m ≢ mode.ReadWrite →
+    ((opened_once m q fifo).reader_openings ≡ fifo.reader_openings + cond (can_read m) 1 0) × ((opened_once m q fifo).writer_openings ≡ fifo.writer_openings + cond (can_write m) 1 0)
+counted mode.Read q fifo one = (omega arith, omega arith)
+counted mode.Write q fifo one = (omega arith, omega arith)
+counted mode.ReadWrite q fifo one = absurd (one refl)
+
+-- the world after an end of a FIFO is opened, where the processes are these
+end_counts : (w : World) (ps : List (Option Process)) (p : ℕ) (flags : OpenFlags) (n : ℕ) (fifo : Fifo) → fifo_at (slot w.files n) ≡ Some fifo → mode_of flags ≢ mode.ReadWrite →
+    CountsOpening (with_table (record w { processes = ps }) (opens_end w p flags n fifo).change.table) n (mode_of flags) fifo
+end_counts w ps p flags n fifo stands one =
+    let m = mode_of flags in
+    let q = pipe_between w (fifo_at (slot w.files n)) in
+    let both = counted m q fifo one in
+    record {
+      after = opened_once m q fifo;
+      stands = ap fifo_at (slot_edited w.files n (opened_file m q)) ∙ opened_stands_once m q (slot w.files n) fifo stands;
+      reading = both.0;
+      writing = both.1;
+    }
+
+open_end_counts : (w : World) (p : ℕ) (name : List ℕ) (flags : OpenFlags) (n : ℕ) (fifo : Fifo) → fifo_at (slot w.files n) ≡ Some fifo → mode_of flags ≢ mode.ReadWrite →
+    CountsOpening (changed w [] (open_end w p name flags n fifo).change) n (mode_of flags) fifo
+open_end_counts w p name flags n fifo stands one =
+    let opens = opens_end w p flags n fifo in
+    let parked = waiting (call.Open name flags) (free_descriptor w p) 0 (opposite_openings (mode_of flags) (Some fifo)) in
+    let ps = edited p (with_parked (Some parked)) w.processes in
+    if_has (λ d. CountsOpening (changed w [] d.change) n (mode_of flags) fifo) (has flags flag.nonblocking || is_met w (mode_of flags) fifo) opens (parks p parked opens)
+    (λ _. end_counts w w.processes p flags n fifo stands one)
+    (λ _. end_counts w ps p flags n fifo stands one)
+
+open_found_counts : (w : World) (p : ℕ) (name : List ℕ) (flags : OpenFlags) (found : Option ℕ) (n : ℕ) (fifo : Fifo) → found ≡ Some n → fifo_at (slot w.files n) ≡ Some fifo → mode_of flags ≢ mode.ReadWrite →
+    CountsOpening (changed w [] (open_found w p name flags found).change) n (mode_of flags) fifo
+open_found_counts w p name flags found n fifo is stands one =
+    subst (λ (x : Option ℕ). CountsOpening (changed w [] (open_found w p name flags x).change) n (mode_of flags) fifo) (sym is)
+    (subst (λ (x : Option Fifo). CountsOpening (changed w [] (open_there w p name flags n x).change) n (mode_of flags) fifo) (sym stands) (open_end_counts w p name flags n fifo stands one))
+
+pub fifo_counts_openings : FifoCountsOpenings
+fifo_counts_openings bounds w p name flags n fifo is stands told =
+    let one = fifo_opens_one_way bounds w p name flags n fifo is stands told in
+    page_has (λ d. IsNoError d.outcome → CountsOpening (changed w [] d.change) n (mode_of flags) fifo) (open_file w p name flags) (λ error no_error. absurd (no_error error refl))
+    (λ _ _. open_found_counts w p name flags (file_of name w.names) n fifo is stands one) told

@@ -2,15 +2,13 @@
 use Rattle.std.proofs.Common.{◌≡◌, ◌∙◌, ℕ, ℤ, zero, suc, pos, negsuc, ◌<◌, Bool, true, false, ◌&&◌, eqb, List, [], ◌∷◌, ◌++◌, Option, None, Some, length, length-set, refl, ap, sym, subst, arith}
 use Rattle.std.specs.Option.{option_map, is_some}
 use Rattle.std.proofs.lemmas.List.{get_or-set_other}
-use Rattle.std.proofs.lemmas.List.Sums.{sum_by-cons}
 use Rattle.call_types.specs.declared.act.TheConstants.{HOUSE}
 use Rattle.call_types.specs.declared.act.Act.TheVariants as act
 use Rattle.call_types.specs.declared.call.Call.TheVariants as call
-use Rattle.slots.specs.Slots.{slot, edited}
+use Rattle.slots.specs.Slots.{slot}
 use Rattle.call_types.specs.Descriptions.{at_offset}
-use Rattle.process_table.specs.Processes.{table_of, copied_table, process_with, with_connection}
+use Rattle.process_table.specs.Processes.{table_of, copied_table, process_with}
 use Rattle.posix_model.specs.Whole.{IsThere}
-use Rattle.posix_model.specs.Counts.{refs, refs_of}
 use Rattle.posix_model.specs.Descriptors.{opened, opened_number, opened_description, with_offset}
 use Rattle.posix_model.specs.Change.{changed}
 use Rattle.posix_model.specs.Pages.{refused, decided_by}
@@ -18,10 +16,9 @@ use Rattle.posix_model.specs.Fork.{fork}
 use Rattle.posix_model.specs.Exit.{exit}
 use Rattle.posix_model.specs.Step.{stepped}
 use Rattle.posix_model.specs.Laws.{SweepLeaves}
-use Rattle.posix_model.specs.Released.{IsSettled, SweptIsSettled, SettledStays}
-use Rattle.plain_world.specs.Types.{World, Process, OpenDescriptor, Replied, Number, Done, EAGAIN, ESRCH, Error}
+use Rattle.plain_world.specs.Types.{World, Process, OpenDescriptor, Replied, Number, Done, EAGAIN}
 use Rattle.plain_world.specs.Calls.{before_sweep}
-use Rattle.plain_world.specs.ProcessLaws.{Forks, ForkCopies, ForkShares, FullForkRefused, description_at, SharedIsSeen, AttachConnects, OtherAttachRefused, Ended, ExitFrees, ClosingCloses, ClosedOnce}
+use Rattle.plain_world.specs.ProcessLaws.{Forks, ForkCopies, ForkShares, FullForkRefused, description_at, SharedIsSeen, Ended, ExitFrees, ClosingCloses, ClosedOnce}
 use Rattle.plain_world.proofs.PageLemmas.{page_has, where_may, step_parts}
 use Rattle.plain_world.proofs.OpenedLemmas.{IsOpenAt, opened_stands}
 use Rattle.plain_world.proofs.SlotLemmas.{slot_pushed, slot_at_end, slot_edited, slot_freed}
@@ -99,32 +96,6 @@ shared_is_seen w p q fd to o is number =
       record { first = ap description is; second = ap description (stands_open w q to second other.1) },
       λ k. record { first = moved w p fd o k first; second = moved w q to second k other.1 },
     )
-
--- a connection is no reference
-connected_refs : (n : ℕ) (process : Option Process) → refs_of n (option_map with_connection process) ≡ refs_of n process
-connected_refs n None = refl
-connected_refs n (Some process) = refl
-
-same_refs : (ps : List (Option Process)) (p n : ℕ) → refs (edited p with_connection ps) n ≡ refs ps n
-same_refs [] p n = refl
-same_refs (x ∷ ps) zero n = rw (sum_by-cons (refs_of n) (option_map with_connection x) ps, sum_by-cons (refs_of n) x ps, connected_refs n x) refl
-same_refs (x ∷ ps) (suc p) n = rw (sum_by-cons (refs_of n) x (edited p with_connection ps), sum_by-cons (refs_of n) x ps, same_refs ps p n) refl
-
-connected_settled : (w : World) (p : ℕ) → IsSettled w → IsSettled (record w { processes = edited p with_connection w.processes })
-connected_settled w p settled = record {
-  descriptions = λ n there. rw (same_refs w.processes p n) (settled.descriptions n there);
-  pipes = settled.pipes;
-  fifos = settled.fifos;
-  files = settled.files;
-}
-
-pub attach_connects : SweptIsSettled → SettledStays → AttachConnects
-attach_connects settles stays bounds w p swept waits =
-    let v : World = record w { processes = edited p with_connection w.processes } in
-    rw waits (ap (λ (u : World). Some (record { world = u; outcome = Replied Done })) (stays v (connected_settled w p (settles w swept))))
-
-pub other_attach_refused : OtherAttachRefused
-other_attach_refused bounds w p swept waits = rw waits (ap (λ (u : World). Some (record { world = u; outcome = Replied (Error ESRCH) })) swept)
 
 exit_ends : SweepLeaves → (w : World) (p : ℕ) → Ended w (stepped w [] (exit p)).world p
 exit_ends leaves w p =

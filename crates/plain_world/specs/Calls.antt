@@ -1,4 +1,4 @@
--- A call by itself, before the sweep.
+-- What a call tells, the world that it leaves before the sweep, and the descriptor that it gives.
 use Rattle.std.specs.Prelude.{◌≡◌, ◌≢◌, ◌⊎◌, ℕ, Some}
 use Rattle.plain_world.specs.Types.{Call, Errno, Outcome, Bounds, World, Parked, Replied, Number, Error}
 use Rattle.call_types.specs.declared.act.Act.TheVariants as act

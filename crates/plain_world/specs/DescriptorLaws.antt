@@ -1,7 +1,8 @@
 -- What holds of the descriptors of processes, in words that the pages use.
 use Rattle.std.specs.Prelude.{◌≡◌, ◌≢◌, ◌<◌, ℕ, ℤ, pos, true, List, None, Some, is_some, length}
 use Rattle.call_types.specs.CallTable.{descriptor_of}
-use Rattle.plain_world.specs.Types.{Call, Outcome, OpenFlags, Bounds, World, OPEN_MAX, EBADF, Replied, Number, Done, Error}
+use Rattle.call_types.specs.Descriptions.{can_read, can_write}
+use Rattle.plain_world.specs.Types.{Call, Outcome, OpenFlags, Bounds, World, Mode, OpenDescriptor, OPEN_MAX, EBADF, Replied, Number, Done, Error}
 use Rattle.call_types.specs.declared.call.Call.TheVariants as call
 use Rattle.slots.specs.Slots.{slot}
 use Rattle.posix_model.specs.Whole.{EachThere}
@@ -51,6 +52,18 @@ Dup2KeepsEqual = (bounds : Bounds) (w : World) (process : ℕ) (fd : ℤ) → be
 abbrev pub NotOpenIsBad : Type 0
 NotOpenIsBad = (bounds : Bounds) (w : World) (process : ℕ) (fd : ℤ) (c : Call) → opened w process fd ≡ None → descriptor_of c ≡ Some fd →
     outcome_of bounds w process c ≡ Replied (Error EBADF)
+
+-- calls on a descriptor that are not refused are on one that is open for what they do (EBADF of the pages of read and write, and page of ftruncate)
+pub record NeedAccess (bounds : Bounds) (w : World) (process : ℕ) (fd : ℤ) (mode : Mode) : Type 0 where
+  pub read : (count : ℕ) → IsNoError (outcome_of bounds w process (call.Read fd count)) → can_read mode ≡ true
+  pub pread : (start : ℤ) (count : ℕ) → IsNoError (outcome_of bounds w process (call.Pread fd start count)) → can_read mode ≡ true
+  pub write : (bytes : List ℕ) → IsNoError (outcome_of bounds w process (call.Write fd bytes)) → can_write mode ≡ true
+  pub pwrite : (start : ℤ) (bytes : List ℕ) → IsNoError (outcome_of bounds w process (call.Pwrite fd start bytes)) → can_write mode ≡ true
+  pub ftruncate : (len : ℤ) → IsNoError (outcome_of bounds w process (call.Ftruncate fd len)) → can_write mode ≡ true
+
+-- so it is of each descriptor that is open (pages of read, write and ftruncate)
+abbrev pub AccessIsNeeded : Type 0
+AccessIsNeeded = (bounds : Bounds) (w : World) (process : ℕ) (fd : ℤ) (o : OpenDescriptor) → opened w process fd ≡ Some o → NeedAccess bounds w process fd o.description.mode
 
 -- a call leaves each other process that was there before as it was, and so its descriptors (XBD 3, File Descriptor)
 abbrev pub ProcessesAreApart : Type 0

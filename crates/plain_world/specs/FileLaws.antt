@@ -1,17 +1,18 @@
 -- What holds of the calls on files, in words that the pages use.
-use Rattle.std.specs.Prelude.{◌≡◌, ◌≢◌, ℕ, ℤ, pos, ◌+◌, ◌-◌, ◌+ℤ◌, ◌≤◌, ◌<◌, Bool, true, false, max, min, List, [], ◌∷◌, ◌++◌, Option, None, Some, length, take, slice_index, slice_set}
+use Rattle.std.specs.Prelude.{◌≡◌, ◌≢◌, ℕ, ℤ, pos, ◌+◌, ◌-◌, ◌+ℤ◌, ◌≤◌, ◌<◌, ◌⊎◌, Bool, true, false, max, min, List, [], ◌∷◌, ◌++◌, Option, None, Some, length, take, slice_index, slice_set}
 use Rattle.call_types.specs.Flags.{has}
 use Rattle.call_types.specs.Flags as flag
-use Rattle.plain_world.specs.Types.{Act, Call, Outcome, Decided, OpenFlags, Bounds, World, Description, Target, Fifo, OpenDescriptor, Replied, Number, Done}
+use Rattle.plain_world.specs.Types.{Act, Call, Outcome, Decided, OpenFlags, Bounds, World, Description, Mode, Target, Fifo, OpenDescriptor, Replied, Number, Done}
 use Rattle.call_types.specs.declared.act.Act.TheVariants as act
 use Rattle.call_types.specs.declared.call.Call.TheVariants as call
+use Rattle.call_types.specs.declared.whence.Whence.{Whence}
 use Rattle.call_types.specs.declared.whence.Whence.TheVariants.{Set, Cur, End}
 use Rattle.posix_model.specs.Bytes.{splice, resized}
 use Rattle.call_types.specs.Names.{file_of}
 use Rattle.slots.specs.Slots.{slot}
 use Rattle.posix_model.specs.Positions.{bytes_before, is_regular}
 use Rattle.posix_model.specs.Pipes.{fifo_at, pipe_between}
-use Rattle.call_types.specs.Descriptions.{at_offset}
+use Rattle.call_types.specs.Descriptions.{at_offset, can_read, can_write}
 use Rattle.posix_model.specs.Descriptors.{opened, bytes_of}
 use Rattle.posix_model.specs.Whole.{is_regular_file}
 use Rattle.posix_model.specs.Write.{write_start}
@@ -69,6 +70,18 @@ WritePuts = (bounds : Bounds) (w : World) (process : ℕ) (fd : ℤ) (bytes : Li
     bytes ≢ [] → outcome_of bounds w process (call.Write fd bytes) ≡ Replied (Number n) →
     bytes_of (before_sweep bounds w process (call.Write fd bytes)) file ≡ splice (bytes_of w file) (write_start o.description (length (bytes_of w file))) (take n bytes)
 
+-- and leaves the offset after those that it took (page of write)
+abbrev pub WriteMoves : Type 0
+WriteMoves = (bounds : Bounds) (w : World) (process : ℕ) (fd : ℤ) (bytes : List ℕ) (o : OpenDescriptor) (file n : ℕ) → OpenOn w process fd o file →
+    bytes ≢ [] → outcome_of bounds w process (call.Write fd bytes) ≡ Replied (Number n) →
+    slot (before_sweep bounds w process (call.Write fd bytes)).descriptions o.number ≡ Some (at_offset (write_start o.description (length (bytes_of w file)) + n) o.description)
+
+-- it takes all of them, or as many as there is room for below the size limit (page of write)
+abbrev pub WriteTakesAll : Type 0
+WriteTakesAll = (bounds : Bounds) (w : World) (process : ℕ) (fd : ℤ) (bytes : List ℕ) (o : OpenDescriptor) (file n : ℕ) → OpenOn w process fd o file →
+    bytes ≢ [] → outcome_of bounds w process (call.Write fd bytes) ≡ Replied (Number n) →
+    (n ≡ length bytes) ⊎ (write_start o.description (length (bytes_of w file)) + n ≡ bounds.file_size)
+
 -- a pwrite puts them at its position, under append too (page of write, pwrite)
 abbrev pub PwritePuts : Type 0
 PwritePuts = (bounds : Bounds) (w : World) (process : ℕ) (fd start : ℤ) (bytes : List ℕ) (o : OpenDescriptor) (file n : ℕ) → OpenOn w process fd o file →
@@ -111,6 +124,12 @@ pub record Seeks (bounds : Bounds) (w : World) (process : ℕ) (fd offset : ℤ)
 -- and that is what each of them tells (page of lseek)
 abbrev pub SeekTells : Type 0
 SeekTells = (bounds : Bounds) (w : World) (process : ℕ) (fd offset : ℤ) (o : OpenDescriptor) (file n : ℕ) → OpenOn w process fd o file → Seeks bounds w process fd offset o file n
+
+-- and leaves the offset of its open file description there (page of lseek)
+abbrev pub SeekMoves : Type 0
+SeekMoves = (bounds : Bounds) (w : World) (process : ℕ) (fd offset : ℤ) (from : Whence) (o : OpenDescriptor) (n : ℕ) → opened w process fd ≡ Some o →
+    outcome_of bounds w process (call.Lseek fd offset from) ≡ Replied (Number n) →
+    slot (before_sweep bounds w process (call.Lseek fd offset from)).descriptions o.number ≡ Some (at_offset n o.description)
 
 -- a pread changes nothing: no byte, and no offset (page of read, pread)
 abbrev pub PreadKeepsWorld : Type 0
@@ -214,6 +233,16 @@ pub record OpensLowest (w v : World) (process : ℕ) (name : List ℕ) (flags : 
 abbrev pub OpenDescribes : Type 0
 OpenDescribes = (bounds : Bounds) (w : World) (process : ℕ) (name : List ℕ) (flags : OpenFlags) → IsNoError (outcome_of bounds w process (call.Open name flags)) →
     OpensLowest w (before_sweep bounds w process (call.Open name flags)) process name flags (outcome_of bounds w process (call.Open name flags))
+
+-- an open file description is for reading where the flags ask for that, and for writing where they ask for that (page of open)
+pub record IsForAsked (mode : Mode) (flags : OpenFlags) : Type 0 where
+  pub reads : can_read mode ≡ has flags flag.reading
+  pub writes : can_write mode ≡ has flags flag.writing
+
+-- so is that of each open that is not refused (page of open)
+abbrev pub OpenIsForAsked : Type 0
+OpenIsForAsked = (bounds : Bounds) (w : World) (process : ℕ) (name : List ℕ) (flags : OpenFlags) → IsNoError (outcome_of bounds w process (call.Open name flags)) →
+    IsForAsked (mode_of flags) flags
 
 -- an open under excl and creat that is not refused is of a name that was not there (page of open)
 abbrev pub ExclOpensNew : Type 0

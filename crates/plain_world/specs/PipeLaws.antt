@@ -1,23 +1,42 @@
 -- What holds of pipes and FIFOs, in words that the pages use.
-use Rattle.std.specs.Prelude.{◌≡◌, ◌≢◌, ℕ, ℤ, pos, ◌≤◌, true, false, List, [], ◌++◌, Option, None, Some, length, if◌then◌else◌}
+use Rattle.std.specs.Prelude.{◌≡◌, ◌≢◌, ℕ, ℤ, pos, ◌+◌, ◌≤◌, true, false, List, [], ◌++◌, Option, None, Some, length, if◌then◌else◌}
 use Rattle.std.specs.Option.{option_map}
-use Rattle.call_types.specs.Flags.{has}
-use Rattle.call_types.specs.Flags as flag
+use Rattle.call_types.specs.Descriptions.{can_read, can_write}
 use Rattle.call_types.specs.Names.{file_of}
 use Rattle.call_types.specs.declared.act.Act.TheVariants as act
 use Rattle.call_types.specs.declared.call.Call.TheVariants as call
+use Rattle.call_types.specs.declared.description.Mode.TheVariants as mode
 use Rattle.call_types.specs.declared.description.Target.TheVariants as target
 use Rattle.slots.specs.Slots.{slot, lowest}
 use Rattle.process_table.specs.Processes.{table_of, parked_of}
 use Rattle.posix_model.specs.Descriptors.{opened}
 use Rattle.posix_model.specs.Pipes.{pipe_at, fifo_at, pipe_of_fifo}
+use Rattle.posix_model.specs.Open.{mode_of}
 use Rattle.posix_model.specs.Change.{after_those, changed}
 use Rattle.posix_model.specs.Sweep.{is_open}
 use Rattle.posix_model.specs.Resume.{is_ready}
 use Rattle.posix_model.specs.Step.{comes_to, Stepped, step}
-use Rattle.posix_model.specs.Types.{PIPE_BUF, ParkedAt}
-use Rattle.plain_world.specs.Types.{Outcome, OpenFlags, Bounds, World, Parked, Fifo, OpenDescriptor, Decided, Replied, Number}
+use Rattle.posix_model.specs.Types.{PIPE_BUF}
+use Rattle.plain_world.specs.Types.{Outcome, OpenFlags, Bounds, World, Mode, Parked, Fifo, OpenDescriptor, Decided, Replied, Number}
 use Rattle.plain_world.specs.Calls.{outcome_of, before_sweep, IsNoError}
+
+-- an open of a FIFO that is not refused is for reading or for writing, and not for both (own; page of open: for both it is undefined)
+abbrev pub FifoOpensOneWay : Type 0
+FifoOpensOneWay = (bounds : Bounds) (w : World) (process : ℕ) (name : List ℕ) (flags : OpenFlags) (number : ℕ) (fifo : Fifo) → file_of name w.names ≡ Some number →
+    fifo_at (slot w.files number) ≡ Some fifo → IsNoError (outcome_of bounds w process (call.Open name flags)) → mode_of flags ≢ mode.ReadWrite
+
+-- a FIFO was opened once more: the count of an end is one more where the open was for that end, and else as it was
+pub record CountsOpening (v : World) (number : ℕ) (mode : Mode) (before : Fifo) : Type 0 where
+  pub after : Fifo
+  pub stands : fifo_at (slot v.files number) ≡ Some after
+  pub reading : after.reader_openings ≡ before.reader_openings + (if can_read mode then 1 else 0)
+  pub writing : after.writer_openings ≡ before.writer_openings + (if can_write mode then 1 else 0)
+
+-- so does each open of a FIFO that is not refused: one that waits does not raise the count that it waits for (own)
+abbrev pub FifoCountsOpenings : Type 0
+FifoCountsOpenings = (bounds : Bounds) (w : World) (process : ℕ) (name : List ℕ) (flags : OpenFlags) (number : ℕ) (fifo : Fifo) → file_of name w.names ≡ Some number →
+    fifo_at (slot w.files number) ≡ Some fifo → IsNoError (outcome_of bounds w process (call.Open name flags)) →
+    CountsOpening (before_sweep bounds w process (call.Open name flags)) number (mode_of flags) fifo
 
 -- a FIFO has the next pipe, which is empty, and the lowest free descriptor leads to it
 pub record OpensEmpty (w v : World) (process number : ℕ) : Type 0 where
@@ -75,22 +94,3 @@ UnparkedIsNotReady = (bounds : Bounds) (w : World) (process : ℕ) → parked_of
 -- and a resume of it is no step (own)
 abbrev pub UnparkedIsNotResumed : Type 0
 UnparkedIsNotResumed = (bounds : Bounds) (w : World) (process : ℕ) → parked_of (slot w.processes process) ≡ None → step bounds w process act.Resume ≡ None
-
--- a process does not wait after this
-abbrev pub WaitsNot : Outcome → Type 0
-WaitsNot outcome = (moved : ℕ) → outcome ≢ ParkedAt moved
-
--- a read on a descriptor under nonblock does not wait (page of read)
-abbrev pub NonblockReadReturns : Type 0
-NonblockReadReturns = (bounds : Bounds) (w : World) (process : ℕ) (fd : ℤ) (count : ℕ) (o : OpenDescriptor) → opened w process fd ≡ Some o → o.description.nonblock ≡ true →
-    WaitsNot (outcome_of bounds w process (call.Read fd count))
-
--- nor does a write (page of write)
-abbrev pub NonblockWriteReturns : Type 0
-NonblockWriteReturns = (bounds : Bounds) (w : World) (process : ℕ) (fd : ℤ) (bytes : List ℕ) (o : OpenDescriptor) → opened w process fd ≡ Some o → o.description.nonblock ≡ true →
-    WaitsNot (outcome_of bounds w process (call.Write fd bytes))
-
--- nor does an open under nonblock (page of open)
-abbrev pub NonblockOpenReturns : Type 0
-NonblockOpenReturns = (bounds : Bounds) (w : World) (process : ℕ) (name : List ℕ) (flags : OpenFlags) → has flags flag.nonblocking ≡ true →
-    WaitsNot (outcome_of bounds w process (call.Open name flags))

@@ -1,6 +1,6 @@
 //! Laws of the descriptors of processes. Each function does nothing; its contract is the law.
 
-ghost use Rattle.plain_world.specs.DescriptorLaws.{OpenGivesLowest, DupLeads, Dup2Leads, Dup2KeepsEqual, CloseCloses, NotOpenIsBad, ProcessesAreApart};
+ghost use Rattle.plain_world.specs.DescriptorLaws.{OpenGivesLowest, DupLeads, Dup2Leads, Dup2KeepsEqual, CloseCloses, NotOpenIsBad, AccessIsNeeded, ProcessesAreApart};
 
 /// An open that is not refused gives the least descriptor of its process that is free: it tells the number, or, where it waits, its
 /// process keeps the descriptor (page of open; of one that waits own). A resume tells what was kept: `posix_model::pipe_laws::ready_moves`.
@@ -21,6 +21,12 @@ pub fn duplicates_lead_to_one()
 pub fn closed_is_not_open()
     ensures close { CloseCloses }
     ensures not_open { NotOpenIsBad }
+{}
+
+/// A read and a pread that are not refused are on a descriptor that is open for reading, and a write, a pwrite and an ftruncate on
+/// one that is open for writing (EBADF of the pages of read and write, and page of ftruncate).
+pub fn access_is_needed()
+    ensures { AccessIsNeeded }
 {}
 
 /// A call of one process leaves every other process that was there, with its descriptors, as it was (XBD 3, File Descriptor).

@@ -1,6 +1,6 @@
 //! Laws of the calls on files. Each function does nothing; its contract is the law.
 
-ghost use Rattle.plain_world.specs.FileLaws.{WriteSplices, WritePuts, PwritePuts, WriteAppends, ReadGives, PreadGives, ReadMoves, SeekTells, PreadKeepsWorld, NothingRead, NothingWritten, NothingPwritten, PwriteKeepsOffsets, PwriteSameUnderAppend, OwnFileAlone, FilesStay, PipesStay, ActsLeaveFiles, ActsLeavePipes, FtruncateResizes, FtruncateLeavesResized, FtruncateKeepsOffsets, OpenDescribes, ExclOpensNew, TruncOpenEmpties, OpenKeepsFiles, OpenKeepsOthers, OpenMakesEmpty};
+ghost use Rattle.plain_world.specs.FileLaws.{WriteSplices, WritePuts, PwritePuts, WriteMoves, WriteTakesAll, WriteAppends, ReadGives, PreadGives, ReadMoves, SeekTells, SeekMoves, PreadKeepsWorld, NothingRead, NothingWritten, NothingPwritten, PwriteKeepsOffsets, PwriteSameUnderAppend, OwnFileAlone, FilesStay, PipesStay, ActsLeaveFiles, ActsLeavePipes, FtruncateResizes, FtruncateLeavesResized, FtruncateKeepsOffsets, OpenDescribes, OpenIsForAsked, ExclOpensNew, TruncOpenEmpties, OpenKeepsFiles, OpenKeepsOthers, OpenMakesEmpty};
 
 use posix_model::laws::{acts_are_sound, calls_are_sound};
 
@@ -9,6 +9,13 @@ use posix_model::laws::{acts_are_sound, calls_are_sound};
 pub fn write_splices()
     ensures call { WritePuts }
     ensures bytes { WriteSplices }
+{}
+
+/// A write to a regular file takes all of its bytes, or as many as there is room for below the size limit, and leaves the offset after
+/// them (page of write). No other offset moves: `offsets_are_apart`.
+pub fn write_moves()
+    ensures offset { WriteMoves }
+    ensures all { WriteTakesAll }
 {}
 
 /// Under append a write puts its bytes at the end of the file, whatever the offset (page of write).
@@ -27,6 +34,12 @@ pub fn reads_give_the_bytes()
 /// A seek tells the place that is so many bytes past the start, the offset or the end (its page).
 pub fn seek_tells_the_offset()
     ensures { SeekTells }
+{}
+
+/// A seek leaves the offset of its open file description at the place that it tells (page of lseek). No other offset moves:
+/// `offsets_are_apart`.
+pub fn seek_moves()
+    ensures { SeekMoves }
 {}
 
 /// A pread changes nothing: no byte, and no offset (page of read, pread).
@@ -84,9 +97,11 @@ pub fn ftruncate_keeps_offsets()
 
 /// Each open that is not refused has an open file description of its own, at the start of the file or FIFO that the name leads to,
 /// in the mode and with the flags that were asked; so two opens of one file have two. The least free descriptor leads to it, which
-/// the open tells, or which its process keeps where it waits (page of open; of one that waits own).
+/// the open tells, or which its process keeps where it waits (page of open; of one that waits own). It is open for reading where
+/// that was asked, and for writing where that was.
 pub fn open_describes()
-    ensures { OpenDescribes }
+    ensures description { OpenDescribes }
+    ensures access { OpenIsForAsked }
 {}
 
 /// An open under creat and excl that is not refused is of a name that was not there (page of open).

@@ -1,4 +1,6 @@
-//! A change, made in place. Where memory runs out the world may be changed in part.
+//! A change, made in place. Where memory runs out the world may be changed in part. What is taken out of a slot and put back sets
+//! the slot twice.
+#![tactic(auto, using(crate::proofs::SlotLemmas::set_twice))]
 
 ghost use Rattle.std.specs.Prelude.{◌≡◌, ◌+◌, ◌<◌, ◌≤◌, ◌^◌, None, length, slice_set, OnOk};
 ghost use Rattle.posix_model.specs.Bytes.{splice, resized};
@@ -43,7 +45,6 @@ fn take_bytes(alloc: Global, files: &mut Slots<File>, file: usize) -> Contents
     }
 }
 
-#[tactic(auto, using(crate::proofs::SlotLemmas::set_twice))]
 /// Writes bytes to a regular file from a position on.
 fn write_bytes(
     alloc: Global,
@@ -61,7 +62,6 @@ fn write_bytes(
     Ok(())
 }
 
-#[tactic(auto, using(crate::proofs::SlotLemmas::set_twice))]
 /// Gives a regular file a length, in bytes.
 fn resize(alloc: Global, files: &mut Slots<File>, file: usize, len: usize) -> Result<(), AllocError>
     ensures { OnOk result (files.new ≡ slice_set files.old file (Some (File.Regular (resized (file_bytes (slot files.old file)) len)))) }
@@ -136,7 +136,6 @@ fn make_files(
     }
 }
 
-#[tactic(auto, using(crate::proofs::SlotLemmas::set_twice))]
 /// Gives a process its connection.
 fn connect(processes: &mut Slots<Process>, number: usize)
     ensures { processes.new ≡ edited number with_connection processes.old }
@@ -147,7 +146,6 @@ fn connect(processes: &mut Slots<Process>, number: usize)
     }
 }
 
-#[tactic(auto, using(crate::proofs::SlotLemmas::set_twice))]
 /// Lets a process wait in this call, or in none.
 fn set_parked(processes: &mut Slots<Process>, number: usize, parked: Option<Parked>)
     ensures { processes.new ≡ edited number (with_parked parked) processes.old }
@@ -168,7 +166,6 @@ fn with_total(mut process: Process, moved: u32) -> Process
     process
 }
 
-#[tactic(auto, using(crate::proofs::SlotLemmas::set_twice))]
 /// The call that a process waits in has moved so many bytes in all.
 fn set_moved(processes: &mut Slots<Process>, number: usize, moved: u32)
     ensures { processes.new ≡ edited number (with_total moved) processes.old }
@@ -199,7 +196,6 @@ fn make_processes(world: &mut World, edit: ProcessEdit) -> Result<(), AllocError
     Ok(())
 }
 
-#[tactic(auto, using(crate::proofs::SlotLemmas::set_twice))]
 /// Lets a descriptor of a process refer to a description, or frees it.
 fn set_descriptor(processes: &mut Slots<Process>, number: usize, fd: usize, entry: Option<usize>)
     ensures { processes.new ≡ edited number (with_entry fd entry) processes.old }
@@ -210,7 +206,6 @@ fn set_descriptor(processes: &mut Slots<Process>, number: usize, fd: usize, entr
     }
 }
 
-#[tactic(auto, using(crate::proofs::SlotLemmas::set_twice))]
 /// Gives a description another offset, in bytes.
 fn set_offset(descriptions: &mut Slots<Description>, number: usize, offset: u64)
     ensures { descriptions.new ≡ edited number (at_offset offset) descriptions.old }

@@ -1,8 +1,21 @@
 //! Laws of pipes and FIFOs. Each function does nothing; its contract is the law.
 
-ghost use Rattle.plain_world.specs.PipeLaws.{ReopenedIsEmpty, ExitTakesBackNothing, WriteLosesNothing, ResumedWriteLosesNothing, SmallWriteIsWhole, UnparkedIsNotReady, UnparkedIsNotResumed, NonblockReadReturns, NonblockWriteReturns, NonblockOpenReturns};
+ghost use Rattle.plain_world.specs.PipeLaws.{FifoOpensOneWay, FifoCountsOpenings, ReopenedIsEmpty, ExitTakesBackNothing, WriteLosesNothing, ResumedWriteLosesNothing, SmallWriteIsWhole, UnparkedIsNotReady, UnparkedIsNotResumed};
+ghost use Rattle.posix_model.specs.WaitLaws.{NonblockNeverWaits};
 
 use posix_model::laws::sweep_leaves_wanted;
+use posix_model::pipe_laws::ready_moves;
+
+/// An open of a FIFO that is not refused is for reading or for writing, and not for both (own).
+pub fn fifo_opens_one_way()
+    ensures { FifoOpensOneWay }
+{}
+
+/// An open of a FIFO that is not refused raises the count of its own end by one, and leaves that of the other end. So an open that
+/// waits does not end its own wait (own).
+pub fn fifo_counts_openings()
+    ensures { FifoCountsOpenings }
+{}
 
 /// An open of a FIFO of which no end is open leads to a pipe that is empty (page of open).
 pub fn reopened_fifo_is_empty()
@@ -35,9 +48,9 @@ pub fn nobody_is_ready_unparked()
     ensures resumed { UnparkedIsNotResumed }
 {}
 
-/// Under nonblock a read, a write and an open do not wait (pages of read, write and open).
+/// No call under nonblock waits: an open by its flags, any other by the description that it is on (pages of read, write and open).
 pub fn nonblock_never_waits()
-    ensures read { NonblockReadReturns }
-    ensures write { NonblockWriteReturns }
-    ensures opens { NonblockOpenReturns }
-{}
+    ensures { NonblockNeverWaits }
+{
+    ready_moves();
+}

@@ -1,4 +1,6 @@
-//! Bytes that go into a pipe and leave it, and ends that are opened. Where memory runs out a pipe may be changed in part.
+//! Bytes that go into a pipe and leave it, and ends that are opened. Where memory runs out a pipe may be changed in part. What is
+//! taken out of a slot and put back sets the slot twice.
+#![tactic(auto, using(crate::proofs::SlotLemmas::set_twice))]
 
 ghost use Rattle.std.specs.Prelude.{[], ◌≡◌, ◌+◌, drop, unwrap_or, length, IfOk, OnOk};
 ghost use Rattle.call_types.specs.CallTable.{payload_of};
@@ -54,7 +56,6 @@ pub(crate) fn parked_bytes(processes: &Slots<Process>, process: usize) -> Part<'
     }
 }
 
-#[tactic(auto, using(crate::proofs::BytesLaws::added_at_end))]
 /// Adds bytes at the end; an error says that memory ran out.
 fn add_bytes(contents: &mut Contents, bytes: Part<'_>) -> Result<(), AllocError>
     ensures { OnOk result (contents.new ≡ after_those (part_bytes bytes.entry) contents.old) }
@@ -66,7 +67,6 @@ fn add_bytes(contents: &mut Contents, bytes: Part<'_>) -> Result<(), AllocError>
     }
 }
 
-#[tactic(auto, using(crate::proofs::SlotLemmas::set_twice))]
 /// Puts bytes into a pipe, after those that it holds.
 pub(crate) fn put_bytes(
     pipes: &mut Slots<Contents>,
@@ -82,7 +82,6 @@ pub(crate) fn put_bytes(
     Ok(())
 }
 
-#[tactic(auto, using(crate::proofs::BytesLaws::added_at_end))]
 /// A copy of the bytes after the first ones; an error says that memory ran out.
 fn left_of(alloc: Global, contents: &Contents, count: usize) -> Result<Contents, AllocError>
     ensures { IfOk result (λ left. left ≡ drop count contents.now) }
@@ -95,7 +94,6 @@ fn left_of(alloc: Global, contents: &Contents, count: usize) -> Result<Contents,
     Ok(left)
 }
 
-#[tactic(auto, using(crate::proofs::SlotLemmas::set_twice))]
 /// Takes so many bytes out of a pipe, or all that it holds; those first that went in first.
 pub(crate) fn take_first(
     alloc: Global,
@@ -189,7 +187,6 @@ fn opened_file(mode: Mode, pipe: usize, file: File) -> Result<File, AllocError>
     }
 }
 
-#[tactic(auto, using(crate::proofs::SlotLemmas::set_twice))]
 /// An end of a FIFO is opened once more, on this pipe.
 pub(crate) fn open_once(
     files: &mut Slots<File>,

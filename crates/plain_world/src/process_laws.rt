@@ -3,7 +3,7 @@
 
 ghost use Rattle.plain_world.specs.ProcessLaws.{ForkCopies, ForkShares, FullForkRefused, SharedIsSeen, AttachConnects, OtherAttachRefused, ExitFrees, ClosingCloses, ClosedOnce};
 
-use posix_model::laws::{sweep_leaves_wanted, sweep_releases};
+use posix_model::laws::sweep_leaves_wanted;
 
 /// A fork adds a child under the next number, and each of its descriptors leads to the description that the same descriptor of its
 /// parent leads to; where there may be no further process it is EAGAIN and changes nothing (page of fork).
@@ -23,9 +23,7 @@ pub fn shared_is_seen()
 pub fn attach_connects()
     ensures child { AttachConnects }
     ensures other { OtherAttachRefused }
-{
-    sweep_releases();
-}
+{}
 
 /// An exit ends its process and leaves the others, all names and each description that another process has open as they were; the
 /// other descriptions go (page of exit).

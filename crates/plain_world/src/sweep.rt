@@ -1,3 +1,6 @@
+//! What nothing refers to any more goes. A list is swept slot by slot.
+#![tactic(auto, using(crate::proofs::SweepLemmas::kept_all))]
+
 ghost use Rattle.std.specs.Prelude.{◌≡◌, map, slice_set};
 ghost use Rattle.slots.specs.Slots.{slot, kept};
 ghost use Rattle.posix_model.specs.Sweep.{is_referred, is_open, is_wanted, open_pipe, without_gone_pipe, sweep};
@@ -44,7 +47,6 @@ fn open_pipe(descriptions: &Slots<Description>, pipe: Option<usize>) -> Option<u
     }
 }
 
-#[tactic(auto, using(crate::proofs::SlotLemmas::put_same))]
 /// Lets a FIFO forget a pipe that is gone.
 fn forget_gone_pipe(descriptions: &Slots<Description>, files: &mut Slots<File>, file: usize)
     ensures { files.new ≡ slice_set files.old file (without_gone_pipe descriptions.now (slot files.old file)) }
@@ -56,7 +58,6 @@ fn forget_gone_pipe(descriptions: &Slots<Description>, files: &mut Slots<File>, 
     }
 }
 
-#[tactic(auto, using(crate::proofs::SweepLemmas::kept_all))]
 /// The descriptions without a descriptor go.
 fn sweep_descriptions(processes: &Slots<Process>, descriptions: &mut Slots<Description>)
     ensures { descriptions.new ≡ kept (is_referred processes.now) descriptions.old }
@@ -66,7 +67,6 @@ fn sweep_descriptions(processes: &Slots<Process>, descriptions: &mut Slots<Descr
     }
 }
 
-#[tactic(auto, using(crate::proofs::SweepLemmas::kept_all))]
 /// The pipes without an open end go.
 fn sweep_pipes(descriptions: &Slots<Description>, pipes: &mut Slots<Contents>)
     ensures { pipes.new ≡ kept (is_open descriptions.now) pipes.old }
@@ -85,7 +85,6 @@ fn forget_gone_pipes(descriptions: &Slots<Description>, files: &mut Slots<File>)
     }
 }
 
-#[tactic(auto, using(crate::proofs::SweepLemmas::kept_all))]
 /// The files without a name and a holder go.
 fn sweep_files(names: &Names, descriptions: &Slots<Description>, files: &mut Slots<File>)
     ensures { files.new ≡ kept (is_wanted names.now descriptions.now) files.old }

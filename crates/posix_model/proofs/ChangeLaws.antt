@@ -44,7 +44,7 @@ same_rises w = record {
 pub goes_nowhere : (w : World) → IsWhole w → Goes w w
 goes_nowhere w whole = record { rises = same_rises w; whole = whole }
 
-pub rise_twice : (u v w : World) → NumbersRise u v → NumbersRise v w → NumbersRise u w
+rise_twice : (u v w : World) → NumbersRise u v → NumbersRise v w → NumbersRise u w
 rise_twice u v w r s = record {
   files = rises_twice u.files v.files w.files r.files s.files;
   pipes = rises_twice u.pipes v.pipes w.pipes r.pipes s.pipes;
@@ -59,12 +59,12 @@ pub goes_twice : (u v w : World) → Goes u v → Goes v w → Goes u w
 goes_twice u v w g h = record { rises = rise_twice u v w g.rises h.rises; whole = h.whole }
 
 -- a regular file is there, and no FIFO
-pub regular_parts : (x : Option File) → is_regular_file x ≡ true → (is_some x ≡ true) × (is_fifo x ≡ false)
+regular_parts : (x : Option File) → is_regular_file x ≡ true → (is_some x ≡ true) × (is_fifo x ≡ false)
 regular_parts None h = cc
 regular_parts (Some (file.Regular bytes)) h = (refl, refl)
 regular_parts (Some (file.Fifo fifo)) h = cc
 
-pub fifo_there : (x : Option File) → is_fifo x ≡ true → is_some x ≡ true
+fifo_there : (x : Option File) → is_fifo x ≡ true → is_some x ≡ true
 fifo_there None h = cc
 fifo_there (Some (file.Regular bytes)) h = cc
 fifo_there (Some (file.Fifo fifo)) h = refl
@@ -85,7 +85,7 @@ files_set xs m y full regular fifo = record {
   kinds = stays_set (λ f. is_fifo (Some f)) xs m y (λ a b h k. ap is_fifo (sym k) ∙ (fifo ∙ ap is_fifo h));
 }
 
-pub files_push : (xs : List (Option File)) (y : File) → FilesAdd xs (xs ++ Some y ∷ [])
+files_push : (xs : List (Option File)) (y : File) → FilesAdd xs (xs ++ Some y ∷ [])
 files_push xs y = record {
   adds = adds_push xs (Some y);
   regular = λ n h. ap is_regular_file (slot_pushed xs (Some y) n (there_below xs n (regular_parts (slot xs n) h).0)) ∙ h;
@@ -140,7 +140,7 @@ regular_has_none (Some (file.Regular bytes)) h = refl
 regular_has_none (Some (file.Fifo fifo)) h = cc
 
 -- what has a pipe is there
-pub pipe_in_there : (x : Option File) (p : ℕ) → pipe_in x ≡ Some p → is_some x ≡ true
+pipe_in_there : (x : Option File) (p : ℕ) → pipe_in x ≡ Some p → is_some x ≡ true
 pipe_in_there None p h = cc
 pipe_in_there (Some x) p h = refl
 
@@ -351,7 +351,7 @@ descriptor_goes w process fd entry whole new =
     }
 
 -- one more description, of what is there
-pub described_goes : (w : World) (d : Description) → IsWhole w → TargetIsThere w.files w.pipes d.target → IsItsFifo w.files d.target → IsOnItsPipe w.files d.target → Goes w (record w { descriptions = w.descriptions ++ Some d ∷ [] })
+described_goes : (w : World) (d : Description) → IsWhole w → TargetIsThere w.files w.pipes d.target → IsItsFifo w.files d.target → IsOnItsPipe w.files d.target → Goes w (record w { descriptions = w.descriptions ++ Some d ∷ [] })
 described_goes w d whole there its on =
     let adds = adds_push w.descriptions (Some d) in
     record {

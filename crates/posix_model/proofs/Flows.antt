@@ -45,7 +45,7 @@ pub record Keeps (xs ys : Pipes) (q : ℕ) : Type 0 where
 pub keeps_flows : (xs ys : Pipes) (q : ℕ) → Keeps xs ys q → Flows xs ys q [] []
 keeps_flows xs ys q k = record { stays = k.stays; bytes = λ h. append-nil (held xs q) ∙ k.same h }
 
-pub flows_keeps : (xs ys zs : Pipes) (q : ℕ) (put got : List ℕ) → Flows xs ys q put got → Keeps ys zs q → Flows xs zs q put got
+flows_keeps : (xs ys zs : Pipes) (q : ℕ) (put got : List ℕ) → Flows xs ys q put got → Keeps ys zs q → Flows xs zs q put got
 flows_keeps xs ys zs q put got f k = record { stays = λ h. f.stays (k.stays h); bytes = λ h. f.bytes (k.stays h) ∙ ap (λ l. got ++ l) (k.same h) }
 
 pub flows_twice : (xs ys zs : Pipes) (q : ℕ) (p g p' g' : List ℕ) → Flows xs ys q p g → Flows ys zs q p' g' → Flows xs zs q (p ++ p') (g ++ g')
@@ -147,7 +147,7 @@ edit_flows w bytes (on_files.MakeFile name) q fits = keeps_flows w.pipes w.pipes
 edit_flows w bytes (on_files.MakeFifo name) q fits = keeps_flows w.pipes w.pipes q (keeps_same w.pipes q)
 
 -- an edit of processes leaves pipes and files
-pub processes_leave : (w : World) (e : ProcessEdit) → (with_processes w e).pipes ≡ w.pipes
+processes_leave : (w : World) (e : ProcessEdit) → (with_processes w e).pipes ≡ w.pipes
 processes_leave w on_process.Nothing = refl
 processes_leave w (on_process.Add table attached) = refl
 processes_leave w (on_process.Attach process) = refl

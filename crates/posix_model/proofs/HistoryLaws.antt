@@ -29,7 +29,7 @@ settles_from bounds w (r ∷ rs) settled =
 pub history_settles : HistorySettles
 history_settles bounds h = settles_from bounds empty_world h refl
 
-pub step_goes : (bounds : Bounds) (w : World) (actor : ℕ) (act : Act) (s : Stepped) → IsWhole w → step bounds w actor act ≡ Some s → Goes w s.world
+step_goes : (bounds : Bounds) (w : World) (actor : ℕ) (act : Act) (s : Stepped) → IsWhole w → step bounds w actor act ≡ Some s → Goes w s.world
 step_goes bounds w actor act s whole h =
     step_parts (λ t. Goes w t.world) bounds w actor act s
     (λ d is.
@@ -66,7 +66,7 @@ pub history_is_whole : HistoryIsWhole
 history_is_whole bounds h = (goes_from bounds empty_world h empty_whole).whole
 
 -- the world of a longer history is the one that its end leads to
-pub world_further : (bounds : Bounds) (w : World) (h more : List Record) → world_from bounds w (h ++ more) ≡ world_from bounds (world_from bounds w h) more
+world_further : (bounds : Bounds) (w : World) (h more : List Record) → world_from bounds w (h ++ more) ≡ world_from bounds (world_from bounds w h) more
 world_further bounds w [] more = refl
 world_further bounds w (r ∷ rs) more = world_further bounds (after bounds w r) rs more
 

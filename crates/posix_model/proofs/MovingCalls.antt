@@ -33,7 +33,8 @@ use Rattle.posix_model.specs.Change.{rest_of}
 use Rattle.posix_model.specs.Step.{can_call, decided, comes_to, given}
 use Rattle.posix_model.specs.Waiting.{HasLeft, EachWaitsWell}
 use Rattle.posix_model.specs.Turns.{Turn, new_turn, next_turn, total, took_in, data_in}
-use Rattle.posix_model.specs.PipeRecord.{TurnOn, opened_if, turn_with, parked_on, turn_on, is_on, data_given}
+use Rattle.posix_model.specs.Given.{data_given}
+use Rattle.posix_model.specs.PipeRecord.{TurnOn, opened_if, turn_with, parked_on, turn_on, is_on}
 use Rattle.posix_model.specs.declared.change.Source.TheVariants as source
 use Rattle.posix_model.specs.declared.change.FileEdit.TheVariants as on_files
 use Rattle.posix_model.specs.declared.change.ProcessEdit.TheVariants as on_process
@@ -181,7 +182,7 @@ open_quiet w p name flags (Some number) = at (fifo_at (slot w.files number))
     at (Some fifo) = search (rules, quiet_rules)
 
 -- one case for each call
-pub call_tells : (bounds : Bounds) (w : World) (p : ℕ) (c : Call) → Tells w (given (act.Call c)) (λ q. is_on q (new_turn_on w p c).on) (new_turn c) (decided bounds w p c)
+call_tells : (bounds : Bounds) (w : World) (p : ℕ) (c : Call) → Tells w (given (act.Call c)) (λ q. is_on q (new_turn_on w p c).on) (new_turn c) (decided bounds w p c)
 call_tells bounds w p (call.Open name flags) =
     quiet_moves w [] (λ q. false) (new_turn (call.Open name flags)) (decided_by (open_file w p name flags)) (λ now. refl) (quiet_page (open_file w p name flags) (open_quiet w p name flags (file_of name w.names)))
 call_tells bounds w p (call.Read fd count) =

@@ -11,7 +11,8 @@ use Rattle.posix_model.specs.Sweep.{sweep}
 use Rattle.posix_model.specs.Step.{Stepped, stepped, step, comes_to, given}
 use Rattle.posix_model.specs.History.{empty_world, after, world_from, world_of, legal_from, legal}
 use Rattle.posix_model.specs.Turns.{Turn, turn, took, took_in, total}
-use Rattle.posix_model.specs.PipeRecord.{TurnOn, turn_with, act_on, turn_on, is_on, data_given, put_in, got_in, put_by, got_by, joined_from, put, BytesOfPipe, IsUnbroken, SmallWritesUnbroken}
+use Rattle.posix_model.specs.Given.{data_given}
+use Rattle.posix_model.specs.PipeRecord.{TurnOn, turn_with, act_on, turn_on, is_on, put_in, got_in, put_by, got_by, joined_from, put, BytesOfPipe, IsUnbroken, SmallWritesUnbroken}
 use Rattle.posix_model.specs.declared.change.FileEdit.TheVariants as on_files
 use Rattle.posix_model.proofs.Flows.{Flows, PipeFits, edit_put, change_flows, keeps_flows, keeps_same, flows_twice, there_not_gone}
 use Rattle.posix_model.specs.Whole.{IsWhole}

@@ -99,7 +99,7 @@ processes_count w (on_process.Exit p) there = record {
 }
 processes_count w on_process.Close there = record { all = omega arith; living = omega arith; closed = refl }
 
-pub change_counts : (w : World) (bytes : List ℕ) (c : Change) → ((p : ℕ) → c.process ≡ on_process.Exit p → IsThere w.processes p) →
+change_counts : (w : World) (bytes : List ℕ) (c : Change) → ((p : ℕ) → c.process ≡ on_process.Exit p → IsThere w.processes p) →
     Counts w (changed w bytes c) (makes c.process) (ended_by c.process) (closed_by c.process)
 change_counts w bytes c there =
     let u = with_files w bytes c.files in

@@ -42,7 +42,7 @@ pub record CountsStay (ds es : List (Option Description)) (t : Target) : Type 0 
   pub ends : (p : ℕ) → is_pipe p t ≡ false → readers es p + writers es p ≡ readers ds p + writers ds p
   pub holders : (f : ℕ) → is_file f t ≡ false → holders es f ≡ holders ds f
 
-pub counts_stay : (ds : List (Option Description)) (n : ℕ) (d : Description) (b : Bool) → slot ds n ≡ Some d → CountsStay ds (cond b ds (set ds n None)) d.target
+counts_stay : (ds : List (Option Description)) (n : ℕ) (d : Description) (b : Bool) → slot ds n ≡ Some d → CountsStay ds (cond b ds (set ds n None)) d.target
 counts_stay ds n d b h = record {
   ends = λ p other.
       let no_reader : reads p (slot ds n) ≡ false = rw (h, other) refl in

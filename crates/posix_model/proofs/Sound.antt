@@ -55,7 +55,7 @@ abbrev pub Answers : Bounds → World → ℕ → Call → Decided → Type 0
 Answers bounds w process c d = Sound bounds w process (act.Call c) d
 
 -- no bytes are taken where the total is 0
-pub none_taken : (c : Call) (most : ℕ) → took_in 0 (new_turn c) ≤ most
+none_taken : (c : Call) (most : ℕ) → took_in 0 (new_turn c) ≤ most
 none_taken c most = elim (is_some (payload_of c)) as (λ b. cond b (0 - 0) 0 ≤ most) [ true ↦ omega arith | false ↦ omega arith ]
 
 -- no process comes or goes, and the run stays open
@@ -118,7 +118,7 @@ opened_stands w p (pos fd) o h = open_in w p fd (slot w.processes p) o refl h
 opened_stands w p (negsuc n) o h = cc
 
 -- the offset that a call on a descriptor moves is that of its own description
-pub own_offset : (w : World) (p : ℕ) (fd : ℤ) (o : OpenDescriptor) (n : ℕ) → opened w p fd ≡ Some o → Some o.number ≡ Some n → number_of w p fd ≡ Some n
+own_offset : (w : World) (p : ℕ) (fd : ℤ) (o : OpenDescriptor) (n : ℕ) → opened w p fd ≡ Some o → Some o.number ≡ Some n → number_of w p fd ≡ Some n
 own_offset w p fd o n is h = ap (option_map (λ x. x.number)) is ∙ h
 
 -- the file of a descriptor that is open on a regular one is there
@@ -132,7 +132,7 @@ pub not_false : (b : Bool) → not b ≡ false → b ≡ true
 not_false true h = refl
 not_false false h = cc
 
-pub file_there : (w : World) (p : ℕ) (o : OpenDescriptor) → IsOpenAt w p o → not (is_regular o) ≡ false → IsWhole w → is_regular_file (slot w.files (file_at o)) ≡ true
+file_there : (w : World) (p : ℕ) (o : OpenDescriptor) → IsOpenAt w p o → not (is_regular o) ≡ false → IsWhole w → is_regular_file (slot w.files (file_at o)) ≡ true
 file_there w p o at regular whole = regular_there w.files w.pipes o.description.target (not_false (is_regular o) regular) (whole.descriptions o.number o.description at.description_is)
 
 pub not_at_most : (a b : ℕ) → leb a b ≡ false → b < a

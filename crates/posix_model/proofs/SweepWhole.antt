@@ -45,7 +45,7 @@ kinds_stay w n x y h k =
     let was : is_fifo (slot w.files n) ≡ is_fifo (Some x) = ap is_fifo h in
     sym now ∙ (kind_stays is_fifo ds (λ _ _. refl) (slot w.files n) ∙ was)
 
-pub sweep_rises : (w : World) → NumbersRise w (sweep w)
+sweep_rises : (w : World) → NumbersRise w (sweep w)
 sweep_rises w =
     let ds = kept (is_referred w.processes) w.descriptions in
     let left = sweep_leaves_there w in

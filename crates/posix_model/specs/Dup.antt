@@ -1,9 +1,7 @@
 -- The page of dup.
-use Rattle.std.specs.Prelude.{ℕ, [], ◌∷◌, Some, is_none}
+use Rattle.std.specs.Prelude.{ℕ, [], ◌∷◌, Some}
 use Rattle.posix_model.specs.Types.{World, OpenDescriptor, EMFILE, Number}
-use Rattle.slots.specs.Slots.{slot, lowest}
-use Rattle.process_table.specs.Processes.{table_of}
-use Rattle.posix_model.specs.Open.{free_descriptor}
+use Rattle.posix_model.specs.Open.{all_open, free_descriptor}
 use Rattle.posix_model.specs.Pages.{Page, does}
 use Rattle.posix_model.specs.declared.change.FileEdit.TheVariants as on_files
 use Rattle.posix_model.specs.declared.change.TableEdit.TheVariants as on_table
@@ -13,6 +11,6 @@ abbrev pub dup : World → ℕ → OpenDescriptor → Page
 dup w process o =
     let fd = free_descriptor w process in
     record {
-      faults = (is_none (lowest (table_of (slot w.processes process))), EMFILE) ∷ [];
+      faults = (all_open w process, EMFILE) ∷ [];
       effect = does (Number fd) on_files.Nothing (on_table.Entry process fd (Some o.number));
     }

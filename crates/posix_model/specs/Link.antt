@@ -1,20 +1,20 @@
 -- The page of link.
-use Rattle.std.specs.Prelude.{ℕ, Bool, nat_le, List, [], ◌∷◌, ◌++◌, Option, length, is_none, is_some, unwrap_or}
+use Rattle.std.specs.Prelude.{ℕ, Bool, nat_le, List, [], ◌∷◌, ◌++◌, Option, is_none, is_some, unwrap_or}
 use Rattle.call_types.specs.Names.{file_of}
-use Rattle.posix_model.specs.Types.{Errno, World, ENOENT, EEXIST, EMLINK, ENOSPC, Done, LINK_MAX, NAMES_MAX}
+use Rattle.posix_model.specs.Types.{Errno, World, ENOENT, EEXIST, EMLINK, ENOSPC, Done, LINK_MAX}
 use Rattle.posix_model.specs.Counts.{links}
-use Rattle.posix_model.specs.Open.{name_faults}
+use Rattle.posix_model.specs.Open.{name_faults, names_full}
 use Rattle.posix_model.specs.Pages.{Page, does}
 use Rattle.posix_model.specs.declared.change.FileEdit.TheVariants as on_files
 use Rattle.posix_model.specs.declared.change.TableEdit.TheVariants as on_table
 
--- the refusals of the old name's file, and of the new name (own: 8 names of a file and 1,024 names are the most)
+-- the refusals of the old name's file, and of the new name (own: 8 names of a file are the most)
 abbrev pub linked_faults : World → List ℕ → Option ℕ → List (Bool × Errno)
 linked_faults w new found =
     (is_none found, ENOENT)
     ∷ (is_some (file_of new w.names), EEXIST)
     ∷ (nat_le LINK_MAX (links w.names (unwrap_or found 0)), EMLINK)
-    ∷ (nat_le NAMES_MAX (length w.names), ENOSPC)
+    ∷ (names_full w, ENOSPC)
     ∷ []
 
 -- link of an old name that leads to this: the file has the new name too

@@ -65,12 +65,20 @@ found_faults w flags found =
     ∷ (is_unread w flags (found_fifo w found), ENXIO)
     ∷ []
 
--- the refusals for want of room (own: 1,024 live descriptions and 1,024 names are the most)
+-- whether no descriptor of a process is free
+abbrev pub all_open : World → ℕ → Bool
+all_open w process = is_none (lowest (table_of (slot w.processes process)))
+
+-- whether there may be no further name (own: 1,024 names are the most)
+abbrev pub names_full : World → Bool
+names_full w = nat_le NAMES_MAX (length w.names)
+
+-- the refusals for want of room (own: 1,024 live descriptions are the most)
 abbrev pub room_faults : World → ℕ → Option ℕ → List (Bool × Errno)
 room_faults w process found =
-    (is_none (lowest (table_of (slot w.processes process))), EMFILE)
+    (all_open w process, EMFILE)
     ∷ (nat_le DESCRIPTIONS_MAX (live w.descriptions), ENFILE)
-    ∷ (is_none found && nat_le NAMES_MAX (length w.names), ENOSPC)
+    ∷ (is_none found && names_full w, ENOSPC)
     ∷ []
 
 -- all refusals of open, of a name that leads to this

@@ -10,7 +10,7 @@ use Rattle.posix_model.specs.Counts.{is_pipe}
 use Rattle.posix_model.specs.Descriptors.{opened}
 use Rattle.posix_model.specs.Pipes.{held_bytes}
 use Rattle.posix_model.specs.History.{empty_world, after, world_of, legal}
-pub use Rattle.posix_model.specs.Given.{data_given}
+use Rattle.posix_model.specs.Given.{data_given}
 use Rattle.posix_model.specs.Turns.{Turn, turn, total, took_in, took, data_in}
 
 -- what a descriptor leads to, if there is one and it is open

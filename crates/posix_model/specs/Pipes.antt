@@ -25,10 +25,11 @@ has_reader w pipe = nat_lt 0 (readers w.descriptions pipe)
 abbrev pub has_writer : World → ℕ → Bool
 has_writer w pipe = nat_lt 0 (writers w.descriptions pipe)
 
--- whether an end opposite to one of this mode is open
+-- whether an end opposite to one of this mode is open; one for both has none, and an open of a FIFO for both is refused (`is_both` in Open)
 abbrev pub has_opposite : World → Mode → ℕ → Bool
 has_opposite w mode.Read pipe = has_writer w pipe
-has_opposite w other pipe = has_reader w pipe
+has_opposite w mode.Write pipe = has_reader w pipe
+has_opposite w mode.ReadWrite pipe = false
 
 -- the pipe that a target is an end of
 abbrev pub pipe_at : Target → Option ℕ
@@ -55,7 +56,8 @@ is_met w mode fifo = option_map_or (has_opposite w mode) fifo.pipe false
 abbrev pub opposite_openings : Mode → Option Fifo → ℕ
 opposite_openings mode None = 0
 opposite_openings mode.Read (Some fifo) = fifo.writer_openings
-opposite_openings other (Some fifo) = fifo.reader_openings
+opposite_openings mode.Write (Some fifo) = fifo.reader_openings
+opposite_openings mode.ReadWrite (Some fifo) = 0
 
 -- a FIFO that nobody opened yet
 abbrev pub unopened : Fifo
@@ -70,7 +72,7 @@ abbrev pub with_pipe_for : Option ℕ → List (Option (List ℕ)) → List (Opt
 with_pipe_for None pipes = pipes ++ Some [] ∷ []
 with_pipe_for (Some pipe) pipes = pipes
 
--- a FIFO of which an end is opened once more, on this pipe
+-- a FIFO of which an end is opened once more, on this pipe: the reading one, or else the writing one, since an open for both is refused
 abbrev pub opened_once : Mode → ℕ → Fifo → Fifo
 opened_once mode.Read pipe fifo = record fifo { pipe = Some pipe; reader_openings = fifo.reader_openings + 1 }
 opened_once other pipe fifo = record fifo { pipe = Some pipe; writer_openings = fifo.writer_openings + 1 }

@@ -22,7 +22,6 @@ fn payload_of(call: &Call) -> Part<'_>
 }
 
 /// The bytes that an act gives: the data of a call that writes, at most 65,700.
-#[inline(always)]
 pub fn given(act: &Act) -> Part<'_>
     ensures bytes { part_bytes result ≡ given act.now }
     ensures few { length (part_bytes result) ≤ GIVEN_BYTES_MAX }
@@ -35,7 +34,6 @@ pub fn given(act: &Act) -> Part<'_>
 
 /// The data that an act is to take bytes from: that of its own call, or of the one that its process waits in; at most 65,700
 /// bytes.
-#[inline(always)]
 pub fn data_of<'a, R: Reader>(state: &'a R, actor: usize, act: &'a Act) -> Part<'a>
     ensures bytes { part_bytes result ≡ data_of (R.world state.now) actor act.now }
     ensures few { length (part_bytes result) ≤ GIVEN_BYTES_MAX }

@@ -4,9 +4,9 @@ ghost use Rattle.posix_model.specs.Link.{linked_faults, link_at, link};
 
 use call_types::bounded::Name;
 use call_types::errno::Errno;
-use call_types::limits::{LINK_MAX, NAMES_MAX};
+use call_types::limits::LINK_MAX;
 use call_types::outcome::Reply;
-use file_calls::opening::name_fault;
+use file_calls::opening::{name_fault, names_full};
 use posix_model::change::{Decided, FileEdit, TableEdit, does, refused};
 use posix_model::reader::Reader;
 use std::alloc::AllocError;
@@ -24,7 +24,7 @@ fn linked_fault<R: Reader>(state: &R, new: &[u8], found: Option<usize>) -> Optio
     if state.links(found.unwrap_or(0)) >= LINK_MAX {
         return Some(Errno::EMLINK);
     }
-    if state.name_count() >= NAMES_MAX {
+    if names_full(state) {
         return Some(Errno::ENOSPC);
     }
     None

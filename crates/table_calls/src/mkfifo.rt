@@ -4,9 +4,8 @@ ghost use Rattle.posix_model.specs.Mkfifo.{new_name_faults, mkfifo};
 
 use call_types::bounded::Name;
 use call_types::errno::Errno;
-use call_types::limits::NAMES_MAX;
 use call_types::outcome::Reply;
-use file_calls::opening::name_fault;
+use file_calls::opening::{name_fault, names_full};
 use posix_model::change::{Decided, FileEdit, TableEdit, does, refused};
 use posix_model::reader::Reader;
 use std::alloc::AllocError;
@@ -18,7 +17,7 @@ fn new_name_fault<R: Reader>(state: &R, name: &[u8]) -> Option<Errno>
     if state.file_of(name).is_some() {
         return Some(Errno::EEXIST);
     }
-    if state.name_count() >= NAMES_MAX {
+    if names_full(state) {
         return Some(Errno::ENOSPC);
     }
     None

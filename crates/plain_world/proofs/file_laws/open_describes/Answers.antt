@@ -1,5 +1,5 @@
-use Rattle.plain_world.proofs.OpenLaws.{open_describes}
+use Rattle.plain_world.proofs.OpenLaws.{open_describes, open_is_for_asked}
 use Rattle.plain_world.proofs.file_laws.open_describes.Goals as goal
 
 pub returns : goal.returns
-returns c = open_describes
+returns c = record { description = open_describes; access = open_is_for_asked }
