@@ -99,9 +99,13 @@ fork_entry = record { word = codes "fork"; byte = 31; fields = []; make = calls.
 abbrev pub position_table : List Entry
 position_table = pread_entry ∷ pwrite_entry ∷ lseek_entry ∷ ftruncate_entry ∷ []
 
+-- the calls that are less common
+abbrev pub later_table : List Entry
+later_table = dup_entry ∷ dup2_entry ∷ pipe_entry ∷ mkfifo_entry ∷ link_entry ∷ unlink_entry ∷ fstat_entry ∷ fork_entry ∷ position_table
+
 -- the calls
 abbrev pub call_table : List Entry
-call_table = open_entry ∷ close_entry ∷ read_entry ∷ write_entry ∷ dup_entry ∷ dup2_entry ∷ pipe_entry ∷ mkfifo_entry ∷ link_entry ∷ unlink_entry ∷ fstat_entry ∷ fork_entry ∷ position_table
+call_table = open_entry ∷ close_entry ∷ read_entry ∷ write_entry ∷ later_table
 
 -- an entry, and fields for it
 pub record Parts : Type 0 where

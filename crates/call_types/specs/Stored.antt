@@ -1,6 +1,8 @@
 -- The bytes of names and data, however they are kept (own).
 use Rattle.std.specs.Prelude.{ℕ, List, replicate}
 use Rattle.std.specs.Arc.{arc_value}
+use Rattle.std.specs.Vec.{vec_capacity}
+use Rattle.call_types.specs.declared.few.TheConstants.{FEW}
 use Rattle.call_types.specs.declared.gathered.Gathering.{Gathering}
 use Rattle.call_types.specs.declared.gathered.Gathering.TheVariants as gathering
 use Rattle.call_types.specs.declared.bounded.StoredName.{StoredName}
@@ -14,6 +16,11 @@ use Rattle.call_types.specs.declared.part.Part.TheVariants as parts
 abbrev pub gathered_bytes : Gathering → List ℕ
 gathered_bytes (gathering.Few few) = few
 gathered_bytes (gathering.Many many) = many.items
+
+-- how many bytes there may be while they are gathered
+abbrev pub gathered_room : Gathering → ℕ
+gathered_room (gathering.Few few) = FEW
+gathered_room (gathering.Many many) = vec_capacity many
 
 -- the bytes of a name
 abbrev pub stored_name : StoredName → List ℕ

@@ -73,6 +73,16 @@ pub fn greatest_lengths() -> (usize, usize, usize)
     (Name::most(), Payload::most(), Content::most())
 }
 
+/// A name's bytes, for which there was memory of their own: it is given back where they are few. An error says that memory ran out.
+fn kept_name(alloc: Global, bytes: Vec<u8>) -> Result<StoredName, AllocError>
+    ensures { IfOk result (λ stored. stored_name stored ≡ bytes.items) }
+{
+    if bytes.len() <= FEW {
+        return Ok(StoredName::Few(FewBytes::copied(bytes.as_slice())));
+    }
+    Ok(StoredName::Many(Arc::new(alloc, bytes)?))
+}
+
 impl Name {
     /// How many bytes there may be.
     pub fn most() -> usize
@@ -83,12 +93,12 @@ impl Name {
 
     /// The name of these bytes; an error says that memory ran out.
     pub fn new(alloc: Global, bytes: Gathered) -> Result<Self, AllocError>
-        requires { length bytes ≤ GIVEN_NAME_MAX }
-        ensures { IfOk result (λ name. name ≡ bytes) }
+        requires { length bytes.0 ≤ GIVEN_NAME_MAX }
+        ensures { IfOk result (λ name. name ≡ bytes.0) }
     {
         let stored = match bytes.kept {
             Gathering::Few(few) => StoredName::Few(few),
-            Gathering::Many(many) => StoredName::Many(Arc::new(alloc, many)?),
+            Gathering::Many(many) => kept_name(alloc, many)?,
         };
         Ok(Name { stored })
     }
@@ -182,8 +192,8 @@ impl<const MOST: usize> Data<MOST> {
 
     /// The data of these bytes; an error says that memory ran out.
     pub fn new(alloc: Global, bytes: Gathered) -> Result<Self, AllocError>
-        requires { length bytes ≤ MOST }
-        ensures { IfOk result (λ made. made ≡ bytes) }
+        requires { length bytes.0 ≤ MOST }
+        ensures { IfOk result (λ made. made ≡ bytes.0) }
     {
         let stored = match bytes.kept {
             Gathering::Few(few) => StoredData::Few(few),

@@ -1,4 +1,5 @@
-ghost use Rattle.std.specs.Prelude.{◌≡◌, ◌++◌, ◌∷◌, [], length, IfOk, OnOk, OnErr};
+ghost use Rattle.std.specs.Prelude.{◌≡◌, ◌≤◌, ◌<◌, ◌++◌, ◌∷◌, [], length, IfOk};
+ghost use Rattle.std.specs.Vec.{vec_capacity};
 
 use crate::few::{FEW, FewBytes};
 use std::alloc::{AllocError, Global};
@@ -13,7 +14,7 @@ pub(crate) enum Gathering {
     Many(Vec<u8>),
 }
 
-/// Bytes that are gathered one after another, to become a name or data. Contracts see their list.
+/// Bytes that are gathered one after another, to become a name or data. Contracts see their list, and how many there may be.
 #[derive(Drop)]
 pub struct Gathered {
     pub(crate) kept: Gathering,
@@ -21,28 +22,30 @@ pub struct Gathered {
 
 impl Model for Gathered {
     ghost use Rattle.std.specs.Prelude.{List, ℕ};
-    ghost use Rattle.call_types.specs.Stored.{gathered_bytes};
+    ghost use Rattle.call_types.specs.Stored.{gathered_bytes, gathered_room};
 
-    ghost Value = { List ℕ };
+    ghost Value = { List ℕ × ℕ };
 
-    ghost view = { λ gathered. gathered_bytes gathered.kept };
+    ghost view = { λ gathered. (gathered_bytes gathered.kept, gathered_room gathered.kept) };
 }
 
-/// Few bytes and one more, in memory of their own. An error says that memory ran out.
-#[inline(never)]
-fn spilled(alloc: Global, few: &[u8], byte: u8) -> Result<Vec<u8>, AllocError>
-    ensures { IfOk result (λ many. many.items ≡ few.now ++ byte ∷ []) }
+/// One byte more, for which there is room.
+fn push_within(many: &mut Vec<u8>, byte: u8)
+    requires { length many.old.items < vec_capacity many.old }
+    ensures bytes { many.new.items ≡ many.old.items ++ byte ∷ [] }
+    ensures room { vec_capacity many.old ≤ vec_capacity many.new }
 {
-    let mut many = Vec::with_capacity(alloc, 2 * FEW)?;
-    many.extend_from_slice(few)?;
-    many.push(byte)?;
-    Ok(many)
+    match many.push(byte) {
+        Ok(()) => {}
+        Err(_) => unreachable!(),
+    }
 }
 
 impl Gathered {
     /// No byte yet, and room for this many. An error says that memory ran out.
     pub fn with_room(alloc: Global, count: usize) -> Result<Self, AllocError>
-        ensures { IfOk result (λ gathered. gathered ≡ []) }
+        ensures none { IfOk result (λ gathered. gathered.0 ≡ []) }
+        ensures room { IfOk result (λ gathered. count ≤ gathered.1) }
     {
         let kept = if count <= FEW {
             Gathering::Few(FewBytes::new())
@@ -54,7 +57,7 @@ impl Gathered {
 
     /// How many bytes there are.
     pub fn len(&self) -> usize
-        ensures { result ≡ length self.now }
+        ensures { result ≡ length self.now.0 }
     {
         match &self.kept {
             Gathering::Few(few) => few.len(),
@@ -62,24 +65,15 @@ impl Gathered {
         }
     }
 
-    /// One byte more, after the others. An error says that memory ran out.
-    #[inline(always)]
-    pub fn push(&mut self, alloc: Global, byte: u8) -> Result<(), AllocError>
-        ensures ok { OnOk result (self.new ≡ self.old ++ byte ∷ []) }
-        ensures err { OnErr result (self.new ≡ self.old) }
+    /// One byte more, after the others.
+    pub fn push(&mut self, byte: u8)
+        requires { length self.old.0 < self.old.1 }
+        ensures bytes { self.new.0 ≡ self.old.0 ++ byte ∷ [] }
+        ensures room { self.old.1 ≤ self.new.1 }
     {
         match &mut self.kept {
-            Gathering::Many(many) => {
-                many.push(byte)?;
-            }
-            Gathering::Few(few) => {
-                if few.len() < FEW {
-                    few.push(byte);
-                } else {
-                    self.kept = Gathering::Many(spilled(alloc, few.as_slice(), byte)?);
-                }
-            }
+            Gathering::Many(many) => push_within(many, byte),
+            Gathering::Few(few) => few.push(byte),
         }
-        Ok(())
     }
 }

@@ -5,6 +5,7 @@ pub mod Fronts
 pub mod Hex
 pub mod Repeated
 pub mod Numerals
+pub mod WordTests
 pub mod WordLaws
 pub mod NameLaws
 pub mod DataLaws

@@ -1,7 +1,7 @@
 -- Reading the calls and acts of a script, word by word (own).
 use Rattle.std.specs.Prelude.{ℕ, ◌+◌, ◌-◌, List, [], ◌∷◌, length, codes, Option, Some, None, Result, Ok, Err, if◌then◌else◌}
 use Rattle.std.specs.Str.{bytes_eq}
-use Rattle.call_types.specs.CallTable.{FieldKind, a_descriptor, a_position, a_count, a_name, a_payload, some_flags, a_whence, Value, Makes, Entry, dup_entry, dup2_entry, pipe_entry, mkfifo_entry, link_entry, unlink_entry, fstat_entry, fork_entry, position_table, call_table}
+use Rattle.call_types.specs.CallTable.{FieldKind, a_descriptor, a_position, a_count, a_name, a_payload, some_flags, a_whence, Value, Makes, Entry, call_table}
 use Rattle.call_types.specs.declared.call.Call.{Call}
 use Rattle.call_types.specs.declared.whence.Whence.{Whence}
 use Rattle.call_types.specs.declared.whence.Whence.TheVariants as whences
@@ -44,10 +44,6 @@ entry_at e left = fields_at e.fields e.make left
 abbrev pub one_of : List Entry → Word → Result Call ℕ
 one_of [] w = Err w.remaining
 one_of (e ∷ es) w = if bytes_eq w.text e.word then entry_at e w.after else one_of es w
-
--- the calls that come after write in the table
-abbrev pub later_table : List Entry
-later_table = dup_entry ∷ dup2_entry ∷ pipe_entry ∷ mkfifo_entry ∷ link_entry ∷ unlink_entry ∷ fstat_entry ∷ fork_entry ∷ position_table
 
 -- a call, by its first word
 abbrev pub named_call : Word → Result Call ℕ

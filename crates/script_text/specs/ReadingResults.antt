@@ -30,8 +30,8 @@ abbrev pub Opens : Result Rest ScriptFault → List ℕ → Type 0
 Opens (Ok rest) text = (length text ≤ SCRIPT_MAX) × (rest.read ≡ script text)
 Opens (Err fault) text = (fault ≡ scripts.TooLong) × (script text ≡ Err scripts.TooLong)
 
--- the next act stands before those that follow it, no act is left, or the rest has the fault, unless memory ran out
+-- the next act stands before those that follow it, no act is left before or after, or the rest has the fault, unless memory ran out
 abbrev pub NextGives : Result (List ScriptAct) ScriptFault → Result (List ScriptAct) ScriptFault → Result (Option ScriptAct) ScriptFault → Type 0
-NextGives old new (Ok None) = old ≡ Ok []
+NextGives old new (Ok None) = (old ≡ Ok []) × (new ≡ Ok [])
 NextGives old new (Ok (Some act)) = old ≡ followed (act ∷ []) new
 NextGives old new (Err fault) = ScriptFails fault old

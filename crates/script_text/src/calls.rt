@@ -4,9 +4,9 @@
 
 ghost use Rattle.std.specs.Prelude.{◌≡◌};
 ghost use Rattle.std.specs.Option.{option_copied};
-ghost use Rattle.call_types.specs.CallTable.{open_entry, close_entry, read_entry, write_entry, pread_entry, pwrite_entry, lseek_entry, ftruncate_entry, dup_entry, dup2_entry, pipe_entry, mkfifo_entry, link_entry, unlink_entry, fstat_entry, fork_entry, position_table};
+ghost use Rattle.call_types.specs.CallTable.{open_entry, close_entry, read_entry, write_entry, pread_entry, pwrite_entry, lseek_entry, ftruncate_entry, dup_entry, dup2_entry, pipe_entry, mkfifo_entry, link_entry, unlink_entry, fstat_entry, fork_entry, later_table, position_table};
 ghost use Rattle.script_text.specs.Reading.{Gives, Word};
-ghost use Rattle.script_text.specs.ReadingCalls.{entry_at, one_of, named_call, later_table};
+ghost use Rattle.script_text.specs.ReadingCalls.{entry_at, one_of, named_call};
 ghost use Rattle.script_text.specs.Writing.{Appends};
 ghost use Rattle.script_text.specs.Lines.{call_text};
 
@@ -16,7 +16,7 @@ use crate::fields;
 use crate::flags::put_flags;
 use crate::name::put_name;
 use crate::payload::put_data;
-use crate::put::{put, put_descriptor, put_number, put_position};
+use crate::put::{put, put_descriptor, put_number, put_signed};
 use crate::whence::whence_text;
 use crate::words::{Next, line_end};
 use call_types::bounded::{Name, Payload};
@@ -125,7 +125,7 @@ fn put_pread(out: &mut Vec<u8>, fd: i32, start: i64, count: u32) -> Result<(), A
     put(out, b"pread ")?;
     put_descriptor(out, fd)?;
     put(out, b" ")?;
-    put_position(out, start)?;
+    put_signed(out, start)?;
     put(out, b" ")?;
     put_number(out, count as u64)?;
     Ok(())
@@ -149,7 +149,7 @@ fn put_pwrite(out: &mut Vec<u8>, fd: i32, start: i64, bytes: &Payload) -> Result
     put(out, b"pwrite ")?;
     put_descriptor(out, fd)?;
     put(out, b" ")?;
-    put_position(out, start)?;
+    put_signed(out, start)?;
     put(out, b" ")?;
     put_data(out, bytes.part())?;
     Ok(())
@@ -173,7 +173,7 @@ fn put_lseek(out: &mut Vec<u8>, fd: i32, offset: i64, whence: Whence) -> Result<
     put(out, b"lseek ")?;
     put_descriptor(out, fd)?;
     put(out, b" ")?;
-    put_position(out, offset)?;
+    put_signed(out, offset)?;
     put(out, b" ")?;
     put(out, whence_text(whence))?;
     Ok(())
@@ -196,7 +196,7 @@ fn put_ftruncate(out: &mut Vec<u8>, fd: i32, len: i64) -> Result<(), AllocError>
     put(out, b"ftruncate ")?;
     put_descriptor(out, fd)?;
     put(out, b" ")?;
-    put_position(out, len)?;
+    put_signed(out, len)?;
     Ok(())
 }
 

@@ -18,25 +18,27 @@ fn first_of(mark: u8, bytes: &[u8]) -> Option<usize>
     bytes.iter().position(|byte| *byte == mark)
 }
 
-/// The index of the first byte that is `mark`. A call of `memchr` costs more than it saves in a short text.
+/// The bytes before the index of the first mark, and what is left after it.
 #[inline(always)]
-fn find(mark: u8, bytes: &[u8]) -> Option<usize>
-    ensures { IsFirstByte (is_byte mark) bytes.now result }
+fn parted(_mark: u8, found: Option<usize>, bytes: &[u8]) -> (&[u8], Left<'_>)
+    requires { IsFirstByte (is_byte _mark) bytes.now found }
+    ensures value { (result.0.now, option_copied result.1) ≡ cut _mark bytes.now }
+    ensures shorter { IfSome result.1 (λ rest. length rest.now < length bytes.now) }
 {
-    if bytes.len() < 64 {
-        return first_of(mark, bytes);
+    match found {
+        Some(i) => (&bytes[..i], Some(&bytes[i + 1..])),
+        None => (bytes, None),
     }
-    memchr(mark, bytes)
 }
 
-/// The bytes up to the first that is `mark`, and what is left after it.
+/// The bytes up to the first that is `mark`, and what is left after it. A call of `memchr` costs more than it saves in a short text.
 #[inline(always)]
 pub(crate) fn cut_at(mark: u8, bytes: &[u8]) -> (&[u8], Left<'_>)
     ensures value { (result.0.now, option_copied result.1) ≡ cut mark bytes.now }
     ensures shorter { IfSome result.1 (λ rest. length rest.now < length bytes.now) }
 {
-    match find(mark, bytes) {
-        Some(i) => (&bytes[..i], Some(&bytes[i + 1..])),
-        None => (bytes, None),
+    if bytes.len() < 64 {
+        return parted(mark, first_of(mark, bytes), bytes);
     }
+    parted(mark, memchr(mark, bytes), bytes)
 }

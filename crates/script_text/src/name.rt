@@ -1,6 +1,6 @@
 //! Names, read from a word and written as one.
 
-ghost use Rattle.std.specs.Prelude.{◌≡◌, IfOk, Some};
+ghost use Rattle.std.specs.Prelude.{◌≡◌, ◌<◌, length, IfOk, IfSome, Some};
 ghost use Rattle.std.specs.Option.{option_map};
 ghost use Rattle.std.specs.List.{flat_map};
 ghost use Rattle.call_types.specs.declared.limits.TheConstants.{GIVEN_NAME_MAX};
@@ -24,7 +24,8 @@ fn is_plain(byte: u8) -> bool
 
 /// The first byte that a word of a name stands for, and what is left after it.
 fn first_byte(word: &[u8]) -> Option<(u8, &[u8])>
-    ensures { option_map (λ x. (x.0, x.1.now)) result ≡ first_decoded word.now }
+    ensures value { option_map (λ x. (x.0, x.1.now)) result ≡ first_decoded word.now }
+    ensures shorter { IfSome result (λ x. length x.1.now < length word.now) }
 {
     match word {
         [b'%', high, low, rest @ ..] => Some((byte_value(*high, *low)?, rest)),
@@ -35,7 +36,7 @@ fn first_byte(word: &[u8]) -> Option<(u8, &[u8])>
 
 /// The bytes that a word of a name stands for.
 fn decoded_bytes(alloc: Global, word: &[u8]) -> Result<Option<Gathered>, AllocError>
-    ensures { IfOk result (λ bytes. bytes ≡ decoded word.now) }
+    ensures { IfOk result (λ bytes. option_map (λ b. b.0) bytes ≡ decoded word.now) }
 {
     let mut bytes = Gathered::with_room(alloc, word.len())?;
     let mut rest = word;
@@ -43,7 +44,7 @@ fn decoded_bytes(alloc: Global, word: &[u8]) -> Result<Option<Gathered>, AllocEr
         let Some((byte, after)) = first_byte(rest) else {
             return Ok(None);
         };
-        bytes.push(alloc, byte)?;
+        bytes.push(byte);
         rest = after;
     }
     Ok(Some(bytes))
@@ -51,7 +52,7 @@ fn decoded_bytes(alloc: Global, word: &[u8]) -> Result<Option<Gathered>, AllocEr
 
 /// A name, unless it is longer than a call may give it.
 fn short_name(alloc: Global, bytes: Gathered) -> Result<Option<Name>, AllocError>
-    ensures { IfOk result (λ name. name ≡ at_most GIVEN_NAME_MAX (Some bytes)) }
+    ensures { IfOk result (λ name. name ≡ at_most GIVEN_NAME_MAX (Some bytes.0)) }
 {
     if bytes.len() > GIVEN_NAME_MAX {
         return Ok(None);

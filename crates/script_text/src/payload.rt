@@ -1,7 +1,7 @@
 //! Data to write, read from a word and written as one.
 #![tactic(auto, using(crate::proofs::Fronts::keeps_after))]
 
-ghost use Rattle.std.specs.Prelude.{◌≡◌, ◌≤◌, ◌++◌, ◌==◌, codes, decimal, length, IfOk, replicate};
+ghost use Rattle.std.specs.Prelude.{◌≡◌, ◌≤◌, ◌+◌, ◌++◌, ◌==◌, codes, decimal, length, IfOk, IfSome, replicate};
 ghost use Rattle.std.specs.Option.{option_map};
 ghost use Rattle.std.specs.List.{flat_map, list_all};
 ghost use Rattle.call_types.specs.declared.limits.TheConstants.{GIVEN_BYTES_MAX};
@@ -25,7 +25,8 @@ const WRITTEN_OUT_MAX: usize = 16;
 
 /// The byte of the first pair of digits, and what is left after it.
 fn first_pair(digits: &[u8]) -> Option<(u8, &[u8])>
-    ensures { option_map (λ x. (x.0, x.1.now)) result ≡ first_paired digits.now }
+    ensures value { option_map (λ x. (x.0, x.1.now)) result ≡ first_paired digits.now }
+    ensures shorter { IfSome result (λ x. length x.1.now + 2 ≡ length digits.now) }
 {
     match digits {
         [high, low, rest @ ..] => Some((byte_value(*high, *low)?, rest)),
@@ -35,7 +36,7 @@ fn first_pair(digits: &[u8]) -> Option<(u8, &[u8])>
 
 /// The bytes that pairs of digits stand for.
 fn paired_bytes(alloc: Global, digits: &[u8]) -> Result<Option<Gathered>, AllocError>
-    ensures { IfOk result (λ bytes. bytes ≡ hex_bytes digits.now) }
+    ensures { IfOk result (λ bytes. option_map (λ b. b.0) bytes ≡ hex_bytes digits.now) }
 {
     let mut bytes = Gathered::with_room(alloc, digits.len() / 2)?;
     let mut rest = digits;
@@ -43,7 +44,7 @@ fn paired_bytes(alloc: Global, digits: &[u8]) -> Result<Option<Gathered>, AllocE
         let Some((byte, after)) = first_pair(rest) else {
             return Ok(None);
         };
-        bytes.push(alloc, byte)?;
+        bytes.push(byte);
         rest = after;
     }
     Ok(Some(bytes))

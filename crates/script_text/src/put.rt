@@ -10,6 +10,8 @@ use itoa::Buffer;
 use std::alloc::AllocError;
 
 /// Appends a text.
+// Inlined, so that a text of known length is written by a store or two.
+#[inline(always)]
 pub(crate) fn put(out: &mut Vec<u8>, text: &[u8]) -> Result<(), AllocError>
     ensures { Appends result out.old.items out.new.items text.now }
 {
@@ -41,26 +43,27 @@ fn put_long_number(out: &mut Vec<u8>, number: u64) -> Result<(), AllocError>
 }
 
 /// Appends a descriptor.
-#[inline]
 pub(crate) fn put_descriptor(out: &mut Vec<u8>, fd: i32) -> Result<(), AllocError>
     ensures { Appends result out.old.items out.new.items (signed_decimal fd) }
 {
-    put_position(out, i64::from(fd))
+    put_signed(out, i64::from(fd))
 }
 
-/// Appends a position, an offset or a length.
-#[inline]
-pub(crate) fn put_position(out: &mut Vec<u8>, start: i64) -> Result<(), AllocError>
-    ensures { Appends result out.old.items out.new.items (signed_decimal start) }
+/// Appends a number that may have a sign, as a position, an offset or a length.
+// Inlined, so that a digit costs no call.
+#[inline(always)]
+pub(crate) fn put_signed(out: &mut Vec<u8>, number: i64) -> Result<(), AllocError>
+    ensures { Appends result out.old.items out.new.items (signed_decimal number) }
 {
-    if start < 0 {
-        return put_signed(out, start);
+    if number < 0 {
+        return put_negative(out, number);
     }
-    put_number(out, start.unsigned_abs())
+    put_number(out, number.unsigned_abs())
 }
 
-/// Appends a number that may have a sign.
-fn put_signed(out: &mut Vec<u8>, number: i64) -> Result<(), AllocError>
+/// Appends a number below 0.
+#[inline(never)]
+fn put_negative(out: &mut Vec<u8>, number: i64) -> Result<(), AllocError>
     ensures { Appends result out.old.items out.new.items (signed_decimal number) }
 {
     let mut buffer = Buffer::new();

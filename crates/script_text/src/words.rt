@@ -19,10 +19,15 @@ pub(crate) struct Next<'a> {
 
 impl<'a> Next<'a> {
     /// Whether the word is a text.
+    // Inlined, so that a text of known length is compared without a call.
+    #[inline(always)]
     pub(crate) fn is(self, text: &[u8]) -> bool
         ensures { result ≡ bytes_eq self.entry.text.now text.now }
     {
-        self.text == text
+        if self.text.len() != text.len() {
+            return false;
+        }
+        self.text.starts_with(text)
     }
 
     /// The value of the word, with what is left after it; a word without one isn't allowed.
