@@ -74,7 +74,7 @@ fails_so_far limits text read book seats lines faults.TooLong so_far fails = so_
 
 -- no act was read, so none is left
 pub nothing_left : (read rest : Result (List ScriptAct) ScriptFault) (next : Option ScriptAct) → ((act : ScriptAct) → next ≡ Some act → ⊥) → NextGives read rest (Ok next) → read ≡ Ok []
-nothing_left read rest None none gives = gives
+nothing_left read rest None none gives = gives.0
 nothing_left read rest (Some act) none gives = absurd (none act refl)
 
 -- at the end all acts were run, and the lines with that of the totals are their output

@@ -51,7 +51,7 @@ ended_by (faults.BadLine line column) = ended.BadLine line column
 ended_by faults.TooLong = ended.TooLong
 ended_by faults.NoMemory = ended.NoMemory
 
--- the end says why the text was not run: by its fault, or for want of memory
+-- the end says why the text gave no output: by its fault, or for want of memory
 abbrev pub FailsAs : List ℕ → Ended → Type 0
 FailsAs text end = (fault : ScriptFault) × (end ≡ ended_by fault) × ScriptFails fault (script text)
 

@@ -9,17 +9,17 @@ use std::fmt;
 /// How a replay ended.
 #[derive(Clone, Copy, Debug, PartialEq, Eq)]
 pub enum Ended {
-    /// The script was run, and all its lines are written.
+    /// The script was run, and all its lines were written.
     Done,
-    /// A line of the script is no act; line and column are counted from 1. Nothing was run or written.
+    /// A line of the script is no act; line and column are counted from 1. Nothing was written.
     BadLine { line: usize, column: usize },
     /// The script has more than 16,777,216 bytes. Nothing was run or written.
     TooLong,
     /// The input failed. Nothing was run or written.
     CannotRead,
-    /// The output failed; a front of the right output is written, and nothing else.
+    /// The output failed. A front of the right output was written, and nothing else.
     CannotWrite,
-    /// Memory ran out; nothing is written.
+    /// Memory ran out. Nothing was written.
     NoMemory,
 }
 

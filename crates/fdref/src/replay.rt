@@ -10,6 +10,7 @@ use crate::output::{put_line, write_lines};
 use call_types::act::ScriptAct;
 use call_types::limits::Limits;
 use record_book::book::Book;
+use record_book::run::Told;
 use record_book::seats::Seats;
 use script_text::lines::write_totals;
 use script_text::round_trip::{read_scripts_are_spelled, spelled_scripts_are_read};
@@ -33,8 +34,8 @@ fn read_text<R: Read + Drop>(alloc: Global, reader: R) -> Result<Vec<u8>, Ended>
     }
 }
 
-/// Runs the next act, and gathers the lines of what is told of it. Neither is taken apart: what they hold is in the book's
-/// record, but for the data of an act that is refused.
+/// Runs the next act, and gathers the lines of what is told of it. A recorded act is leaked, and so is its receipt: its name or
+/// data is shared with its record in the book. Any other act is dropped.
 fn run_next(
     alloc: Global,
     book: &mut Book,
@@ -46,13 +47,15 @@ fn run_next(
 {
     let told = book.run_act(alloc, seats, &act);
     put_line(lines, &told)?;
-    forget(told);
-    forget(act);
+    if let Told::Recorded(_) = told {
+        forget(told);
+        forget(act);
+    }
     Ok(())
 }
 
 /// Runs the acts of a script in a new book as they are read, and gathers the lines of what is told of each, and the line of
-/// totals. Nothing is taken apart at the end, since the program ends then.
+/// totals. Where it succeeds, the book and the seats are leaked, and not dropped one record after another.
 fn run_script(alloc: Global, limits: Limits, text: &[u8]) -> Result<Vec<u8>, Ended>
     ensures lines { IfOk result (λ lines. RunsScript limits text.now lines.items) }
     ensures fault { IfErr result (λ ended. FailsAs text.now ended) }
@@ -77,7 +80,8 @@ fn run_script(alloc: Global, limits: Limits, text: &[u8]) -> Result<Vec<u8>, End
 }
 
 /// Reads a script, runs its acts in their order in a new book, and writes a line for each record and each act that is
-/// not recorded, and a line of totals. Nothing is written before the whole script is read and run.
+/// not recorded, and a line of totals. Nothing is written before the whole script is read and run. The book and the seats of
+/// the run are leaked: it is meant for a program that ends then, and is to be called once in a process.
 pub fn replay<R: Read + Drop, W: Write>(
     alloc: Global,
     reader: R,
@@ -102,7 +106,7 @@ pub fn replay<R: Read + Drop, W: Write>(
     }
 }
 
-/// Does a job: reads its input, writes its output, and says how it ended.
+/// Does a job: reads its input, writes its output, and says how it ended. It leaks what `replay` leaks: call it once in a process.
 pub fn perform<R: Read + Drop, W: Write>(
     alloc: Global,
     reader: R,

@@ -3,7 +3,7 @@ use Rattle.std.proofs.Common.{◌≡◌, ℕ, zero, suc, List, [], ◌∷◌, �
 use Rattle.call_types.specs.declared.act.ScriptAct.{ScriptAct}
 use Rattle.slots.specs.Slots.{slot}
 use Rattle.record_book.specs.Book.{BookState}
-use Rattle.record_book.specs.Runs.{Seats, Tells, RunTells}
+use Rattle.record_book.specs.Runs.{Seats, Tells, RunTells, GoesOn}
 use Rattle.record_book.specs.declared.run.Told.{Told}
 
 -- a run goes on by one act
@@ -15,6 +15,10 @@ run_more old mid new seats between after [] told next a run tells =
     (new, after, next, [], ap (λ l. l ++ next) run.0 ∙ sym (append-nil next), subst P run.1.book (subst Q run.1.seats_are tells), (refl, record { book = refl; seats_are = refl }))
 run_more old mid new seats between after (x ∷ acts) told next a run tells =
     (run.0, run.1, run.2, run.3 ++ next, ap (λ l. l ++ next) run.4 ∙ append_assoc run.2 run.3 next, run.5, run_more run.0 mid new run.1 between after acts run.3 next a run.6 tells)
+
+-- what is told of an act goes on from whatever was told before
+pub goes_on : (old new : BookState) (seats after : Seats) (a : ScriptAct) (told : Told) → Tells old new seats after a (told ∷ []) → GoesOn old new seats after a told
+goes_on old new seats after a told tells = λ first opened acts before runs. run_more first old new opened seats after acts before (told ∷ []) a runs tells
 
 -- a slot that is written with what stands there
 pub set_there : {X : Type 0} (xs : List (Option X)) (n : ℕ) (x : X) → slot xs n ≡ Some x → set xs n (Some x) ≡ xs

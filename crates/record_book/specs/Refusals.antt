@@ -1,5 +1,5 @@
 -- The refusals that are not recorded, in their order (own).
-use Rattle.std.specs.Prelude.{◌≡◌, ℕ, ◌+◌, Bool, true, not, ◌&&◌, nat_lt, List, [], ◌∷◌, Option, None, Some, length, if◌then◌else◌}
+use Rattle.std.specs.Prelude.{◌≡◌, ℕ, ◌+◌, Bool, true, not, ◌&&◌, nat_lt, List, [], ◌∷◌, ◌++◌, Option, None, Some, length, if◌then◌else◌}
 use Rattle.call_types.specs.declared.act.Act.{Act}
 use Rattle.call_types.specs.declared.act.Act.TheVariants as act
 use Rattle.call_types.specs.declared.call.Call.{Call}
@@ -21,13 +21,19 @@ first_refusal (r ∷ rs) = if r.0 then Some r.1 else first_refusal rs
 abbrev pub is_too_full : BookState → ℕ → Act → Bool
 is_too_full b actor act = not (has_reserve b.limits.records (world_after b actor act) (length b.history + 1))
 
--- the refusals of a call: the seat has seen more records than there are, its process is not live and attached, it waits
--- in a call, or the run is full
-abbrev pub start_refusals : BookState → SeatState → Call → List (Bool × Refusal)
-start_refusals b s call =
+-- the refusals of all that a seat's process does: the seat has seen more records than there are, or the process is not live
+-- and attached
+abbrev pub seat_refusals : BookState → SeatState → List (Bool × Refusal)
+seat_refusals b s =
     (nat_lt (length b.history) s.seen, Foreign s.seen (length b.history))
     ∷ (not (is_here (slot (world_now b).processes s.pid)), NotHere)
-    ∷ (is_parked (slot (world_now b).processes s.pid), Waiting)
+    ∷ []
+
+-- the refusals of a call: those two, and that its process waits in a call, and that the run is full
+abbrev pub start_refusals : BookState → SeatState → Call → List (Bool × Refusal)
+start_refusals b s call =
+    seat_refusals b s
+    ++ (is_parked (slot (world_now b).processes s.pid), Waiting)
     ∷ (is_too_full b s.pid (act.Call call), RunFull)
     ∷ []
 
@@ -43,31 +49,24 @@ join_refusal b = first_refusal ((is_too_full b (length (world_now b).processes) 
 abbrev pub attach_refusal : BookState → ℕ → Option Refusal
 attach_refusal b process = first_refusal ((is_too_full b process act.Attach, RunFull) ∷ [])
 
--- the refusals of an exit: the seat has seen more records than there are, or its process is not live and attached
+-- the first refusal of an exit, which has those two alone
 abbrev pub exit_refusal : BookState → SeatState → Option Refusal
-exit_refusal b s =
-    first_refusal ((nat_lt (length b.history) s.seen, Foreign s.seen (length b.history)) ∷ (not (is_here (slot (world_now b).processes s.pid)), NotHere) ∷ [])
+exit_refusal b s = first_refusal (seat_refusals b s)
 
--- whether the call that a seat's process waits in is ready
+-- whether a seat's process waits in a call that is ready
 abbrev pub is_ready_for : BookState → SeatState → Bool
 is_ready_for b s = is_ready b.limits.bounds (world_now b) s.pid
 
--- the refusals of a resume: those of an exit, and where the call is ready, that the run is full
+-- the first refusal of a resume: those two, and where its process waits in a call that is ready, that the run is full
 abbrev pub resume_refusal : BookState → SeatState → Option Refusal
-resume_refusal b s =
-    first_refusal (
-    (nat_lt (length b.history) s.seen, Foreign s.seen (length b.history))
-    ∷ (not (is_here (slot (world_now b).processes s.pid)), NotHere)
-    ∷ (is_ready_for b s && is_too_full b s.pid act.Resume, RunFull)
-    ∷ []
-    )
+resume_refusal b s = first_refusal (seat_refusals b s ++ (is_ready_for b s && is_too_full b s.pid act.Resume, RunFull) ∷ [])
 
 -- a refusal is the first that is due; where none is, only memory can be wanting
 abbrev pub IsDue : Option Refusal → Refusal → Type 0
 IsDue (Some due) refusal = refusal ≡ due
 IsDue None refusal = refusal ≡ NoMemory
 
--- so is that of a resume; and neither a full run nor want of memory refuses one whose call is not ready
+-- so is that of a resume; and where its process waits in no call that is ready, it is one of an exit
 pub record ResumeRefused (b : BookState) (s : SeatState) (refusal : Refusal) : Type 0 where
   pub due : IsDue (resume_refusal b s) refusal
   pub ready : exit_refusal b s ≡ None → is_ready_for b s ≡ true

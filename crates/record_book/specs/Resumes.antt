@@ -7,8 +7,8 @@ use Rattle.record_book.specs.Refusals.{is_ready_for}
 use Rattle.record_book.specs.declared.resume.Resumed.{Resumed}
 use Rattle.record_book.specs.declared.resume.Resumed.TheVariants.{Recorded, Still}
 
--- the call of a seat's process that is ready is taken up, and the seat has the receipt; one that is not ready goes on waiting,
--- and nothing changes
+-- either the seat's process waits in a call that is ready, the resume is recorded, and the seat has its receipt; or the process
+-- waits in no call that is ready, and nothing changes
 abbrev pub Resumes : BookState → BookState → SeatState → SeatState → Resumed → Type 0
 Resumes old new s t (Recorded receipt) = (is_ready_for old s ≡ true) × Appends old new s.pid act.Resume receipt × Receives s t receipt
 Resumes old new s t Still = (is_ready_for old s ≡ false) × (new ≡ old) × (t ≡ s)

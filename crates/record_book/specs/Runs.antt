@@ -86,25 +86,25 @@ pub record ResumeRecorded (old new : BookState) (seats after : Seats) (process :
   pub receives : Receives s seat receipt
   pub seats_are : after ≡ slice_set seats process (Some seat)
 
--- how a resume of a process with this seat goes, unless its call is not ready: NotHere where the script opened no such process
+-- how a resume of a process with this seat goes that is recorded or refused: NotHere where the script opened no such process
 abbrev pub ResumeRuns : BookState → BookState → Seats → Seats → ℕ → Result Receipted Refusal → Option SeatState → Type 0
 ResumeRuns old new seats after process (Ok receipt) (Some s) = ResumeRecorded old new seats after process s receipt
 ResumeRuns old new seats after process (Err refusal) (Some s) = ResumeRefused old s refusal × Unchanged old new seats after
 ResumeRuns old new seats after process (Ok receipt) None = ⊥
 ResumeRuns old new seats after process (Err refusal) None = (refusal ≡ NotHere) × Unchanged old new seats after
 
--- the call that a process waits in is not ready, and nothing changes
+-- the process with this seat would not be refused an exit, it waits in no call that is ready, and nothing changes
 abbrev pub StaysParked : BookState → BookState → Seats → Seats → Option SeatState → Type 0
 StaysParked old new seats after None = ⊥
 StaysParked old new seats after (Some s) = (exit_refusal old s ≡ None) × (is_ready_for old s ≡ false) × Unchanged old new seats after
 
--- how a resume goes: it is told as still, or it runs
+-- how a resume goes: it is told as still, recorded or refused
 abbrev pub ResumeGoes : BookState → BookState → Seats → Seats → ℕ → Result Resumed Refusal → Option SeatState → Type 0
 ResumeGoes old new seats after process (Ok resumed.Still) s = StaysParked old new seats after s
 ResumeGoes old new seats after process (Ok (resumed.Recorded receipt)) s = ResumeRuns old new seats after process (Ok receipt) s
 ResumeGoes old new seats after process (Err refusal) s = ResumeRuns old new seats after process (Err refusal) s
 
--- what is told as still: a closing of a run that is closed, and a resume of a call that is not ready
+-- what is told as still: a closing of a run that is closed, and a resume of a process that waits in no call that is ready
 abbrev pub IsStill : BookState → BookState → Seats → Seats → ScriptAct → Type 0
 IsStill old new seats after script.CloseRun = Closes old new None × (after ≡ seats)
 IsStill old new seats after (script.Resume process) = StaysParked old new seats after (slot seats process)
@@ -141,7 +141,7 @@ actor_of b (script.Resume process) = process
 actor_of b (script.Exit process) = process
 actor_of b script.CloseRun = HOUSE
 
--- what is told of an act: its record, the records of a closing, that a closing has nothing to close or a call is not ready, or why there is no record
+-- what is told of an act: its record, the records of a closing, that there is nothing to close or no call that is ready, or why there is no record
 abbrev pub Tells : BookState → BookState → Seats → Seats → ScriptAct → List Told → Type 0
 Tells old new seats after a (Recorded receipt ∷ []) = Runs old new seats after a (Ok receipt)
 Tells old new seats after a (Closed house ∷ []) = (a ≡ script.CloseRun) × Closes old new (Some house) × (after ≡ seats)

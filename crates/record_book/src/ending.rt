@@ -118,7 +118,8 @@ impl Book {
         }
     }
 
-    /// The first refusal of an exit.
+    /// The first refusal of an exit, and of whatever else the seat's process does.
+    #[inline(always)]
     pub(crate) fn exit_refusal(&self, seat: &Seat) -> Option<Refusal>
         ensures { result ≡ exit_refusal self.now seat.now }
     {

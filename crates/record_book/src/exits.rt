@@ -1,7 +1,7 @@
 //! What the exits of processes need, made before they are due.
 
 ghost use Rattle.std.specs.Prelude.{◌≡◌, ◌+◌, ◌<◌, Some, true, is_some, OnOk, IfOk};
-ghost use Rattle.record_book.specs.Exits.{prepared_for, with_prepared};
+ghost use Rattle.record_book.specs.Exits.{exit_record, prepared_for, with_prepared};
 ghost use Rattle.record_book.specs.House.{HasRoom, SameHouse};
 
 use crate::house::House;
@@ -23,7 +23,30 @@ fn reserve_house(house: &mut Option<House>, live: usize) -> Result<(), AllocErro
     }
 }
 
-/// Makes what the exit of a process that is to be added will need: its record, and room for it; nothing for another edit.
+/// Makes what the exit of the process of this number will need: its record, and room for it.
+#[inline(never)]
+fn prepare_added(
+    alloc: Global,
+    exits: &mut Numbered<Prepared>,
+    house: &mut Option<House>,
+    number: usize,
+    live: usize,
+) -> Result<Prepared, AllocError>
+    requires few { live < 4294967295 }
+    requires numbered { number < 4294967296 }
+    ensures prepared { IfOk result (λ prepared. prepared ≡ exit_record number) }
+    ensures exits { exits.new.0 ≡ exits.old.0 }
+    ensures room { OnOk result (0 < exits.new.1) }
+    ensures house { SameHouse house.old house.new }
+    ensures house_room { OnOk result (HasRoom (live + 1) house.new) }
+{
+    exits.reserve()?;
+    reserve_house(house, live + 1)?;
+    Prepared::new(alloc, number as u32, Act::Exit)
+}
+
+/// Makes what the exit of a process that is to be added will need; nothing for another edit.
+#[inline(always)]
 pub(crate) fn prepare_exit(
     alloc: Global,
     exits: &mut Numbered<Prepared>,
@@ -41,16 +64,13 @@ pub(crate) fn prepare_exit(
     ensures house_room { IfOk result (λ prepared. is_some prepared ≡ true → HasRoom (live + 1) house.new) }
 {
     match edit {
-        ProcessEdit::Add { .. } => {
-            exits.reserve()?;
-            reserve_house(house, live + 1)?;
-            Ok(Some(Prepared::new(alloc, number as u32, Act::Exit)?))
-        }
+        ProcessEdit::Add { .. } => Ok(Some(prepare_added(alloc, exits, house, number, live)?)),
         _ => Ok(None),
     }
 }
 
 /// Keeps what was prepared for the next process, if there is one.
+#[inline(always)]
 pub(crate) fn keep_exit(exits: &mut Numbered<Prepared>, prepared: Option<Prepared>)
     requires { is_some prepared ≡ true → 0 < exits.old.1 }
     ensures { exits.new.0 ≡ with_prepared prepared exits.old.0 }

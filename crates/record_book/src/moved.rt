@@ -11,6 +11,7 @@ use posix_model::reader::Reader;
 use process_table::process::Parked;
 
 /// The bytes that a call has moved in all, as an outcome tells them.
+#[inline(always)]
 fn total(outcome: &Outcome) -> u64
     ensures { result ≡ total outcome.now }
 {
@@ -23,6 +24,7 @@ fn total(outcome: &Outcome) -> u64
 }
 
 /// The bytes that a new call took, of so many in all.
+#[inline(always)]
 fn took_at_once(now: u64, call: &Call) -> u64
     ensures { result ≡ took_in now (new_turn call.now) }
 {
@@ -30,6 +32,7 @@ fn took_at_once(now: u64, call: &Call) -> u64
 }
 
 /// The bytes that a call took that was parked, of so many in all.
+#[inline(never)]
 fn took_since(now: u64, parked: &Parked) -> u64
     ensures { result ≡ took_in now (next_turn parked.now) }
 {
@@ -41,6 +44,7 @@ fn took_since(now: u64, parked: &Parked) -> u64
 }
 
 /// The bytes that a record took from its process; the machine is as it was before the record.
+#[inline(always)]
 pub(crate) fn took(machine: &Machine, item: &Record) -> u64
     ensures { result ≡ took machine.now.world item.now }
 {
@@ -56,6 +60,7 @@ pub(crate) fn took(machine: &Machine, item: &Record) -> u64
 }
 
 /// The bytes that a record gave to its process, at most 65,536.
+#[inline(always)]
 pub(crate) fn gave(item: &Record) -> u64
     ensures bytes { (w : World) → result ≡ gave w item.now }
     ensures few { result ≤ TRANSFER_MAX }

@@ -20,7 +20,7 @@ use std::alloc::{AllocError, Global};
 pub enum Resumed {
     /// The record of what came of it: the reply of the call, or how many bytes it moved so far.
     Recorded(Receipt),
-    /// The call is not ready. Nothing is recorded.
+    /// The process waits in no call that is ready. Nothing is recorded.
     Still,
 }
 
@@ -59,8 +59,8 @@ impl Book {
         self.append(alloc, seat, actor, Act::Resume, decided)
     }
 
-    /// Takes up the call that the seat's process waits in, if it is ready; the seat gets the receipt too. A `Refusal` is not
-    /// recorded, and leaves book and seat as they were; so does a call that is not ready, whatever else is wanting.
+    /// Takes up the call that the seat's process waits in, if it is ready; the seat gets the receipt too. Neither a `Refusal` nor
+    /// `Still` is recorded, and both leave book and seat as they were. `Still` comes before RunFull and want of memory.
     pub fn resume(&mut self, alloc: Global, seat: &mut Seat) -> Result<Resumed, Refusal>
         ensures resumed { IfOk result (λ resumed. Resumes self.old self.new seat.old seat.new resumed) }
         ensures not_refused { OnOk result (resume_refusal self.old seat.old ≡ None) }

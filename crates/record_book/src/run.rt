@@ -15,7 +15,8 @@ use posix_model::reader::Reader;
 use std::alloc::{AllocError, Global};
 
 /// What is told of an act of a script: its record; the records of a closing, which the house has; that a closing has nothing
-/// to close, or a call that waits is not ready; or that the act is not recorded, with the process whose act it was or would have been, and why.
+/// to close, or a process that is resumed waits in no call that is ready; or that the act is refused, with the process whose act
+/// it was or would have been, and why.
 #[derive(Drop)]
 pub enum Told<'a> {
     Recorded(Receipt),
@@ -40,6 +41,7 @@ fn copy_of(call: &Call) -> Result<Call, AllocError>
 
 impl Book {
     /// The same as `start`, of a call that stays where it is: its copy is made once nothing but memory can refuse it.
+    #[inline(always)]
     fn start_copy(
         &mut self,
         alloc: Global,
@@ -174,9 +176,11 @@ impl Book {
         }
     }
 
-    /// Runs one act of a script, and tells of it.
-    fn run_one<'a>(&mut self, alloc: Global, seats: &mut Seats, act: &'a ScriptAct) -> Told<'a>
+    /// Runs the next act of a script, and tells of it; the seats are those that the script opened. What was told of the acts
+    /// before and this are what is told of all of them.
+    pub fn run_act<'a>(&mut self, alloc: Global, seats: &mut Seats, act: &'a ScriptAct) -> Told<'a>
         ensures tells { Tells self.old self.new seats.old.0 seats.new.0 act.now (result ∷ []) }
+        ensures goes_on { GoesOn self.old self.new seats.old.0 seats.new.0 act.now result }
         ensures limits { self.new.limits ≡ self.old.limits }
     {
         let (actor, ran) = match act {
@@ -208,17 +212,6 @@ impl Book {
                 refusal,
             },
         }
-    }
-
-    /// Runs the next act of a script, and tells of it; the seats are those that the script opened. What was told of the acts
-    /// before and this are what is told of all of them.
-    #[inline(always)]
-    pub fn run_act<'a>(&mut self, alloc: Global, seats: &mut Seats, act: &'a ScriptAct) -> Told<'a>
-        ensures tells { Tells self.old self.new seats.old.0 seats.new.0 act.now (result ∷ []) }
-        ensures goes_on { GoesOn self.old self.new seats.old.0 seats.new.0 act.now result }
-        ensures limits { self.new.limits ≡ self.old.limits }
-    {
-        self.run_one(alloc, seats, act)
     }
 
     /// Runs the acts of a script in their order, and tells of each. Only the room for what is told can be wanting as a

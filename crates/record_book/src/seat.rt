@@ -117,6 +117,7 @@ impl Seat {
     }
 
     /// Adds a receipt, with room for the last one kept behind it, or leaves the seat as it is.
+    #[inline(always)]
     pub(crate) fn receive(&mut self, receipt: Receipt) -> Result<(), AllocError>
         requires { receipt.place + 1 < 2 ^ 64 }
         ensures ok { OnOk result (self.new ≡ record { pid = self.old.pid; seen = receipt.place + 1; receipts = self.old.receipts ++ receipt ∷ [] }) }

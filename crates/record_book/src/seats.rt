@@ -1,4 +1,6 @@
 ghost use Rattle.std.specs.Prelude.{◌≡◌, ◌<◌, ◌≤◌, ◌-◌, [], ◌++◌, List, Option, ℕ, None, replicate, vec_capacity, vec_len, OnOk};
+ghost use Rattle.std.specs.Option.{option_copied};
+ghost use Rattle.slots.specs.Slots.{slot};
 ghost use Rattle.record_book.specs.Seat.{SeatState};
 ghost use Rattle.record_book.specs.Runs.{with_seat};
 
@@ -42,6 +44,13 @@ impl Seats {
         Seats {
             slots: Vec::new(alloc),
         }
+    }
+
+    /// The seat of a process, if the script opened it and it did not exit.
+    pub fn seat(&self, process: u32) -> Option<&Seat>
+        ensures { option_copied result ≡ slot self.now.0 process }
+    {
+        self.slots.get(process as usize)?.as_ref()
     }
 
     /// Makes room for the seat of a process.

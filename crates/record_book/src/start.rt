@@ -1,6 +1,6 @@
 ghost use Rattle.std.specs.Prelude.{◌≡◌, ◌≤◌, ◌+◌, None, Some, true, false, not, nat_le, length, if◌then◌else◌, IfOk, IfErr, OnOk, OnErr};
 ghost use Rattle.slots.specs.Slots.{slot, live as live_in};
-ghost use Rattle.posix_model.specs.Step.{can_call, comes_to};
+ghost use Rattle.posix_model.specs.Step.{can_call, comes_to, decided};
 ghost use Rattle.record_book.specs.Book.{world_now, Appends, Receives};
 ghost use Rattle.record_book.specs.Refusals.{start_refusal, is_too_full, IsDue};
 ghost use Rattle.record_book.specs.Planned.{IsPlanned};
@@ -44,15 +44,8 @@ impl Book {
     pub(crate) fn start_refusal(&self, seat: &Seat, call: &Call) -> Option<Refusal>
         ensures { result ≡ start_refusal self.now seat.now call.now }
     {
-        let len = self.history.len() as u64;
-        if seat.seen() > len {
-            return Some(Refusal::Foreign {
-                seen: seat.seen(),
-                len,
-            });
-        }
-        if !self.machine.is_here(seat.pid() as usize) {
-            return Some(Refusal::NotHere);
+        if let Some(refusal) = self.exit_refusal(seat) {
+            return Some(refusal);
         }
         if self.machine.parked(seat.pid() as usize).is_some() {
             return Some(Refusal::Waiting);
@@ -78,7 +71,22 @@ impl Book {
         let _bounds = self.limits.bounds();
     }
 
+    /// What a call comes to, by its page. An error says that memory ran out.
+    #[inline(always)]
+    fn call_comes_to(&self, alloc: Global, actor: u32, call: &Call) -> Result<Decided, AllocError>
+        ensures { IfOk result (λ d. d ≡ decided self.now.limits.bounds (world_now self.now) actor call.now) }
+    {
+        decide_call(
+            &self.machine,
+            alloc,
+            self.limits.bounds(),
+            actor as usize,
+            call,
+        )
+    }
+
     /// Records a call that is not refused. On an error all is as it was.
+    #[inline(always)]
     pub(crate) fn record_call(
         &mut self,
         alloc: Global,
@@ -90,8 +98,7 @@ impl Book {
         ensures unchanged { OnErr result ((self.new ≡ self.old) × (seat.new ≡ seat.old)) }
     {
         let actor = seat.pid();
-        let bounds = self.limits.bounds();
-        let decided = decide_call(&self.machine, alloc, bounds, actor as usize, &call)?;
+        let decided = self.call_comes_to(alloc, actor, &call)?;
         let act = Act::Call(call);
         self.is_planned(actor, &act, &decided);
         self.append(alloc, seat, actor, act, decided)

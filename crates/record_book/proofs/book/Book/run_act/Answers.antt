@@ -1,7 +1,15 @@
-use Rattle.std.proofs.Common.{[], ◌∷◌}
-use Rattle.record_book.proofs.RunLemmas.{run_more}
+use Rattle.std.proofs.Common.{rules}
+use Rattle.record_book.proofs.RunLemmas.{goes_on}
 use Rattle.record_book.proofs.book.Book.run_act.Goals as goal
 
-pub returns-clause-goes_on : goal.returns-clause-goes_on
-returns-clause-goes_on c =
-    λ first opened acts before runs. run_more first c.args.self.now c.run_one.new.self opened c.args.seats.now.0 c.run_one.new.seats.0 acts before (c.run_one.result ∷ []) c.args.act.now runs c.run_one.ensures.tells
+pub returns-in-Ok-Still-clause-goes_on : goal.returns-in-Ok-Still-clause-goes_on
+returns-in-Ok-Still-clause-goes_on c = goes_on _ _ _ _ c.args.act.now _ (search rules)
+
+pub returns-in-CloseRun-clause-goes_on : goal.returns-in-CloseRun-clause-goes_on
+returns-in-CloseRun-clause-goes_on c = goes_on _ _ _ _ c.args.act.now _ (c.run_closing.ensures.tells c.args.seats.now.0)
+
+pub returns-in-Ok-clause-goes_on : goal.returns-in-Ok-clause-goes_on
+returns-in-Ok-clause-goes_on c = goes_on _ _ _ _ c.args.act.now _ (search rules)
+
+pub returns-in-Err-ran-clause-goes_on : goal.returns-in-Err-ran-clause-goes_on
+returns-in-Err-ran-clause-goes_on c = goes_on _ _ _ _ c.args.act.now _ (search rules)
