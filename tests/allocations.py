@@ -1,18 +1,18 @@
 #!/usr/bin/env python3
-"""Refuses the built program its allocations in turn, and so the tests of want of memory.
+"""Refuses built programs their allocations in turn: fdref, and a trial of the calls beneath it.
 
-usage: tests/allocations.py [--program PATH] [--tests PATH] [--stride N]
+usage: tests/allocations.py [--program PATH] [--trial PATH] [--stride N]
 
 The library that refuses is built by the kit's clang and comes before the C library (LD_PRELOAD).
 
 The program is crates/fdref/out/fdref where no PATH is given. It is run on each row of tests/rows, on
-a script with lines that are too long for its buffer, and on a few command lines. Each of these is
-run, for each N from 1 to the number of allocations that it asks for when nothing is refused,
+a script with long data, and on a few command lines. Each of these is run, for each N from 1 to the
+number of allocations that it asks for when nothing is refused,
 
   - with allocation N refused alone,
-  - where that run asked for more after N: with N and all later ones refused. It ends with status 5 at
-    the latest where the buffer for the lines is asked for, and shows none of them; so it is run
-  - with N and all later ones but the last of that run refused, which shows them.
+  - where that run asked for more after N: with N and all later ones refused. Many of these runs end
+    with status 5 and show nothing; so it is run
+  - with N and all later ones but the last of that run refused.
 
 Where more than 1,000 allocations are asked for, only one N in 41 is taken, or one in that many as
 `--stride` says. A run may end in three ways, and in no other:
@@ -21,15 +21,22 @@ Where more than 1,000 allocations are asked for, only one N in 41 is taken, or o
   - with status 0, where want of memory is told of some acts: of one where one allocation was refused,
     and of no exit or closing. Their lines are `- ACTOR ACT = refused NoMemory`. All other lines are
     those that the program prints, when nothing is refused, on the script without these acts,
-  - with status 5, `no memory`, and a prefix of these lines.
+  - with status 5, `no memory`, and nothing on standard output.
 
 An act may be so refused only in place of a record. That is looked at for the one act where a single
 allocation was refused, and else for one act of each run, which is another one for each N.
 
-The tests are crates/crate_tests/out/crate_tests_tests where no PATH is given; `rt test` in
-crates/crate_tests proves and builds them, and so does `rt ci`. Each test of the module
-`tests::memory` is run with each of its allocations refused alone, and `ends_take_no_memory` once
-more with all later ones refused too.
+The trial is crates/memory_trial/out/memory_trial where no PATH is given. It runs a script as the
+program does, but gives an act again that is refused for want of memory, once it has looked that the
+refusal changed nothing. It is run on the same scripts, where the program ends with status 0, with
+each allocation refused alone, and may end in two ways, and in no other:
+
+  - with status 0 and the lines that the program prints when nothing is refused, byte for byte; where
+    an act was given again, standard error says `given again: 1`,
+  - with status 5, `no memory`, and nothing on standard output, where the script was read or the book
+    was made.
+
+Where an act of the script is recorded that is no exit or closing, some run must have given an act again.
 
 What is not built is skipped, which is told; a PATH that is given and not there is a failure, and so
 is nothing to run. A run that fails is told in one line. The last line is `N passed, M failed`, and
@@ -49,19 +56,23 @@ import sys
 import tempfile
 import time
 
+# the model is imported from this folder, which is to stay as it is
+sys.dont_write_bytecode = True
+
+import plain_model
+
 TOP = os.path.dirname(os.path.dirname(os.path.abspath(__file__)))
 ROWS = os.path.join(TOP, "tests", "rows")
 PROGRAM = os.path.join(TOP, "crates", "fdref", "out", "fdref")
-TESTS = os.path.join(TOP, "crates", "crate_tests", "out", "crate_tests_tests")
-MODULE = "tests::memory::"
-FOR_GOOD = MODULE + "ends_take_no_memory"
+TRIAL = os.path.join(TOP, "crates", "memory_trial", "out", "memory_trial")
 SECONDS = 60
-ALLOCATIONS_MOST = 10_000
 LONG = 1_000
 STRIDE = 41
 NEVER = 2**63
 
-NO_MEMORY = (5, b"no memory\n")
+NO_MEMORY = (5, b"", b"no memory\n")
+GIVEN_AGAIN = b"given again: 1\n"
+AS_WANTED = "as with nothing refused"
 REFUSED = b" = refused NoMemory\n"
 MAKES_PROCESS = re.compile(rb"\d+ p\d+ (join|fork) = \d+\n")
 
@@ -270,13 +281,12 @@ def difference(wanted, given):
 
 
 class Row:
-    """A run of the program, of a script or of a command line alone, and what it has to give."""
+    """A run of a program, of a script or of a command line alone, and what it has to give."""
 
     def __init__(self, refuser, words, script, wanted=None):
         self.refuser = refuser
         self.words = words
         self.script = script
-        self.printed = {}
         whole = refuser.run(words, script)
         self.count = whole.count
         self.status, self.stdout, self.stderr = wanted or whole[:3]
@@ -286,7 +296,6 @@ class Row:
             raise Failure(f"nothing refused: {self.first_difference(whole)}")
         self.acts = [line for line in script.split(b"\n") if line] if self.status == 0 else []
         self.lines = lines_of(self.stdout)
-        self.told = lines_by_act(self.acts, self.lines)[0]
 
     def is_as_wanted(self, ran):
         """Whether a run gave what the row has to give."""
@@ -297,8 +306,19 @@ class Row:
         if ran.status != self.status:
             return ran.said()
         if ran.stdout != self.stdout:
-            return difference(lines_of(self.stdout), lines_of(ran.stdout))
+            return difference(self.lines, lines_of(ran.stdout))
         return f"standard error is {shown(ran.stderr)}, wanted {shown(self.stderr)}"
+
+
+class ProgramRow(Row):
+    """A run of the program, which tells of the acts for which memory was wanting."""
+
+    is_refused_more = True
+
+    def __init__(self, *given):
+        super().__init__(*given)
+        self.printed = {}
+        self.told = lines_by_act(self.acts, self.lines)[0]
 
     def lines_of_acts(self, acts):
         """The lines that the program prints on some of the acts, with nothing refused."""
@@ -319,8 +339,6 @@ class Row:
 
     def right_lines(self, refused):
         """All lines where memory was wanting for just these acts."""
-        if not refused:
-            return self.lines
         kept = [act for index, act in enumerate(self.acts) if index not in refused]
         told, totals = lines_by_act(kept, self.lines_of_acts(kept))
         left = iter(told)
@@ -359,23 +377,49 @@ class Row:
 
     def judge(self, ran, is_alone, chosen):
         """How a run ended in which one allocation was refused, or several."""
+        if self.is_as_wanted(ran):
+            return End(AS_WANTED, 0, 0)
+        if ran[:3] == NO_MEMORY:
+            return End("no memory", 0, 0)
+        if (ran.status, ran.stderr) != (0, b"") or self.status != 0:
+            raise Failure(ran.said())
         given = lines_of(ran.stdout)
         told = lines_by_act(self.acts, given)[0]
         refused = {index for index, lines in enumerate(told) if is_refused(lines)}
-        if self.is_as_wanted(ran):
-            return End("as with nothing refused", 0, 0)
-        if refused:
-            self.check_refused(refused, chosen)
+        if not refused:
+            raise Failure(self.first_difference(ran))
+        self.check_refused(refused, chosen)
         wanted = self.right_lines(refused)
-        is_whole = (ran.status, ran.stderr) == (self.status, self.stderr) == (0, b"")
-        if not is_whole and (ran.status, ran.stderr) != NO_MEMORY:
-            raise Failure(ran.said())
-        if given != (wanted if is_whole else lines_of(b"".join(wanted)[: len(ran.stdout)])):
-            raise Failure(f"{'' if is_whole else 'no memory, and '}{difference(wanted, given)}")
-        if is_alone and len(refused) + (not is_whole) != 1:
-            raise Failure(f"one refusal, and {len(refused)} acts are refused, with status {ran.status}")
-        how = "acts refused" if is_whole else "no memory after some lines" if given else "no memory"
-        return End(how, len(refused), self.ends_after(min(refused, default=len(told)), told))
+        if given != wanted:
+            raise Failure(difference(wanted, given))
+        if is_alone and len(refused) != 1:
+            raise Failure(f"one refusal, and {len(refused)} acts are refused")
+        return End("acts refused", len(refused), self.ends_after(min(refused), told))
+
+    def check_ways(self, ways):
+        """Nothing is asked of all the runs of a row together."""
+
+
+class TrialRow(Row):
+    """A run of the trial, which gives an act again for which memory was wanting."""
+
+    is_refused_more = False
+
+    def judge(self, ran, _is_alone, _chosen):
+        """How a run ended in which one allocation was refused."""
+        if self.is_as_wanted(ran):
+            return End(AS_WANTED, 0, 0)
+        if ran[:3] == (self.status, self.stdout, GIVEN_AGAIN):
+            return End("an act given again", 0, 0)
+        if ran[:3] == NO_MEMORY:
+            return End("no memory", 0, 0)
+        raise Failure(self.first_difference(ran))
+
+    def check_ways(self, ways):
+        """Looks whether some run of a row, in which an act that may want memory is recorded, gave an act again."""
+        told = zip(self.acts, self.told)
+        if any(is_recorded(lines) and not is_end(act) for act, lines in told) and not ways["an act given again"]:
+            raise Failure("no run gave an act again")
 
 
 # ---- the rows and what is run beside them
@@ -390,35 +434,58 @@ def read(folder, name, default=b""):
         return file.read()
 
 
-def row_of_folder(refuser, program, folder):
-    """The row that a folder is."""
+# The script of a row, the words that its run has beside it, and what it has to give.
+Script = collections.namedtuple("Script", "name text words wanted")
+
+
+def script_of_folder(name):
+    """A row of tests/rows."""
+    folder = os.path.join(ROWS, name)
     words = read(folder, "args").decode().splitlines()
     error = read(folder, "stderr").rstrip(b"\n")
     wanted = int(read(folder, "status", b"0")), read(folder, "stdout"), error + b"\n" if error else b""
-    return Row(refuser, [program, "replay", *words], read(folder, "script"), wanted)
+    return Script(name, read(folder, "script"), words, wanted)
 
 
-def long_lines():
-    """A script whose lines fill the buffer, and are written, before others that are longer than it."""
+def long_data():
+    """A script with long data, whose lines are more than twice as long as it is."""
     many = bytes(range(256)) * 256
     calls = ["open a rw,creat", f"write 0 x{many[:40_000].hex()}", f"write 0 x{many.hex()}"]
-    calls += ["pread 0 0 40000", "pread 0 40000 65536", "exit"]
-    return "".join(["join\n", *[f"p0 {call}\n" for call in calls], "close-run\n"]).encode()
+    calls += ["pread 0 0 40000", "pread 0 40000 65536", "pread 0 100 65536", "exit"]
+    text = "".join(["join\n", *[f"p0 {call}\n" for call in calls], "close-run\n"]).encode()
+    return Script("long data", text, [], plain_model.replay(text)[:3])
 
 
-def rows(refuser, program):
-    """All rows, each with its name and what makes it."""
-    for name in sorted(os.listdir(ROWS)):
-        folder = os.path.join(ROWS, name)
-        if os.path.isdir(folder):
-            yield name, functools.partial(row_of_folder, refuser, program, folder)
-    yield "long lines", functools.partial(Row, refuser, [program, "replay"], long_lines())
+def scripts():
+    """All scripts."""
+    names = [name for name in sorted(os.listdir(ROWS)) if os.path.isdir(os.path.join(ROWS, name))]
+    return [*map(script_of_folder, names), long_data()]
+
+
+def program_rows(refuser, program):
+    """All rows of the program, each with its name and what makes it."""
+    for script in scripts():
+        words = [program, "replay", *script.words]
+        yield script.name, functools.partial(ProgramRow, refuser, words, script.text, script.wanted)
     for line in ["--help", "replay --version", "play", "replay x", "replay --records 0"]:
         words = [program, *line.split()]
-        yield f"fdref {line}", functools.partial(Row, refuser, words, b"")
+        yield f"fdref {line}", functools.partial(ProgramRow, refuser, words, b"")
 
 
-# ---- each allocation of the program
+def trial_rows(refuser, trial):
+    """All rows of the trial: the scripts that end with status 0."""
+    for script in scripts():
+        if script.wanted[0] == 0:
+            words = [trial, *records_of(script.words)]
+            yield f"trial of {script.name}", functools.partial(TrialRow, refuser, words, script.text, script.wanted)
+
+
+def records_of(words):
+    """The number in `--records N` or `--records=N`, which the trial has as its one word."""
+    return [word.removeprefix("--records=") for word in words if word != "--records"]
+
+
+# ---- each allocation of a row
 
 
 ALONE = "alone"
@@ -458,10 +525,18 @@ class Sweep:
 
     def refuse(self, number):
         """All runs in which this allocation is the first to be refused."""
-        if self.run(ALONE, number, number) > number:
+        if self.run(ALONE, number, number) > number and self.row.is_refused_more:
             count = self.run(LATER, number, NEVER)
             if count > number:
                 self.run(BUT_THE_LAST, number, count - 1)
+
+    def check(self):
+        """Looks at all runs in which one allocation was refused."""
+        try:
+            self.row.check_ways(self.ways[ALONE])
+        except Failure as fault:
+            print(f"FAILED {self.name}: {fault}")
+            self.failed += 1
 
     def told(self, which):
         """What was run, in one line."""
@@ -486,57 +561,14 @@ def sweep_row(name, make, stride):
     sweep = Sweep(name, row)
     for number in range(1, row.count + 1, step):
         sweep.refuse(number)
+    sweep.check()
     print(sweep.told("each" if step == 1 else f"one in {step}"), flush=True)
     return sweep.passed, sweep.failed
 
 
-def sweep_program(refuser, program, stride):
-    """Refuses the program its allocations; how many runs passed and how many failed."""
-    return added(sweep_row(name, make, stride) for name, make in rows(refuser, program))
-
-
-# ---- each allocation of the tests of want of memory
-
-
-def names(program):
-    """The tests of want of memory."""
-    listed = subprocess.run([program, "--list"], stdout=subprocess.PIPE, text=True, check=True)
-    found = [line.rsplit(": ", 1)[0] for line in listed.stdout.splitlines()]
-    return [name for name in found if name.startswith(MODULE)]
-
-
-def sweep_test(refuser, program, test, is_for_good):
-    """Runs a test with each allocation refused in turn; how many runs passed and how many failed."""
-    what = "and all later ones" if is_for_good else "alone"
-    passed = failed = 0
-    for number in range(1, ALLOCATIONS_MOST):
-        try:
-            ran = refuser.run([program, test], b"", number, NEVER if is_for_good else number)
-        except Failure as fault:
-            print(f"FAILED {test}: allocation {number} refused {what}: {fault}")
-            return passed, failed + 1
-        if ran.status == 0 and ran.count < number:
-            print(f"{test}: {number - 1} allocations, each refused {what}")
-            return passed, failed
-        if ran.status == 0:
-            passed += 1
-        else:
-            print(f"FAILED {test}: allocation {number} refused {what}: {ran.said()}")
-            failed += 1
-            if ran.count < number:
-                return passed, failed
-    print(f"FAILED {test}: more than {ALLOCATIONS_MOST} allocations")
-    return passed, failed + 1
-
-
-def sweep_tests(refuser, program):
-    """Refuses the tests their allocations; how many runs passed and how many failed."""
-    tests = names(program)
-    if FOR_GOOD not in tests:
-        print(f"FAILED {program}: it has no test {FOR_GOOD}")
-        return 0, 1
-    sweeps = [(test, False) for test in tests] + [(FOR_GOOD, True)]
-    return added(sweep_test(refuser, program, *sweep) for sweep in sweeps)
+def sweep_rows(rows, stride):
+    """Refuses all rows their allocations; how many runs passed and how many failed."""
+    return added(sweep_row(name, make, stride) for name, make in rows)
 
 
 # ---- the whole
@@ -544,9 +576,9 @@ def sweep_tests(refuser, program):
 
 def options():
     """What the command line asks for."""
-    parser = argparse.ArgumentParser(description="Refuses the built program and its tests their allocations in turn.")
+    parser = argparse.ArgumentParser(description="Refuses the built program and the built trial their allocations in turn.")
     parser.add_argument("--program", metavar="PATH", help="the program [default: crates/fdref/out/fdref]")
-    parser.add_argument("--tests", metavar="PATH", help="the tests [default: crates/crate_tests/out/crate_tests_tests]")
+    parser.add_argument("--trial", metavar="PATH", help="the trial [default: crates/memory_trial/out/memory_trial]")
     text = "of a run with more than 1,000 allocations, refuse one in N [default: 41]"
     parser.add_argument("--stride", metavar="N", type=int, default=STRIDE, help=text)
     return parser.parse_args()
@@ -570,8 +602,8 @@ def main():
     with tempfile.TemporaryDirectory() as folder:
         refuser = Refuser(build(folder))
         parts = [
-            sweep_part(asked.program, PROGRAM, lambda path: sweep_program(refuser, path, asked.stride)),
-            sweep_part(asked.tests, TESTS, lambda path: sweep_tests(refuser, path)),
+            sweep_part(asked.program, PROGRAM, lambda path: sweep_rows(program_rows(refuser, path), asked.stride)),
+            sweep_part(asked.trial, TRIAL, lambda path: sweep_rows(trial_rows(refuser, path), asked.stride)),
         ]
     passed, failed = added(counts for counts, _ in parts)
     seconds = time.monotonic() - began

@@ -11,18 +11,21 @@ make sense in the world that it has come to. One has good lines in all spellings
 among good ones. Some runs have few records, so that they fill up. Script K of seed S is always the
 same.
 
-A difference in exit status, standard output or standard error is shrunk to a short script, and told
-with what both gave. The last line is `N passed, M failed`, and the exit status is 1 where M is
-above 0.
+A difference in exit status, standard output or standard error is shrunk to a short script, for at
+most a minute, and told with what both gave. In a run of 4,000 scripts or more it is a failure, too,
+where an error number of the profile, or another way in which an act can end, is told of no act at
+all. The last line is `N passed, M failed`, and the exit status is 1 where M is above 0.
 """
 
 import argparse
+import collections
 import multiprocessing
 import os
 import random
 import re
 import subprocess
 import sys
+import time
 
 # the model is imported from this folder, which is to stay as it is
 sys.dont_write_bytecode = True
@@ -34,6 +37,14 @@ TOP = os.path.dirname(os.path.dirname(os.path.abspath(__file__)))
 SECONDS = 20
 TELL_MOST = 10
 SHRINK_MOST = 5_000
+SHRINK_SECONDS = 60
+
+# what a run of so many scripts has to meet, each at least once
+MEETS_ALL = 4_000
+ERRORS = "EBADF EINVAL ESPIPE EFBIG EOVERFLOW ENOENT EEXIST ENXIO EMFILE ENFILE ENOSPC ENAMETOOLONG EMLINK EPIPE EAGAIN ESRCH"
+ENDS = [f"error {error}" for error in ERRORS.split()]
+ENDS += ["parked", "part", "still", "refused RunFull", "refused NotHere", "refused Waiting", "not an act"]
+END = re.compile(rb"(?: = (error [A-Z]+|parked|part|still|refused [A-Za-z]+)|: (not an act))")
 
 # how often a choice makes no sense on purpose
 ODD = 0.05
@@ -458,6 +469,10 @@ def bad_lines(pick, length):
 # ---- one script
 
 
+# Whether a script passes, how many acts it runs, and how they end.
+Checked = collections.namedtuple("Checked", "passes acts ends")
+
+
 class Script:
     """A script and the number of records that its run may have."""
 
@@ -480,6 +495,13 @@ class Script:
     def differs(self, program):
         return self.wanted() != self.given(program)
 
+    def checked(self, program):
+        """How it passes."""
+        ran = self.given(program)
+        ends = {(told or fault).decode() for told, fault in END.findall(ran.stdout + ran.stderr)}
+        acts = sum(map(bool, self.lines)) if ran.status == 0 else 0
+        return Checked(self.wanted() == ran, acts, ends)
+
 
 def script_of(seed, number):
     """The script with a number of a seed."""
@@ -501,13 +523,14 @@ def script_of(seed, number):
 
 
 def shrunk(script, program):
-    """A short script that differs as well, or the shortest that was found in so many tries."""
+    """A short script that differs as well, or the shortest that was found in so many tries or so long."""
     left = SHRINK_MOST
+    end = time.monotonic() + SHRINK_SECONDS
 
     def differs(lines):
         nonlocal left
         left -= 1
-        return left >= 0 and Script(lines, script.records).differs(program)
+        return left >= 0 and time.monotonic() < end and Script(lines, script.records).differs(program)
 
     lines, before = script.lines, None
     while lines != before:
@@ -592,13 +615,13 @@ def difference(name, script, program):
 
 
 def check(task):
-    """Whether a script passes."""
+    """How a script passes."""
     seed, number, program = task
-    return not script_of(seed, number).differs(program)
+    return script_of(seed, number).checked(program)
 
 
 def checked(tasks, jobs):
-    """Whether each script passes, in their order."""
+    """How each script passes, in their order."""
     if jobs == 1:
         yield from map(check, tasks)
     else:
@@ -618,13 +641,22 @@ def main(words):
         print(f"no program at {program}: ./fdref --version builds it")
         print("0 passed, 1 failed")
         return 1
-    failed = 0
-    for number, passes in enumerate(checked([(args.seed, number, program) for number in range(args.scripts)], args.jobs)):
-        if not passes:
+    acts = failed = 0
+    ends = set()
+    for number, it in enumerate(checked([(args.seed, number, program) for number in range(args.scripts)], args.jobs)):
+        acts += it.acts
+        ends |= it.ends
+        if not it.passes:
             failed += 1
             name = f"script {number} of seed {args.seed}"
             print(difference(name, script_of(args.seed, number), program) if failed <= TELL_MOST else f"FAILED {name}", flush=True)
-    print(f"{args.scripts - failed} passed, {failed} failed")
+    passed = args.scripts - failed
+    print(f"{args.scripts} scripts, of which those that were run have {acts} acts")
+    missing = [end for end in ENDS if end not in ends]
+    if missing and args.scripts >= MEETS_ALL:
+        failed += 1
+        print(f"FAILED: no script has met {', '.join(missing)}")
+    print(f"{passed} passed, {failed} failed")
     return 1 if failed else 0
 
 

@@ -9,7 +9,7 @@ use call_types::outcome::{Outcome, Reply};
 use call_types::refusal::Refusal;
 use record_book::book::Book;
 use record_book::opening::Opened;
-use record_book::seat::{Receipt, Seat, SpentSeat};
+use record_book::seat::{Receipt, Seat};
 use std::alloc::Global;
 use std::test::Fail;
 
@@ -63,28 +63,35 @@ fn attached(alloc: Global, book: &mut Book, process: u32) -> Result<Seat, Fail> 
     }
 }
 
-/// The spent seat of an attach of a process that waits for no connection.
-fn not_attached(alloc: Global, book: &mut Book, process: u32) -> Result<SpentSeat, Fail> {
-    match book.attach(alloc, process) {
-        Ok(Opened::Refused(spent)) => Ok(spent),
-        _ => Err("the process waits for no connection")?,
-    }
-}
-
-/// The spent seat of a process that ends.
-fn ended(book: &mut Book, seat: Seat) -> Result<SpentSeat, Fail> {
-    match book.exit(seat) {
-        Ok(spent) => Ok(spent),
-        Err(_) => Err("a process may end")?,
-    }
-}
-
 /// How many records a seat has seen, and the book has, of a call that is refused as another book's.
-fn foreign(book: &mut Book, alloc: Global, seat: &mut Seat) -> Option<(u64, u64)> {
+fn foreign(alloc: Global, book: &mut Book, seat: &mut Seat) -> Option<(u64, u64)> {
     match book.start(alloc, seat, Call::Close { fd: 0 }) {
         Err(Refusal::Foreign { seen, len }) => Some((seen, len)),
         _ => None,
     }
+}
+
+/// Whether the process of a seat makes a new file and opens it, as record 1.
+fn opens(alloc: Global, book: &mut Book, seat: &mut Seat) -> bool {
+    let name = match Name::copied(alloc, b"a") {
+        Ok(name) => name,
+        Err(_) => return false,
+    };
+    let flags = OpenFlags::WRITE | OpenFlags::CREAT;
+    match book.start(alloc, seat, Call::Open { name, flags }) {
+        Ok(receipt) => is_number(&receipt, 1, 0),
+        Err(_) => false,
+    }
+}
+
+/// Whether the process of a seat makes so many children.
+fn forks(alloc: Global, book: &mut Book, seat: &mut Seat, children: u32) -> bool {
+    (0..children).all(|_| book.start(alloc, seat, Call::Fork).is_ok())
+}
+
+/// How many records a seat has seen, and how many receipts it has.
+fn held(seat: &Seat) -> (u64, usize) {
+    (seat.seen(), seat.receipts().len())
 }
 
 #[test]
@@ -92,17 +99,24 @@ fn seat_has_its_receipts_and_is_of_one_book(rt: HostRuntime) -> Result<(), Fail>
     let alloc = rt.alloc();
     let mut book = Book::new(alloc, Limits::new(10)?)?;
     let mut seat = joined(alloc, &mut book)?;
-    assert_eq!(rt; seat.pid(), 0);
-    let name = Name::copied(alloc, b"a")?;
-    let flags = OpenFlags::WRITE | OpenFlags::CREAT;
-    let opened = book.start(alloc, &mut seat, Call::Open { name, flags });
-    assert!(rt; opened.is_ok_and(|receipt| is_number(&receipt, 1, 0)));
-    assert_eq!(rt; (seat.seen(), seat.receipts().len()), (2, 2));
-    assert_eq!(rt; book.counts().records, 2);
+    assert!(rt; opens(alloc, &mut book, &mut seat));
+    assert_eq!(rt; (seat.pid(), held(&seat)), (0, (2, 2)));
     seat.told(3);
-    assert!(rt; foreign(&mut book, alloc, &mut seat) == Some((3, 2)));
+    assert!(rt; foreign(alloc, &mut book, &mut seat) == Some((3, 2)));
     assert_eq!(rt; book.counts().records, 2);
     Ok(())
+}
+
+/// Whether the book refuses the exit of a seat that has seen 3 records, and gives that seat back.
+fn gives_back(book: &mut Book, seat: Seat) -> bool {
+    match book.exit(seat) {
+        Ok(_) => false,
+        Err(unspent) => {
+            unspent.refusal == Refusal::Foreign { seen: 3, len: 1 }
+                && unspent.seat.pid() == 0
+                && held(&unspent.seat) == (3, 1)
+        }
+    }
 }
 
 #[test]
@@ -111,17 +125,31 @@ fn exit_in_another_book_gives_the_seat_back(rt: HostRuntime) -> Result<(), Fail>
     let mut book = Book::new(alloc, Limits::new(10)?)?;
     let mut seat = joined(alloc, &mut book)?;
     seat.told(3);
-    assert!(rt; foreign(&mut book, alloc, &mut seat) == Some((3, 1)));
-    match book.exit(seat) {
-        Ok(_) => Err("the seat has seen more than the book has")?,
-        Err(unspent) => {
-            assert_eq!(rt; unspent.refusal, Refusal::Foreign { seen: 3, len: 1 });
-            assert_eq!(rt; (unspent.seat.pid(), unspent.seat.seen()), (0, 3));
-            assert_eq!(rt; unspent.seat.receipts().len(), 1);
-        }
-    }
+    assert!(rt; gives_back(&mut book, seat));
     assert_eq!(rt; book.counts().records, 1);
     Ok(())
+}
+
+/// Whether a second attach of process 1 is recorded as refused, at place 3.
+fn is_attached_once(alloc: Global, book: &mut Book) -> bool {
+    match book.attach(alloc, 1) {
+        Ok(Opened::Refused(spent)) => match spent.receipts() {
+            [only] => (spent.pid(), spent.seen()) == (1, 4) && is_error(only, 3, Errno::ESRCH),
+            _ => false,
+        },
+        _ => false,
+    }
+}
+
+/// Whether the exit of process 1 is recorded at place 4.
+fn ends(book: &mut Book, child: Seat) -> bool {
+    match book.exit(child) {
+        Ok(spent) => match spent.receipts() {
+            [_attach, exit] => (spent.pid(), spent.seen()) == (1, 5) && is_exit(exit, 4, 1),
+            _ => false,
+        },
+        Err(_) => false,
+    }
 }
 
 #[test]
@@ -129,16 +157,28 @@ fn child_is_attached_once_and_ends(rt: HostRuntime) -> Result<(), Fail> {
     let alloc = rt.alloc();
     let mut book = Book::new(alloc, Limits::new(20)?)?;
     let mut parent = joined(alloc, &mut book)?;
-    book.start(alloc, &mut parent, Call::Fork)?;
+    assert!(rt; forks(alloc, &mut book, &mut parent, 1));
     let child = attached(alloc, &mut book, 1)?;
-    assert_eq!(rt; (child.pid(), child.seen()), (1, 3));
-    let refused = not_attached(alloc, &mut book, 1)?;
-    assert_eq!(rt; (refused.pid(), refused.seen()), (1, 4));
-    assert!(rt; matches!(refused.receipts(), [only] if is_error(only, 3, Errno::ESRCH)));
-    let spent = ended(&mut book, child)?;
-    assert_eq!(rt; (spent.pid(), spent.seen()), (1, 5));
-    assert!(rt; matches!(spent.receipts(), [_attach, exit] if is_exit(exit, 4, 1)));
+    assert_eq!(rt; (child.pid(), held(&child)), (1, (3, 1)));
+    assert!(rt; is_attached_once(alloc, &mut book));
+    assert!(rt; ends(&mut book, child));
     Ok(())
+}
+
+/// Whether the closing ends processes 1 and 3, which have no connection, and stands at place 7.
+fn ends_one_and_three(book: &mut Book) -> bool {
+    match book.close_run() {
+        Some(house) => match house.receipts() {
+            [first, second, last] => {
+                (house.pid(), house.seen()) == (HOUSE, 8)
+                    && is_exit(first, 5, 1)
+                    && is_exit(second, 6, 3)
+                    && is_closing(last, 7)
+            }
+            _ => false,
+        },
+        None => false,
+    }
 }
 
 #[test]
@@ -146,18 +186,9 @@ fn closing_ends_the_children_without_a_connection(rt: HostRuntime) -> Result<(),
     let alloc = rt.alloc();
     let mut book = Book::new(alloc, Limits::new(20)?)?;
     let mut parent = joined(alloc, &mut book)?;
-    book.start(alloc, &mut parent, Call::Fork)?;
-    book.start(alloc, &mut parent, Call::Fork)?;
-    book.start(alloc, &mut parent, Call::Fork)?;
+    assert!(rt; forks(alloc, &mut book, &mut parent, 3));
     let _child = attached(alloc, &mut book, 2)?;
-    let house = book.close_run().ok_or("the run is open")?;
-    assert_eq!(rt; (house.pid(), house.seen()), (4_294_967_295, 8));
-    assert!(rt;
-        matches!(
-            house.receipts(),
-            [first, second, last] if is_exit(first, 5, 1) && is_exit(second, 6, 3) && is_closing(last, 7)
-        )
-    );
+    assert!(rt; ends_one_and_three(&mut book));
     assert!(rt; book.close_run().is_none());
     assert_eq!(rt; book.counts().records, 8);
     Ok(())

@@ -37,43 +37,94 @@ fn data(outcome: &Outcome) -> Option<&[u8]> {
     }
 }
 
-/// The next act of process 0.
-fn next(alloc: Global, world: &mut World, act: Act) -> Result<Outcome, StepFault> {
+/// What the next act of process 0 comes to; none where the rules record nothing, or memory is wanting.
+fn next(alloc: Global, world: &mut World, act: Act) -> Option<Outcome> {
     let limits = Limits::new(10).unwrap();
-    step_in_place(alloc, limits, world, 0, &act)
+    step_in_place(alloc, limits, world, 0, &act).ok()
 }
 
-/// The next call of process 0.
-fn call(alloc: Global, world: &mut World, call: Call) -> Result<Outcome, StepFault> {
+/// What the next call of process 0 comes to.
+fn call(alloc: Global, world: &mut World, call: Call) -> Option<Outcome> {
     next(alloc, world, Act::Call(call))
 }
 
+/// Whether process 0 may open file `a` with these flags, and gets this descriptor.
+fn opens(alloc: Global, world: &mut World, flags: OpenFlags, fd: u64) -> bool {
+    match Name::copied(alloc, b"a") {
+        Ok(name) => match call(alloc, world, Call::Open { name, flags }) {
+            Some(opened) => number(&opened) == Some(fd),
+            None => false,
+        },
+        Err(_) => false,
+    }
+}
+
+/// Whether a write of six bytes through descriptor 0 moves all of them.
+fn writes(alloc: Global, world: &mut World) -> bool {
+    match Payload::copied(alloc, b"hello!") {
+        Ok(bytes) => match call(alloc, world, Call::Write { fd: 0, bytes }) {
+            Some(wrote) => number(&wrote) == Some(6),
+            None => false,
+        },
+        Err(_) => false,
+    }
+}
+
+/// Whether a read through descriptor 0 is refused, and one through descriptor 1 gives the six bytes.
+fn reads(alloc: Global, world: &mut World) -> bool {
+    let refused = match call(alloc, world, Call::Read { fd: 0, count: 5 }) {
+        Some(refused) => error(&refused) == Some(Errno::EBADF),
+        None => false,
+    };
+    let read = match call(alloc, world, Call::Read { fd: 1, count: 10 }) {
+        Some(read) => data(&read) == Some(b"hello!".as_slice()),
+        None => false,
+    };
+    refused && read
+}
+
+/// Whether descriptor 0 may be closed.
+fn closes(alloc: Global, world: &mut World) -> bool {
+    matches!(
+        call(alloc, world, Call::Close { fd: 0 }),
+        Some(Outcome::Reply(Reply::Done))
+    )
+}
+
+/// Whether process 0 may join.
+fn joins(alloc: Global, world: &mut World) -> bool {
+    match next(alloc, world, Act::Join) {
+        Some(joined) => number(&joined) == Some(0),
+        None => false,
+    }
+}
+
 #[test]
-fn plain_program_runs(rt: HostRuntime) -> Result<(), Fail> {
+fn plain_program_runs(rt: HostRuntime) {
     let alloc = rt.alloc();
     let mut world = empty_world(alloc);
-    let early = call(alloc, &mut world, Call::Close { fd: 0 });
-    assert!(rt; matches!(early, Err(StepFault::NotReady)));
-    assert_eq!(rt; number(&next(alloc, &mut world, Act::Join)?), Some(0));
-    let name = Name::copied(alloc, b"a")?;
-    let flags = OpenFlags::WRITE | OpenFlags::CREAT;
-    let opened = call(alloc, &mut world, Call::Open { name, flags })?;
-    assert_eq!(rt; number(&opened), Some(0));
-    let bytes = Payload::copied(alloc, b"hello!")?;
-    let wrote = call(alloc, &mut world, Call::Write { fd: 0, bytes })?;
-    assert_eq!(rt; number(&wrote), Some(6));
-    let refused = call(alloc, &mut world, Call::Read { fd: 0, count: 5 })?;
-    assert_eq!(rt; error(&refused), Some(Errno::EBADF));
-    let name = Name::copied(alloc, b"a")?;
-    let flags = OpenFlags::READ;
-    let again = call(alloc, &mut world, Call::Open { name, flags })?;
-    assert_eq!(rt; number(&again), Some(1));
-    let read = call(alloc, &mut world, Call::Read { fd: 1, count: 10 })?;
-    assert!(rt; data(&read) == Some(b"hello!".as_slice()));
-    let closed = call(alloc, &mut world, Call::Close { fd: 0 })?;
-    assert!(rt; matches!(closed, Outcome::Reply(Reply::Done)));
+    assert!(rt; !closes(alloc, &mut world));
+    assert!(rt; joins(alloc, &mut world));
+    assert!(rt; opens(alloc, &mut world, OpenFlags::WRITE | OpenFlags::CREAT, 0));
+    assert!(rt; writes(alloc, &mut world));
+    assert!(rt; opens(alloc, &mut world, OpenFlags::READ, 1));
+    assert!(rt; reads(alloc, &mut world));
+    assert!(rt; closes(alloc, &mut world));
     assert_eq!(rt; world.descriptions.live(), 1);
-    Ok(())
+}
+
+/// Whether a join makes process 0 in a copy of a world, and not in that world; nor twice.
+fn joins_a_copy(alloc: Global, limits: Limits, world: &World) -> bool {
+    match plain_step(alloc, limits, world, 0, &Act::Join) {
+        Ok((joined, outcome)) => {
+            let late = plain_step(alloc, limits, &joined, 0, &Act::Join);
+            number(&outcome) == Some(0)
+                && joined.processes.live() == 1
+                && world.processes.len() == 0
+                && matches!(late, Err(StepFault::NotReady))
+        }
+        Err(_) => false,
+    }
 }
 
 #[test]
@@ -81,11 +132,6 @@ fn copy_is_stepped(rt: HostRuntime) -> Result<(), Fail> {
     let alloc = rt.alloc();
     let limits = Limits::new(10)?;
     let world = empty_world(alloc);
-    let (joined, outcome) = plain_step(alloc, limits, &world, 0, &Act::Join)?;
-    assert_eq!(rt; number(&outcome), Some(0));
-    assert_eq!(rt; joined.processes.live(), 1);
-    assert_eq!(rt; world.processes.len(), 0);
-    let late = plain_step(alloc, limits, &joined, 0, &Act::Join);
-    assert!(rt; matches!(late, Err(StepFault::NotReady)));
+    assert!(rt; joins_a_copy(alloc, limits, &world));
     Ok(())
 }

@@ -1,0 +1,110 @@
+//! One run of a script, in which an act for which memory is wanting is given again.
+use crate::ended::Ended;
+use crate::lines::gather;
+use crate::stand::Stand;
+use call_types::act::ScriptAct;
+use call_types::limits::Limits;
+use call_types::refusal::Refusal;
+use record_book::book::Book;
+use record_book::run::Told;
+use record_book::seats::Seats;
+use script_text::lines::write_totals;
+use script_text::script::{SCRIPT_MAX, Script};
+use std::alloc::{AllocError, Global};
+use std::io::{ErrorKind, Read};
+
+/// Whether an act was refused for want of memory.
+fn is_wanting(told: &Told<'_>) -> bool {
+    matches!(
+        told,
+        Told::Refused {
+            refusal: Refusal::NoMemory,
+            ..
+        }
+    )
+}
+
+/// A run so far.
+#[derive(Drop)]
+pub(crate) struct Run {
+    book: Book,
+    seats: Seats,
+    /// The lines of what was told.
+    pub lines: Vec<u8>,
+    /// How many acts were given.
+    acts: u64,
+    /// How many acts were given again.
+    pub again: u64,
+}
+
+impl Run {
+    /// A run without records.
+    fn new(alloc: Global, limits: Limits) -> Result<Self, AllocError> {
+        Ok(Run {
+            book: Book::new(alloc, limits)?,
+            seats: Seats::new(alloc),
+            lines: Vec::new(alloc),
+            acts: 0,
+            again: 0,
+        })
+    }
+
+    /// Gives an act to the book; where memory is wanting, it must have left all as it was, and is given again.
+    fn give<'a>(&mut self, alloc: Global, act: &'a ScriptAct) -> Result<Told<'a>, Ended> {
+        let before = Stand::of(&self.book, &self.seats);
+        let told = self.book.run_act(alloc, &mut self.seats, act);
+        if !is_wanting(&told) {
+            return Ok(told);
+        }
+        if Stand::of(&self.book, &self.seats) != before {
+            return Err(Ended::Changed { act: self.acts });
+        }
+        self.again = self.again.saturating_add(1);
+        let told = self.book.run_act(alloc, &mut self.seats, act);
+        if is_wanting(&told) {
+            return Err(Ended::RefusedTwice { act: self.acts });
+        }
+        Ok(told)
+    }
+
+    /// Gives the next act to the book, and gathers its lines.
+    fn give_next(&mut self, alloc: Global, act: ScriptAct) -> Result<(), Ended> {
+        self.acts = self.acts.saturating_add(1);
+        let told = self.give(alloc, &act)?;
+        gather(&mut self.lines, &told)?;
+        Ok(())
+    }
+}
+
+/// Reads the whole script, or one byte more than a script has.
+fn read_text<R: Read + Drop>(alloc: Global, reader: R) -> Result<Vec<u8>, Ended> {
+    let mut text = Vec::new(alloc);
+    let mut reader = reader.take(SCRIPT_MAX as u64 + 1);
+    match reader.read_to_end(&mut text) {
+        Ok(_) => Ok(text),
+        Err(error) if error.kind() == ErrorKind::OutOfMemory => Err(Ended::NoMemory),
+        Err(_) => Err(Ended::CannotRead),
+    }
+}
+
+/// The run of the script that a reader gives.
+pub(crate) fn tried<R: Read + Drop>(
+    alloc: Global,
+    reader: R,
+    limits: Limits,
+) -> Result<Run, Ended> {
+    let text = read_text(alloc, reader)?;
+    let mut script = Script::new(text.as_slice())?;
+    let mut run = Run::new(alloc, limits)?;
+    while let Some(act) = script.next_act(alloc)? {
+        run.give_next(alloc, act)?;
+    }
+    let counts = run.book.counts();
+    write_totals(
+        &mut run.lines,
+        counts.records,
+        counts.bytes_in,
+        counts.bytes_out,
+    )?;
+    Ok(run)
+}
