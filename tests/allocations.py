@@ -417,7 +417,8 @@ class TrialRow(Row):
 
     def check_ways(self, ways):
         """Looks whether some run of a row, in which an act that may want memory is recorded, gave an act again."""
-        told = zip(self.acts, self.told)
+        acts = [line for line in self.script.split(b"\n") if line]
+        told = zip(acts, lines_by_act(acts, self.lines)[0])
         if any(is_recorded(lines) and not is_end(act) for act, lines in told) and not ways["an act given again"]:
             raise Failure("no run gave an act again")
 
