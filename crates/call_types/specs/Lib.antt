@@ -4,3 +4,5 @@ pub mod Names
 pub mod Descriptions
 pub mod CallTable
 pub mod Stored
+pub mod Ranges
+pub mod Writing

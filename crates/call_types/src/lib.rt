@@ -13,4 +13,5 @@ pub mod limits;
 pub mod outcome;
 pub mod part;
 pub mod refusal;
+pub mod request;
 pub mod whence;

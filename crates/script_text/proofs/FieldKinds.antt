@@ -13,7 +13,8 @@ use Rattle.script_text.specs.ReadingNumbers.{count_of, descriptor_of, position_o
 use Rattle.script_text.specs.ReadingFlags.{flags_of}
 use Rattle.script_text.specs.ReadingCalls.{whence_of, value_of}
 use Rattle.script_text.specs.Lines.{whence_word, field_word}
-use Rattle.script_text.specs.Spellings.{SpellsField, FieldFits}
+use Rattle.call_types.specs.Ranges.{FieldFits}
+use Rattle.script_text.specs.Spellings.{SpellsField}
 use Rattle.script_text.proofs.Numerals.{chosen, number_takes, number_again}
 use Rattle.script_text.proofs.WordLaws.{Unbroken, unbroken, decimal_unbroken, signed_takes, signed_again, signed_unbroken, fits_32, within_32, fits_64, within_64}
 use Rattle.script_text.proofs.NameLaws.{name_takes, name_again, name_unbroken}

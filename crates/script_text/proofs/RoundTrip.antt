@@ -6,9 +6,10 @@ use Rattle.call_types.specs.CallTable.{FieldKind, Values, parts}
 use Rattle.call_types.specs.declared.call.Call.{Call}
 use Rattle.call_types.specs.declared.act.ScriptAct.{ScriptAct}
 use Rattle.call_types.specs.declared.act.ScriptAct.TheVariants as acts
+use Rattle.call_types.specs.Ranges.{FieldsFit}
 use Rattle.script_text.specs.ReadingCalls.{reading}
 use Rattle.script_text.specs.Lines.{field_word, fields_text, call_text, process_word, script_line}
-use Rattle.script_text.specs.Spellings.{SpellsFields, SpellsCall, FieldsFit, IsScriptCall, IsScriptAct}
+use Rattle.script_text.specs.Spellings.{SpellsFields, SpellsCall, IsScriptCall, IsScriptAct}
 use Rattle.script_text.proofs.FieldKinds.{value_written}
 use Rattle.script_text.proofs.CallLaws.{reading_again}
 

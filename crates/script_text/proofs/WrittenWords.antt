@@ -3,9 +3,10 @@ use Rattle.std.proofs.Common.{◌≡◌, ℕ, ◌<◌, ◌≤◌, Bool, true, fa
 use Rattle.std.specs.List.{flat_map, list_all}
 use Rattle.std.proofs.lemmas.Bool.{eqb-true, and_parts}
 use Rattle.call_types.specs.declared.limits.TheConstants.{GIVEN_NAME_MAX, GIVEN_BYTES_MAX}
+use Rattle.call_types.specs.Ranges.{AreBytes}
 use Rattle.script_text.specs.ReadingNames.{is_plain}
 use Rattle.script_text.specs.Lines.{hex_pair, name_byte, name_word, data_text, data_word}
-use Rattle.script_text.specs.Spellings.{SpellsBytes, SpellsName, SpellsPairs, SpellsData, AreBytes}
+use Rattle.script_text.specs.Spellings.{SpellsBytes, SpellsName, SpellsPairs, SpellsData}
 
 byte_written : (b : Bool) (byte : ℕ) (bytes rest : List ℕ) → is_plain byte ≡ b → byte < 256 → SpellsBytes bytes rest → SpellsBytes (byte ∷ bytes) (cond b (byte ∷ []) (37 ∷ hex_pair byte) ++ rest)
 byte_written true byte bytes rest e h s = inl (rest, e, refl, s)

@@ -6,7 +6,6 @@ pub mod ReadingFlags
 pub mod ReadingCalls
 pub mod ReadingResults
 pub mod ReadingScripts
-pub mod Writing
 pub mod Lines
 pub mod Spellings
 pub mod CallRows

@@ -3,7 +3,7 @@
 ghost use Rattle.std.specs.Prelude.{◌≡◌, bit_or};
 ghost use Rattle.std.specs.Option.{option_map};
 ghost use Rattle.script_text.specs.Lines.{mode_word, suffix, flags_word};
-ghost use Rattle.script_text.specs.Writing.{Appends};
+ghost use Rattle.call_types.specs.Writing.{Appends};
 ghost use Rattle.script_text.specs.ReadingFlags.{flags_of, after_mode, with_suffix};
 
 use crate::put::put;

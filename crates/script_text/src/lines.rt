@@ -2,7 +2,7 @@
 #![tactic(auto, using(crate::proofs::Fronts::keeps_after))]
 
 ghost use Rattle.std.specs.Prelude.{◌≡◌};
-ghost use Rattle.script_text.specs.Writing.{Appends};
+ghost use Rattle.call_types.specs.Writing.{Appends};
 ghost use Rattle.script_text.specs.Lines.{act_text, actor_word, record_line, script_act_text, script_actor_word, refusal_word, refused_line, still_line, totals_line};
 
 use crate::calls::put_call;

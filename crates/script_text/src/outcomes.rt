@@ -2,7 +2,7 @@
 #![tactic(auto, using(crate::proofs::Fronts::keeps_after))]
 
 ghost use Rattle.std.specs.Prelude.{◌≡◌, ◌++◌, codes, decimal};
-ghost use Rattle.script_text.specs.Writing.{Appends};
+ghost use Rattle.call_types.specs.Writing.{Appends};
 ghost use Rattle.script_text.specs.Lines.{kind_word, error_word, stat_text, reply_text, outcome_text};
 
 use crate::payload::put_data;

@@ -7,7 +7,7 @@ ghost use Rattle.std.specs.List.{flat_map, list_all};
 ghost use Rattle.call_types.specs.declared.limits.TheConstants.{GIVEN_BYTES_MAX};
 ghost use Rattle.call_types.specs.Stored.{part_bytes};
 ghost use Rattle.script_text.specs.Lines.{hex_pair, one_byte, data_word};
-ghost use Rattle.script_text.specs.Writing.{Appends};
+ghost use Rattle.call_types.specs.Writing.{Appends};
 ghost use Rattle.script_text.specs.ReadingData.{first_paired, hex_bytes, hex_data, repeated_data, data_of};
 
 use crate::hexadecimal::{byte_value, put_hex};
