@@ -1,0 +1,40 @@
+-- A piece that is taken until the first frame is complete.
+use Rattle.std.proofs.Common.{◌≡◌, ℕ, ◌+◌, ◌≤◌, List, ◌++◌, length, take, drop, sym, ap, subst, ◌∙◌, append_assoc, arith, inl, inr}
+use Rattle.std.specs.Int.{w32, from_be_bytes}
+use Rattle.std.proofs.Math.Seq.{take-add}
+use Rattle.std.proofs.lemmas.List.{length-append, length-drop, take-append-le}
+use Rattle.frame_codec.specs.Frames.{told_length, IsShort}
+use Rattle.frame_codec.specs.Decoding.{FillsHead, Fills, Completes}
+
+-- the head is told, so what tells it is not yet a frame
+pub still_short : (most : ℕ) (old mid piece : List ℕ) (first : ℕ) → IsShort most old → FillsHead old mid piece first → 4 ≤ length mid → length mid ≤ 4 + told_length mid
+still_short most old mid piece first short head le =
+    elim head.few [
+      | inl few ↦ omega arith
+      | inr same ↦
+          elim short [
+            | inl none ↦ omega (arith, ap length same)
+            | inr there ↦ subst (λ (bytes : List ℕ). length bytes ≤ 4 + told_length bytes) (sym same) (omega (arith, there.2))
+          ]
+    ]
+
+-- the head, and then the rest of the frame
+pub completes : (most : ℕ) (old mid new piece : List ℕ) (first second : ℕ) → FillsHead old mid piece first → 4 ≤ length mid → told_length mid ≤ most
+    → Fills mid new (drop first piece) (4 + told_length mid) second → Completes most old new piece (first + second)
+completes most old mid new piece first second head there few more =
+    let told : told_length new ≡ told_length mid =
+    ap told_length more.takes.is
+    ∙ ap (λ (front : List ℕ). from_be_bytes w32 front) (take-append-le 4 mid (take second (drop first piece)) there) in
+    record {
+      takes = record {
+        within = omega (arith, head.takes.within, more.takes.within, length-drop first piece);
+        is =
+            more.takes.is ∙ ap (λ (front : List ℕ). front ++ take second (drop first piece)) head.takes.is
+            ∙ append_assoc old (take first piece) (take second (drop first piece))
+            ∙ ap (λ (text : List ℕ). old ++ text) (sym (take-add first second piece));
+      };
+      ends = elim more.ends [
+        | inl full ↦ inr (inr (omega (arith, told, few), omega (arith, told, full)))
+        | inr part ↦ inl (omega (arith, part.0, head.takes.within, length-drop first piece), inr (omega (arith, length-append mid (take second (drop first piece)), ap length more.takes.is, there), omega (arith, told, few), omega (arith, told, part.1)))
+      ];
+    }

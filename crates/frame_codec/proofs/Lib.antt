@@ -1,0 +1,13 @@
+pub mod Fronts
+pub mod Lengths
+pub mod Steps
+pub mod FieldReads
+pub mod RequestReads
+pub mod AnswerReads
+pub mod FrameLaws
+pub mod KindLaws
+pub mod Completing
+pub mod Loops
+pub mod ReadingOn
+pub mod StreamLaws
+pub mod KindStreams

@@ -1,0 +1,11 @@
+use Rattle.frame_codec.specs.Requests.{SpellsRequest}
+use Rattle.frame_codec.specs.Answers.{SpellsAnswer}
+use Rattle.frame_codec.proofs.StreamLaws.{one_form}
+use Rattle.frame_codec.proofs.KindStreams.{one_request, one_answer, small_requests, small_answers}
+use Rattle.frame_codec.proofs.laws.no_frame_begins_another.Goals as goal
+
+pub returns-clause-requests : goal.returns-clause-requests
+returns-clause-requests c = one_form SpellsRequest 65792 small_requests one_request
+
+pub returns-clause-answers : goal.returns-clause-answers
+returns-clause-answers c = one_form SpellsAnswer 66048 small_answers one_answer

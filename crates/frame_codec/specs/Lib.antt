@@ -1,0 +1,9 @@
+pub mod Fields
+pub mod Requests
+pub mod Answers
+pub mod Reading
+pub mod ReadingRequests
+pub mod ReadingAnswers
+pub mod Frames
+pub mod Decoding
+pub mod Laws

@@ -1,0 +1,281 @@
+//! A decoder of a stream of frames, which comes in any pieces.
+
+ghost use Rattle.std.specs.Prelude.{◌≡◌, ◌≤◌, ◌++◌, List, length, drop, IfOk, OnOk, OnErr};
+ghost use Rattle.call_types.specs.Writing.{KeepsFront};
+ghost use Rattle.frame_codec.specs.Frames.{IsShort, BeginsWith};
+ghost use Rattle.frame_codec.specs.Decoding.{fresh, Fills, FillsHead, Completes, HoldsRest, ReadsIn, told_progress, Feeds};
+ghost use Rattle.frame_codec.specs.declared.decoder.Progress.TheVariants as progress;
+
+use crate::begun::{Begins, HEAD, Stop, begun, length_told};
+use crate::kind::Kind;
+use std::alloc::{AllocError, Global};
+use std::marker::{Model, PhantomData};
+
+/// Whether a stream goes on, or where its first fault is.
+#[derive(Clone, Copy, Debug, PartialEq, Eq)]
+pub enum Progress {
+    /// There is no fault so far.
+    More,
+    /// A payload spells no value. Its frame begins at this byte of the stream, from 0; at the greatest number or past it where that is told.
+    Malformed { at: u64 },
+    /// A length is greater than is allowed. It begins at this byte of the stream, as above.
+    TooLong { at: u64 },
+}
+
+/// What one piece gave.
+#[derive(Drop)]
+pub struct Fed<V> {
+    /// The values whose frames are complete now, in their order.
+    pub values: Vec<V>,
+    pub progress: Progress,
+}
+
+/// What takes a stream of frames, piece by piece. It holds less than one frame between two pieces.
+#[derive(Drop)]
+pub struct Decoder<K: Kind> {
+    alloc: Global,
+    /// The bytes since the last whole frame.
+    held: Vec<u8>,
+    /// How many bytes of the stream were before these.
+    before: u64,
+    progress: Progress,
+    kind: PhantomData<K>,
+}
+
+impl<K: Kind> Model for Decoder<K> {
+    ghost use Rattle.frame_codec.specs.Decoding.{DecoderState, RestsOn};
+
+    ghost Value = { DecoderState };
+
+    ghost view = { λ decoder. record { before = decoder.before; held = decoder.held.items; progress = decoder.progress } };
+
+    ghost invariant = { λ decoder. RestsOn K.most decoder.held.items decoder.progress };
+}
+
+/// What is told after a stop.
+fn progress_of(before: u64, stop: Stop) -> Progress
+    ensures { result ≡ told_progress before stop }
+{
+    match stop {
+        Stop::Short => Progress::More,
+        Stop::Malformed => Progress::Malformed { at: before },
+        Stop::TooLong => Progress::TooLong { at: before },
+    }
+}
+
+/// Takes bytes of a piece until `len` are held, or the piece ends. It tells how many it took; an error says that memory ran out,
+/// with what was held as the front.
+fn fill(held: &mut Vec<u8>, len: usize, piece: &[u8]) -> Result<usize, AllocError>
+    requires { length held.old.items ≤ len }
+    ensures ok { IfOk result (λ taken. Fills held.old.items held.new.items piece.now len taken) }
+    ensures err { OnErr result (KeepsFront held.old.items held.new.items) }
+{
+    let taken = piece.len().min(len - held.len());
+    held.extend_from_slice(&piece[..taken])?;
+    Ok(taken)
+}
+
+/// Takes bytes of a piece until the length of a frame can be told, as above.
+fn fill_head(held: &mut Vec<u8>, piece: &[u8]) -> Result<usize, AllocError>
+    ensures ok { IfOk result (λ taken. FillsHead held.old.items held.new.items piece.now taken) }
+    ensures err { OnErr result (KeepsFront held.old.items held.new.items) }
+{
+    if held.len() >= HEAD {
+        return Ok(0);
+    }
+    fill(held, HEAD, piece)
+}
+
+/// Takes bytes of a piece until the first frame is complete, or its length is too great, as above.
+fn complete(held: &mut Vec<u8>, most: usize, piece: &[u8]) -> Result<usize, AllocError>
+    requires { IsShort most held.old.items }
+    ensures ok { IfOk result (λ taken. Completes most held.old.items held.new.items piece.now taken) }
+    ensures err { OnErr result (KeepsFront held.old.items held.new.items) }
+{
+    let first = fill_head(held, piece)?;
+    if held.len() < HEAD {
+        return Ok(first);
+    }
+    let told = length_told(held.as_slice());
+    if told > most {
+        return Ok(first);
+    }
+    let (_, after) = piece.split_at(first);
+    let second = fill(held, HEAD + told, after)?;
+    Ok(first + second)
+}
+
+/// The values of the frames with which bytes begin, added to those before; how many bytes these have, and why no further one begins.
+fn frames_of<K: Kind>(
+    alloc: Global,
+    values: &mut Vec<K::Value>,
+    bytes: &[u8],
+) -> Result<(usize, Stop), AllocError>
+    ensures { IfOk result (λ found. (added : List K.Value) × (values.new.items ≡ values.old.items ++ added) × BeginsWith K.spells K.most bytes.now added found.0 found.1) }
+{
+    let mut used: usize = 0;
+    loop {
+        let (_, rest) = bytes.split_at(used);
+        match begun::<K>(alloc, rest)? {
+            Begins::Stopped(stop) => return Ok((used, stop)),
+            Begins::Whole { value, len } => {
+                values.push(value)?;
+                used += len;
+            }
+        }
+    }
+}
+
+/// Holds what is left after a stop, where it may become a frame. After an error what was held is held.
+fn keep_rest(alloc: Global, held: &mut Vec<u8>, stop: Stop, rest: &[u8]) -> Result<(), AllocError>
+    ensures ok { OnOk result (HoldsRest held.new.items rest.now stop) }
+    ensures err { OnErr result (held.new.items ≡ held.old.items) }
+{
+    if stop == Stop::Short {
+        *held = Vec::from_slice(alloc, rest)?;
+    }
+    Ok(())
+}
+
+/// The values of the frames with which bytes begin, as above; what is left is held.
+fn read_on<K: Kind>(
+    alloc: Global,
+    held: &mut Vec<u8>,
+    values: &mut Vec<K::Value>,
+    bytes: &[u8],
+) -> Result<(usize, Stop), AllocError>
+    ensures ok { IfOk result (λ found. (added : List K.Value) × (values.new.items ≡ values.old.items ++ added) × BeginsWith K.spells K.most bytes.now added found.0 found.1 × HoldsRest held.new.items (drop found.0 bytes.now) found.1) }
+    ensures err { OnErr result (held.new.items ≡ held.old.items) }
+{
+    let (used, stop) = frames_of::<K>(alloc, values, bytes)?;
+    let (_, rest) = bytes.split_at(used);
+    keep_rest(alloc, held, stop, rest)?;
+    Ok((used, stop))
+}
+
+/// The values of what was held and a piece, how many bytes their frames have, and why no further one begins.
+#[derive(Drop)]
+struct Read<V> {
+    values: Vec<V>,
+    used: u64,
+    stop: Stop,
+}
+
+/// Reads a piece where nothing is held.
+fn read_piece<K: Kind>(
+    alloc: Global,
+    held: &mut Vec<u8>,
+    piece: &[u8],
+) -> Result<Read<K::Value>, AllocError>
+    ensures ok { IfOk result (λ read. ReadsIn K.spells K.most piece.now held.new.items read.values.items read.used read.stop) }
+    ensures err { OnErr result (held.new.items ≡ held.old.items) }
+{
+    let mut values = Vec::new(alloc);
+    let (used, stop) = read_on::<K>(alloc, held, &mut values, piece)?;
+    Ok(Read {
+        values,
+        used: used as u64,
+        stop,
+    })
+}
+
+/// Reads a piece after what is held.
+fn read_after<K: Kind>(
+    alloc: Global,
+    held: &mut Vec<u8>,
+    piece: &[u8],
+) -> Result<Read<K::Value>, AllocError>
+    requires { IsShort K.most held.old.items }
+    ensures ok { IfOk result (λ read. ReadsIn K.spells K.most (held.old.items ++ piece.now) held.new.items read.values.items read.used read.stop) }
+    ensures err { OnErr result (KeepsFront held.old.items held.new.items) }
+{
+    let taken = complete(held, K::most(), piece)?;
+    let mut values = Vec::new(alloc);
+    match begun::<K>(alloc, held.as_slice())? {
+        Begins::Stopped(stop) => Ok(Read {
+            values,
+            used: 0,
+            stop,
+        }),
+        Begins::Whole { value, len } => {
+            values.push(value)?;
+            let (_, after) = piece.split_at(taken);
+            let (used, stop) = read_on::<K>(alloc, held, &mut values, after)?;
+            Ok(Read {
+                values,
+                used: (len as u64).saturating_add(used as u64),
+                stop,
+            })
+        }
+    }
+}
+
+/// Reads a piece after what is held, if anything is.
+fn read_in<K: Kind>(
+    alloc: Global,
+    held: &mut Vec<u8>,
+    piece: &[u8],
+) -> Result<Read<K::Value>, AllocError>
+    requires { IsShort K.most held.old.items }
+    ensures ok { IfOk result (λ read. ReadsIn K.spells K.most (held.old.items ++ piece.now) held.new.items read.values.items read.used read.stop) }
+    ensures err { OnErr result (KeepsFront held.old.items held.new.items) }
+{
+    if held.is_empty() {
+        return read_piece::<K>(alloc, held, piece);
+    }
+    read_after::<K>(alloc, held, piece)
+}
+
+impl<K: Kind> Decoder<K> {
+    /// A decoder at the beginning of a stream. It takes no memory.
+    pub fn new(alloc: Global) -> Self
+        ensures { result ≡ fresh }
+    {
+        Decoder {
+            alloc,
+            held: Vec::new(alloc),
+            before: 0,
+            progress: Progress::More,
+            kind: PhantomData,
+        }
+    }
+
+    /// Takes a piece of a stream without a fault so far.
+    fn go_on(&mut self, piece: &[u8]) -> Result<Fed<K::Value>, AllocError>
+        requires { self.old.progress ≡ progress.More }
+        ensures fed { IfOk result (λ fed. Feeds K.spells K.most self.old self.new piece.now fed.values.items fed.progress) }
+        ensures err { OnErr result (self.new ≡ self.old) }
+    {
+        let kept = self.held.len();
+        match read_in::<K>(self.alloc, &mut self.held, piece) {
+            Ok(read) => {
+                self.before = self.before.saturating_add(read.used);
+                self.progress = progress_of(self.before, read.stop);
+                Ok(Fed {
+                    values: read.values,
+                    progress: self.progress,
+                })
+            }
+            Err(fault) => {
+                self.held.truncate(kept);
+                Err(fault)
+            }
+        }
+    }
+
+    /// Takes a piece of the stream, of any length, and gives the values whose frames are complete now. After a fault no byte is read
+    /// any more, and the same fault is told again. An error says that memory ran out: the decoder is then as it was, and the piece
+    /// can be given again.
+    pub fn feed(&mut self, piece: &[u8]) -> Result<Fed<K::Value>, AllocError>
+        ensures fed { IfOk result (λ fed. Feeds K.spells K.most self.old self.new piece.now fed.values.items fed.progress) }
+        ensures err { OnErr result (self.new ≡ self.old) }
+    {
+        match self.progress {
+            Progress::More => self.go_on(piece),
+            fault => Ok(Fed {
+                values: Vec::new(self.alloc),
+                progress: fault,
+            }),
+        }
+    }
+}

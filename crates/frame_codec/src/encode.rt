@@ -1,0 +1,199 @@
+//! Requests and answers as whole frames. A frame's length stands before its payload, so it is counted first.
+#![tactic(auto, using(crate::proofs::Fronts::keeps_after), unfolding(crate::specs::Fields::number_bytes))]
+
+ghost use Rattle.std.specs.Prelude.{◌≡◌, ◌+◌, ◌≤◌, ◌++◌, ◌∷◌, length};
+ghost use Rattle.std.specs.Int.{w64};
+ghost use Rattle.call_types.specs.CallTable.{parts, fields_length};
+ghost use Rattle.call_types.specs.Writing.{Appends};
+ghost use Rattle.call_types.specs.declared.request.Request.TheVariants as requests;
+ghost use Rattle.frame_codec.specs.declared.answer.Answer.TheVariants as answers;
+ghost use Rattle.frame_codec.specs.Fields.{number_bytes};
+ghost use Rattle.frame_codec.specs.Requests.{request_bytes};
+ghost use Rattle.frame_codec.specs.Answers.{reply_bytes, outcome_bytes, refusal_bytes, answer_bytes};
+ghost use Rattle.frame_codec.specs.Frames.{frame};
+
+use crate::answer::Answer;
+use crate::put::{put_byte, put_u32, put_u64};
+use crate::written_calls::encode_call;
+use crate::written_outcomes::{put_outcome, put_refusal};
+use call_types::call::Call;
+use call_types::outcome::{Outcome, Reply};
+use call_types::refusal::Refusal;
+use call_types::request::Request;
+use std::alloc::AllocError;
+
+/// How many bytes a call's payload has: its byte, and its fields.
+fn fields_bytes(call: &Call) -> u32
+    ensures { result ≡ 1 + fields_length (parts call.now).entry.fields (parts call.now).values }
+{
+    match call {
+        Call::Open { name, .. } => 3 + name.as_slice().len() as u32,
+        Call::Close { .. } => 5,
+        Call::Read { .. } => 9,
+        Call::Write { bytes, .. } => 9 + bytes.len() as u32,
+        Call::Pread { .. } => 17,
+        Call::Pwrite { bytes, .. } => 17 + bytes.len() as u32,
+        Call::Lseek { .. } => 14,
+        Call::Ftruncate { .. } => 13,
+        Call::Dup { .. } => 5,
+        Call::Dup2 { .. } => 9,
+        Call::Pipe => 1,
+        Call::Mkfifo { name } => 2 + name.as_slice().len() as u32,
+        Call::Link { old, new } => { 3 + old.as_slice().len() as u32 + new.as_slice().len() as u32 }
+        Call::Unlink { name } => 2 + name.as_slice().len() as u32,
+        Call::Fstat { .. } => 5,
+        Call::Fork => 1,
+    }
+}
+
+/// How many bytes a request's payload has.
+#[tactic(auto, using(crate::proofs::Lengths::call_length, crate::proofs::Lengths::attach_length))]
+fn request_length(request: &Request) -> u32
+    ensures { result ≡ length (request_bytes request.now) }
+{
+    match request {
+        Request::Join => 1,
+        Request::Attach { .. } => 5,
+        Request::Call(call) => fields_bytes(call),
+    }
+}
+
+/// Appends the payload of an attach.
+#[tactic(auto, using(crate::proofs::Fronts::keeps_after))]
+fn put_attach(out: &mut Vec<u8>, process: u32) -> Result<(), AllocError>
+    ensures { Appends result out.old.items out.new.items (request_bytes (requests.Attach process)) }
+{
+    put_byte(out, 2)?;
+    put_u32(out, process)?;
+    Ok(())
+}
+
+/// Appends the payload of a request.
+#[tactic(auto)]
+fn put_request(out: &mut Vec<u8>, request: &Request) -> Result<(), AllocError>
+    ensures { Appends result out.old.items out.new.items (request_bytes request.now) }
+{
+    match request {
+        Request::Join => put_byte(out, 1),
+        Request::Attach { process } => put_attach(out, *process),
+        Request::Call(call) => encode_call(out, call),
+    }
+}
+
+/// Appends a request's frame. An error says that memory ran out; the bytes before are still the front.
+#[tactic(auto, using(crate::proofs::Fronts::keeps_after))]
+pub fn encode_request(out: &mut Vec<u8>, request: &Request) -> Result<(), AllocError>
+    ensures { Appends result out.old.items out.new.items (frame (request_bytes request.now)) }
+{
+    put_u32(out, request_length(request))?;
+    put_request(out, request)?;
+    Ok(())
+}
+
+/// How many bytes a reply has.
+fn reply_length(reply: &Reply) -> u32
+    ensures exact { result ≡ length (reply_bytes reply.now) }
+    ensures few { result ≤ 65541 }
+{
+    match reply {
+        Reply::Done => 1,
+        Reply::Number(_) => 9,
+        Reply::Data(bytes) => 5 + bytes.len() as u32,
+        Reply::Pair(..) => 9,
+        Reply::Stat(_) => 14,
+        Reply::Error(_) => 2,
+    }
+}
+
+/// How many bytes an outcome has.
+fn outcome_length(outcome: &Outcome) -> u32
+    ensures exact { result ≡ length (outcome_bytes outcome.now) }
+    ensures few { result ≤ 65541 }
+{
+    match outcome {
+        Outcome::Reply(reply) => reply_length(reply),
+        Outcome::Parked { .. } => 5,
+        Outcome::Part { .. } => 5,
+    }
+}
+
+/// How many bytes a refusal has.
+fn refusal_length(refusal: Refusal) -> u32
+    ensures exact { result ≡ length (refusal_bytes refusal) }
+    ensures few { result ≤ 17 }
+{
+    match refusal {
+        Refusal::Foreign { .. } => 17,
+        _ => 1,
+    }
+}
+
+/// How many bytes the answer of a record has.
+#[tactic(auto, using(crate::proofs::Lengths::recorded_length))]
+fn recorded_length(place: u64, outcome: &Outcome) -> u32
+    ensures { result ≡ length (answer_bytes (answers.Recorded place outcome.now)) }
+{
+    let _place = place;
+    9 + outcome_length(outcome)
+}
+
+/// Appends the payload of a record's answer.
+#[tactic(auto, using(crate::proofs::Fronts::keeps_after), unfolding(crate::specs::Answers::answer_bytes))]
+fn put_recorded(out: &mut Vec<u8>, place: u64, outcome: &Outcome) -> Result<(), AllocError>
+    ensures { Appends result out.old.items out.new.items (answer_bytes (answers.Recorded place outcome.now)) }
+{
+    put_byte(out, 1)?;
+    put_u64(out, place)?;
+    put_outcome(out, outcome)?;
+    Ok(())
+}
+
+/// Appends the frame of the answer of the record at a place, which counts from 0. An error says that memory ran out; the bytes
+/// before are still the front.
+#[tactic(auto, using(crate::proofs::Fronts::keeps_after))]
+pub fn encode_recorded(out: &mut Vec<u8>, place: u64, outcome: &Outcome) -> Result<(), AllocError>
+    ensures { Appends result out.old.items out.new.items (frame (answer_bytes (answers.Recorded place outcome.now))) }
+{
+    put_u32(out, recorded_length(place, outcome))?;
+    put_recorded(out, place, outcome)?;
+    Ok(())
+}
+
+/// How many bytes the answer of a refusal has.
+#[tactic(auto, unfolding(crate::specs::Answers::answer_bytes))]
+fn refused_length(refusal: Refusal) -> u32
+    ensures { result ≡ length (answer_bytes (answers.Refused refusal)) }
+{
+    1 + refusal_length(refusal)
+}
+
+/// Appends the payload of a refusal's answer.
+#[tactic(auto, using(crate::proofs::Fronts::keeps_after), unfolding(crate::specs::Answers::answer_bytes))]
+fn put_refused(out: &mut Vec<u8>, refusal: Refusal) -> Result<(), AllocError>
+    ensures { Appends result out.old.items out.new.items (answer_bytes (answers.Refused refusal)) }
+{
+    put_byte(out, 2)?;
+    put_refusal(out, refusal)?;
+    Ok(())
+}
+
+/// Appends the frame of the answer that nothing was recorded. An error says that memory ran out; the bytes before are still the front.
+#[tactic(auto, using(crate::proofs::Fronts::keeps_after))]
+pub fn encode_refused(out: &mut Vec<u8>, refusal: Refusal) -> Result<(), AllocError>
+    ensures { Appends result out.old.items out.new.items (frame (answer_bytes (answers.Refused refusal))) }
+{
+    put_u32(out, refused_length(refusal))?;
+    put_refused(out, refusal)?;
+    Ok(())
+}
+
+/// Appends an answer's frame. An error says that memory ran out; the bytes before are still the front.
+#[tactic(auto)]
+pub fn encode_answer(out: &mut Vec<u8>, answer: &Answer) -> Result<(), AllocError>
+    ensures { Appends result out.old.items out.new.items (frame (answer_bytes answer.now)) }
+{
+    match answer {
+        Answer::Recorded { place, outcome } => encode_recorded(out, *place, outcome),
+        Answer::Refused(refusal) => encode_refused(out, *refusal),
+    }
+}

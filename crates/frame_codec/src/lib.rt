@@ -1,0 +1,18 @@
+//! Requests and answers as frames of bytes, and a decoder that takes them in any pieces.
+#![tactic(auto)]
+
+pub mod answer;
+mod answers;
+mod begun;
+mod calls;
+pub mod decoder;
+pub mod encode;
+pub mod fault;
+mod fields;
+pub mod kind;
+pub mod laws;
+mod outcomes;
+mod put;
+mod requests;
+pub mod written_calls;
+pub mod written_outcomes;
