@@ -7,3 +7,4 @@ pub mod ReadingAnswers
 pub mod Frames
 pub mod Decoding
 pub mod Laws
+pub mod FrameRows

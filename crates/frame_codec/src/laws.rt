@@ -9,6 +9,7 @@ ghost use Rattle.frame_codec.specs.Answers.{answer_bytes, AnswerFits, SpellsAnsw
 ghost use Rattle.frame_codec.specs.Reading.{payload_at};
 ghost use Rattle.frame_codec.specs.ReadingRequests.{request_at};
 ghost use Rattle.frame_codec.specs.ReadingAnswers.{answer_at};
+ghost use Rattle.frame_codec.specs.FrameRows.{FrameRows};
 ghost use Rattle.frame_codec.specs.Laws.{OneForm, CutsDoNotMatter, OneReading, LongestReading};
 
 /// Every request and every answer in range is read again from its payload.
@@ -41,4 +42,9 @@ pub fn bytes_have_one_reading()
     ensures answers { OneReading SpellsAnswer 66048 }
     ensures most_requests { LongestReading SpellsRequest 65792 }
     ensures most_answers { LongestReading SpellsAnswer 66048 }
+{}
+
+/// A frame of each request and of each kind of answer, byte by byte: what is read and what is written both go by the same tables.
+pub fn frames_as_written()
+    ensures { FrameRows }
 {}
