@@ -21,3 +21,4 @@ pub mod Moving
 pub mod MovingCalls
 pub mod PipeLaws
 pub mod WaitLaws
+pub mod TurnLaws

@@ -8,7 +8,7 @@ use Rattle.call_types.specs.declared.call.Call.TheVariants as call
 use Rattle.call_types.specs.declared.act.Act.TheVariants as act
 use Rattle.slots.specs.Slots.{slot, edited}
 use Rattle.process_table.specs.Processes.{parked_of, with_parked}
-use Rattle.posix_model.specs.Types.{Call, Record, Errno, Bounds, World, Parked, OpenDescriptor, Source, Change, Decided, Try, PIPE_BUF, EPIPE, Replied, ParkedAt, Error}
+use Rattle.posix_model.specs.Types.{Call, Record, Outcome, Errno, Bounds, World, Parked, OpenDescriptor, Source, Change, Decided, Try, PIPE_BUF, EPIPE, Replied, ParkedAt, Part, Error}
 use Rattle.posix_model.specs.declared.change.ProcessEdit.TheVariants as on_process
 use Rattle.posix_model.specs.Pages.{no_change}
 use Rattle.posix_model.specs.Descriptors.{opened}
@@ -89,3 +89,23 @@ BrokenStepUnparks = (bounds : Bounds) (w : World) (process : ℕ) (s : Stepped) 
 abbrev pub BrokenNextUnparks : Type 0
 BrokenNextUnparks = (bounds : Bounds) (h : List Record) (process : ℕ) (s : Stepped) (error : Errno) → step bounds (world_of bounds h) process act.Resume ≡ Some s → s.outcome ≡ Replied (Error error) →
     s.world ≡ unparked (world_of bounds h) process
+
+-- a call has ended, or it waits
+abbrev pub EndsOrWaits : Outcome → Type 0
+EndsOrWaits (Replied reply) = Unit {0}
+EndsOrWaits (ParkedAt moved) = Unit {0}
+EndsOrWaits (Part moved) = ⊥
+
+-- a call that waited has ended, or it goes on waiting
+abbrev pub EndsOrGoesOn : Outcome → Type 0
+EndsOrGoesOn (Replied reply) = Unit {0}
+EndsOrGoesOn (ParkedAt moved) = ⊥
+EndsOrGoesOn (Part moved) = Unit {0}
+
+-- what is recorded of a call
+abbrev pub CallsEndOrWait : Type 0
+CallsEndOrWait = (bounds : Bounds) (w : World) (process : ℕ) (c : Call) (s : Stepped) → step bounds w process (act.Call c) ≡ Some s → EndsOrWaits s.outcome
+
+-- what is recorded of a resume
+abbrev pub ResumesEndOrGoOn : Type 0
+ResumesEndOrGoOn = (bounds : Bounds) (w : World) (process : ℕ) (s : Stepped) → step bounds w process act.Resume ≡ Some s → EndsOrGoesOn s.outcome

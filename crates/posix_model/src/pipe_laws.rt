@@ -2,7 +2,7 @@
 
 ghost use Rattle.posix_model.specs.PipeRecord.{BytesOfPipe, SmallWritesUnbroken};
 ghost use Rattle.posix_model.specs.Waiting.{HistoryWaits, ReadyOpenEnds, StepKeepsWaits, WaitingReadIsReady, WaitingWriteIsReady};
-ghost use Rattle.posix_model.specs.WaitLaws.{BrokenNextUnparks, BrokenStepUnparks, NonblockNeverWaits, ReadyReads, ReadyWrites, ResumeBreaksAlone};
+ghost use Rattle.posix_model.specs.WaitLaws.{BrokenNextUnparks, BrokenStepUnparks, CallsEndOrWait, NonblockNeverWaits, ReadyReads, ReadyWrites, ResumeBreaksAlone, ResumesEndOrGoOn};
 
 /// What was put into a pipe that is there is what was got from it, followed by what it holds; and the data of a write of at
 /// most PIPE_BUF bytes stands there unbroken.
@@ -35,4 +35,10 @@ pub fn resume_breaks_alone()
 pub fn calls_wait_on_ends()
     ensures step { StepKeepsWaits }
     ensures history { HistoryWaits }
+{}
+
+/// What is recorded of a call is its reply, or that it waits; and of a resume its reply, or that it goes on waiting.
+pub fn calls_end_or_wait()
+    ensures calls { CallsEndOrWait }
+    ensures resumes { ResumesEndOrGoOn }
 {}
