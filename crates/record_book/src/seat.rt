@@ -172,8 +172,8 @@ impl SpentSeat {
         }
     }
 
-    /// The same seat, spent.
-    pub(crate) fn of(seat: Seat) -> Self
+    /// The same seat, which gets no more receipts.
+    pub fn of(seat: Seat) -> Self
         ensures { result ≡ seat }
     {
         SpentSeat {

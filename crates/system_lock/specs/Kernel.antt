@@ -1,0 +1,103 @@
+-- What the calls of a kernel give (own).
+use Rattle.std.specs.Prelude.{◌≡◌, ℕ, ◌≤◌, ◌⊎◌, Result, Ok, Err}
+use Rattle.call_types.specs.declared.act.Act.{Act}
+use Rattle.call_types.specs.declared.act.Act.TheVariants as act
+use Rattle.call_types.specs.declared.call.Call.{Call}
+use Rattle.call_types.specs.declared.request.Request.{Request}
+use Rattle.call_types.specs.declared.request.Request.TheVariants as request
+use Rattle.call_types.specs.declared.refusal.Refusal.{Refusal}
+use Rattle.call_types.specs.declared.refusal.Refusal.TheVariants as refusal
+use Rattle.posix_model.specs.WaitLaws.{EndsOrWaits, EndsOrGoesOn}
+use Rattle.record_book.specs.Seat.{Receipted, SeatState}
+use Rattle.record_book.specs.Book.{Receives}
+use Rattle.record_book.specs.Openings.{first_seat}
+use Rattle.record_book.specs.declared.opening.Opened.{Opened}
+use Rattle.record_book.specs.declared.opening.Opened.TheVariants as opened
+use Rattle.system_lock.specs.declared.kernel.Why.{Why}
+use Rattle.system_lock.specs.declared.kernel.Why.TheVariants as why
+use Rattle.system_lock.specs.declared.kernel.Ended.{Ended}
+use Rattle.system_lock.specs.declared.kernel.Finished.{Finished}
+use Rattle.system_lock.specs.declared.kernel.Finished.TheVariants as finished
+
+-- a request that opens a session
+abbrev pub IsOpening : Request → Type 0
+IsOpening request.Join = Unit {0}
+IsOpening (request.Attach process) = Unit {0}
+IsOpening (request.Call call) = ⊥
+
+-- a record of the seat's process and of this act, which is no older than what the seat had seen; the seat has its receipt
+pub record Adds (old new : SeatState) (act : Act) (receipt : Receipted) : Type 0 where
+  pub actor_is : receipt.record_is.actor ≡ old.pid
+  pub act_is : receipt.record_is.act ≡ act
+  pub later : old.seen ≤ receipt.place
+  pub receives : Receives old new receipt
+
+-- the first record of a process, and its seat
+pub record Opens (process : ℕ) (act : Act) (seat : SeatState) (receipt : Receipted) : Type 0 where
+  pub actor_is : receipt.record_is.actor ≡ process
+  pub act_is : receipt.record_is.act ≡ act
+  pub seat_is : seat ≡ first_seat process receipt
+
+-- the process that a request opens: that of a join is for the kernel to say
+abbrev pub OpensFor : Request → SeatState → Receipted → Type 0
+OpensFor request.Join seat receipt = Opens seat.pid act.Join seat receipt
+OpensFor (request.Attach process) seat receipt = Opens process act.Attach seat receipt
+OpensFor (request.Call call) seat receipt = ⊥
+
+-- a refusal for want of memory or of records
+abbrev pub IsWanting : Refusal → Type 0
+IsWanting refusal.NoMemory = Unit {0}
+IsWanting refusal.RunFull = Unit {0}
+IsWanting other = ⊥
+
+-- an opening is recorded, with a seat or with the receipt of an error; or it is refused for want of memory or of records
+abbrev pub OpensBy : Request → Result Opened Refusal → Type 0
+OpensBy request (Ok (opened.Seated seat)) = (receipt : Receipted) × OpensFor request seat receipt
+OpensBy request (Ok (opened.Refused seat)) = (receipt : Receipted) × OpensFor request seat receipt
+OpensBy request (Err refusal) = IsWanting refusal
+
+-- a call is recorded, with its reply or as one that waits; or it is refused, and the seat stays as it is
+abbrev pub CallsBy : SeatState → SeatState → Call → Result Receipted Refusal → Type 0
+CallsBy old new call (Ok receipt) = Adds old new (act.Call call) receipt × EndsOrWaits receipt.record_is.outcome
+CallsBy old new call (Err refusal) = new ≡ old
+
+-- the exit of the seat's process is recorded
+abbrev pub Exits : SeatState → SeatState → Type 0
+Exits old spent = (receipt : Receipted) × Adds old spent act.Exit receipt
+
+-- how a process ends: by its exit, but where the kernel knows no such seat
+abbrev pub EndsBy : SeatState → SeatState → Why → Type 0
+EndsBy old spent why.Foreign = spent ≡ old
+EndsBy old spent why.HungUp = Exits old spent
+EndsBy old spent why.NoMemory = Exits old spent
+EndsBy old spent why.RunFull = Exits old spent
+EndsBy old spent why.Lost = Exits old spent
+
+-- why a call that waits may end its process
+abbrev pub IsWhyFinished : Why → Type 0
+IsWhyFinished why.HungUp = ⊥
+IsWhyFinished other = Unit {0}
+
+-- why a process that is hung up ends
+abbrev pub IsWhyHungUp : Why → Type 0
+IsWhyHungUp why.HungUp = Unit {0}
+IsWhyHungUp why.Foreign = Unit {0}
+IsWhyHungUp other = ⊥
+
+-- a call that waited is taken up, or its process ends
+abbrev pub FinishesBy : SeatState → Finished → Type 0
+FinishesBy old (finished.Resumed seat receipt) = Adds old seat act.Resume receipt × EndsOrGoesOn receipt.record_is.outcome
+FinishesBy old (finished.Ended ended) = EndsBy old ended.seat ended.why × IsWhyFinished ended.why
+
+-- a process that is hung up ends
+abbrev pub HangsUpBy : SeatState → Ended → Type 0
+HangsUpBy old ended = EndsBy old ended.seat ended.why × IsWhyHungUp ended.why
+
+-- a reason for which an exit is recorded
+abbrev pub IsReason : Why → Type 0
+IsReason why.Foreign = ⊥
+IsReason other = Unit {0}
+
+-- the exit of the seat's process is tried for a reason: that is told, or Foreign where the book knows no such seat
+abbrev pub EndsFor : SeatState → Why → Ended → Type 0
+EndsFor old reason ended = EndsBy old ended.seat ended.why × ((ended.why ≡ reason) ⊎ (ended.why ≡ why.Foreign))

@@ -1,0 +1,81 @@
+//! The acts of a kernel on a book that is at hand.
+
+ghost use Rattle.system_lock.specs.Kernel.{IsOpening, OpensBy, CallsBy, IsReason, EndsFor};
+ghost use Rattle.system_lock.specs.Acts.{TriesBy};
+
+use crate::kernel::{Ended, Why};
+use call_types::call::Call;
+use call_types::refusal::Refusal;
+use call_types::request::Request;
+use posix_model::pipe_laws::calls_end_or_wait;
+use record_book::book::Book;
+use record_book::opening::Opened;
+use record_book::resume::Resumed;
+use record_book::seat::{Receipt, Seat, SpentSeat};
+use std::alloc::Global;
+
+/// Opens a process.
+pub(crate) fn open(book: &mut Book, alloc: Global, request: Request) -> Result<Opened, Refusal>
+    requires { IsOpening request }
+    ensures { OpensBy request result }
+{
+    match request {
+        Request::Join => book.join(alloc),
+        Request::Attach { process } => book.attach(alloc, process),
+        Request::Call(_) => unreachable!(),
+    }
+}
+
+/// Records a call.
+pub(crate) fn call(
+    book: &mut Book,
+    alloc: Global,
+    seat: &mut Seat,
+    call: Call,
+) -> Result<Receipt, Refusal>
+    ensures { CallsBy seat.old seat.new call result }
+{
+    calls_end_or_wait();
+    book.start(alloc, seat, call)
+}
+
+/// Records an exit, for a reason that is not `Foreign`; that is told where the book knows no such seat.
+pub(crate) fn exit(book: &mut Book, seat: Seat, reason: Why) -> Ended
+    requires { IsReason reason }
+    ensures { EndsFor seat reason result }
+{
+    match book.exit(seat) {
+        Ok(seat) => Ended { seat, why: reason },
+        Err(unspent) => Ended {
+            seat: SpentSeat::of(unspent.seat),
+            why: Why::Foreign,
+        },
+    }
+}
+
+/// What came of one try of a resume.
+#[derive(Drop)]
+pub(crate) enum Tried {
+    Resumed { seat: Seat, receipt: Receipt },
+    /// The process waits in no call that is ready.
+    Still(Seat),
+    Ended(Ended),
+}
+
+/// Takes up the call that a process waits in, if it is ready; where that is refused, the process ends.
+pub(crate) fn resume(book: &mut Book, alloc: Global, seat: Seat) -> Tried
+    ensures { TriesBy seat result }
+{
+    calls_end_or_wait();
+    let mut seat = seat;
+    match book.resume(alloc, &mut seat) {
+        Ok(Resumed::Recorded(receipt)) => Tried::Resumed { seat, receipt },
+        Ok(Resumed::Still) => Tried::Still(seat),
+        Err(Refusal::NoMemory) => Tried::Ended(exit(book, seat, Why::NoMemory)),
+        Err(Refusal::RunFull) => Tried::Ended(exit(book, seat, Why::RunFull)),
+        Err(_) => Tried::Ended(Ended {
+            seat: SpentSeat::of(seat),
+            why: Why::Foreign,
+        }),
+    }
+}

@@ -1,0 +1,87 @@
+//! A kernel of one thread, for tests: where a call would wait, acts of other processes are run, which stand ready.
+
+ghost use Rattle.system_lock.specs.Kernel.{FinishesBy};
+
+use crate::acts;
+use crate::acts::Tried;
+use crate::kernel::{Ended, Finished, Kernel, Why};
+use call_types::act::ScriptAct;
+use call_types::call::Call;
+use call_types::refusal::Refusal;
+use call_types::request::Request;
+use record_book::book::{Book, Counts};
+use record_book::opening::Opened;
+use record_book::seat::{Receipt, Seat};
+use std::alloc::Global;
+use std::mem;
+use std::sync::{Mutex, Wait};
+
+/// A book, and the acts that are run when a call first waits.
+#[derive(Drop)]
+struct Held {
+    book: Book,
+    acts: Vec<ScriptAct>,
+}
+
+/// A book round which a lock is put. When a call would wait for the first time, the acts that stand ready are run; where it would
+/// still wait, it is given up.
+#[derive(Drop)]
+pub struct OneBook {
+    alloc: Global,
+    held: Mutex<Held>,
+}
+
+/// Takes up a call that waits; where it would wait, the acts that stand ready are run, and it is tried once more.
+fn finish(held: &mut Held, alloc: Global, seat: Seat) -> Finished
+    ensures { FinishesBy seat result }
+{
+    let seat = match acts::resume(&mut held.book, alloc, seat) {
+        Tried::Resumed { seat, receipt } => return Finished::Resumed { seat, receipt },
+        Tried::Ended(ended) => return Finished::Ended(ended),
+        Tried::Still(seat) => seat,
+    };
+    let ready = mem::replace(&mut held.acts, Vec::new(alloc));
+    let _told = held.book.run_acts(alloc, ready.as_slice());
+    match acts::resume(&mut held.book, alloc, seat) {
+        Tried::Resumed { seat, receipt } => Finished::Resumed { seat, receipt },
+        Tried::Ended(ended) => Finished::Ended(ended),
+        Tried::Still(seat) => Finished::Ended(acts::exit(&mut held.book, seat, Why::Lost)),
+    }
+}
+
+impl OneBook {
+    /// A kernel of this book, and the acts that are run when a call first waits.
+    pub fn new(alloc: Global, book: Book, acts: Vec<ScriptAct>) -> Self {
+        OneBook {
+            alloc,
+            held: Mutex::new(Held { book, acts }),
+        }
+    }
+
+    /// How much its book holds.
+    pub fn counts<R: Wait>(&self, rt: &R) -> Counts {
+        self.held.lock(rt).book.counts()
+    }
+}
+
+impl Kernel for OneBook {
+    fn open<R: Wait>(&self, rt: &R, request: Request) -> Result<Opened, Refusal> {
+        let mut held = self.held.lock(rt);
+        acts::open(&mut held.book, self.alloc, request)
+    }
+
+    fn call<R: Wait>(&self, rt: &R, seat: &mut Seat, call: Call) -> Result<Receipt, Refusal> {
+        let mut held = self.held.lock(rt);
+        acts::call(&mut held.book, self.alloc, seat, call)
+    }
+
+    fn finish<R: Wait>(&self, rt: &R, seat: Seat) -> Finished {
+        let mut held = self.held.lock(rt);
+        finish(&mut held, self.alloc, seat)
+    }
+
+    fn hang_up<R: Wait>(&self, rt: &R, seat: Seat) -> Ended {
+        let mut held = self.held.lock(rt);
+        acts::exit(&mut held.book, seat, Why::HungUp)
+    }
+}
