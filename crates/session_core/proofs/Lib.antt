@@ -1,0 +1,9 @@
+pub mod OutputLemmas
+pub mod TalkLemmas
+pub mod WaitLemmas
+pub mod CallLemmas
+pub mod ListLemmas
+pub mod PieceLemmas
+pub mod ReadLemmas
+pub mod ClosingLemmas
+pub mod ServeLemmas

@@ -1,0 +1,101 @@
+-- What was written so far.
+use Rattle.std.proofs.Common.{◌≡◌, ℕ, ◌+◌, ◌-◌, ◌≤◌, List, [], ◌++◌, Option, None, Some, Result, Ok, Err, OnOk, OnErr, length, length-append, length-take-le, take-append-drop, take, drop, length-drop, arith, refl, sym, ◌∙◌, ap, subst}
+use Rattle.std.proofs.lemmas.List.{append-nil, append_assoc}
+use Rattle.std.proofs.Math.Seq.{take-add, drop-length}
+use Rattle.std.proofs.KnownBytes.{Appends-nil, Appends-trans}
+use Rattle.std.specs.Io.KnownBytes.{Appends, Keeps}
+use Rattle.frame_codec.specs.Decoding.{told_place}
+use Rattle.session_core.specs.Answers.{answers_text, IsFrontWritten}
+use Rattle.session_core.specs.Output.{OutputState, Holds, SendsAll, FailsToSend, fresh_output}
+use Rattle.session_core.specs.Streams.{IsBroken, SomeWritten, WritesFront}
+
+-- what was kept and then grew has grown by the same
+pub kept_appends : (a b c : Option (List ℕ)) (bs : List ℕ) → Keeps a b → Appends b c bs → Appends a c bs
+kept_appends None b c bs p q = tt
+kept_appends (Some x) None c bs p q = absurd p
+kept_appends (Some x) (Some y) None bs p q = absurd q
+kept_appends (Some x) (Some y) (Some z) bs p q = q ∙ ap (λ l. l ++ bs) p
+
+-- nothing was added to what was kept
+pub keeps_none : (a b : Option (List ℕ)) → Keeps a b → Appends a b []
+keeps_none None b p = tt
+keeps_none (Some x) None p = absurd p
+keeps_none (Some x) (Some y) p = p ∙ sym (append-nil x)
+
+-- after some bytes, more of the rest were written
+pub wrote_more : (a b c : Option (List ℕ)) (bytes : List ℕ) (n more : ℕ) → Appends a b (take n bytes) → Appends b c (take more (drop n bytes)) → Appends a c (take (n + more) bytes)
+wrote_more a b c bytes n more so_far next = subst (Appends a c) (sym (take-add n more bytes)) (Appends-trans a b c (take n bytes) (take more (drop n bytes)) so_far next)
+
+pub wrote_some : (a b c : Option (List ℕ)) (bytes rest : List ℕ) (n more : ℕ) → WritesFront a b bytes n → rest ≡ drop n bytes → SomeWritten b c rest more → WritesFront a c bytes (n + more)
+wrote_some a b c bytes rest n more so_far e next = record {
+  within =
+      let left : length rest ≡ length bytes - n = ap length e ∙ length-drop n bytes in
+      let fits : more ≤ length bytes - n = subst (λ (m : ℕ). more ≤ m) left next.within in
+      let old = so_far.within in
+      omega arith;
+  appends = wrote_more a b c bytes n more so_far.appends (subst (λ (l : List ℕ). Appends b c (take more l)) e next.appends);
+}
+
+-- ---- what is answered and what is written
+
+given_ok : {T E : Type 0} (r : Result T E) {P Q : Type 0} → (P → Q) → OnOk r P → OnOk r Q
+given_ok (Ok x) f p = f p
+given_ok (Err e) f p = tt
+
+given_err : {T E : Type 0} (r : Result T E) {P Q : Type 0} → (P → Q) → OnErr r P → OnErr r Q
+given_err (Ok x) f p = tt
+given_err (Err e) f p = f p
+
+-- so many bytes of what was not written were
+front_written : (base : Option (List ℕ)) (o new : OutputState) (n : ℕ) → WritesFront o.sink.contents new.sink.contents o.unsent n → new.sent ≡ told_place (o.sent + n) → new.answers ≡ o.answers → Holds base o
+    → IsFrontWritten base new.sink.contents new.answers new.sent
+front_written base o new n front sent answers h = record {
+  text = h.text ++ take n o.unsent;
+  rest = drop n o.unsent;
+  appends = Appends-trans base o.sink.contents new.sink.contents h.text (take n o.unsent) h.appends front.appends;
+  is = append_assoc h.text (take n o.unsent) (drop n o.unsent) ∙ ap (λ (l : List ℕ). h.text ++ l) (take-append-drop n o.unsent) ∙ h.is ∙ ap answers_text (sym answers);
+  sent_is =
+      let long : length (h.text ++ take n o.unsent) ≡ length h.text + n = length-append h.text (take n o.unsent) ∙ ap (λ (m : ℕ). length h.text + m) (length-take-le n o.unsent front.within) in
+      let was = h.sent_is in
+      omega (arith, sent, was, long);
+}
+
+pub fails_to_send : {T E : Type 0} (r : Result T E) (o new : OutputState) (n : ℕ) (bytes : List ℕ) → bytes ≡ o.unsent → WritesFront o.sink.contents new.sink.contents bytes n → new.sent ≡ told_place (o.sent + n) → new.answers ≡ o.answers
+    → OnErr r (IsBroken new.sink.log) → OnErr r (FailsToSend o new)
+fails_to_send r o new n bytes e front sent answers broken =
+    given_err r (λ (b : IsBroken new.sink.log). record {
+      answers = answers;
+      breaks = λ (base : Option (List ℕ)) (h : Holds base o). record {
+        front = front_written base o new n (subst (λ (l : List ℕ). WritesFront o.sink.contents new.sink.contents l n) e front) sent answers h;
+        broken = b;
+      };
+    }) broken
+
+held_still : (base : Option (List ℕ)) (o new : OutputState) (n : ℕ) → WritesFront o.sink.contents new.sink.contents o.unsent n → new.sent ≡ told_place (o.sent + n) → new.answers ≡ o.answers → new.unsent ≡ [] → n ≡ length o.unsent → Holds base o
+    → Holds base new
+unfolding front_written
+held_still base o new n front sent answers none all h =
+    let b = front_written base o new n front sent answers h in
+    let rest : drop n o.unsent ≡ [] = ap (λ (m : ℕ). drop m o.unsent) all ∙ drop-length o.unsent in
+    record {
+      text = b.text;
+      appends = b.appends;
+      is = ap (λ (l : List ℕ). b.text ++ l) (none ∙ sym rest) ∙ b.is;
+      sent_is = b.sent_is;
+    }
+
+pub sends_all : {T E : Type 0} (r : Result T E) (o new : OutputState) (n : ℕ) (bytes : List ℕ) → bytes ≡ o.unsent → WritesFront o.sink.contents new.sink.contents bytes n → new.sent ≡ told_place (o.sent + n) → new.answers ≡ o.answers
+    → new.unsent ≡ [] → OnOk r (n ≡ length bytes) → OnOk r (SendsAll o new)
+sends_all r o new n bytes same front sent answers none all =
+    given_ok r (λ (e : n ≡ length bytes). record {
+      flushes = record {
+        answers = answers;
+        holds = λ (base : Option (List ℕ)) (h : Holds base o).
+            held_still base o new n (subst (λ (l : List ℕ). WritesFront o.sink.contents new.sink.contents l n) same front) sent answers none (e ∙ ap length same) h;
+      };
+      all = none;
+    }) all
+
+-- nothing was written
+pub holds_fresh : (base : Option (List ℕ)) → Holds base (fresh_output base)
+holds_fresh base = record { text = []; appends = Appends-nil base; is = refl; sent_is = refl }

@@ -1,0 +1,145 @@
+-- Answers, one after another, are a conversation.
+use Rattle.std.proofs.Common.{◌≡◌, ℕ, inl, inr, List, [], ◌∷◌, ◌++◌, Option, Ok, refl, sym, ◌∙◌, ap, subst}
+use Rattle.std.proofs.lemmas.List.{append-nil}
+use Rattle.call_types.specs.declared.refusal.Refusal.{Refusal}
+use Rattle.call_types.specs.declared.refusal.Refusal.TheVariants as refusal
+use Rattle.call_types.specs.declared.request.Request.{Request}
+use Rattle.call_types.specs.declared.request.Request.TheVariants as request
+use Rattle.record_book.specs.Seat.{Receipted, SeatState}
+use Rattle.record_book.specs.declared.opening.Opened.TheVariants as opened
+use Rattle.system_lock.specs.Kernel.{IsOpening, OpensFor, OpensBy}
+use Rattle.session_core.specs.declared.told.Told.{Told}
+use Rattle.session_core.specs.declared.told.Told.TheVariants as told
+use Rattle.session_core.specs.declared.stage.Stage.TheVariants as stage
+use Rattle.session_core.specs.declared.stage.Why.{Why}
+use Rattle.session_core.specs.declared.stage.Over.TheVariants as over
+use Rattle.session_core.specs.declared.stage.Turn.TheVariants as turn
+use Rattle.session_core.specs.Answers.{answers_text, receipts_of}
+use Rattle.session_core.specs.Output.{OutputState, Holds, Puts}
+use Rattle.session_core.specs.Talk.{act_of, Talked, IsUnopened}
+use Rattle.session_core.specs.Turns.{IsOne, IsUntoldOpening, PutsFirst, WhyRefused, PutsGivenUp, TakesUp, LeavesBy}
+
+-- ---- openings
+
+-- the one receipt of a process that is opened
+first_of : (next : Request) (seat : SeatState) (receipt : Receipted) → OpensFor next seat receipt → (seat.receipts ≡ receipt ∷ []) × (receipt.record_is.act ≡ act_of next)
+first_of request.Join seat receipt h = (ap (λ (s : SeatState). s.receipts) h.seat_is, h.act_is)
+first_of (request.Attach process) seat receipt h = (ap (λ (s : SeatState). s.receipts) h.seat_is, h.act_is)
+first_of (request.Call call) seat receipt h = absurd h
+
+pub seated_one : (next : Request) (seat : SeatState) → OpensBy next (Ok (opened.Seated seat)) → IsOne seat.receipts
+seated_one next seat h = (h.0, (first_of next seat h.0 h.1).0)
+
+pub unseated_one : (next : Request) (seat : SeatState) → OpensBy next (Ok (opened.Refused seat)) → IsOne seat.receipts
+unseated_one next seat h = (h.0, (first_of next seat h.0 h.1).0)
+
+-- an opening and its receipt are a conversation
+first_talk : (next : Request) (handled : List Request) (old new : OutputState) (receipt : Receipted) → IsOpening next → receipt.record_is.act ≡ act_of next → handled ≡ [] → old.answers ≡ [] → Puts old new (told.Recorded receipt)
+    → Talked (handled ++ next ∷ []) new.answers
+first_talk next handled old new receipt is_opening act_is none empty put = record {
+  opening = next;
+  opened = told.Recorded receipt ∷ [];
+  calls = [];
+  requests_are = ap (λ (l : List Request). l ++ next ∷ []) none;
+  answers_are = put.answers ∙ ap (λ (l : List Told). l ++ told.Recorded receipt ∷ []) empty;
+  opens = record { receipt = receipt; is = refl; is_opening = is_opening; act_is = act_is };
+  are_calls = tt;
+}
+
+first_receipts : (old new : OutputState) (receipt : Receipted) → old.answers ≡ [] → Puts old new (told.Recorded receipt) → receipts_of new.answers ≡ receipt ∷ []
+first_receipts old new receipt empty put = ap receipts_of (put.answers ∙ ap (λ (l : List Told). l ++ told.Recorded receipt ∷ []) empty)
+
+same_first : (a b : Receipted) (receipts : List Receipted) → receipts ≡ a ∷ [] → receipts ≡ b ∷ [] → a ≡ b
+same_first a b receipts h k = cc
+
+pub seated : (next : Request) (seat : SeatState) (receipts : List Receipted) (old new : OutputState) → receipts ≡ seat.receipts → IsOpening next → OpensBy next (Ok (opened.Seated seat)) → PutsFirst receipts old new
+    → TakesUp stage.Opening next old new (turn.GoesOn (stage.Ready seat))
+seated next seat receipts old new same_list is_opening h put_list base handled holds talking =
+    let put = subst (λ (l : List Receipted). PutsFirst l old new) same_list put_list in
+    let first = first_of next seat h.0 h.1 in
+    let same : h.0 ≡ put.receipt = same_first h.0 put.receipt seat.receipts first.0 put.is in
+    let act_is = subst (λ (r : Receipted). r.record_is.act ≡ act_of next) same first.1 in (
+      put.puts.holds base holds,
+      (first_talk next handled old new put.receipt is_opening act_is talking.0 talking.1 put.puts, put.is ∙ sym (first_receipts old new put.receipt talking.1 put.puts)),
+    )
+
+pub unseated : (next : Request) (seat : SeatState) (receipts : List Receipted) (old new : OutputState) → receipts ≡ seat.receipts → IsOpening next → OpensBy next (Ok (opened.Refused seat)) → PutsFirst receipts old new
+    → TakesUp stage.Opening next old new (turn.Over (over.Refused seat))
+unseated next seat receipts old new same_list is_opening h put_list base handled holds talking =
+    let put = subst (λ (l : List Receipted). PutsFirst l old new) same_list put_list in
+    let first = first_of next seat h.0 h.1 in
+    let same : h.0 ≡ put.receipt = same_first h.0 put.receipt seat.receipts first.0 put.is in
+    let act_is = subst (λ (r : Receipted). r.record_is.act ≡ act_of next) same first.1 in (
+      put.puts.holds base holds,
+      record {
+        receipt = put.receipt;
+        receipts = put.is;
+        answers_are = put.puts.answers ∙ ap (λ (l : List Told). l ++ told.Recorded put.receipt ∷ []) talking.1;
+      },
+      first_talk next handled old new put.receipt is_opening act_is talking.0 talking.1 put.puts,
+    )
+
+none_after : {A : Type 0} (xs ys : List A) → xs ++ ys ≡ [] → ys ≡ []
+none_after [] ys e = e
+none_after (x ∷ xs) ys e = absurd cc
+
+-- nothing was answered, and nothing is to be written
+pub record IsFresh (base : Option (List ℕ)) (o : OutputState) : Type 0 where
+  pub holds : Holds base o
+  pub answers : o.answers ≡ []
+  pub unsent : o.unsent ≡ []
+
+still_fresh : (base : Option (List ℕ)) (old new : OutputState) → new ≡ old → Holds base old → old.answers ≡ [] → IsFresh base new
+still_fresh base old new e holds empty = subst (IsFresh base) (sym e) (record {
+  holds = holds;
+  answers = empty;
+  unsent = none_after holds.text old.unsent (holds.is ∙ ap answers_text empty);
+})
+
+untold_opening : (base : Option (List ℕ)) (old new : OutputState) (receipts : List Receipted) → IsOne receipts → new ≡ old → Holds base old → old.answers ≡ [] → IsUntoldOpening base new receipts
+untold_opening base old new receipts one e holds empty =
+    let fresh = still_fresh base old new e holds empty in
+    record { holds = fresh.holds; answers = fresh.answers; unsent = fresh.unsent; one = one }
+
+pub opening_untold : (next : Request) (seat : SeatState) (old new : OutputState) → IsOne seat.receipts → new ≡ old → TakesUp stage.Opening next old new (turn.Over (over.OpeningUntold seat))
+opening_untold next seat old new one e base handled holds talking = untold_opening base old new seat.receipts one e holds talking.1
+
+pub refusal_untold : (next : Request) (seat : SeatState) (old new : OutputState) → IsOne seat.receipts → new ≡ old → TakesUp stage.Opening next old new (turn.Over (over.RefusalUntold seat))
+refusal_untold next seat old new one e base handled holds talking = untold_opening base old new seat.receipts one e holds talking.1
+
+-- ---- openings that are not recorded
+
+is_unopened : (next : Request) (handled : List Request) (old new : OutputState) (refusal : Refusal) → IsOpening next → handled ≡ [] → old.answers ≡ [] → Puts old new (told.Refused refusal) → IsUnopened (handled ++ next ∷ []) new.answers refusal
+is_unopened next handled old new refusal is_opening none empty put = record {
+  opening = next;
+  requests_are = ap (λ (l : List Request). l ++ next ∷ []) none;
+  is_opening = is_opening;
+  answers_are = put.answers ∙ ap (λ (l : List Told). l ++ told.Refused refusal ∷ []) empty;
+}
+
+no_receipts : (next : Request) (handled : List Request) (answers : List Told) (refusal : Refusal) → IsUnopened (handled ++ next ∷ []) answers refusal → receipts_of answers ≡ []
+no_receipts next handled answers refusal h = ap receipts_of h.answers_are
+
+refused_by : (base : Option (List ℕ)) (next : Request) (handled : List Request) (o : OutputState) (refusal : Refusal) (found : Why) → WhyRefused refusal found → Holds base o → IsUnopened (handled ++ next ∷ []) o.answers refusal
+    → LeavesBy base handled next o stage.Opening found
+refused_by base next handled o refusal.NoMemory found e holds h = subst (LeavesBy base handled next o stage.Opening) (sym e) (
+  holds,
+  no_receipts next handled o.answers refusal.NoMemory h,
+  record { handled = handled ++ next ∷ []; later = []; requests_are = sym (append-nil (handled ++ next ∷ [])); is = inr (inr (refusal.NoMemory, h)) },
+)
+refused_by base next handled o refusal.RunFull found e holds h =
+    subst (LeavesBy base handled next o stage.Opening) (sym e) (holds, no_receipts next handled o.answers refusal.RunFull h, h)
+refused_by base next handled o refusal.Waiting found e holds h = absurd e
+refused_by base next handled o refusal.NotHere found e holds h = absurd e
+refused_by base next handled o (refusal.Foreign seen len) found e holds h = absurd e
+
+pub unopened : (next : Request) (old new : OutputState) (refusal : Refusal) (found : Why) → IsOpening next → PutsGivenUp old new refusal found → TakesUp stage.Opening next old new (turn.Over (over.Leaves stage.Opening found))
+unopened next old new refusal found is_opening (inl h) base handled holds talking =
+    refused_by base next handled new refusal found h.0 (h.1.holds base holds) (is_unopened next handled old new refusal is_opening talking.0 talking.1 h.1)
+unopened next old new refusal found is_opening (inr h) base handled holds talking =
+    let fresh = still_fresh base old new h.1 holds talking.1 in
+    subst (LeavesBy base handled next new stage.Opening) (sym h.0) (
+      fresh.holds,
+      ap receipts_of fresh.answers,
+      record { handled = []; later = handled ++ next ∷ []; requests_are = refl; is = inl (inl (refl, fresh.answers)) },
+    )

@@ -1,0 +1,34 @@
+use Rattle.std.proofs.Common.{sym, ap, subst, ◌∙◌}
+use Rattle.call_types.specs.declared.act.Act.TheVariants as act
+use Rattle.call_types.specs.declared.act.Record.{Record}
+use Rattle.posix_model.specs.WaitLaws.{EndsOrGoesOn}
+use Rattle.record_book.specs.Seat.{Receipted}
+use Rattle.system_lock.specs.Kernel.{Adds}
+use Rattle.session_core.specs.Talk.{goes_on}
+use Rattle.session_core.proofs.WaitLemmas as laws
+use Rattle.session_core.proofs.turns.wait_once.Goals as goal
+
+pub returns-in-Err : goal.returns-in-Err
+returns-in-Err g c base handled call w = laws.unsent base handled call c.args.seat _ _ c.in-Err.ensures.err w
+
+pub returns-in-Ended : goal.returns-in-Ended
+returns-in-Ended g c base handled call w = c.give_up.ensures base handled call c.args.seat (laws.still_waits base handled call c.args.seat _ _ c.in-Ok.ensures.ok w) c.in-Ended.ensures.0
+
+pub returns-in-Ok-put_recorded : goal.returns-in-Ok-put_recorded
+returns-in-Ok-put_recorded g c base handled call w =
+    laws.resumed_part base handled call c.args.seat c.in-Resumed.seat c.in-Resumed.receipt _ _ c.in-Resumed.ensures.0 c.in-Resumed.ensures.1
+    (ap (λ (r : Record). goes_on r.outcome) (sym c.record.ensures) ∙ sym c.goes_on-waits.ensures ∙ c.if-waits.true) c.in-Ok-put_recorded.ensures.ok
+    (laws.still_waits base handled call c.args.seat _ _ c.in-Ok.ensures.ok w)
+
+pub returns-in-Ok-2 : goal.returns-in-Ok-2
+returns-in-Ok-2 g c base handled call w =
+    laws.resumed_whole base handled call c.args.seat c.in-Resumed.seat c.in-Resumed.receipt _ _ c.in-Resumed.ensures.0 c.in-Resumed.ensures.1
+    (ap (λ (r : Record). goes_on r.outcome) (sym c.record.ensures) ∙ sym c.goes_on-waits.ensures ∙ c.if-waits.false) c.in-Ok-2.ensures.ok
+    (laws.still_waits base handled call c.args.seat _ _ c.in-Ok.ensures.ok w)
+
+pub returns-in-Err-put_recorded : goal.returns-in-Err-put_recorded
+returns-in-Err-put_recorded g c base handled call w =
+    laws.resumed_untold base handled call c.args.seat c.in-Resumed.seat c.in-Err-put_recorded.receipt _ _
+    (subst (Adds c.args.seat c.in-Resumed.seat act.Resume) (sym c.in-Err-put_recorded.ensures.back) c.in-Resumed.ensures.0)
+    (subst (λ (r : Receipted). EndsOrGoesOn r.record_is.outcome) (sym c.in-Err-put_recorded.ensures.back) c.in-Resumed.ensures.1) c.in-Err-put_recorded.ensures.err
+    (laws.still_waits base handled call c.args.seat _ _ c.in-Ok.ensures.ok w)

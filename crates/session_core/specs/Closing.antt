@@ -1,0 +1,69 @@
+-- How a session is closed (own).
+use Rattle.std.specs.Prelude.{◌≡◌, ℕ, ◌⊎◌, List, [], ◌∷◌, ◌++◌, Option, None, Some}
+use Rattle.record_book.specs.Seat.{Receipted, SeatState}
+use Rattle.system_lock.specs.Kernel.{Exits}
+use Rattle.session_core.specs.declared.closing.Left.{Left}
+use Rattle.session_core.specs.declared.end.End.{End}
+use Rattle.session_core.specs.declared.end.End.TheVariants as end
+use Rattle.session_core.specs.declared.told.Told.{Told}
+use Rattle.session_core.specs.declared.told.Told.TheVariants as told
+use Rattle.session_core.specs.declared.stage.Stage.{Stage}
+use Rattle.session_core.specs.declared.stage.Stage.TheVariants as stage
+use Rattle.session_core.specs.declared.stage.Why.{Why}
+use Rattle.session_core.specs.declared.stage.Why.TheVariants as why
+use Rattle.session_core.specs.declared.stage.Over.{Over}
+use Rattle.session_core.specs.Output.{OutputState, SendsAll, FailsToSend}
+use Rattle.session_core.specs.Pieces.{IsOver}
+use Rattle.session_core.specs.Reading.{IsMet}
+use Rattle.session_core.specs.Served.{SessionState, ComesTo}
+use Rattle.session_core.specs.Streams.{SourceState, LogState}
+
+-- the end of a session that has written all its answers
+abbrev pub end_of : Why → End
+end_of why.Closed = end.Closed
+end_of why.ReadFault = end.ReadFault
+end_of why.Malformed = end.Malformed
+end_of why.RunFull = end.RunFull
+end_of why.NoMemory = end.NoMemory
+
+-- the last answers are written, and the end is that one; or the writer has failed
+abbrev pub SendsLast : OutputState → OutputState → Why → End → Type 0
+SendsLast old new why found = (SendsAll old new × (found ≡ end_of why)) ⊎ (FailsToSend old new × (found ≡ end.WriteFault new.sent))
+
+-- the exit of a process is recorded, and its session ends so; or the kernel does not know the seat
+abbrev pub HangsUp : SeatState → End → SeatState → End → Type 0
+HangsUp old wanted spent found = (Exits old spent × (found ≡ wanted)) ⊎ ((spent ≡ old) × (found ≡ end.Foreign))
+
+-- the same of a session that may have no process
+abbrev pub LeavesWith : Stage → End → Option SeatState → End → Type 0
+LeavesWith stage.Opening wanted seat found = (seat ≡ None) × (found ≡ wanted)
+LeavesWith (stage.Ready seat) wanted None found = ⊥
+LeavesWith (stage.Ready seat) wanted (Some spent) found = HangsUp seat wanted spent found
+
+-- the answers, with that of a last receipt
+abbrev pub with_last : List Told → Option Receipted → List Told
+with_last answers None = answers
+with_last answers (Some receipt) = answers ++ told.Recorded receipt ∷ []
+
+-- what is left of the output of a session
+pub record IsTaken (o : OutputState) (last : Option Receipted) (answers : List Told) (held : Option (List ℕ)) (log : LogState) : Type 0 where
+  pub answers_are : answers ≡ with_last o.answers last
+  pub held_is : held ≡ o.sink.contents
+  pub log_is : log ≡ o.sink.log
+
+-- the session that is left
+abbrev pub session_of : SourceState → OutputState → Left → SessionState
+session_of source o left = record {
+  left = source.remaining;
+  reads = source.log;
+  held = o.sink.contents;
+  writes = o.sink.log;
+  seat = left.seat;
+  answers = with_last o.answers left.last;
+  end_is = left.end;
+}
+
+-- a session that is over is left
+abbrev pub LeavesAll : OutputState → OutputState → Over → Left → Type 0
+LeavesAll old new found left =
+    (base : Option (List ℕ)) (input : List ℕ) (source : SourceState) → IsOver base input old found → IsMet source found → ComesTo input base (session_of source new left)

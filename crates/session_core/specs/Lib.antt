@@ -1,0 +1,10 @@
+pub mod Answers
+pub mod Streams
+pub mod Output
+pub mod Talk
+pub mod Served
+pub mod Turns
+pub mod Pieces
+pub mod Reading
+pub mod Closing
+pub mod Memory

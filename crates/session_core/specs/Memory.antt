@@ -1,0 +1,35 @@
+-- Readers and writers over memory (own).
+use Rattle.std.specs.Prelude.{◌≡◌, ℕ, ◌+◌, ◌%◌, ◌≤◌, ◌<◌, ◌==◌, Bool, false, List, [], ◌++◌, Option, None, Some, length, take, if◌then◌else◌}
+use Rattle.std.specs.declared.io.ErrorKind.{ErrorKind}
+use Rattle.std.specs.declared.io.ErrorKind.TheVariants as kinds
+use Rattle.session_core.specs.declared.memory.Manner.{Manner}
+
+-- what a reader has left, how often it was read, and how it answers
+pub record ReaderState : Type 0 where
+  pub rest : List ℕ
+  pub calls : ℕ
+  pub manner : Manner
+
+-- what a writer holds, how often it was written to, and how it answers
+pub record WriterState : Type 0 where
+  pub bytes : List ℕ
+  pub calls : ℕ
+  pub manner : Manner
+
+-- whether this call is the one that fails
+abbrev pub fails_now : Option ℕ → ℕ → Bool
+fails_now None call = false
+fails_now (Some at) call = at == call
+
+-- what befalls a call
+abbrev pub fault_of : Manner → ℕ → Option ErrorKind
+fault_of manner call =
+    if fails_now manner.fails_at call then Some kinds.ConnectionReset else if (call % (manner.interruptions + 1)) == 0 then None else Some kinds.Interrupted
+
+-- so many bytes are given, and none only where there are none or none fit
+pub record GivesFront (old new : ReaderState) (buffer : List ℕ) (count : ℕ) : Type 0 where
+  pub within : count ≤ length buffer
+  pub gives : old.rest ≡ take count buffer ++ new.rest
+  pub some : count ≡ 0 → 0 < length buffer → new.rest ≡ []
+  pub calls : new.calls ≡ old.calls
+  pub manner : new.manner ≡ old.manner

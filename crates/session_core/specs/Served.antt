@@ -1,0 +1,190 @@
+-- What a session has come to: what it read, what it answered and wrote, and why it ended (own).
+use Rattle.std.specs.Prelude.{◌≡◌, ℕ, ◌≤◌, ◌⊎◌, List, [], ◌∷◌, ◌++◌, Option, None, Some}
+use Rattle.std.specs.Io.KnownBytes.{Appends, Consumes, IsAtEnd}
+use Rattle.call_types.specs.declared.act.Act.TheVariants as act
+use Rattle.call_types.specs.declared.refusal.Refusal.{Refusal}
+use Rattle.call_types.specs.declared.refusal.Refusal.TheVariants as refusal
+use Rattle.call_types.specs.declared.request.Request.{Request}
+use Rattle.call_types.specs.declared.request.Request.TheVariants as request
+use Rattle.frame_codec.specs.Decoding.{AreValues}
+use Rattle.frame_codec.specs.Frames.{AreFrames}
+use Rattle.frame_codec.specs.Requests.{SpellsRequest}
+use Rattle.frame_codec.specs.declared.decoder.Progress.{Progress}
+use Rattle.frame_codec.specs.declared.decoder.Progress.TheVariants as progress
+use Rattle.record_book.specs.Seat.{Receipted, SeatState}
+use Rattle.system_lock.specs.Kernel.{IsOpening}
+use Rattle.session_core.specs.declared.stream.TheConstants.{READS_MAX}
+use Rattle.session_core.specs.declared.end.End.{End}
+use Rattle.session_core.specs.declared.end.End.TheVariants as end
+use Rattle.session_core.specs.declared.told.Told.{Told}
+use Rattle.session_core.specs.declared.told.Told.TheVariants as told
+use Rattle.session_core.specs.Answers.{answers_text, receipts_of, IsFrontWritten}
+use Rattle.session_core.specs.Streams.{LogState, IsBroken, IsReadNoMore}
+use Rattle.session_core.specs.Talk.{AreAnswered, Converses, IsCut}
+
+-- ---- what was read
+
+-- the requests whose frames bytes begin with
+pub record Begins (input : List ℕ) (requests : List Request) : Type 0 where
+  pub text : List ℕ
+  pub rest : List ℕ
+  pub is : input ≡ text ++ rest
+  pub frames : AreFrames SpellsRequest 65792 requests text
+
+-- all requests of bytes, and the fault after them, if there is one
+abbrev pub AreRequests : List ℕ → List Request → Progress → Type 0
+AreRequests input requests told = AreValues SpellsRequest 65792 0 input requests told
+
+-- a fault in frames
+abbrev pub IsFault : Progress → Type 0
+IsFault progress.More = ⊥
+IsFault (progress.Malformed at) = Unit {0}
+IsFault (progress.TooLong at) = Unit {0}
+
+-- a request that has no place after these
+abbrev pub IsMisplaced : List Request → Request → Type 0
+IsMisplaced [] request.Join = ⊥
+IsMisplaced [] (request.Attach process) = ⊥
+IsMisplaced [] (request.Call call) = Unit {0}
+IsMisplaced (one ∷ more) next = IsOpening next
+
+-- ---- what was answered
+
+-- the answers belong to the first requests, in order
+pub record AnswersFirst (input : List ℕ) (answers : List Told) : Type 0 where
+  pub requests : List Request
+  pub begins : Begins input requests
+  pub converses : Converses requests answers
+
+-- each request of bytes without a fault is answered
+pub record AnswersAll (input : List ℕ) (answers : List Told) : Type 0 where
+  pub requests : List Request
+  pub read : AreRequests input requests progress.More
+  pub answered : AreAnswered requests answers
+
+-- each request before a fault is answered
+pub record AnswersToFault (input : List ℕ) (answers : List Told) : Type 0 where
+  pub requests : List Request
+  pub told : Progress
+  pub fault : IsFault told
+  pub read : AreRequests input requests told
+  pub answered : AreAnswered requests answers
+
+-- each request before one that has no place there is answered
+pub record AnswersToMisplaced (input : List ℕ) (answers : List Told) : Type 0 where
+  pub requests : List Request
+  pub next : Request
+  pub later : List Request
+  pub begins : Begins input (requests ++ next ∷ later)
+  pub answered : AreAnswered requests answers
+  pub misplaced : IsMisplaced requests next
+
+-- each request is answered before a call that waits and is given up
+pub record AnswersToCut (input : List ℕ) (answers : List Told) (given_up : Option Refusal) : Type 0 where
+  pub requests : List Request
+  pub later : List Request
+  pub begins : Begins input (requests ++ later)
+  pub cut : IsCut requests answers given_up
+
+-- ---- the seat
+
+-- the receipts of the seat are those of the answers, and that of the exit
+pub record HasExited (seat : SeatState) (answers : List Told) : Type 0 where
+  pub exit : Receipted
+  pub receipts : seat.receipts ≡ receipts_of answers ++ exit ∷ []
+  pub act_is : exit.record_is.act ≡ act.Exit
+
+-- and one that is not answered before it
+pub record HasExitedUntold (seat : SeatState) (answers : List Told) : Type 0 where
+  pub untold : Receipted
+  pub exit : Receipted
+  pub receipts : seat.receipts ≡ receipts_of answers ++ untold ∷ exit ∷ []
+  pub act_is : exit.record_is.act ≡ act.Exit
+
+-- the opening is refused in the record: there is its one receipt
+pub record IsRefusedOpening (seat : SeatState) (answers : List Told) : Type 0 where
+  pub receipt : Receipted
+  pub receipts : seat.receipts ≡ receipt ∷ []
+  pub answers_are : answers ≡ told.Recorded receipt ∷ []
+
+-- and that is not answered
+pub record IsRefusedUntold (seat : SeatState) (answers : List Told) : Type 0 where
+  pub untold : Receipted
+  pub receipts : seat.receipts ≡ untold ∷ []
+  pub answers_are : answers ≡ []
+
+-- no exit is recorded: the receipts of the seat are those of the answers, and at most one more
+abbrev pub HasNoExit : SeatState → List Told → Type 0
+HasNoExit seat answers = (seat.receipts ≡ receipts_of answers) ⊎ ((untold : Receipted) × (seat.receipts ≡ receipts_of answers ++ untold ∷ []))
+
+-- the receipts of a seat, at each end
+abbrev pub IsSeatOf : SeatState → List Told → End → Type 0
+IsSeatOf seat answers end.Closed = HasExited seat answers ⊎ IsRefusedOpening seat answers
+IsSeatOf seat answers end.ReadFault = HasExited seat answers
+IsSeatOf seat answers (end.WriteFault sent) = HasExited seat answers ⊎ IsRefusedOpening seat answers
+IsSeatOf seat answers end.Malformed = HasExited seat answers
+IsSeatOf seat answers end.RunFull = HasExited seat answers
+IsSeatOf seat answers end.NoMemory = HasExited seat answers ⊎ (HasExitedUntold seat answers ⊎ IsRefusedUntold seat answers)
+IsSeatOf seat answers end.Foreign = HasNoExit seat answers
+
+-- without a seat nothing is recorded
+abbrev pub IsSeated : Option SeatState → List Told → End → Type 0
+IsSeated None answers end.Foreign = ⊥
+IsSeated None answers other = receipts_of answers ≡ []
+IsSeated (Some seat) answers end = IsSeatOf seat answers end
+
+-- ---- what was written
+
+-- all answers are; where the writer failed, and for a seat that the kernel does not know, a front of them
+abbrev pub IsWritten : Option (List ℕ) → Option (List ℕ) → List Told → End → Type 0
+IsWritten old new answers (end.WriteFault sent) = IsFrontWritten old new answers sent
+IsWritten old new answers end.Foreign = (sent : ℕ) × IsFrontWritten old new answers sent
+IsWritten old new answers other = Appends old new (answers_text answers)
+
+-- ---- why it ended
+
+-- a session that is over: what its reader has left and its writer holds, where that is known; what became of their calls; its seat, its answers and its end
+pub record SessionState : Type 0 where
+  pub left : Option (List ℕ)
+  pub reads : LogState
+  pub held : Option (List ℕ)
+  pub writes : LogState
+  pub seat : Option SeatState
+  pub answers : List Told
+  pub end_is : End
+
+-- the opening is refused in the record
+abbrev pub IsTurnedAway : Option SeatState → List Told → Type 0
+IsTurnedAway seat answers = (spent : SeatState) × (seat ≡ Some spent) × IsRefusedOpening spent answers
+
+-- the reader is at its end and each request is answered; or the opening is refused; or the call that waited is given up
+abbrev pub IsClosed : List ℕ → SessionState → Type 0
+IsClosed input s = (IsAtEnd s.left × AnswersAll input s.answers) ⊎ (IsTurnedAway s.seat s.answers ⊎ AnswersToCut input s.answers None)
+
+-- the run was full for the opening, or when the call that waited could go on
+abbrev pub IsRunFull : List ℕ → List Told → Type 0
+IsRunFull input answers = (answers ≡ told.Refused refusal.RunFull ∷ []) ⊎ AnswersToCut input answers (Some refusal.RunFull)
+
+-- why a session ends. Of want of memory nothing is said
+abbrev pub EndsFor : List ℕ → SessionState → End → Type 0
+EndsFor input s end.Closed = IsClosed input s
+EndsFor input s end.ReadFault = IsReadNoMore s.reads × AnswersAll input s.answers
+EndsFor input s (end.WriteFault sent) = IsBroken s.writes
+EndsFor input s end.Malformed = AnswersToFault input s.answers ⊎ AnswersToMisplaced input s.answers
+EndsFor input s end.RunFull = IsRunFull input s.answers
+EndsFor input s end.NoMemory = Unit {0}
+EndsFor input s end.Foreign = Unit {0}
+
+-- what a session comes to that read these bytes, where this is what its writer held before
+pub record ComesTo (input : List ℕ) (base : Option (List ℕ)) (s : SessionState) : Type 0 where
+  pub talks : AnswersFirst input s.answers
+  pub written : IsWritten base s.held s.answers s.end_is
+  pub seated : IsSeated s.seat s.answers s.end_is
+  pub ends : EndsFor input s s.end_is
+
+-- a session, from what its reader has and its writer holds on
+pub record Serves (from base : Option (List ℕ)) (s : SessionState) : Type 0 where
+  pub input : List ℕ
+  pub consumes : Consumes from s.left input
+  pub few : s.reads.calls ≤ READS_MAX
+  pub comes : ComesTo input base s

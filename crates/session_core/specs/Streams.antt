@@ -1,0 +1,90 @@
+-- The streams of a session, and what became of the calls on them (own).
+use Rattle.std.specs.Prelude.{◌≡◌, ℕ, ◌+◌, ◌-◌, ◌^◌, ◌≤◌, ◌<◌, ◌⊎◌, min, Bool, true, false, List, [], Option, length, take}
+use Rattle.std.specs.Io.KnownBytes.{Appends, Consumes, Keeps, IsAtEnd}
+use Rattle.session_core.specs.declared.stream.TheConstants.{INTERRUPTIONS_MAX, READS_MAX}
+use Rattle.session_core.specs.declared.stream.Gave.{Gave}
+use Rattle.session_core.specs.declared.stream.Gave.TheVariants as gave
+
+-- how many calls there were, how many of the last ones were interrupted, and whether one failed
+pub record LogState : Type 0 where
+  pub calls : ℕ
+  pub interruptions : ℕ
+  pub failed : Bool
+
+-- no call yet
+abbrev pub fresh_log : LogState
+fresh_log = record { calls = 0; interruptions = 0; failed = false }
+
+-- one call more, up to the greatest number that can be told
+abbrev pub one_more : ℕ → ℕ
+one_more calls = min (calls + 1) (2 ^ 64 - 1)
+
+-- the log after one call more
+abbrev pub noted : LogState → Gave → LogState
+noted log (gave.Bytes count) = record { calls = one_more log.calls; interruptions = 0; failed = log.failed }
+noted log gave.Nothing = record { calls = one_more log.calls; interruptions = 0; failed = log.failed }
+noted log gave.Interrupted = record { calls = one_more log.calls; interruptions = log.interruptions + 1; failed = log.failed }
+noted log gave.Failed = record { calls = one_more log.calls; interruptions = 0; failed = true }
+
+-- a stream that failed, or was interrupted sixteen times in a row
+abbrev pub IsBroken : LogState → Type 0
+IsBroken log = (log.failed ≡ true) ⊎ (INTERRUPTIONS_MAX ≤ log.interruptions)
+
+-- a stream that is read no more: it is broken, or was read as often as a session may
+abbrev pub IsReadNoMore : LogState → Type 0
+IsReadNoMore log = IsBroken log ⊎ (READS_MAX ≤ log.calls)
+
+-- what a reader has left, where that is known, and its log
+pub record SourceState : Type 0 where
+  pub remaining : Option (List ℕ)
+  pub log : LogState
+
+-- what a writer holds, where that is known, and its log
+pub record SinkState : Type 0 where
+  pub contents : Option (List ℕ)
+  pub log : LogState
+
+-- so many bytes were read, and not none
+pub record Takes (old new : Option (List ℕ)) (buffer : List ℕ) (count : ℕ) : Type 0 where
+  pub within : count ≤ length buffer
+  pub consumes : Consumes old new (take count buffer)
+
+-- what one read gives
+abbrev pub Gives : Option (List ℕ) → Option (List ℕ) → List ℕ → Gave → Type 0
+Gives old new buffer (gave.Bytes count) = Takes old new buffer count
+Gives old new buffer gave.Nothing = Consumes old new [] × IsAtEnd new
+Gives old new buffer gave.Interrupted = Consumes old new []
+Gives old new buffer gave.Failed = Consumes old new []
+
+-- one read
+pub record ReadsOnce (old new : SourceState) (buffer : List ℕ) (found : Gave) : Type 0 where
+  pub gives : Gives old.remaining new.remaining buffer found
+  pub log : new.log ≡ noted old.log found
+
+-- so many bytes were written, and not none
+pub record SomeWritten (old new : Option (List ℕ)) (bytes : List ℕ) (count : ℕ) : Type 0 where
+  pub some : 0 < count
+  pub within : count ≤ length bytes
+  pub appends : Appends old new (take count bytes)
+
+-- what one write takes; one that takes none has failed
+abbrev pub TakesSome : Option (List ℕ) → Option (List ℕ) → List ℕ → Gave → Type 0
+TakesSome old new bytes (gave.Bytes count) = SomeWritten old new bytes count
+TakesSome old new bytes gave.Nothing = ⊥
+TakesSome old new bytes gave.Interrupted = Keeps old new
+TakesSome old new bytes gave.Failed = Keeps old new
+
+-- one write
+pub record WritesOnce (old new : SinkState) (bytes : List ℕ) (found : Gave) : Type 0 where
+  pub takes : TakesSome old.contents new.contents bytes found
+  pub log : new.log ≡ noted old.log found
+
+-- so many bytes were written
+pub record WritesFront (old new : Option (List ℕ)) (bytes : List ℕ) (count : ℕ) : Type 0 where
+  pub within : count ≤ length bytes
+  pub appends : Appends old new (take count bytes)
+
+-- nothing was written, and the writer is broken
+pub record WritesNone (old new : SinkState) : Type 0 where
+  pub keeps : Keeps old.contents new.contents
+  pub broken : IsBroken new.log

@@ -1,0 +1,145 @@
+//! How a session is closed: its last answers are written, and its process is hung up.
+
+ghost use Rattle.session_core.specs.Closing.{SendsLast, HangsUp, LeavesWith, LeavesAll, end_of};
+ghost use Rattle.std.specs.Prelude.{◌≡◌, Some, None};
+ghost use Rattle.session_core.specs.declared.stage.Over.TheVariants as over;
+
+use crate::end::End;
+use crate::output::Output;
+use crate::stage::{Over, Stage, Why};
+use record_book::seat::{Receipt, Seat, SpentSeat};
+use std::io::Write;
+use std::sync::Wait;
+use system_lock::kernel::{Kernel, Why as EndedWhy};
+
+/// A session that is left: its seat, its end, and the receipt of a last answer that is not written, if there is one.
+#[derive(Drop)]
+pub(crate) struct Left {
+    pub(crate) seat: Option<SpentSeat>,
+    pub(crate) end: End,
+    pub(crate) last: Option<Receipt>,
+}
+
+/// The end of a session that has written all its answers.
+fn end_of(why: Why) -> End
+    ensures { result ≡ end_of why }
+{
+    match why {
+        Why::Closed => End::Closed,
+        Why::ReadFault => End::ReadFault,
+        Why::Malformed => End::Malformed,
+        Why::RunFull => End::RunFull,
+        Why::NoMemory => End::NoMemory,
+    }
+}
+
+/// Writes the answers that are not written yet, and tells the end of the session.
+fn send_last<W: Write>(output: &mut Output<W>, why: Why) -> End
+    ensures { SendsLast output.old output.new why result }
+{
+    match output.flush() {
+        Ok(()) => end_of(why),
+        Err(_) => End::WriteFault {
+            sent: output.sent(),
+        },
+    }
+}
+
+/// Hangs up a process, and tells the end of its session.
+fn hang_up<Rt: Wait, K: Kernel>(rt: &Rt, kernel: &K, seat: Seat, end: End) -> (SpentSeat, End)
+    ensures { HangsUp seat end result.0 result.1 }
+{
+    let ended = kernel.hang_up(rt, seat);
+    match ended.why {
+        EndedWhy::Foreign => (ended.seat, End::Foreign),
+        _ => (ended.seat, end),
+    }
+}
+
+/// Hangs up the process of a session, if there is one.
+fn leave<Rt: Wait, K: Kernel>(rt: &Rt, kernel: &K, stage: Stage, end: End) -> Left
+    ensures seat { LeavesWith stage end result.seat result.end }
+    ensures last { result.last ≡ None }
+{
+    match stage {
+        Stage::Opening => Left {
+            seat: None,
+            end,
+            last: None,
+        },
+        Stage::Ready(seat) => left_by(hang_up(rt, kernel, seat, end), None),
+    }
+}
+
+/// A session with this seat and end.
+fn left_by(ended: (SpentSeat, End), last: Option<Receipt>) -> Left
+    ensures { result ≡ record { seat = Some ended.0; end = ended.1; last = last } }
+{
+    let (seat, end) = ended;
+    Left {
+        seat: Some(seat),
+        end,
+        last,
+    }
+}
+
+/// Writes the last answers and hangs up a process for whose last answer memory ran out. Where the writer fails, that answer is
+/// told among those that are not written.
+fn leave_untold<Rt: Wait, W: Write, K: Kernel>(
+    rt: &Rt,
+    output: &mut Output<W>,
+    kernel: &K,
+    seat: Seat,
+    receipt: Receipt,
+) -> Left
+    ensures { LeavesAll output.old output.new (over.Untold seat receipt) result }
+{
+    match output.flush() {
+        Ok(()) => left_by(hang_up(rt, kernel, seat, End::NoMemory), None),
+        Err(_) => {
+            let end = End::WriteFault {
+                sent: output.sent(),
+            };
+            left_by(hang_up(rt, kernel, seat, end), Some(receipt))
+        }
+    }
+}
+
+/// Leaves a session that is over.
+pub(crate) fn leave_all<Rt: Wait, W: Write, K: Kernel>(
+    rt: &Rt,
+    output: &mut Output<W>,
+    kernel: &K,
+    over: Over,
+) -> Left
+    ensures { LeavesAll output.old output.new over result }
+{
+    match over {
+        Over::Leaves { stage, why } => {
+            let end = send_last(output, why);
+            leave(rt, kernel, stage, end)
+        }
+        Over::Unwritten(stage) => {
+            let failed = End::WriteFault {
+                sent: output.sent(),
+            };
+            leave(rt, kernel, stage, failed)
+        }
+        Over::OpeningUntold(seat) => left_by(hang_up(rt, kernel, seat, End::NoMemory), None),
+        Over::RefusalUntold(seat) => left_by((seat, End::NoMemory), None),
+        Over::Untold { seat, receipt } => leave_untold(rt, output, kernel, seat, receipt),
+        Over::Refused(seat) => {
+            let end = send_last(output, Why::Closed);
+            left_by((seat, end), None)
+        }
+        Over::Lost(seat) => {
+            let end = send_last(output, Why::Closed);
+            left_by((seat, end), None)
+        }
+        Over::Ended { seat, why } => {
+            let end = send_last(output, why);
+            left_by((seat, end), None)
+        }
+        Over::Foreign(seat) => left_by((seat, End::Foreign), None),
+    }
+}

@@ -1,0 +1,14 @@
+//! One session: requests as bytes in, answers as bytes out, over any reader, writer and kernel.
+#![tactic(auto)]
+
+mod closing;
+pub mod end;
+pub mod memory;
+mod output;
+mod pieces;
+mod reading;
+pub mod serve;
+mod stage;
+pub mod stream;
+pub mod told;
+mod turns;

@@ -1,0 +1,185 @@
+//! Readers and writers over memory, which fail, are interrupted, and give or take few bytes, as they are told to.
+
+ghost use Rattle.std.specs.Prelude.{◌≡◌, ◌+◌, ◌≤◌, [], Some, None, List, length, IfErr, IsOk, OnOk};
+ghost use Rattle.std.specs.Io.{ReadsAtMost, WritesAtMost};
+ghost use Rattle.std.specs.Io.KnownBytes.{ReadConsumes, WriteAppends, Keeps};
+ghost use Rattle.std.specs.IoError.{error_kind};
+ghost use Rattle.session_core.specs.Streams.{one_more};
+ghost use Rattle.session_core.specs.Memory.{fault_of, GivesFront};
+
+use std::alloc::Global;
+use std::io;
+use std::io::{Error, ErrorKind, Read, Write};
+use std::marker::Model;
+
+/// How a stream over memory answers its calls, which count from 1.
+#[derive(Clone, Copy, Debug, PartialEq, Eq)]
+pub struct Manner {
+    /// How many bytes a call gives or takes at most. A reader that is not at its end gives at least one.
+    pub most: usize,
+    /// Which call fails, if one does.
+    pub fails_at: Option<u64>,
+    /// How many calls are interrupted before each one that is not.
+    pub interruptions: u32,
+}
+
+impl Manner {
+    /// What befalls a call, if something does.
+    fn fault(self, call: u64) -> Option<ErrorKind>
+        ensures { result ≡ fault_of self call }
+    {
+        if self.fails_at == Some(call) {
+            return Some(ErrorKind::ConnectionReset);
+        }
+        if call % (u64::from(self.interruptions) + 1) == 0 {
+            None
+        } else {
+            Some(ErrorKind::Interrupted)
+        }
+    }
+}
+
+/// A reader of bytes in memory.
+#[derive(Drop)]
+pub struct MemoryReader {
+    bytes: Vec<u8>,
+    given: usize,
+    calls: u64,
+    manner: Manner,
+}
+
+impl Model for MemoryReader {
+    ghost use Rattle.std.specs.Prelude.{◌≤◌, drop, vec_len};
+    ghost use Rattle.session_core.specs.Memory.{ReaderState};
+
+    ghost Value = { ReaderState };
+
+    ghost view = { λ r. record { rest = drop r.given r.bytes.items; calls = r.calls; manner = r.manner } };
+
+    ghost invariant = { λ r. r.given ≤ vec_len r.bytes };
+}
+
+impl MemoryReader {
+    /// A reader of these bytes.
+    pub fn new(bytes: Vec<u8>, manner: Manner) -> Self
+        ensures { result ≡ record { rest = bytes.items; calls = 0; manner = manner } }
+    {
+        MemoryReader {
+            bytes,
+            given: 0,
+            calls: 0,
+            manner,
+        }
+    }
+
+    /// How often it was read.
+    pub fn calls(&self) -> u64
+        ensures { result ≡ self.now.calls }
+    {
+        self.calls
+    }
+
+    /// Gives as many bytes as there are, as fit, and as it may, and at least one if there is one.
+    fn give(&mut self, buffer: &mut [u8]) -> usize
+        ensures gives { GivesFront self.old self.new buffer.new result }
+        ensures long { length buffer.new ≡ length buffer.old }
+    {
+        let (_, rest) = self.bytes.as_slice().split_at(self.given);
+        let count = buffer.len().min(self.manner.most.max(1)).min(rest.len());
+        let (front, _) = rest.split_at(count);
+        buffer[..count].copy_from_slice(front);
+        self.given += count;
+        count
+    }
+}
+
+impl Read for MemoryReader {
+    ghost remaining = { λ r. Some r.rest };
+
+    /// Gives bytes, fails or is interrupted, as it was told.
+    fn read(&mut self, buffer: &mut [u8]) -> io::Result<usize>
+        ensures bound { ReadsAtMost result buffer.new }
+        ensures bytes { ReadConsumes (Some self.old.rest) (Some self.new.rest) result buffer.new }
+        ensures calls { self.new.calls ≡ one_more self.old.calls }
+        ensures faulty { IfErr result (λ error. fault_of self.old.manner self.new.calls ≡ Some (error_kind error)) }
+        ensures sound { OnOk result (fault_of self.old.manner self.new.calls ≡ None) }
+    {
+        self.calls = self.calls.saturating_add(1);
+        match self.manner.fault(self.calls) {
+            Some(kind) => Err(Error::from(kind)),
+            None => Ok(self.give(buffer)),
+        }
+    }
+}
+
+/// A writer whose bytes stay in memory. For want of memory it fails too.
+#[derive(Drop)]
+pub struct MemoryWriter {
+    bytes: Vec<u8>,
+    calls: u64,
+    manner: Manner,
+}
+
+impl Model for MemoryWriter {
+    ghost use Rattle.session_core.specs.Memory.{WriterState};
+
+    ghost Value = { WriterState };
+
+    ghost view = { λ w. record { bytes = w.bytes.items; calls = w.calls; manner = w.manner } };
+}
+
+impl MemoryWriter {
+    /// A writer that holds nothing yet.
+    pub fn new(alloc: Global, manner: Manner) -> Self
+        ensures { result ≡ record { bytes = []; calls = 0; manner = manner } }
+    {
+        MemoryWriter {
+            bytes: Vec::new(alloc),
+            calls: 0,
+            manner,
+        }
+    }
+
+    /// How often it was written to.
+    pub fn calls(&self) -> u64
+        ensures { result ≡ self.now.calls }
+    {
+        self.calls
+    }
+
+    /// The bytes that it was given.
+    pub fn bytes(&self) -> &[u8]
+        ensures { result.now ≡ self.now.bytes }
+    {
+        self.bytes.as_slice()
+    }
+}
+
+impl Write for MemoryWriter {
+    ghost contents = { λ w. Some w.bytes };
+
+    /// Takes bytes, fails or is interrupted, as it was told.
+    fn write(&mut self, buffer: &[u8]) -> io::Result<usize>
+        ensures bound { WritesAtMost result buffer.now }
+        ensures bytes { WriteAppends (Some self.old.bytes) (Some self.new.bytes) result buffer.now }
+        ensures calls { self.new.calls ≡ one_more self.old.calls }
+        ensures sound { OnOk result (fault_of self.old.manner self.new.calls ≡ None) }
+    {
+        self.calls = self.calls.saturating_add(1);
+        if let Some(kind) = self.manner.fault(self.calls) {
+            return Err(Error::from(kind));
+        }
+        let (front, _) = buffer.split_at(buffer.len().min(self.manner.most));
+        self.bytes.extend_from_slice(front)?;
+        Ok(front.len())
+    }
+
+    /// There is nothing to flush.
+    fn flush(&mut self) -> io::Result<()>
+        ensures bytes { Keeps (Some self.old.bytes) (Some self.new.bytes) }
+        ensures ok { IsOk result }
+        ensures same { self.new ≡ self.old }
+    {
+        Ok(())
+    }
+}

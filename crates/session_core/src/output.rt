@@ -1,0 +1,134 @@
+//! The answers of a session, and their way to its writer.
+
+ghost use Rattle.std.specs.Prelude.{◌≡◌, ℕ, List, [], Option, length, OnOk, OnErr, IfOk, IfErr};
+ghost use Rattle.session_core.specs.declared.told.Told.TheVariants as told;
+ghost use Rattle.session_core.specs.Output.{fresh_output, Puts, Flushes, SendsAll, FailsToSend};
+ghost use Rattle.session_core.specs.Closing.{IsTaken};
+
+use crate::stream::{Sink, StreamLog, WriterFailed};
+use crate::told::Told;
+use call_types::refusal::Refusal;
+use frame_codec::encode::{encode_recorded, encode_refused};
+use record_book::seat::Receipt;
+use std::alloc::{AllocError, Global};
+use std::io::Write;
+use std::marker::Model;
+
+/// The answers of a session, and those bytes of them that are not written yet. There is always room for one answer more.
+#[derive(Drop)]
+pub(crate) struct Output<W: Write> {
+    sink: Sink<W>,
+    unsent: Vec<u8>,
+    /// How many bytes were written.
+    sent: u64,
+    answers: Vec<Told>,
+}
+
+impl<W: Write> Model for Output<W> {
+    ghost use Rattle.std.specs.Prelude.{◌<◌, vec_len, vec_capacity};
+    ghost use Rattle.session_core.specs.Output.{OutputState};
+
+    ghost Value = { OutputState };
+
+    ghost view = { λ o. record { sink = o.sink; unsent = o.unsent.items; sent = o.sent; answers = o.answers.items } };
+
+    ghost invariant = { λ o. vec_len o.answers < vec_capacity o.answers };
+}
+
+/// How many bytes of answers are gathered at most before they are written.
+const GATHERED: usize = 65_536;
+
+impl<W: Write> Output<W> {
+    /// No answers yet, for this writer, which is given back where memory runs out.
+    pub(crate) fn new(alloc: Global, writer: W) -> Result<Self, W>
+        ensures ok { IfOk result (λ output. output ≡ fresh_output (W.contents writer)) }
+        ensures err { IfErr result (λ back. back ≡ writer) }
+    {
+        match Vec::with_capacity(alloc, 1) {
+            Ok(answers) => Ok(Output {
+                sink: Sink::new(writer),
+                unsent: Vec::new(alloc),
+                sent: 0,
+                answers,
+            }),
+            Err(_) => Err(writer),
+        }
+    }
+
+    /// How many bytes were written, or the greatest number where they were more.
+    pub(crate) fn sent(&self) -> u64
+        ensures { result ≡ self.now.sent }
+    {
+        self.sent
+    }
+
+    /// Writes what is not written yet. After an error the writer has failed, and nothing more is to be written.
+    pub(crate) fn flush(&mut self) -> Result<(), WriterFailed>
+        ensures ok { OnOk result (SendsAll self.old self.new) }
+        ensures err { OnErr result (FailsToSend self.old self.new) }
+    {
+        if self.unsent.is_empty() {
+            return Ok(());
+        }
+        let (written, result) = self.sink.write_all(self.unsent.as_slice());
+        self.sent = self.sent.saturating_add(written as u64);
+        self.unsent.clear();
+        result
+    }
+
+    /// Writes what is not written yet, if it is much.
+    pub(crate) fn flush_much(&mut self) -> Result<(), WriterFailed>
+        ensures ok { OnOk result (Flushes self.old self.new) }
+        ensures err { OnErr result (FailsToSend self.old self.new) }
+    {
+        if self.unsent.len() < GATHERED {
+            return Ok(());
+        }
+        self.flush()
+    }
+
+    /// Adds an answer with its frame, or gives the receipt back where memory runs out, and leaves all as it is.
+    pub(crate) fn put_recorded(&mut self, receipt: Receipt) -> Result<(), Receipt>
+        ensures ok { OnOk result (Puts self.old self.new (told.Recorded receipt)) }
+        ensures back { IfErr result (λ back. back ≡ receipt) }
+        ensures err { OnErr result (self.new ≡ self.old) }
+    {
+        if self.answers.reserve(2).is_err() {
+            return Err(receipt);
+        }
+        let before = self.unsent.len();
+        if encode_recorded(&mut self.unsent, receipt.place(), &receipt.record().outcome).is_err() {
+            self.unsent.truncate(before);
+            return Err(receipt);
+        }
+        self.answers.push_reserved(Told::Recorded(receipt));
+        Ok(())
+    }
+
+    /// Adds the answer that nothing was recorded, with its frame. Where memory runs out, all stays as it is.
+    pub(crate) fn put_refused(&mut self, refusal: Refusal) -> Result<(), AllocError>
+        ensures ok { OnOk result (Puts self.old self.new (told.Refused refusal)) }
+        ensures err { OnErr result (self.new ≡ self.old) }
+    {
+        self.answers.reserve(2)?;
+        let before = self.unsent.len();
+        if let Err(fault) = encode_refused(&mut self.unsent, refusal) {
+            self.unsent.truncate(before);
+            return Err(fault);
+        }
+        self.answers.push_reserved(Told::Refused(refusal));
+        Ok(())
+    }
+
+    /// The answers, with the last one, which is not written, if there is one; the writer, and what became of its calls.
+    pub(crate) fn into_parts(self, last: Option<Receipt>) -> (Vec<Told>, W, StreamLog)
+        ensures { IsTaken self last result.0.items (W.contents result.1) result.2 }
+    {
+        let mut answers = self.answers;
+        if let Some(receipt) = last {
+            answers.push_reserved(Told::Recorded(receipt));
+        }
+        let (writer, log) = self.sink.into_parts();
+        (answers, writer, log)
+    }
+}

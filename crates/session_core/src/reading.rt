@@ -1,0 +1,124 @@
+//! A session's reads.
+
+ghost use Rattle.std.specs.Prelude.{◌≡◌, ◌<◌, ◌≤◌, length};
+ghost use Rattle.frame_codec.specs.Decoding.{fresh};
+ghost use Rattle.session_core.specs.Reading.{ReadsOn, ReadsFresh};
+ghost use Rattle.session_core.specs.declared.stage.Over.TheVariants as over;
+ghost use Rattle.session_core.specs.declared.stage.Turn.TheVariants as turn;
+ghost use Rattle.session_core.specs.Streams.{fresh_log};
+
+use crate::output::Output;
+use crate::pieces::take_piece;
+use crate::stage::{Over, Stage, Turn, Why};
+use crate::stream::{Gave, INTERRUPTIONS_MAX, READS_MAX, Source};
+use frame_codec::decoder::Decoder;
+use frame_codec::kind::Requests;
+use frame_codec::laws::cuts_do_not_matter;
+use std::alloc::Global;
+use std::io::{Read, Write};
+use std::sync::Wait;
+use system_lock::kernel::Kernel;
+
+/// How many bytes a read asks for.
+const PIECE: usize = 65_536;
+
+/// A session that leaves off where it is.
+fn leaves(stage: Stage, why: Why) -> Turn
+    ensures { result ≡ turn.Over (over.Leaves stage why) }
+{
+    Turn::Over(Over::Leaves { stage, why })
+}
+
+/// Reads once more, and takes up what that gives.
+fn read_on<Rt: Wait, R: Read, W: Write, K: Kernel>(
+    rt: &Rt,
+    source: &mut Source<R>,
+    output: &mut Output<W>,
+    kernel: &K,
+    decoder: &mut Decoder<Requests>,
+    buffer: &mut [u8],
+    stage: Stage,
+) -> Turn
+    requires room { 0 < length buffer.old }
+    requires few { source.old.log.interruptions < 16 }
+    ensures reads { ReadsOn source.old source.new decoder.old decoder.new stage output.old output.new result }
+    ensures long { length buffer.new ≡ length buffer.old }
+{
+    cuts_do_not_matter();
+    match source.read(buffer) {
+        Gave::Bytes(count) => {
+            let (piece, _) = buffer.split_at(count);
+            take_piece(rt, output, kernel, decoder, stage, piece)
+        }
+        Gave::Nothing => leaves(stage, Why::Closed),
+        Gave::Interrupted => {
+            if source.log().interruptions() < INTERRUPTIONS_MAX {
+                Turn::GoesOn(stage)
+            } else {
+                leaves(stage, Why::ReadFault)
+            }
+        }
+        Gave::Failed => leaves(stage, Why::ReadFault),
+    }
+}
+
+/// Reads as often as a session may, and takes up what that gives, until the session is over.
+fn read_often<Rt: Wait, R: Read, W: Write, K: Kernel>(
+    rt: &Rt,
+    source: &mut Source<R>,
+    output: &mut Output<W>,
+    kernel: &K,
+    decoder: &mut Decoder<Requests>,
+    buffer: &mut [u8],
+) -> Over
+    requires room { 0 < length buffer.old }
+    requires unread { source.old.log ≡ fresh_log }
+    requires unfed { decoder.old ≡ fresh }
+    ensures few { source.new.log.calls ≤ 1048576 }
+    ensures reads { ReadsFresh source.old source.new output.old output.new result }
+{
+    cuts_do_not_matter();
+    let mut stage = Stage::Opening;
+    for _turn in 0..READS_MAX {
+        match read_on(rt, source, output, kernel, decoder, buffer, stage) {
+            Turn::GoesOn(next) => stage = next,
+            Turn::Over(over) => return over,
+        }
+    }
+    Over::Leaves {
+        stage,
+        why: Why::ReadFault,
+    }
+}
+
+/// Reads a session to its end.
+pub(crate) fn read_all<Rt: Wait, R: Read, W: Write, K: Kernel>(
+    rt: &Rt,
+    alloc: Global,
+    source: &mut Source<R>,
+    output: &mut Output<W>,
+    kernel: &K,
+) -> Over
+    requires { source.old.log ≡ fresh_log }
+    ensures few { source.new.log.calls ≤ 1048576 }
+    ensures reads { ReadsFresh source.old source.new output.old output.new result }
+{
+    let mut buffer = match vec![in alloc; 0u8; PIECE] {
+        Ok(buffer) => buffer,
+        Err(_) => {
+            return Over::Leaves {
+                stage: Stage::Opening,
+                why: Why::NoMemory,
+            };
+        }
+    };
+    let mut decoder = Decoder::new(alloc);
+    read_often(
+        rt,
+        source,
+        output,
+        kernel,
+        &mut decoder,
+        buffer.as_mut_slice(),
+    )
+}

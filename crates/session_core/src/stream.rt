@@ -1,0 +1,251 @@
+//! The streams of a session. What became of the calls on them is noted beside.
+
+ghost use Rattle.std.specs.Prelude.{◌≡◌, ◌+◌, ◌<◌, ◌≤◌, length, IfOk, OnOk, OnErr};
+ghost use Rattle.std.specs.Io.KnownBytes.{Keeps};
+ghost use Rattle.session_core.specs.Streams.{fresh_log, noted, ReadsOnce, WritesOnce, WritesFront, WritesNone, SomeWritten, IsBroken};
+
+use std::io::{ErrorKind, Read, Write};
+use std::marker::Model;
+
+/// How many interruptions in a row are a fault.
+pub const INTERRUPTIONS_MAX: u32 = 16;
+
+/// How many reads a session has.
+pub const READS_MAX: u32 = 1_048_576;
+
+/// What one call on a stream gave.
+#[derive(Clone, Copy, Debug, PartialEq, Eq)]
+pub enum Gave {
+    /// So many bytes were read or written.
+    Bytes(usize),
+    /// The reader is at its end.
+    Nothing,
+    /// The call was interrupted.
+    Interrupted,
+    /// The call failed, or the writer took no byte.
+    Failed,
+}
+
+/// What became of the calls of a session on one of its streams. Only those calls change it.
+#[derive(Debug, Drop)]
+pub struct StreamLog {
+    calls: u64,
+    interruptions: u32,
+    failed: bool,
+}
+
+impl Model for StreamLog {
+    ghost use Rattle.session_core.specs.Streams.{LogState};
+
+    ghost Value = { LogState };
+
+    ghost view = { λ log. record { calls = log.calls; interruptions = log.interruptions; failed = log.failed } };
+}
+
+impl StreamLog {
+    /// No call yet.
+    pub(crate) fn new() -> Self
+        ensures { result ≡ fresh_log }
+    {
+        StreamLog {
+            calls: 0,
+            interruptions: 0,
+            failed: false,
+        }
+    }
+
+    /// How many reads or writes there were.
+    pub fn calls(&self) -> u64
+        ensures { result ≡ self.now.calls }
+    {
+        self.calls
+    }
+
+    /// How many calls up to the last one were interrupted, one after another.
+    pub fn interruptions(&self) -> u32
+        ensures { result ≡ self.now.interruptions }
+    {
+        self.interruptions
+    }
+
+    /// Whether a call failed. A writer that takes no byte, or that can't be flushed, has failed too.
+    pub fn has_failed(&self) -> bool
+        ensures { result ≡ self.now.failed }
+    {
+        self.failed
+    }
+
+    /// Notes what one call gave.
+    fn note(&mut self, gave: Gave)
+        requires { self.old.interruptions < 16 }
+        ensures { self.new ≡ noted self.old gave }
+    {
+        self.calls = self.calls.saturating_add(1);
+        match gave {
+            Gave::Bytes(_) | Gave::Nothing => self.interruptions = 0,
+            Gave::Interrupted => self.interruptions += 1,
+            Gave::Failed => {
+                self.interruptions = 0;
+                self.failed = true;
+            }
+        }
+    }
+}
+
+/// The reader of a session.
+#[derive(Drop)]
+pub(crate) struct Source<R: Read> {
+    reader: R,
+    log: StreamLog,
+}
+
+impl<R: Read> Model for Source<R> {
+    ghost use Rattle.session_core.specs.Streams.{SourceState};
+
+    ghost Value = { SourceState };
+
+    ghost view = { λ s. record { remaining = R.remaining s.reader; log = s.log } };
+}
+
+impl<R: Read> Source<R> {
+    /// A reader that was not read yet.
+    pub(crate) fn new(reader: R) -> Self
+        ensures { result ≡ record { remaining = R.remaining reader; log = fresh_log } }
+    {
+        Source {
+            reader,
+            log: StreamLog::new(),
+        }
+    }
+
+    /// What became of its calls.
+    pub(crate) fn log(&self) -> &StreamLog
+        ensures { result.now ≡ self.now.log }
+    {
+        &self.log
+    }
+
+    /// The reader, and what became of its calls.
+    pub(crate) fn into_parts(self) -> (R, StreamLog)
+        ensures reader { R.remaining result.0 ≡ self.remaining }
+        ensures log { result.1 ≡ self.log }
+    {
+        (self.reader, self.log)
+    }
+
+    /// Reads once, into a buffer that is not empty.
+    pub(crate) fn read(&mut self, buffer: &mut [u8]) -> Gave
+        requires room { 0 < length buffer.old }
+        requires few { self.old.log.interruptions < 16 }
+        ensures { ReadsOnce self.old self.new buffer.new result }
+    {
+        let gave = match self.reader.read(buffer) {
+            Ok(0) => Gave::Nothing,
+            Ok(count) => Gave::Bytes(count),
+            Err(error) if error.kind() == ErrorKind::Interrupted => Gave::Interrupted,
+            Err(_) => Gave::Failed,
+        };
+        self.log.note(gave);
+        gave
+    }
+}
+
+/// The writer of a session has failed, or was interrupted sixteen times in a row.
+#[derive(Drop)]
+pub(crate) struct WriterFailed;
+
+/// The writer of a session.
+#[derive(Drop)]
+pub(crate) struct Sink<W: Write> {
+    writer: W,
+    log: StreamLog,
+}
+
+impl<W: Write> Model for Sink<W> {
+    ghost use Rattle.session_core.specs.Streams.{SinkState};
+
+    ghost Value = { SinkState };
+
+    ghost view = { λ s. record { contents = W.contents s.writer; log = s.log } };
+}
+
+impl<W: Write> Sink<W> {
+    /// A writer to which nothing was written yet.
+    pub(crate) fn new(writer: W) -> Self
+        ensures { result ≡ record { contents = W.contents writer; log = fresh_log } }
+    {
+        Sink {
+            writer,
+            log: StreamLog::new(),
+        }
+    }
+
+    /// The writer, and what became of its calls.
+    pub(crate) fn into_parts(self) -> (W, StreamLog)
+        ensures writer { W.contents result.0 ≡ self.contents }
+        ensures log { result.1 ≡ self.log }
+    {
+        (self.writer, self.log)
+    }
+
+    /// Writes once, of bytes of which there are some.
+    fn write(&mut self, bytes: &[u8]) -> Gave
+        requires { self.old.log.interruptions < 16 }
+        ensures { WritesOnce self.old self.new bytes.now result }
+    {
+        let gave = match self.writer.write(bytes) {
+            Ok(0) => Gave::Failed,
+            Ok(count) => Gave::Bytes(count),
+            Err(error) if error.kind() == ErrorKind::Interrupted => Gave::Interrupted,
+            Err(_) => Gave::Failed,
+        };
+        self.log.note(gave);
+        gave
+    }
+
+    /// Writes a front of bytes that is not empty, unless the writer is broken.
+    fn write_some(&mut self, bytes: &[u8]) -> Result<usize, WriterFailed>
+        ensures ok { IfOk result (λ count. SomeWritten self.old.contents self.new.contents bytes.now count) }
+        ensures err { OnErr result (WritesNone self.old self.new) }
+    {
+        while self.log.interruptions() < INTERRUPTIONS_MAX {
+            match self.write(bytes) {
+                Gave::Bytes(count) => return Ok(count),
+                Gave::Interrupted => {}
+                Gave::Nothing | Gave::Failed => return Err(WriterFailed),
+            }
+        }
+        Err(WriterFailed)
+    }
+
+    /// Flushes what was written.
+    fn flush(&mut self) -> Result<(), WriterFailed>
+        ensures keeps { Keeps self.old.contents self.new.contents }
+        ensures err { OnErr result (IsBroken self.new.log) }
+    {
+        match self.writer.flush() {
+            Ok(()) => Ok(()),
+            Err(_) => {
+                self.log.failed = true;
+                Err(WriterFailed)
+            }
+        }
+    }
+
+    /// Writes bytes and flushes them, and tells how many were written, and whether that is all of them.
+    pub(crate) fn write_all(&mut self, bytes: &[u8]) -> (usize, Result<(), WriterFailed>)
+        ensures front { WritesFront self.old.contents self.new.contents bytes.now result.0 }
+        ensures whole { OnOk result.1 (result.0 ≡ length bytes.now) }
+        ensures broken { OnErr result.1 (IsBroken self.new.log) }
+    {
+        let mut written: usize = 0;
+        while written < bytes.len() {
+            let (_, rest) = bytes.split_at(written);
+            match self.write_some(rest) {
+                Ok(count) => written += count,
+                Err(failed) => return (written, Err(failed)),
+            }
+        }
+        (written, self.flush())
+    }
+}

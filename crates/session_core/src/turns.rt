@@ -1,0 +1,241 @@
+//! One request of a session.
+
+ghost use Rattle.std.specs.Prelude.{◌≡◌, OnOk, OnErr};
+ghost use Rattle.call_types.specs.declared.request.Request.TheVariants as request;
+ghost use Rattle.session_core.specs.declared.stage.Stage.TheVariants as stage;
+ghost use Rattle.session_core.specs.Turns.{TakesUp, PutsFirst, PutsGivenUp, IsOne, WaitsOnce, WaitsOut, GivesUp, TakesAll};
+ghost use Rattle.system_lock.specs.Kernel.{IsOpening, IsWanting, IsWhyFinished};
+ghost use Rattle.session_core.specs.Talk.{goes_on};
+
+use crate::output::Output;
+use crate::stage::{Over, Stage, Turn, Waited, Why};
+use call_types::call::Call;
+use call_types::outcome::Outcome;
+use call_types::refusal::Refusal;
+use call_types::request::Request;
+use record_book::opening::Opened;
+use record_book::seat::{Receipt, Seat};
+use std::alloc::AllocError;
+use std::io::Write;
+use std::sync::Wait;
+use system_lock::kernel::{Ended, Finished, Kernel, Why as EndedWhy};
+
+/// Answers an opening by the one receipt that there is.
+fn put_first<W: Write>(output: &mut Output<W>, receipts: &[Receipt]) -> Result<(), AllocError>
+    requires { IsOne receipts.now }
+    ensures ok { OnOk result (PutsFirst receipts.now output.old output.new) }
+    ensures err { OnErr result (output.new ≡ output.old) }
+{
+    let receipt = receipts[0].share()?;
+    match output.put_recorded(receipt) {
+        Ok(()) => Ok(()),
+        Err(_) => Err(AllocError),
+    }
+}
+
+/// Answers what is not recorded for want of memory or of records, and tells for want of which the session ends.
+fn put_given_up<W: Write>(output: &mut Output<W>, refusal: Refusal) -> Why
+    requires { IsWanting refusal }
+    ensures { PutsGivenUp output.old output.new refusal result }
+{
+    match (output.put_refused(refusal), refusal) {
+        (Ok(()), Refusal::RunFull) => Why::RunFull,
+        _ => Why::NoMemory,
+    }
+}
+
+/// Takes up the first request of a session.
+fn take_opening<Rt: Wait, W: Write, K: Kernel>(
+    rt: &Rt,
+    output: &mut Output<W>,
+    kernel: &K,
+    request: Request,
+) -> Turn
+    requires { IsOpening request }
+    ensures { TakesUp stage.Opening request output.old output.new result }
+{
+    match kernel.open(rt, request) {
+        Ok(Opened::Seated(seat)) => match put_first(output, seat.receipts()) {
+            Ok(()) => Turn::GoesOn(Stage::Ready(seat)),
+            Err(_) => Turn::Over(Over::OpeningUntold(seat)),
+        },
+        Ok(Opened::Refused(seat)) => match put_first(output, seat.receipts()) {
+            Ok(()) => Turn::Over(Over::Refused(seat)),
+            Err(_) => Turn::Over(Over::RefusalUntold(seat)),
+        },
+        Err(refusal) => {
+            let why = put_given_up(output, refusal);
+            Turn::Over(Over::Leaves {
+                stage: Stage::Opening,
+                why,
+            })
+        }
+    }
+}
+
+/// Whether a process goes on waiting after this outcome.
+fn goes_on(outcome: &Outcome) -> bool
+    ensures { result ≡ goes_on outcome.now }
+{
+    match outcome {
+        Outcome::Reply(_) => false,
+        Outcome::Parked { .. } | Outcome::Part { .. } => true,
+    }
+}
+
+/// Answers why a process has ended in the call that it waited in.
+fn give_up<W: Write>(output: &mut Output<W>, ended: Ended) -> Over
+    requires { IsWhyFinished ended.why }
+    ensures { GivesUp ended output.old output.new result }
+{
+    let seat = ended.seat;
+    match ended.why {
+        EndedWhy::NoMemory => Over::Ended {
+            seat,
+            why: put_given_up(output, Refusal::NoMemory),
+        },
+        EndedWhy::RunFull => Over::Ended {
+            seat,
+            why: put_given_up(output, Refusal::RunFull),
+        },
+        EndedWhy::Lost => Over::Lost(seat),
+        EndedWhy::Foreign => Over::Foreign(seat),
+        EndedWhy::HungUp => unreachable!(),
+    }
+}
+
+/// Waits until a call goes on, and answers what came of that.
+fn wait_once<Rt: Wait, W: Write, K: Kernel>(
+    rt: &Rt,
+    output: &mut Output<W>,
+    kernel: &K,
+    seat: Seat,
+) -> Waited
+    ensures { WaitsOnce seat output.old output.new result }
+{
+    match output.flush() {
+        Ok(()) => {}
+        Err(_) => {
+            return Waited::Done(Turn::Over(Over::Unwritten(Stage::Ready(seat))));
+        }
+    }
+    let (seat, receipt) = match kernel.finish(rt, seat) {
+        Finished::Resumed { seat, receipt } => (seat, receipt),
+        Finished::Ended(ended) => return Waited::Done(Turn::Over(give_up(output, ended))),
+    };
+    let waits = goes_on(&receipt.record().outcome);
+    match output.put_recorded(receipt) {
+        Ok(()) if waits => Waited::Still(seat),
+        Ok(()) => Waited::Done(Turn::GoesOn(Stage::Ready(seat))),
+        Err(receipt) => Waited::Done(Turn::Over(Over::Untold { seat, receipt })),
+    }
+}
+
+/// Waits for the reply of a call, and answers what comes of it until then.
+fn wait_out<Rt: Wait, W: Write, K: Kernel>(
+    rt: &Rt,
+    output: &mut Output<W>,
+    kernel: &K,
+    seat: Seat,
+) -> Turn
+    ensures { WaitsOut seat output.old output.new result }
+{
+    let mut seat = seat;
+    for _ in rt.forever() {
+        match wait_once(rt, output, kernel, seat) {
+            Waited::Still(still) => seat = still,
+            Waited::Done(turn) => return turn,
+        }
+    }
+    unreachable!()
+}
+
+/// Takes up a call of the session's process, and waits for its reply.
+fn take_call<Rt: Wait, W: Write, K: Kernel>(
+    rt: &Rt,
+    output: &mut Output<W>,
+    kernel: &K,
+    seat: Seat,
+    call: Call,
+) -> Turn
+    ensures { TakesUp (stage.Ready seat) (request.Call call) output.old output.new result }
+{
+    let mut seat = seat;
+    let receipt = match kernel.call(rt, &mut seat, call) {
+        Ok(receipt) => receipt,
+        Err(refusal) => {
+            return match output.put_refused(refusal) {
+                Ok(()) => Turn::GoesOn(Stage::Ready(seat)),
+                Err(_) => Turn::Over(Over::Leaves {
+                    stage: Stage::Ready(seat),
+                    why: Why::NoMemory,
+                }),
+            };
+        }
+    };
+    let waits = goes_on(&receipt.record().outcome);
+    match output.put_recorded(receipt) {
+        Ok(()) if waits => wait_out(rt, output, kernel, seat),
+        Ok(()) => Turn::GoesOn(Stage::Ready(seat)),
+        Err(receipt) => Turn::Over(Over::Untold { seat, receipt }),
+    }
+}
+
+/// Takes up a request where a session is.
+fn take_up<Rt: Wait, W: Write, K: Kernel>(
+    rt: &Rt,
+    output: &mut Output<W>,
+    kernel: &K,
+    stage: Stage,
+    request: Request,
+) -> Turn
+    ensures { TakesUp stage request output.old output.new result }
+{
+    match (stage, request) {
+        (Stage::Opening, Request::Join) => take_opening(rt, output, kernel, Request::Join),
+        (Stage::Opening, Request::Attach { process }) => {
+            take_opening(rt, output, kernel, Request::Attach { process })
+        }
+        (Stage::Ready(seat), Request::Call(call)) => take_call(rt, output, kernel, seat, call),
+        (stage, _) => Turn::Over(Over::Leaves {
+            stage,
+            why: Why::Malformed,
+        }),
+    }
+}
+
+/// Takes up a request where a session is. What was gathered is written first, if it is much.
+fn take_next<Rt: Wait, W: Write, K: Kernel>(
+    rt: &Rt,
+    output: &mut Output<W>,
+    kernel: &K,
+    stage: Stage,
+    request: Request,
+) -> Turn
+    ensures { TakesUp stage request output.old output.new result }
+{
+    match output.flush_much() {
+        Ok(()) => take_up(rt, output, kernel, stage, request),
+        Err(_) => Turn::Over(Over::Unwritten(stage)),
+    }
+}
+
+/// Takes up requests, one after another, until the session is over.
+pub(crate) fn take_all<Rt: Wait, W: Write, K: Kernel>(
+    rt: &Rt,
+    output: &mut Output<W>,
+    kernel: &K,
+    stage: Stage,
+    requests: Vec<Request>,
+) -> Turn
+    ensures { TakesAll stage requests.items output.old output.new result }
+{
+    let mut stage = stage;
+    for request in requests {
+        match take_next(rt, output, kernel, stage, request) {
+            Turn::GoesOn(after) => stage = after,
+            Turn::Over(over) => return Turn::Over(over),
+        }
+    }
+    Turn::GoesOn(stage)
+}
