@@ -1,0 +1,62 @@
+//! What the words of the command line ask for.
+use crate::ended::Ended;
+use call_types::act::ScriptAct;
+use call_types::limits::Limits;
+use script_text::reading::read_act;
+use session_core::memory::Manner;
+use std::alloc::{AllocError, Global};
+
+/// One session that is to be served.
+#[derive(Drop)]
+pub(crate) struct Job {
+    pub limits: Limits,
+    pub reads: Manner,
+    pub writes: Manner,
+    /// The acts that are run where a call would wait for the first time.
+    pub acts: Vec<ScriptAct>,
+}
+
+/// A number.
+fn number_of(word: &str) -> Result<u64, Ended> {
+    word.parse::<u64>().map_err(|_| Ended::Usage)
+}
+
+/// How a stream answers.
+fn manner_of(word: &str) -> Result<Manner, Ended> {
+    let (most, others) = word.split_once(",").ok_or(Ended::Usage)?;
+    let (fails_at, interruptions) = others.split_once(",").ok_or(Ended::Usage)?;
+    let most = number_of(most)? as usize;
+    let fails_at = match number_of(fails_at)? {
+        0 => None,
+        at => Some(at),
+    };
+    let interruptions = interruptions.parse::<u32>().map_err(|_| Ended::Usage)?;
+    Ok(Manner {
+        most,
+        fails_at,
+        interruptions,
+    })
+}
+
+/// The acts of lines.
+fn acts_of(alloc: Global, lines: &[String]) -> Result<Vec<ScriptAct>, Ended> {
+    let mut acts = Vec::new(alloc);
+    for line in lines {
+        let act = read_act(alloc, line.as_bytes())?;
+        acts.push(act).map_err(AllocError::from)?;
+    }
+    Ok(acts)
+}
+
+/// The job that words ask for.
+pub(crate) fn job_of(alloc: Global, words: &[String]) -> Result<Job, Ended> {
+    match words {
+        [_, records, reads, writes, lines @ ..] => Ok(Job {
+            limits: Limits::new(number_of(records.as_str())?).map_err(|_| Ended::Usage)?,
+            reads: manner_of(reads.as_str())?,
+            writes: manner_of(writes.as_str())?,
+            acts: acts_of(alloc, lines)?,
+        }),
+        _ => Err(Ended::Usage),
+    }
+}

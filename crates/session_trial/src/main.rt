@@ -1,0 +1,63 @@
+//! The program `session_trial RECORDS READS WRITES ACT..`, for the bytes of one session on standard input.
+//!
+//! It serves them in a run of at most RECORDS records. READS and WRITES say how the session's reader and writer answer: three numbers with
+//! commas between, the most bytes of a call, the call that fails (0 for none), and how many calls are interrupted before each one that
+//! is not. Where a call of the session would wait for the first time, the acts are run, each one word as a line of a script has it. The
+//! program prints what was written, in hexadecimal, how the session ended, what its streams were asked, and the receipts of its seat.
+//! `tests/sessions.py`, at the top of the repository, compares it with a model of its own.
+#![tactic(auto)]
+
+mod ended;
+mod job;
+mod shown;
+mod trial;
+
+use ended::Ended;
+use job::job_of;
+use std::io;
+use std::io::{ErrorKind, Read, Write};
+use std::process::ExitCode;
+use std::sync::Wait;
+use trial::tried;
+
+/// The words of the command line.
+fn words_of(rt: &HostRuntime) -> Result<Vec<String>, Ended> {
+    match std::env::args(rt) {
+        Ok(words) => Ok(words.collect(rt.alloc())?),
+        Err(error) if error.kind() == ErrorKind::InvalidData => Err(Ended::Usage),
+        Err(_) => Err(Ended::NoMemory),
+    }
+}
+
+/// Reads all that there is.
+fn read_input(rt: &HostRuntime) -> Result<Vec<u8>, Ended> {
+    let mut input = Vec::new(rt.alloc());
+    match rt.reader().read_to_end(&mut input) {
+        Ok(_) => Ok(input),
+        Err(error) if error.kind() == ErrorKind::OutOfMemory => Err(Ended::NoMemory),
+        Err(_) => Err(Ended::CannotRead),
+    }
+}
+
+/// Serves the session on standard input, and prints what came of it.
+fn run<R: Wait>(rt: &HostRuntime, waiting: &R) -> Result<(), Ended> {
+    let words = words_of(rt)?;
+    let job = job_of(rt.alloc(), words.as_slice())?;
+    let input = read_input(rt)?;
+    let lines = tried(waiting, rt.alloc(), job, input)?;
+    let mut out = io::writer(rt);
+    if out.write_all(lines.as_slice()).is_err() || out.flush().is_err() {
+        return Err(Ended::CannotWrite);
+    }
+    Ok(())
+}
+
+fn main(rt: HostRuntime) -> ExitCode {
+    match run(&rt, &rt) {
+        Ok(()) => ExitCode::SUCCESS,
+        Err(ended) => {
+            let _ = eprint!(rt; "{ended}");
+            ExitCode::from(ended.status())
+        }
+    }
+}

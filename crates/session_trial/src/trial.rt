@@ -1,0 +1,75 @@
+//! One session over memory.
+use crate::ended::Ended;
+use crate::job::Job;
+use crate::shown::{put_log, put_number, put_word, put_written};
+use record_book::book::Book;
+use record_book::seat::SpentSeat;
+use script_text::lines::{write_record, write_totals};
+use session_core::end::End;
+use session_core::memory::{MemoryReader, MemoryWriter};
+use session_core::serve::{Served, serve};
+use std::alloc::{AllocError, Global};
+use std::sync::Wait;
+use system_lock::one_book::OneBook;
+
+/// Appends the line of an end.
+fn put_end(out: &mut Vec<u8>, end: End) -> Result<(), AllocError> {
+    match end {
+        End::Closed => put_word(out, b"end Closed\n"),
+        End::ReadFault => put_word(out, b"end ReadFault\n"),
+        End::WriteFault { sent } => put_number(out, b"end WriteFault ", sent),
+        End::Malformed => put_word(out, b"end Malformed\n"),
+        End::RunFull => put_word(out, b"end RunFull\n"),
+        End::NoMemory => put_word(out, b"end NoMemory\n"),
+        End::Foreign => put_word(out, b"end Foreign\n"),
+    }
+}
+
+/// Appends the lines of a seat's receipts.
+fn put_seat(out: &mut Vec<u8>, seat: &Option<SpentSeat>) -> Result<(), AllocError> {
+    match seat {
+        Some(seat) => {
+            for receipt in seat.receipts() {
+                write_record(out, receipt.place(), receipt.record())?;
+            }
+            Ok(())
+        }
+        None => put_word(out, b"no seat\n"),
+    }
+}
+
+/// Appends the lines of a session that is over.
+fn put_served(
+    out: &mut Vec<u8>,
+    served: &Served<MemoryReader, MemoryWriter>,
+) -> Result<(), AllocError> {
+    put_written(out, served.writer.bytes())?;
+    put_end(out, served.end)?;
+    put_number(out, b"answers ", served.answers.len() as u64)?;
+    put_log(out, b"reads ", &served.reads)?;
+    put_log(out, b"writes ", &served.writes)?;
+    put_seat(out, &served.seat)
+}
+
+/// The lines of what comes of a session.
+pub(crate) fn tried<Rt: Wait>(
+    rt: &Rt,
+    alloc: Global,
+    job: Job,
+    input: Vec<u8>,
+) -> Result<Vec<u8>, Ended> {
+    let kernel = OneBook::new(alloc, Book::new(alloc, job.limits)?, job.acts);
+    let reader = MemoryReader::new(input, job.reads);
+    let writer = MemoryWriter::new(alloc, job.writes);
+    let served = serve(rt, alloc, reader, writer, &kernel);
+    let counts = kernel.counts(rt);
+    let mut lines = Vec::new(alloc);
+    put_served(&mut lines, &served)?;
+    write_totals(
+        &mut lines,
+        counts.records,
+        counts.bytes_in,
+        counts.bytes_out,
+    )?;
+    Ok(lines)
+}

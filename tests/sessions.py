@@ -1,0 +1,639 @@
+#!/usr/bin/env python3
+"""Serves sessions by the built trial and by a model of its own, and compares them.
+
+usage: tests/sessions.py [--trial PATH] [--seed WORD] [--sessions N]
+
+The trial is crates/session_trial/out/session_trial where no PATH is given. A session is the bytes that
+a client sends, how many records its run may have, how its reader and its writer answer, and the acts
+of other processes that take place where a call of the session first waits. The trial is run
+
+  - on sessions that are written out here byte by byte, with what each of them has to give,
+  - on these and on one with every call, in pieces of each size, with each read and each write failing,
+    and with interruptions,
+  - on frames of the greatest lengths, and as often as a session may read,
+  - with each of its allocations refused in turn: then the answers are right so far, or the end says
+    why, and the exit is recorded all the same,
+  - on N sessions (3,000 where no number is given) of random requests, some of them damaged. Session K
+    of a seed is the same each time.
+
+What it must print is what the model gives, which knows docs/FORMATS.md, and the calls by `plain_model`.
+
+A failure is told in one line. The last line is `N passed, M failed`, and the exit status is 1 where
+M is above 0.
+"""
+
+import argparse
+import collections
+import os
+import random
+import subprocess
+import sys
+import tempfile
+
+# the modules are imported from this folder, which is to stay as it is
+sys.dont_write_bytecode = True
+
+import allocations
+import frames
+import plain_model
+
+TOP = os.path.dirname(os.path.dirname(os.path.abspath(__file__)))
+TRIAL = os.path.join(TOP, "crates", "session_trial", "out", "session_trial")
+SECONDS = 60
+TELL_MOST = 10
+
+READS_MAX = 1_048_576
+INTERRUPTIONS_MAX = 16
+PIECE_MOST = 65_536
+GATHERED_MOST = 65_536
+
+# how a stream answers: the most bytes of a call, the call that fails (0 for none), and how many are interrupted before each other one
+Manner = collections.namedtuple("Manner", "most fails_at interruptions", defaults=(2**32, 0, 0))
+PLAIN = Manner()
+
+
+# ---- the streams of a session
+
+
+class Calls:
+    """The calls on a stream: how many there were, how many of the last ones were interrupted, and whether one failed."""
+
+    def __init__(self, manner):
+        self.manner = manner
+        self.calls = self.interruptions = 0
+        self.failed = False
+
+    def is_broken(self):
+        return self.failed or self.interruptions >= INTERRUPTIONS_MAX
+
+    def call(self, use):
+        """One call: what `use` gives, or nothing where the call is interrupted or fails."""
+        self.calls += 1
+        if self.calls == self.manner.fails_at:
+            self.failed, self.interruptions = True, 0
+        elif self.calls % (self.manner.interruptions + 1):
+            self.interruptions += 1
+        else:
+            self.interruptions = 0
+            return use()
+        return None
+
+    def line(self, word):
+        return f"{word} {self.calls} {self.interruptions} {'failed' if self.failed else 'whole'}"
+
+
+class Reader(Calls):
+    """What a session reads."""
+
+    def __init__(self, text, manner):
+        super().__init__(manner)
+        self.text = text
+        self.at = 0
+
+    def give(self):
+        piece = self.text[self.at : self.at + min(max(self.manner.most, 1), PIECE_MOST)]
+        self.at += len(piece)
+        return piece
+
+    def piece(self):
+        """The next piece, none at the end, or why nothing is read any more."""
+        while self.calls < READS_MAX and not self.is_broken():
+            piece = self.call(self.give)
+            if piece is not None:
+                return piece
+        return "ReadFault"
+
+
+class Writer(Calls):
+    """What a session writes."""
+
+    def __init__(self, manner):
+        super().__init__(manner)
+        self.text = b""
+
+    def write(self, some):
+        """Writes all bytes, if the writer takes them."""
+        while some and not self.is_broken():
+            taken = self.call(lambda: some[: self.manner.most])
+            if taken == b"":
+                self.failed = True
+            elif taken:
+                self.text += taken
+                some = some[len(taken) :]
+        return not some
+
+
+# ---- a session
+
+
+class Over(Exception):
+    """The session is over, and this is its end."""
+
+
+def outcome_bytes(text):
+    """An outcome, as frames have it."""
+    word, *others = text.split(" ")
+    if word == "ok":
+        return b"\x01"
+    if word == "error":
+        return bytes([6, frames.ERRORS.index(others[0]) + 1])
+    if word in ("parked", "part"):
+        return bytes([7 if word == "parked" else 8]) + frames.u32(int(others[0]))
+    if word in ("regular", "fifo", "pipe"):
+        return bytes([5, ("regular", "fifo", "pipe").index(word)]) + frames.u64(int(others[0])) + frames.u32(int(others[1]))
+    if others:
+        return b"\x04" + frames.u32(int(word)) + frames.u32(int(others[0]))
+    if word.isdigit():
+        return b"\x02" + frames.u64(int(word))
+    return b"\x03" + frames.counted(plain_model.read_data(word.encode()))
+
+
+class Session:
+    """One session, served by the model."""
+
+    def __init__(self, text, records=10_000, reads=PLAIN, writes=PLAIN, meanwhile=()):
+        self.text = text
+        self.meanwhile = list(meanwhile)
+        self.words = [str(records), *(",".join(map(str, manner)) for manner in (reads, writes)), *meanwhile]
+        self.reader, self.writer = Reader(text, reads), Writer(writes)
+        self.run = plain_model.Run(records)
+        self.process = None
+        self.is_spent = False
+        self.pending = b""
+        self.answers = 0
+        self.receipts = []
+
+    def wanted(self):
+        """What the trial must print."""
+        end = self.end()
+        lines = [
+            f"written {self.writer.text.hex()}",
+            f"end {end}",
+            f"answers {self.answers}",
+            self.reader.line("reads"),
+            self.writer.line("writes"),
+            *(self.receipts or ["no seat"]),
+            f"records {self.run.records} in {self.run.world.bytes_in} out {self.run.world.bytes_out}",
+        ]
+        return "".join(f"{line}\n" for line in lines).encode()
+
+    def end(self):
+        """Serves the session to its end."""
+        try:
+            self.read()
+        except Over as over:
+            end = over.args[0]
+        if end != "WriteFault" and not self.send():
+            end = "WriteFault"
+        if self.process is not None and not self.is_spent:
+            self.hang_up()
+        return f"WriteFault {len(self.writer.text)}" if end == "WriteFault" else end
+
+    def read(self):
+        """Takes the requests of each piece, and writes their answers."""
+        seen = b""
+        while True:
+            piece = self.reader.piece()
+            if isinstance(piece, str):
+                raise Over(piece)
+            if not piece:
+                raise Over("Closed")
+            seen += piece
+            stream = frames.Stream("requests", seen)
+            for _, line in stream.frames:
+                if len(self.pending) >= GATHERED_MOST:
+                    self.flush()
+                self.take(line)
+            self.flush()
+            if stream.fault:
+                raise Over("Malformed")
+            seen = seen[stream.whole :]
+
+    def send(self):
+        some, self.pending = self.pending, b""
+        return self.writer.write(some)
+
+    def flush(self):
+        if not self.send():
+            raise Over("WriteFault")
+
+    def take(self, line):
+        """Takes up a request, which is told as its line."""
+        if (self.process is None) != (line == "join" or line.endswith(" attach = still")):
+            raise Over("Malformed")
+        if self.process is not None:
+            self.call(line)
+        elif line == "join":
+            self.open(plain_model.Act(None, "join", ()))
+        else:
+            self.open(plain_model.Act(int(line.split(" ")[1][1:]), "attach", ()))
+
+    def open(self, act):
+        place, outcome = self.act(act)
+        if place is None:
+            raise Over("RunFull")
+        self.process = int(self.receipts[0].split(" ")[1][1:])
+        if outcome.startswith("error "):
+            self.is_spent = True
+            raise Over("Closed")
+
+    def call(self, line):
+        act = plain_model.read_act(line[len("- ") : -len(" = still")].encode("latin-1"))
+        outcome = self.act(act._replace(actor=self.process))[1]
+        while outcome.startswith(("parked ", "part ")):
+            self.flush()
+            outcome = self.finish()
+
+    def finish(self):
+        """Takes up the call that waits."""
+        resume = plain_model.Act(self.process, "resume", ())
+        place, outcome = self.act(resume)
+        if outcome == "still":
+            self.run_others()
+            place, outcome = self.act(resume)
+        if outcome == "still":
+            self.hang_up()
+            raise Over("Closed")
+        if place is None:
+            self.hang_up()
+            raise Over("RunFull")
+        return outcome
+
+    def act(self, act):
+        """Lets an act take place and answers it: its place, if it is recorded, and what came of it."""
+        self.run.take(act)
+        line = self.run.lines[-1].rstrip("\n")
+        outcome = line.rpartition(" = ")[2]
+        if not line.startswith("- "):
+            place = int(line.split(" ")[0])
+            self.receipts.append(line)
+            self.answer(b"\x01" + frames.u64(place) + outcome_bytes(outcome))
+            return place, outcome
+        if outcome.startswith("refused "):
+            refused = {word: byte for byte, word in frames.REFUSALS.items()}
+            self.answer(bytes([2, refused[outcome.split(" ")[1]]]))
+        return None, outcome
+
+    def answer(self, payload):
+        self.pending += frames.framed(payload)
+        self.answers += 1
+
+    def hang_up(self):
+        self.is_spent = True
+        self.run.end(self.run.world.processes[self.process])
+        self.receipts.append(self.run.lines[-1].rstrip("\n"))
+
+    def run_others(self):
+        """Runs the acts that stand ready, each of a process that they have opened themselves."""
+        acts, self.meanwhile = self.meanwhile, []
+        own = set()
+        for act in (plain_model.read_act(line.encode()) for line in acts):
+            if act.word in ("join", "attach"):
+                number = self.run.world.next_number if act.word == "join" else act.actor
+                self.run.take(act)
+                if not self.run.lines[-1].startswith("- ") and " = error " not in self.run.lines[-1]:
+                    own.add(number)
+            elif act.word == "close-run" or act.actor in own:
+                self.run.take(act)
+                if act.word == "exit":
+                    own.discard(act.actor)
+
+
+# ---- comparing
+
+
+def ran(trial, session):
+    done = subprocess.run([trial, *session.words], input=session.text, stdout=subprocess.PIPE, stderr=subprocess.PIPE, timeout=SECONDS, check=False)
+    return done.returncode, done.stdout, done.stderr
+
+
+def compare(wanted, given):
+    if given != (0, wanted, b""):
+        if given[0] != 0 or given[2]:
+            raise frames.Failure(f"status {given[0]}, {given[2][:200]!r}")
+        raise frames.Failure(allocations.difference(wanted.split(b"\n"), given[1].split(b"\n")))
+
+
+def check(trial, *session, **more):
+    """Serves a session by the trial and by the model."""
+    session = Session(*session, **more)
+    compare(session.wanted(), ran(trial, session))
+
+
+# ---- sessions that are written out
+
+
+OPENED = "00000012 01 0000000000000000 02 0000000000000000"
+PIPED = "00000012 01 0000000000000001 04 00000000 00000001"
+FORKED = "00000012 01 0000000000000002 02 0000000000000001"
+WAITED = "0000000e 01 0000000000000003 07 00000000"
+GOT = "00000013 01 0000000000000006 03 00000005 68656c6c6f"
+
+JOIN_PIPE = "00000001 01 00000001 1a 0000"
+JOIN_PIPE_FORK_READ = "00000001 01 00000001 1a 00000001 1f 00000009 12 00000000 00000005"
+JOIN_PIPE_READ = "00000001 01 00000001 1a 00000009 12 00000000 00000005"
+WRITER = ("p1 attach", "p1 write 1 x68656c6c6f")
+
+# what it is, what is sent, what takes place meanwhile, and of what comes of it: what is written, the end, how many records, and the last receipt
+WRITTEN_OUT = [
+    ("a pipe, and half a request", JOIN_PIPE, (), [OPENED, PIPED], "Closed", 3, "2 p0 exit = ok"),
+    ("a read that waits for a child's write", JOIN_PIPE_FORK_READ, WRITER, [OPENED, PIPED, FORKED, WAITED, GOT], "Closed", 8, "7 p0 exit = ok"),
+    ("a read that waits for nobody", JOIN_PIPE_READ, (), [OPENED, PIPED, "0000000e 01 0000000000000002 07 00000000"], "Closed", 4, "3 p0 exit = ok"),
+    ("nothing", "", (), [], "Closed", 0, "no seat"),
+    ("half a length", "0000", (), [], "Closed", 0, "no seat"),
+    ("a call before an opening", "00000001 1a", (), [], "Malformed", 0, "no seat"),
+    ("a second join", "00000001 01 00000001 01", (), [OPENED], "Malformed", 2, "1 p0 exit = ok"),
+    ("an attach of nobody", "00000005 02 00000009 00000001 1a", (), ["0000000b 01 0000000000000000 06 10"], "Closed", 1, "0 p9 attach = error ESRCH"),
+    ("an empty payload", "00000001 01 00000000", (), [OPENED], "Malformed", 2, "1 p0 exit = ok"),
+    ("a length of 65,793", "00000001 01 00010101", (), [OPENED], "Malformed", 2, "1 p0 exit = ok"),
+    ("flags of 127", "00000001 01 00000004 10 7f 01 61", (), [OPENED, "00000012 01 0000000000000001 02 0000000000000000"], "Closed", 3, "2 p0 exit = ok"),
+    ("flags of 128", "00000001 01 00000004 10 80 01 61", (), [OPENED], "Malformed", 2, "1 p0 exit = ok"),
+]
+
+
+def written_as_told(trial, text, meanwhile, written, end, records, last, **more):
+    """What the trial prints is what is written out, and what the model gives."""
+    session = Session(bytes.fromhex(text), meanwhile=meanwhile, **more)
+    given = ran(trial, session)
+    compare(session.wanted(), given)
+    lines = given[1].decode().splitlines()
+    told = (lines[0], lines[1], lines[-1].split(" ")[1], lines[-2])
+    wanted = (f"written {''.join(written).replace(' ', '')}", f"end {end}", str(records), last)
+    if told != wanted:
+        raise frames.Failure(f"wanted {wanted}, given {told}")
+
+
+def written_out(trial):
+    for what, text, meanwhile, written, end, records, last in WRITTEN_OUT:
+        yield what, lambda row=(text, meanwhile, written, end, records, last): written_as_told(trial, *row)
+    # two answers of 22 bytes each, by one byte a call
+    both = "".join([OPENED, PIPED]).replace(" ", "")
+    for fails_at in range(1, 14):
+        told = 0 if fails_at < 6 else 22 if fails_at < 11 else 44
+        records = {0: 0, 22: 2, 44: 3}[told]
+        last = f"{records - 1} p0 exit = ok" if records else "no seat"
+        row = (JOIN_PIPE, (), [both[: 2 * told]], "ReadFault", records, last)
+        yield f"a fault at read {fails_at}", lambda row=row, at=fails_at: written_as_told(trial, *row, reads=Manner(1, at))
+    for fails_at in range(1, 45):
+        records = 2 if fails_at <= 22 else 3
+        row = (JOIN_PIPE, (), [both[: 2 * fails_at - 2]], f"WriteFault {fails_at - 1}", records, f"{records - 1} p0 exit = ok")
+        yield f"a fault at write {fails_at}", lambda row=row, at=fails_at: written_as_told(trial, *row, reads=Manner(1), writes=Manner(1, at))
+    row = (JOIN_PIPE, (), [both[:60]], "WriteFault 30", 3, "2 p0 exit = ok")
+    yield "a writer that takes 30 bytes and fails", lambda row=row: written_as_told(trial, *row, writes=Manner(30, 2))
+
+
+# ---- streams that are cut, that fail and that are interrupted
+
+
+def every_call():
+    """A session with every call in it, and a few more."""
+    lines = """p0 open a rw,creat|p0 write 0 x68656c6c6f|p0 lseek 0 1 set|p0 read 0 2|p0 pwrite 0 3 x21|p0 pread 0 0 9|p0 ftruncate 0 2
+        |p0 fstat 0|p0 dup 0|p0 dup2 0 5|p0 close 5|p0 link a b|p0 unlink a|p0 mkfifo f|p0 open f rw|p0 open f r,nonblock|p0 pipe|p0 fork|p0 write 4 61*2000
+        |p0 read 3 9|p0 close 9"""
+    return session_text(line.strip() for line in lines.split("|"))
+
+
+EVERY_CALL_MEANWHILE = ("p1 attach", "p1 read 3 700", "p1 read 3 1024", "p1 close 0", "p1 exit")
+
+
+def field_bytes(reader, value):
+    """A field of a call, as frames have it."""
+    if reader is frames.flags:
+        mode, *others = value.split(",")
+        words = ["creat", "excl", "trunc", "append", "nonblock"]
+        return bytes([{"r": 1, "w": 2, "rw": 3, "-": 0}[mode] + sum(4 << words.index(word) for word in others)])
+    if reader is frames.name:
+        return frames.named(value)
+    if reader is frames.data:
+        return frames.counted(value)
+    if reader is frames.whence:
+        return bytes([("set", "cur", "end").index(value)])
+    return frames.u64(value) if reader is frames.place else frames.u32(value)
+
+
+def call_text(line):
+    """The frame of a call that a line of a script spells."""
+    act = plain_model.read_act(line.encode())
+    byte = next(byte for byte, (word, *_) in frames.CALLS.items() if word == act.word)
+    fields = act.fields[::-1] if act.word == "open" else act.fields
+    return frames.framed(bytes([byte]) + b"".join(field_bytes(reader, value) for reader, value in zip(frames.CALLS[byte][1:], fields)))
+
+
+def session_text(lines):
+    """The requests of a session that joins and makes these calls."""
+    return frames.framed(b"\x01") + b"".join(call_text(line) for line in lines)
+
+
+def long_ones():
+    """The sessions that are cut, that fail and that are interrupted."""
+    yield "a read that waits", bytes.fromhex(JOIN_PIPE_FORK_READ), WRITER
+    yield "every call", every_call(), EVERY_CALL_MEANWHILE
+
+
+def troubled(trial):
+    for what, text, meanwhile in long_ones():
+        for most in range(1, len(text) + 1):
+            yield f"{what}, in pieces of {most}", lambda t=text, m=meanwhile, n=most: check(trial, t, meanwhile=m, reads=Manner(n), writes=Manner(n))
+        for most in (1, 7, 2**20):
+            session = Session(text, meanwhile=meanwhile, reads=Manner(most), writes=Manner(most))
+            session.wanted()
+            for at in range(1, session.reader.calls + 2):
+                yield f"{what}, read {at} by {most} fails", lambda t=text, m=meanwhile, n=most, at=at: check(trial, t, meanwhile=m, reads=Manner(n, at))
+            for at in range(1, session.writer.calls + 2):
+                yield f"{what}, write {at} by {most} fails", lambda t=text, m=meanwhile, n=most, at=at: check(trial, t, meanwhile=m, reads=Manner(n), writes=Manner(n, at))
+                yield f"{what}, read at once, write {at} by {most} fails", lambda t=text, m=meanwhile, n=most, at=at: check(trial, t, meanwhile=m, writes=Manner(n, at))
+        for reads, writes in ((15, 0), (0, 15), (15, 15), (16, 0), (0, 16), (17, 1), (1, 40)):
+            manners = {"reads": Manner(9, 0, reads), "writes": Manner(11, 0, writes)}
+            yield f"{what}, {reads} and {writes} interruptions", lambda t=text, m=meanwhile, manners=manners: check(trial, t, meanwhile=m, **manners)
+        yield f"{what}, a writer that takes no byte", lambda t=text, m=meanwhile: check(trial, t, meanwhile=m, writes=Manner(0))
+        for records in range(1, 40):
+            yield f"{what}, in {records} records", lambda t=text, m=meanwhile, n=records: check(trial, t, n, meanwhile=m)
+            yield f"{what}, in {records} records, by one byte", lambda t=text, m=meanwhile, n=records: check(trial, t, n, meanwhile=m, reads=Manner(1), writes=Manner(1))
+
+
+# ---- much
+
+
+def much(trial):
+    long_write = "p0 write 0 " + plain_model.data_text(bytes(range(250)) * 262)
+    read_back = ["p0 open a rw,creat", long_write, "p0 lseek 0 0 set", *["p0 pread 0 0 65536"] * 5]
+    too_much = frames.framed(b"\x13" + frames.u32(1) + frames.counted(bytes(65_701)))
+    texts = [
+        ("long writes and reads", session_text(read_back)),
+        ("many calls", session_text(["p0 pipe", *["p0 fstat 0"] * 3_000])),
+        ("a payload of 65,792 bytes", frames.framed(b"\x01", bytes([19]) + bytes(65_791), b"\x1a")),
+        ("a payload of 65,793 bytes", frames.framed(b"\x01", bytes([19]) + bytes(65_792), b"\x1a")),
+        ("a write of a byte too many", frames.framed(b"\x01") + too_much),
+    ]
+    for what, text in texts:
+        for reads, writes in ((PLAIN, PLAIN), (Manner(1_000), Manner(999)), (Manner(65_535), Manner(7_777)), (PLAIN, Manner(50_000, 3))):
+            yield f"{what}, {reads.most} {writes.most}", lambda t=text, r=reads, w=writes: check(trial, t, reads=r, writes=w)
+    for length in (READS_MAX - 1, READS_MAX):
+        yield f"{length} bytes, one a read", lambda n=length: often_read(trial, n)
+
+
+def often_read(trial, length):
+    """A join, and the begin of a frame that goes on for ever, by one byte a read."""
+    text = (frames.framed(b"\x01") + session_text(["p0 fstat 9"] * (length // 9))[5:])[:length]
+    session = Session(text, records=1_000_000, reads=Manner(1), writes=Manner(2**20))
+    given = ran(trial, session)
+    lines = given[1].decode().splitlines()
+    calls = (length - 5) // 9
+    end, reads = ("Closed", length + 1) if length < READS_MAX else ("ReadFault", READS_MAX)
+    wanted = [f"end {end}", f"answers {calls + 1}", f"reads {reads} 0 whole", f"writes {calls + 1} 0 whole"]
+    if given[0] != 0 or lines[1:5] != wanted or lines[-1] != f"records {calls + 2} in 0 out 0":
+        raise frames.Failure(f"wanted {wanted}, given {lines[1:5]} {lines[-1]}")
+
+
+# ---- want of memory
+
+
+def refusals(refuser, trial):
+    for what, text, meanwhile in long_ones():
+        for most in (2**20, 13):
+            manner = Manner(most)
+            session = Session(text, meanwhile=meanwhile, reads=manner, writes=manner)
+            # an act of the others may be refused too
+            fewer = [meanwhile[:at] + meanwhile[at + 1 :] for at in range(len(meanwhile))]
+            others = [Session(text, meanwhile=acts, reads=manner, writes=manner).wanted() for acts in fewer]
+            yield f"{what}, by {most}, each allocation refused", lambda s=session, o=others: sweep(refuser, trial, s, o)
+
+
+class Lines:
+    """What the trial printed, by its words."""
+
+    def __init__(self, stdout):
+        lines = stdout.decode().splitlines()
+        self.written = bytes.fromhex(lines[0][len("written ") :])
+        self.end = lines[1][len("end ") :]
+        self.receipts = [line for line in lines[5:-1] if line != "no seat"]
+        self.records = int(lines[-1].split(" ")[1])
+
+
+def sweep(refuser, trial, session, others):
+    """Refuses each allocation of a run in turn."""
+    wanted = session.wanted()
+    words = [trial, *session.words]
+    whole = refuser.run(words, session.text)
+    if whole[:3] != (0, wanted, b"") or whole.count == 0:
+        raise frames.Failure(f"nothing refused: {whole.said()}")
+    right = Lines(wanted)
+    ends = collections.Counter()
+    for number in range(1, whole.count + 1):
+        for last in (number, allocations.NEVER):
+            end = refuser.run(words, session.text, number, last)
+            if end[:3] == allocations.NO_MEMORY:
+                ends["none"] += 1
+            elif end[0] != 0 or end[2]:
+                raise frames.Failure(f"allocation {number} refused: {end.said()}")
+            elif end.stdout in others:
+                ends["others"] += 1
+            else:
+                ends[judged(right, Lines(end.stdout), number)] += 1
+    for end in ("NoMemory", "Closed"):
+        if not ends[end]:
+            raise frames.Failure(f"no session ended as {end}")
+
+
+def judged(right, given, number):
+    """The end of a session to which an allocation was refused: it is as it would have been, or its end says why, and the exit is recorded."""
+    no_memory = frames.framed(b"\x02\x11")
+    if given.receipts and not given.receipts[-1].endswith(" exit = ok"):
+        raise frames.Failure(f"allocation {number} refused: no exit after {given.receipts[-1]}")
+    if given.end == right.end and given.written == right.written and given.receipts == right.receipts:
+        return given.end
+    if given.end == "NoMemory" or given.end.startswith("WriteFault "):
+        so_far = given.written[: -len(no_memory)] if given.written.endswith(no_memory) else given.written
+        if not right.written.startswith(so_far):
+            raise frames.Failure(f"allocation {number} refused: {given.end} after {given.written.hex()}")
+        return given.end.split(" ")[0]
+    # a call was refused, and the session went on
+    if no_memory not in given.written:
+        raise frames.Failure(f"allocation {number} refused: {given.end}, and nothing was refused")
+    return given.end
+
+
+# ---- random sessions
+
+
+CALLS = [
+    "open {n} {f}", "close {d}", "read {d} {c}", "write {d} {x}", "pread {d} {p} {c}", "pwrite {d} {p} {x}", "lseek {d} {p} {w}", "ftruncate {d} {p}",
+    "dup {d}", "dup2 {d} {d}", "pipe", "pipe", "mkfifo {n}", "link {n} {n}", "unlink {n}", "fstat {d}", "fork", "read {d} {c}", "write {d} {x}", "open {n} {f}",
+]  # fmt: skip
+
+OTHERS = ["read {d} {c}", "write {d} {x}", "close {d}", "resume", "open {n} {f}", "exit", "fork", "fstat {d}"]
+
+
+def filled(pick, call):
+    """A call with its fields."""
+    makers = {
+        "n": lambda: pick.choice(["a", "b", "f", "g", "%", "a%2f", "n" * 65]),
+        "f": lambda: pick.choice(["r", "w", "rw", "-"]) + "".join(f",{word}" for word in ("creat", "excl", "trunc", "append", "nonblock") if pick.random() < 0.3),
+        "d": lambda: str(pick.choice([0, 0, 1, 1, 2, 3, 4, 5, -1, 31, 32])),
+        "c": lambda: str(pick.choice([0, 1, 5, 100, 1_024, 65_536, 65_537])),
+        "x": lambda: pick.choice(["x", "x6162", "x68656c6c6f", "61*100", "62*512", "63*600", "64*1024", "65*2000"]),
+        "p": lambda: str(pick.choice([0, 1, 3, 10, -1, 1_048_575, 1_048_576, 2**63 - 1])),
+        "w": lambda: pick.choice(["set", "cur", "end"]),
+    }
+    return " ".join(makers[word[1]]() if word.startswith("{") else word for word in call.split(" "))
+
+
+def random_session(pick):
+    """A session of random requests, and what takes place meanwhile."""
+    lines = [f"p0 {filled(pick, pick.choice(CALLS))}" for _ in range(pick.choice([0, 1, 3, 8, 20, 40]))]
+    if pick.random() < 0.6:
+        lines[0:0] = ["p0 pipe", "p0 fork"]
+    meanwhile = [f"p1 {filled(pick, pick.choice(OTHERS))}" for _ in range(pick.randrange(6))]
+    if pick.random() < 0.8:
+        meanwhile.insert(0, "p1 attach")
+    text = session_text(lines)
+    if pick.random() < 0.1:
+        text = frames.framed(b"\x02" + frames.u32(pick.choice([0, 1]))) + text[5:]
+    if pick.random() < 0.3:
+        text = frames.changed(pick, text)
+    return text, meanwhile
+
+
+def random_manner(pick):
+    return Manner(pick.choice([1, 2, 7, 64, 2**20, 2**20]), pick.choice([0, 0, 0, 0, 1, 2, 5, 20]), pick.choice([0, 0, 0, 0, 1, 15, 16]))
+
+
+def random_sessions(trial, seed, sessions):
+    for number in range(sessions):
+        pick = random.Random(f"{seed} {number}")
+        text, meanwhile = random_session(pick)
+        records = pick.choice([10_000, 10_000, 10_000, pick.randrange(1, 30)])
+        manners = {"reads": random_manner(pick), "writes": random_manner(pick)}
+        yield f"session {number} of seed {seed}", lambda t=text, n=records, m=meanwhile, manners=manners: check(trial, t, n, meanwhile=m, **manners)
+
+
+# ---- the whole
+
+
+def main(words):
+    parser = argparse.ArgumentParser(description="Serves sessions by the built trial and by a model of its own.")
+    parser.add_argument("--trial", default=TRIAL, help="the trial [default: crates/session_trial/out/session_trial]")
+    parser.add_argument("--seed", default="1", help="any word; 1 where none is given")
+    parser.add_argument("--sessions", type=int, default=3_000, help="how many are random; 3000 where no number is given")
+    args = parser.parse_args(words)
+    trial = os.path.abspath(args.trial)
+    if not os.path.exists(trial):
+        print(f"no trial at {trial}")
+        print("0 passed, 1 failed")
+        return 1
+    with tempfile.TemporaryDirectory() as folder:
+        refuser = allocations.Refuser(allocations.build(folder))
+        counts = [
+            frames.counted_cases("sessions that are written out", written_out(trial)),
+            frames.counted_cases("cut, failing and interrupted", troubled(trial)),
+            frames.counted_cases("much", much(trial)),
+            frames.counted_cases("each allocation refused", refusals(refuser, trial)),
+            frames.counted_cases("random sessions", random_sessions(trial, args.seed, args.sessions)),
+        ]
+    passed, failed = (sum(column) for column in zip(*counts))
+    print(f"{passed} passed, {failed} failed")
+    return 1 if failed else 0
+
+
+if __name__ == "__main__":
+    sys.exit(main(sys.argv[1:]))
