@@ -1,1 +1,2 @@
 pub mod KernelLaws
+pub mod OpeningLaws

@@ -3,6 +3,9 @@ use Rattle.std.specs.Prelude.{◌≡◌, ℕ, ◌≤◌, ◌⊎◌, Result, Ok, 
 use Rattle.call_types.specs.declared.act.Act.{Act}
 use Rattle.call_types.specs.declared.act.Act.TheVariants as act
 use Rattle.call_types.specs.declared.call.Call.{Call}
+use Rattle.call_types.specs.declared.outcome.Outcome.{Outcome}
+use Rattle.call_types.specs.declared.outcome.Outcome.TheVariants as outcome
+use Rattle.call_types.specs.declared.outcome.Reply.TheVariants as reply
 use Rattle.call_types.specs.declared.request.Request.{Request}
 use Rattle.call_types.specs.declared.request.Request.TheVariants as request
 use Rattle.call_types.specs.declared.refusal.Refusal.{Refusal}
@@ -44,16 +47,21 @@ OpensFor request.Join seat receipt = Opens seat.pid act.Join seat receipt
 OpensFor (request.Attach process) seat receipt = Opens process act.Attach seat receipt
 OpensFor (request.Call call) seat receipt = ⊥
 
+-- an outcome that is an error
+abbrev pub IsError : Outcome → Type 0
+IsError (outcome.Reply (reply.Error error)) = Unit {0}
+IsError other = ⊥
+
 -- a refusal for want of memory or of records
 abbrev pub IsWanting : Refusal → Type 0
 IsWanting refusal.NoMemory = Unit {0}
 IsWanting refusal.RunFull = Unit {0}
 IsWanting other = ⊥
 
--- an opening is recorded, with a seat or with the receipt of an error; or it is refused for want of memory or of records
+-- an opening is recorded, with a seat, or with the one receipt of an error; or it is refused for want of memory or of records
 abbrev pub OpensBy : Request → Result Opened Refusal → Type 0
 OpensBy request (Ok (opened.Seated seat)) = (receipt : Receipted) × OpensFor request seat receipt
-OpensBy request (Ok (opened.Refused seat)) = (receipt : Receipted) × OpensFor request seat receipt
+OpensBy request (Ok (opened.Refused seat)) = (receipt : Receipted) × OpensFor request seat receipt × IsError receipt.record_is.outcome
 OpensBy request (Err refusal) = IsWanting refusal
 
 -- a call is recorded, with its reply or as one that waits; or it is refused, and the seat stays as it is

@@ -41,7 +41,8 @@ pub enum Finished {
 pub trait Kernel {
     ghost use Rattle.system_lock.specs.Kernel.{IsOpening, OpensBy, CallsBy, FinishesBy, HangsUpBy};
 
-    /// Opens a process: by a join a new one, by an attach a child that is not attached yet. A `Refusal` is NoMemory or RunFull, and
+    /// Opens a process: by a join a new one, by an attach a child that is not attached yet. Where the record is an error there is no process, and the
+    /// spent seat has its one receipt. A `Refusal` is NoMemory or RunFull, and
     /// is not recorded. It waits for the lock alone.
     fn open<R: Wait>(&self, rt: &R, request: Request) -> Result<Opened, Refusal>
         requires { IsOpening request }
