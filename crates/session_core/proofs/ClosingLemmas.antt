@@ -26,7 +26,7 @@ use Rattle.session_core.specs.Answers.{answers_text, told_bytes, receipts_of, Is
 use Rattle.session_core.specs.Output.{OutputState, Holds, Broke, SendsAll, FailsToSend}
 use Rattle.session_core.specs.Streams.{LogState, SourceState}
 use Rattle.session_core.specs.Talk.{IsCut, IsUnopened, AreAnswered, Converses}
-use Rattle.session_core.specs.Served.{Begins, AreRequests, IsMisplaced, AnswersFirst, AnswersAll, AnswersToCut, HasExited, IsRefusedOpening, IsSeatOf, IsSeated, IsWritten, EndsFor, ComesTo}
+use Rattle.session_core.specs.Served.{Begins, AreRequests, IsMisplaced, AnswersFirst, AnswersAll, AnswersToCut, HasExited, HasUntold, IsRefusedOpening, IsSeatOf, IsSeated, IsWritten, EndsFor, ComesTo}
 use Rattle.session_core.specs.Turns.{IsTalking, IsOutOfPlace, HasReceipts, LeavesBy, EndedBy, IsUntoldOpening}
 use Rattle.session_core.specs.Pieces.{LeavesOff, IsAnswered}
 use Rattle.session_core.specs.Reading.{IsMet}
@@ -122,23 +122,23 @@ sends input base source old new seat cause wanted r (inr h) =
 
 -- ---- its process is hung up
 
-seat_exited : (wanted : End) (seat : SeatState) (answers : List Told) → IsOrdinary wanted → HasExited seat answers → IsSeatOf seat answers wanted
-seat_exited end.Closed seat answers o h = inl h
-seat_exited end.ReadFault seat answers o h = h
-seat_exited (end.WriteFault sent) seat answers o h = inl h
-seat_exited end.Malformed seat answers o h = h
-seat_exited end.RunFull seat answers o h = h
-seat_exited end.NoMemory seat answers o h = inl h
-seat_exited end.Foreign seat answers o h = absurd o
+seat_exited : (input : List ℕ) (wanted : End) (seat : SeatState) (answers : List Told) → IsOrdinary wanted → HasExited seat answers → IsSeatOf input seat answers wanted
+seat_exited input end.Closed seat answers o h = inl h
+seat_exited input end.ReadFault seat answers o h = h
+seat_exited input (end.WriteFault sent) seat answers o h = inl h
+seat_exited input end.Malformed seat answers o h = h
+seat_exited input end.RunFull seat answers o h = h
+seat_exited input end.NoMemory seat answers o h = inl h
+seat_exited input end.Foreign seat answers o h = absurd o
 
-no_seat : (wanted : End) (answers : List Told) → IsOrdinary wanted → receipts_of answers ≡ [] → IsSeated None answers wanted
-no_seat end.Closed answers o h = h
-no_seat end.ReadFault answers o h = h
-no_seat (end.WriteFault sent) answers o h = h
-no_seat end.Malformed answers o h = h
-no_seat end.RunFull answers o h = h
-no_seat end.NoMemory answers o h = h
-no_seat end.Foreign answers o h = absurd o
+no_seat : (input : List ℕ) (wanted : End) (answers : List Told) → IsOrdinary wanted → receipts_of answers ≡ [] → IsSeated input None answers wanted
+no_seat input end.Closed answers o h = h
+no_seat input end.ReadFault answers o h = h
+no_seat input (end.WriteFault sent) answers o h = h
+no_seat input end.Malformed answers o h = h
+no_seat input end.RunFull answers o h = h
+no_seat input end.NoMemory answers o h = h
+no_seat input end.Foreign answers o h = absurd o
 
 exited : (old spent : SeatState) (answers : List Told) → Exits old spent → old.receipts ≡ receipts_of answers → HasExited spent answers
 exited old spent answers h e = record { exit = h.0; receipts = h.1.receives.receipts ∙ ap (λ (l : List Receipted). l ++ h.0 ∷ []) e; act_is = h.1.act_is }
@@ -150,7 +150,7 @@ hung_up input base source o wanted found seat spent stands ordinary receipts (in
     subst (λ (e : End). ComesTo input base (session_of source o (record { seat = Some spent; end = e; last = None }))) (sym h.1) (record {
       talks = s.talks;
       written = s.written;
-      seated = seat_exited wanted spent o.answers ordinary (exited seat spent o.answers h.0 receipts);
+      seated = seat_exited input wanted spent o.answers ordinary (exited seat spent o.answers h.0 receipts);
       ends = s.ends;
     })
 hung_up input base source o wanted found seat spent stands ordinary receipts (inr h) =
@@ -172,7 +172,7 @@ left_so input base source o wanted stage.Opening seat found last stands ordinary
     (subst (λ (e : End). ComesTo input base (session_of source o (record { seat = None; end = e; last = None }))) (sym h.1) (record {
       talks = s.talks;
       written = s.written;
-      seated = no_seat wanted o.answers ordinary receipts;
+      seated = no_seat input wanted o.answers ordinary receipts;
       ends = s.ends;
     })))
 left_so input base source o wanted (stage.Ready seat) None found last stands ordinary receipts h none = absurd h
@@ -181,7 +181,7 @@ left_so input base source o wanted (stage.Ready seat) (Some spent) found last st
     (hung_up input base source o wanted found seat spent stands ordinary receipts h)
 
 -- a session whose seat is spent already
-spent_so : (input : List ℕ) (base : Option (List ℕ)) (source : SourceState) (o : OutputState) (spent : SeatState) (wanted : End) → Stands input base source o (Some spent) wanted → IsSeatOf spent o.answers wanted
+spent_so : (input : List ℕ) (base : Option (List ℕ)) (source : SourceState) (o : OutputState) (spent : SeatState) (wanted : End) → Stands input base source o (Some spent) wanted → IsSeatOf input spent o.answers wanted
     → ComesTo input base (session_of source o (record { seat = Some spent; end = wanted; last = None }))
 spent_so input base source o spent wanted s h = record { talks = s.talks; written = s.written; seated = h; ends = s.ends }
 
@@ -332,37 +332,48 @@ unwritten o at left h none base input source (inr k) met =
 pub first_none : (input : List ℕ) (requests : List Request) (answers : List Told) → Begins input requests → answers ≡ [] → AnswersFirst input answers
 first_none input requests answers begins none = record { requests = requests; begins = begins; converses = record { handled = []; later = requests; requests_are = refl; is = inl (inl (refl, none)) } }
 
-opening_hung_up : (base : Option (List ℕ)) (input : List ℕ) (source : SourceState) (o : OutputState) (requests : List Request) (seat spent : SeatState) (found : End) → Begins input requests → IsUntoldOpening base o seat.receipts → HangsUp seat end.NoMemory spent found
-    → ComesTo input base (session_of source o (record { seat = Some spent; end = found; last = None }))
-opening_hung_up base input source o requests seat spent found begins h (inl k) =
+-- the one receipt of an opening would be the first answer
+opening_told : (base : Option (List ℕ)) (input : List ℕ) (o : OutputState) (handled : List Request) (next : Request) (later : List Request) (receipts : List Receipted) (receipt : Receipted) → Begins input (handled ++ next ∷ later)
+    → IsUntoldOpening base (handled ++ next ∷ []) o receipts receipt → HasUntold input receipts o.answers
+opening_told base input o handled next later receipts receipt begins h = record {
+  untold = receipt;
+  receipts_are = h.one ∙ ap (λ (l : List Told). receipts_of l ++ receipt ∷ []) (sym h.answers);
+  talks = talks_at input handled next later (o.answers ++ told.Recorded receipt ∷ []) begins (subst (λ (l : List Told). Converses (handled ++ next ∷ []) (l ++ told.Recorded receipt ∷ [])) (sym h.answers) h.with_it);
+}
+
+opening_hung_up : (base : Option (List ℕ)) (input : List ℕ) (source : SourceState) (o : OutputState) (handled : List Request) (next : Request) (later : List Request) (seat spent : SeatState) (receipt : Receipted) (found : End) → Begins input (handled ++ next ∷ later)
+    → IsUntoldOpening base (handled ++ next ∷ []) o seat.receipts receipt → HangsUp seat end.NoMemory spent found → ComesTo input base (session_of source o (record { seat = Some spent; end = found; last = None }))
+opening_hung_up base input source o handled next later seat spent receipt found begins h (inl k) =
     subst (λ (e : End). ComesTo input base (session_of source o (record { seat = Some spent; end = e; last = None }))) (sym k.1) (record {
-      talks = first_none input requests o.answers begins h.answers;
+      talks = first_none input (handled ++ next ∷ later) o.answers begins h.answers;
       written = all_written base o h.holds h.unsent;
       seated = inr (inl (record {
-        untold = h.one.0;
+        before = seat.receipts;
         exit = k.0.0;
-        receipts = k.0.1.receives.receipts ∙ ap (λ (l : List Receipted). l ++ k.0.0 ∷ []) h.one.1 ∙ ap (λ (l : List Told). receipts_of l ++ h.one.0 ∷ k.0.0 ∷ []) (sym h.answers);
+        receipts = k.0.1.receives.receipts;
+        has_untold = opening_told base input o handled next later seat.receipts receipt begins h;
         act_is = k.0.1.act_is;
       }));
       ends = tt;
     })
-opening_hung_up base input source o requests seat spent found begins h (inr k) =
+opening_hung_up base input source o handled next later seat spent receipt found begins h (inr k) =
     subst (λ (e : End). ComesTo input base (session_of source o (record { seat = Some spent; end = e; last = None }))) (sym k.1) (record {
-      talks = first_none input requests o.answers begins h.answers;
+      talks = first_none input (handled ++ next ∷ later) o.answers begins h.answers;
       written = (o.sent, holds_front base o h.holds);
-      seated = inr (h.one.0, ap (λ (s : SeatState). s.receipts) k.0 ∙ h.one.1 ∙ ap (λ (l : List Told). receipts_of l ++ h.one.0 ∷ []) (sym h.answers));
+      seated = inr (subst (λ (x : SeatState). HasUntold input x.receipts o.answers) (sym k.0) (opening_told base input o handled next later seat.receipts receipt begins h));
       ends = tt;
     })
 
 pub opening_untold : (o : OutputState) (seat spent : SeatState) (found : End) → HangsUp seat end.NoMemory spent found → LeavesAll o o (over.OpeningUntold seat) (record { seat = Some spent; end = found; last = None })
-opening_untold o seat spent found h base input source (inl k) met = opening_hung_up base input source o (k.handled ++ k.next ∷ k.later) seat spent found k.begins k.is h
+opening_untold o seat spent found h base input source (inl k) met = opening_hung_up base input source o k.handled k.next k.later seat spent k.is.0 found k.begins k.is.1 h
 opening_untold o seat spent found h base input source (inr k) met = absurd k
 
 pub refusal_untold : (o : OutputState) (spent : SeatState) → LeavesAll o o (over.RefusalUntold spent) (record { seat = Some spent; end = end.NoMemory; last = None })
+unfolding opening_told
 refusal_untold o spent base input source (inl k) met = record {
-  talks = first_none input (k.handled ++ k.next ∷ k.later) o.answers k.begins k.is.answers;
-  written = all_written base o k.is.holds k.is.unsent;
-  seated = inr (inr (record { untold = k.is.one.0; receipts = k.is.one.1; answers_are = k.is.answers }));
+  talks = first_none input (k.handled ++ k.next ∷ k.later) o.answers k.begins k.is.1.answers;
+  written = all_written base o k.is.1.holds k.is.1.unsent;
+  seated = inr (inr (record { none = k.is.1.answers; has_untold = opening_told base input o k.handled k.next k.later spent.receipts k.is.0 k.begins k.is.1; is_error = k.is.2 }));
   ends = tt;
 }
 refusal_untold o spent base input source (inr k) met = absurd k
@@ -396,46 +407,46 @@ untold_failed old new seat spent receipt found fails h base input source (inl k)
     untold_unwritten base input source new (k.handled ++ k.next ∷ k.later) receipt seat spent found (subst (λ (l : List Told). AnswersFirst input (told_with l)) (sym fails.answers) talks) (fails.breaks base k.is.holds) receipts h
 untold_failed old new seat spent receipt found fails h base input source (inr k) met = absurd k
 
-untold_written : (base : Option (List ℕ)) (input : List ℕ) (source : SourceState) (o : OutputState) (receipt : Receipted) (seat spent : SeatState) (found : End) → AnswersFirst input o.answers → Holds base o → o.unsent ≡ [] → seat.receipts ≡ receipts_of o.answers ++ receipt ∷ []
+untold_written : (base : Option (List ℕ)) (input : List ℕ) (source : SourceState) (o : OutputState) (receipt : Receipted) (seat spent : SeatState) (found : End) → AnswersFirst input o.answers → Holds base o → o.unsent ≡ [] → HasUntold input seat.receipts o.answers
     → HangsUp seat end.NoMemory spent found → ComesTo input base (session_of source o (record { seat = Some spent; end = found; last = None }))
-untold_written base input source o receipt seat spent found talks holds all receipts (inl k) =
+untold_written base input source o receipt seat spent found talks holds all untold (inl k) =
     subst (λ (e : End). ComesTo input base (session_of source o (record { seat = Some spent; end = e; last = None }))) (sym k.1) (record {
       talks = talks;
       written = all_written base o holds all;
-      seated = inr (inl (record {
-        untold = receipt;
-        exit = k.0.0;
-        receipts = k.0.1.receives.receipts ∙ ap (λ (l : List Receipted). l ++ k.0.0 ∷ []) receipts ∙ append_assoc (receipts_of o.answers) (receipt ∷ []) (k.0.0 ∷ []);
-        act_is = k.0.1.act_is;
-      }));
+      seated = inr (inl (record { before = seat.receipts; exit = k.0.0; receipts = k.0.1.receives.receipts; has_untold = untold; act_is = k.0.1.act_is }));
       ends = tt;
     })
-untold_written base input source o receipt seat spent found talks holds all receipts (inr k) =
+untold_written base input source o receipt seat spent found talks holds all untold (inr k) =
     subst (λ (e : End). ComesTo input base (session_of source o (record { seat = Some spent; end = e; last = None }))) (sym k.1) (record {
       talks = talks;
       written = (o.sent, holds_front base o holds);
-      seated = inr (receipt, ap (λ (s : SeatState). s.receipts) k.0 ∙ receipts);
+      seated = inr (subst (λ (x : SeatState). HasUntold input x.receipts o.answers) (sym k.0) untold);
       ends = tt;
     })
 
 pub untold_sent : (old new : OutputState) (seat spent : SeatState) (receipt : Receipted) (found : End) → SendsAll old new → HangsUp seat end.NoMemory spent found → LeavesAll old new (over.Untold seat receipt) (record { seat = Some spent; end = found; last = None })
 untold_sent old new seat spent receipt found sent h base input source (inl k) met =
+    let untold : HasUntold input seat.receipts old.answers = record {
+      untold = receipt;
+      receipts_are = k.is.receipts_are;
+      talks = talks_at input k.handled k.next k.later (old.answers ++ told.Recorded receipt ∷ []) k.begins k.is.with_it;
+    } in
     untold_written base input source new receipt seat spent found
     (subst (AnswersFirst input) (sym sent.flushes.answers) (talks_at input k.handled k.next k.later old.answers k.begins k.is.without))
     (sent.flushes.holds base k.is.holds) sent.all
-    (k.is.receipts_are ∙ ap (λ (l : List Told). receipts_of l ++ receipt ∷ []) (sym sent.flushes.answers)) h
+    (subst (HasUntold input seat.receipts) (sym sent.flushes.answers) untold) h
 untold_sent old new seat spent receipt found sent h base input source (inr k) met = absurd k
 
 -- ---- the process has ended already
 
 -- a refused opening, and one whose process has exited, at the ends that they may have
-refused_seat : (old new : OutputState) (cause : Why) (wanted : End) (spent : SeatState) → cause ≡ why.Closed → SendsLast old new cause wanted → IsRefusedOpening spent new.answers → IsSeatOf spent new.answers wanted
-refused_seat old new cause wanted spent e (inl h) k = subst (IsSeatOf spent new.answers) (sym (h.1 ∙ ap end_of e)) (inr k)
-refused_seat old new cause wanted spent e (inr h) k = subst (IsSeatOf spent new.answers) (sym h.1) (inr k)
+refused_seat : (input : List ℕ) (old new : OutputState) (cause : Why) (wanted : End) (spent : SeatState) → cause ≡ why.Closed → SendsLast old new cause wanted → IsRefusedOpening spent new.answers → IsSeatOf input spent new.answers wanted
+refused_seat input old new cause wanted spent e (inl h) k = subst (IsSeatOf input spent new.answers) (sym (h.1 ∙ ap end_of e)) (inr k)
+refused_seat input old new cause wanted spent e (inr h) k = subst (IsSeatOf input spent new.answers) (sym h.1) (inr k)
 
-exited_seat : (old new : OutputState) (cause : Why) (wanted : End) (spent : SeatState) → SendsLast old new cause wanted → HasExited spent old.answers → IsSeatOf spent new.answers wanted
-exited_seat old new cause wanted spent sent h =
-    seat_exited wanted spent new.answers (ordinary_sent old new cause wanted sent) (subst (HasExited spent) (sym (answers_sent old new cause wanted sent)) h)
+exited_seat : (input : List ℕ) (old new : OutputState) (cause : Why) (wanted : End) (spent : SeatState) → SendsLast old new cause wanted → HasExited spent old.answers → IsSeatOf input spent new.answers wanted
+exited_seat input old new cause wanted spent sent h =
+    seat_exited input wanted spent new.answers (ordinary_sent old new cause wanted sent) (subst (HasExited spent) (sym (answers_sent old new cause wanted sent)) h)
 
 pub refused : (old new : OutputState) (spent : SeatState) (wanted : End) → SendsLast old new why.Closed wanted → LeavesAll old new (over.Refused spent) (record { seat = Some spent; end = wanted; last = None })
 refused old new spent wanted sent base input source (inl k) met =
@@ -445,7 +456,7 @@ refused old new spent wanted sent base input source (inl k) met =
       ends = λ (held : Option (List ℕ)) (writes : LogState). inr (inl (spent, refl, k.is.1));
     } in
     spent_so input base source new spent wanted (sends input base source old new (Some spent) why.Closed wanted rests sent)
-    (refused_seat old new why.Closed wanted spent refl sent (subst (IsRefusedOpening spent) (sym (answers_sent old new why.Closed wanted sent)) k.is.1))
+    (refused_seat input old new why.Closed wanted spent refl sent (subst (IsRefusedOpening spent) (sym (answers_sent old new why.Closed wanted sent)) k.is.1))
 refused old new spent wanted sent base input source (inr k) met = absurd k
 
 pub lost : (old new : OutputState) (spent : SeatState) (wanted : End) → SendsLast old new why.Closed wanted → LeavesAll old new (over.Lost spent) (record { seat = Some spent; end = wanted; last = None })
@@ -455,7 +466,7 @@ lost old new spent wanted sent base input source (inl k) met =
       talks = cut_at input k.handled k.next k.later old.answers None k.begins k.is.2;
       ends = λ (held : Option (List ℕ)) (writes : LogState). inr (inr (to_cut input k.handled k.next k.later old.answers None k.begins k.is.2));
     } in
-    spent_so input base source new spent wanted (sends input base source old new (Some spent) why.Closed wanted rests sent) (exited_seat old new why.Closed wanted spent sent k.is.1)
+    spent_so input base source new spent wanted (sends input base source old new (Some spent) why.Closed wanted rests sent) (exited_seat input old new why.Closed wanted spent sent k.is.1)
 lost old new spent wanted sent base input source (inr k) met = absurd k
 
 ended_rests : (input : List ℕ) (base : Option (List ℕ)) (source : SourceState) (o : OutputState) (seat : Option SeatState) (spent : SeatState) (cause : Why) (handled : List Request) (next : Request) (later : List Request) → Begins input (handled ++ next ∷ later)
@@ -485,7 +496,7 @@ pub ended : (old new : OutputState) (spent : SeatState) (cause : Why) (wanted : 
 ended old new spent cause wanted sent base input source (inl k) met =
     spent_so input base source new spent wanted
     (sends input base source old new (Some spent) cause wanted (ended_rests input base source old (Some spent) spent cause k.handled k.next k.later k.begins k.is) sent)
-    (exited_seat old new cause wanted spent sent (ended_exited base (k.handled ++ k.next ∷ []) old spent cause k.is))
+    (exited_seat input old new cause wanted spent sent (ended_exited base (k.handled ++ k.next ∷ []) old spent cause k.is))
 ended old new spent cause wanted sent base input source (inr k) met = absurd k
 
 pub foreign : (o : OutputState) (spent : SeatState) → LeavesAll o o (over.Foreign spent) (record { seat = Some spent; end = end.Foreign; last = None })

@@ -7,7 +7,7 @@ use Rattle.call_types.specs.declared.request.Request.{Request}
 use Rattle.call_types.specs.declared.request.Request.TheVariants as request
 use Rattle.record_book.specs.Seat.{Receipted, SeatState}
 use Rattle.record_book.specs.declared.opening.Opened.TheVariants as opened
-use Rattle.system_lock.specs.Kernel.{IsOpening, OpensFor, OpensBy}
+use Rattle.system_lock.specs.Kernel.{IsOpening, IsWanting, IsError, OpensFor, OpensBy}
 use Rattle.session_core.specs.declared.told.Told.{Told}
 use Rattle.session_core.specs.declared.told.Told.TheVariants as told
 use Rattle.session_core.specs.declared.stage.Stage.TheVariants as stage
@@ -16,33 +16,28 @@ use Rattle.session_core.specs.declared.stage.Over.TheVariants as over
 use Rattle.session_core.specs.declared.stage.Turn.TheVariants as turn
 use Rattle.session_core.specs.Answers.{answers_text, receipts_of}
 use Rattle.session_core.specs.Output.{OutputState, Holds, Puts}
-use Rattle.session_core.specs.Talk.{act_of, Talked, IsUnopened}
-use Rattle.session_core.specs.Turns.{IsOne, IsUntoldOpening, PutsFirst, WhyRefused, PutsGivenUp, TakesUp, LeavesBy}
+use Rattle.session_core.specs.Talk.{IsRecordOf, Talked, IsUnopened, Converses}
+use Rattle.session_core.specs.Turns.{IsUntoldOpening, PutsFirst, WhyRefused, PutsGivenUp, TakesUp, LeavesBy}
+use Rattle.session_core.proofs.WaitLemmas.{talked_converses, wanting}
 
 -- ---- openings
 
 -- the one receipt of a process that is opened
-first_of : (next : Request) (seat : SeatState) (receipt : Receipted) → OpensFor next seat receipt → (seat.receipts ≡ receipt ∷ []) × (receipt.record_is.act ≡ act_of next)
+first_of : (next : Request) (seat : SeatState) (receipt : Receipted) → OpensFor next seat receipt → (seat.receipts ≡ receipt ∷ []) × IsRecordOf next receipt
 first_of request.Join seat receipt h = (ap (λ (s : SeatState). s.receipts) h.seat_is, h.act_is)
-first_of (request.Attach process) seat receipt h = (ap (λ (s : SeatState). s.receipts) h.seat_is, h.act_is)
+first_of (request.Attach process) seat receipt h = (ap (λ (s : SeatState). s.receipts) h.seat_is, (h.act_is, h.actor_is))
 first_of (request.Call call) seat receipt h = absurd h
 
-pub seated_one : (next : Request) (seat : SeatState) → OpensBy next (Ok (opened.Seated seat)) → IsOne seat.receipts
-seated_one next seat h = (h.0, (first_of next seat h.0 h.1).0)
-
-pub unseated_one : (next : Request) (seat : SeatState) → OpensBy next (Ok (opened.Refused seat)) → IsOne seat.receipts
-unseated_one next seat h = (h.0, (first_of next seat h.0 h.1).0)
-
 -- an opening and its receipt are a conversation
-first_talk : (next : Request) (handled : List Request) (old new : OutputState) (receipt : Receipted) → IsOpening next → receipt.record_is.act ≡ act_of next → handled ≡ [] → old.answers ≡ [] → Puts old new (told.Recorded receipt)
+first_talk : (next : Request) (handled : List Request) (old new : OutputState) (receipt : Receipted) → IsRecordOf next receipt → handled ≡ [] → old.answers ≡ [] → Puts old new (told.Recorded receipt)
     → Talked (handled ++ next ∷ []) new.answers
-first_talk next handled old new receipt is_opening act_is none empty put = record {
+first_talk next handled old new receipt record_of none empty put = record {
   opening = next;
   opened = told.Recorded receipt ∷ [];
   calls = [];
   requests_are = ap (λ (l : List Request). l ++ next ∷ []) none;
   answers_are = put.answers ∙ ap (λ (l : List Told). l ++ told.Recorded receipt ∷ []) empty;
-  opens = record { receipt = receipt; is = refl; is_opening = is_opening; act_is = act_is };
+  opens = record { receipt = receipt; is = refl; record_of = record_of };
   are_calls = tt;
 }
 
@@ -52,31 +47,32 @@ first_receipts old new receipt empty put = ap receipts_of (put.answers ∙ ap (�
 same_first : (a b : Receipted) (receipts : List Receipted) → receipts ≡ a ∷ [] → receipts ≡ b ∷ [] → a ≡ b
 same_first a b receipts h k = cc
 
-pub seated : (next : Request) (seat : SeatState) (receipts : List Receipted) (old new : OutputState) → receipts ≡ seat.receipts → IsOpening next → OpensBy next (Ok (opened.Seated seat)) → PutsFirst receipts old new
+pub seated : (next : Request) (seat : SeatState) (receipts : List Receipted) (old new : OutputState) → receipts ≡ seat.receipts → OpensBy next (Ok (opened.Seated seat)) → PutsFirst receipts old new
     → TakesUp stage.Opening next old new (turn.GoesOn (stage.Ready seat))
-seated next seat receipts old new same_list is_opening h put_list base handled holds talking =
+seated next seat receipts old new same_list h put_list base handled holds talking =
     let put = subst (λ (l : List Receipted). PutsFirst l old new) same_list put_list in
     let first = first_of next seat h.0 h.1 in
     let same : h.0 ≡ put.receipt = same_first h.0 put.receipt seat.receipts first.0 put.is in
-    let act_is = subst (λ (r : Receipted). r.record_is.act ≡ act_of next) same first.1 in (
+    let record_of = subst (IsRecordOf next) same first.1 in (
       put.puts.holds base holds,
-      (first_talk next handled old new put.receipt is_opening act_is talking.0 talking.1 put.puts, put.is ∙ sym (first_receipts old new put.receipt talking.1 put.puts)),
+      (first_talk next handled old new put.receipt record_of talking.0 talking.1 put.puts, put.is ∙ sym (first_receipts old new put.receipt talking.1 put.puts)),
     )
 
-pub unseated : (next : Request) (seat : SeatState) (receipts : List Receipted) (old new : OutputState) → receipts ≡ seat.receipts → IsOpening next → OpensBy next (Ok (opened.Refused seat)) → PutsFirst receipts old new
+pub unseated : (next : Request) (seat : SeatState) (receipts : List Receipted) (old new : OutputState) → receipts ≡ seat.receipts → OpensBy next (Ok (opened.Refused seat)) → PutsFirst receipts old new
     → TakesUp stage.Opening next old new (turn.Over (over.Refused seat))
-unseated next seat receipts old new same_list is_opening h put_list base handled holds talking =
+unseated next seat receipts old new same_list h put_list base handled holds talking =
     let put = subst (λ (l : List Receipted). PutsFirst l old new) same_list put_list in
     let first = first_of next seat h.0 h.1 in
     let same : h.0 ≡ put.receipt = same_first h.0 put.receipt seat.receipts first.0 put.is in
-    let act_is = subst (λ (r : Receipted). r.record_is.act ≡ act_of next) same first.1 in (
+    let record_of = subst (IsRecordOf next) same first.1 in (
       put.puts.holds base holds,
       record {
         receipt = put.receipt;
         receipts = put.is;
         answers_are = put.puts.answers ∙ ap (λ (l : List Told). l ++ told.Recorded put.receipt ∷ []) talking.1;
+        is_error = subst (λ (r : Receipted). IsError r.record_is.outcome) same h.2;
       },
-      first_talk next handled old new put.receipt is_opening act_is talking.0 talking.1 put.puts,
+      first_talk next handled old new put.receipt record_of talking.0 talking.1 put.puts,
     )
 
 none_after : {A : Type 0} (xs ys : List A) → xs ++ ys ≡ [] → ys ≡ []
@@ -96,25 +92,40 @@ still_fresh base old new e holds empty = subst (IsFresh base) (sym e) (record {
   unsent = none_after holds.text old.unsent (holds.is ∙ ap answers_text empty);
 })
 
-untold_opening : (base : Option (List ℕ)) (old new : OutputState) (receipts : List Receipted) → IsOne receipts → new ≡ old → Holds base old → old.answers ≡ [] → IsUntoldOpening base new receipts
-untold_opening base old new receipts one e holds empty =
+-- what would have been answered
+untold_talk : (next : Request) (handled : List Request) (receipt : Receipted) → IsRecordOf next receipt → handled ≡ [] → Converses (handled ++ next ∷ []) (told.Recorded receipt ∷ [])
+untold_talk next handled receipt record_of none = talked_converses (handled ++ next ∷ []) (told.Recorded receipt ∷ []) (record {
+  opening = next;
+  opened = told.Recorded receipt ∷ [];
+  calls = [];
+  requests_are = ap (λ (l : List Request). l ++ next ∷ []) none;
+  answers_are = refl;
+  opens = record { receipt = receipt; is = refl; record_of = record_of };
+  are_calls = tt;
+})
+
+untold_opening : (base : Option (List ℕ)) (next : Request) (handled : List Request) (old new : OutputState) (seat : SeatState) (receipt : Receipted) → OpensFor next seat receipt → new ≡ old → Holds base old → handled ≡ [] → old.answers ≡ []
+    → IsUntoldOpening base (handled ++ next ∷ []) new seat.receipts receipt
+untold_opening base next handled old new seat receipt h e holds none empty =
     let fresh = still_fresh base old new e holds empty in
-    record { holds = fresh.holds; answers = fresh.answers; unsent = fresh.unsent; one = one }
+    let first = first_of next seat receipt h in
+    record { holds = fresh.holds; answers = fresh.answers; unsent = fresh.unsent; one = first.0; with_it = untold_talk next handled receipt first.1 none }
 
-pub opening_untold : (next : Request) (seat : SeatState) (old new : OutputState) → IsOne seat.receipts → new ≡ old → TakesUp stage.Opening next old new (turn.Over (over.OpeningUntold seat))
-opening_untold next seat old new one e base handled holds talking = untold_opening base old new seat.receipts one e holds talking.1
+pub opening_untold : (next : Request) (seat : SeatState) (old new : OutputState) → OpensBy next (Ok (opened.Seated seat)) → new ≡ old → TakesUp stage.Opening next old new (turn.Over (over.OpeningUntold seat))
+opening_untold next seat old new h e base handled holds talking = (h.0, untold_opening base next handled old new seat h.0 h.1 e holds talking.0 talking.1)
 
-pub refusal_untold : (next : Request) (seat : SeatState) (old new : OutputState) → IsOne seat.receipts → new ≡ old → TakesUp stage.Opening next old new (turn.Over (over.RefusalUntold seat))
-refusal_untold next seat old new one e base handled holds talking = untold_opening base old new seat.receipts one e holds talking.1
+pub refusal_untold : (next : Request) (seat : SeatState) (old new : OutputState) → OpensBy next (Ok (opened.Refused seat)) → new ≡ old → TakesUp stage.Opening next old new (turn.Over (over.RefusalUntold seat))
+refusal_untold next seat old new h e base handled holds talking = (h.0, untold_opening base next handled old new seat h.0 h.1 e holds talking.0 talking.1, h.2)
 
 -- ---- openings that are not recorded
 
-is_unopened : (next : Request) (handled : List Request) (old new : OutputState) (refusal : Refusal) → IsOpening next → handled ≡ [] → old.answers ≡ [] → Puts old new (told.Refused refusal) → IsUnopened (handled ++ next ∷ []) new.answers refusal
-is_unopened next handled old new refusal is_opening none empty put = record {
+is_unopened : (next : Request) (handled : List Request) (old new : OutputState) (refusal : Refusal) → IsOpening next → IsWanting refusal → handled ≡ [] → old.answers ≡ [] → Puts old new (told.Refused refusal) → IsUnopened (handled ++ next ∷ []) new.answers refusal
+is_unopened next handled old new refusal is_opening wants none empty put = record {
   opening = next;
   requests_are = ap (λ (l : List Request). l ++ next ∷ []) none;
   is_opening = is_opening;
   answers_are = put.answers ∙ ap (λ (l : List Told). l ++ told.Refused refusal ∷ []) empty;
+  wants = wants;
 }
 
 no_receipts : (next : Request) (handled : List Request) (answers : List Told) (refusal : Refusal) → IsUnopened (handled ++ next ∷ []) answers refusal → receipts_of answers ≡ []
@@ -135,7 +146,7 @@ refused_by base next handled o (refusal.Foreign seen len) found e holds h = absu
 
 pub unopened : (next : Request) (old new : OutputState) (refusal : Refusal) (found : Why) → IsOpening next → PutsGivenUp old new refusal found → TakesUp stage.Opening next old new (turn.Over (over.Leaves stage.Opening found))
 unopened next old new refusal found is_opening (inl h) base handled holds talking =
-    refused_by base next handled new refusal found h.0 (h.1.holds base holds) (is_unopened next handled old new refusal is_opening talking.0 talking.1 h.1)
+    refused_by base next handled new refusal found h.0 (h.1.holds base holds) (is_unopened next handled old new refusal is_opening (wanting refusal found h.0) talking.0 talking.1 h.1)
 unopened next old new refusal found is_opening (inr h) base handled holds talking =
     let fresh = still_fresh base old new h.1 holds talking.1 in
     subst (LeavesBy base handled next new stage.Opening) (sym h.0) (

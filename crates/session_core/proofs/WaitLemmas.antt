@@ -12,7 +12,7 @@ use Rattle.call_types.specs.declared.request.Request.{Request}
 use Rattle.call_types.specs.declared.request.Request.TheVariants as request
 use Rattle.posix_model.specs.WaitLaws.{EndsOrGoesOn}
 use Rattle.record_book.specs.Seat.{Receipted, SeatState}
-use Rattle.system_lock.specs.Kernel.{Adds, Exits}
+use Rattle.system_lock.specs.Kernel.{Adds, Exits, IsWanting}
 use Rattle.session_core.specs.declared.told.Told.{Told}
 use Rattle.session_core.specs.declared.told.Told.TheVariants as told
 use Rattle.session_core.specs.declared.stage.Stage.TheVariants as stage
@@ -22,7 +22,7 @@ use Rattle.session_core.specs.declared.stage.Turn.TheVariants as turn
 use Rattle.session_core.specs.Answers.{receipt_of, receipts_of}
 use Rattle.session_core.specs.Output.{OutputState, Holds, Puts, SendsAll, FailsToSend}
 use Rattle.session_core.specs.Served.{HasExited}
-use Rattle.session_core.specs.Talk.{Group, told_of_all, told_last, goes_on, IsReply, IsPart, IsPartTold, AreParts, IsCallGroup, AreCalls, IsWaiting, Talked, Waits, IsCut, Converses}
+use Rattle.session_core.specs.Talk.{Group, told_of_all, told_last, goes_on, IsReply, IsPart, IsPartTold, AreParts, IsCallGroup, AreCalls, IsWaiting, Talked, Waits, IsWantingLast, IsCut, Converses}
 use Rattle.session_core.specs.Turns.{WhyRefused, PutsGivenUp, EndedBy, OverBy, TurnBy, IsWaitingAt}
 
 -- ---- receipts
@@ -58,14 +58,14 @@ talk_more handled before new g h one e = record {
 
 -- ---- a call that waits
 
-cut_with : (handled : List Request) (old new : List Told) (call : Call) (given_up : Option Refusal) → Waits handled old call → new ≡ old ++ told_last given_up → IsCut (handled ++ request.Call call ∷ []) new given_up
-cut_with handled old new call given_up w e = record { before = handled; call = call; told_so_far = old; requests_are = refl; answers_are = e; waits = w }
+cut_with : (handled : List Request) (old new : List Told) (call : Call) (given_up : Option Refusal) → Waits handled old call → new ≡ old ++ told_last given_up → IsWantingLast given_up → IsCut (handled ++ request.Call call ∷ []) new given_up
+cut_with handled old new call given_up w e wants = record { before = handled; call = call; told_so_far = old; requests_are = refl; answers_are = e; waits = w; wants = wants }
 
 pub cut_now : (handled : List Request) (answers : List Told) (call : Call) → Waits handled answers call → IsCut (handled ++ request.Call call ∷ []) answers None
-cut_now handled answers call w = cut_with handled answers answers call None w (sym (append-nil answers))
+cut_now handled answers call w = cut_with handled answers answers call None w (sym (append-nil answers)) tt
 
-pub cut_refused : (handled : List Request) (old new : List Told) (call : Call) (refusal : Refusal) → Waits handled old call → new ≡ old ++ told.Refused refusal ∷ [] → IsCut (handled ++ request.Call call ∷ []) new (Some refusal)
-cut_refused handled old new call refusal w e = cut_with handled old new call (Some refusal) w e
+pub cut_refused : (handled : List Request) (old new : List Told) (call : Call) (refusal : Refusal) → IsWanting refusal → Waits handled old call → new ≡ old ++ told.Refused refusal ∷ [] → IsCut (handled ++ request.Call call ∷ []) new (Some refusal)
+cut_refused handled old new call refusal wants w e = cut_with handled old new call (Some refusal) w e wants
 
 pub cut_converses : (handled : List Request) (answers : List Told) (given_up : Option Refusal) → IsCut handled answers given_up → Converses handled answers
 cut_converses handled answers given_up h = record { handled = handled; later = []; requests_are = sym (append-nil handled); is = inr (inl (given_up, h)) }
@@ -112,6 +112,13 @@ exits_with seat spent old new h e same = record {
   act_is = h.1.act_is;
 }
 
+pub wanting : (refusal : Refusal) (found : Why) → WhyRefused refusal found → IsWanting refusal
+wanting refusal.NoMemory found h = tt
+wanting refusal.RunFull found h = tt
+wanting refusal.Waiting found h = absurd h
+wanting refusal.NotHere found h = absurd h
+wanting (refusal.Foreign seen len) found h = absurd h
+
 ended_with : (base : Option (List ℕ)) (requests : List Request) (o : OutputState) (spent : SeatState) (refusal : Refusal) (found : Why) → WhyRefused refusal found → Holds base o → HasExited spent o.answers → IsCut requests o.answers (Some refusal)
     → EndedBy base requests o spent found
 ended_with base requests o spent refusal.NoMemory found e holds exited cut = subst (EndedBy base requests o spent) (sym e) (holds, exited, (Some refusal.NoMemory, cut))
@@ -125,7 +132,7 @@ pub ended_by : (base : Option (List ℕ)) (handled : List Request) (call : Call)
 ended_by base handled call seat spent old new refusal found (inl h) w exits =
     ended_with base (handled ++ request.Call call ∷ []) new spent refusal found h.0 (h.1.holds base w.holds)
     (exits_with seat spent old.answers new.answers exits w.receipts (receipts_refused old.answers new.answers refusal h.1.answers))
-    (cut_refused handled old.answers new.answers call refusal w.waits h.1.answers)
+    (cut_refused handled old.answers new.answers call refusal (wanting refusal found h.0) w.waits h.1.answers)
 ended_by base handled call seat spent old new refusal found (inr h) w exits =
     let same : new.answers ≡ old.answers = ap (λ (o : OutputState). o.answers) h.1 in
     subst (EndedBy base (handled ++ request.Call call ∷ []) new spent) (sym h.0) (

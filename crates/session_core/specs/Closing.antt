@@ -1,5 +1,5 @@
 -- How a session is closed (own).
-use Rattle.std.specs.Prelude.{◌≡◌, ℕ, ◌⊎◌, List, [], ◌∷◌, ◌++◌, Option, None, Some}
+use Rattle.std.specs.Prelude.{◌≡◌, ◌≤◌, ℕ, ◌⊎◌, List, [], ◌∷◌, ◌++◌, Option, None, Some}
 use Rattle.record_book.specs.Seat.{Receipted, SeatState}
 use Rattle.system_lock.specs.Kernel.{Exits}
 use Rattle.session_core.specs.declared.closing.Left.{Left}
@@ -12,6 +12,7 @@ use Rattle.session_core.specs.declared.stage.Stage.TheVariants as stage
 use Rattle.session_core.specs.declared.stage.Why.{Why}
 use Rattle.session_core.specs.declared.stage.Why.TheVariants as why
 use Rattle.session_core.specs.declared.stage.Over.{Over}
+use Rattle.session_core.specs.declared.stream.TheConstants.{INTERRUPTIONS_MAX}
 use Rattle.session_core.specs.Output.{OutputState, SendsAll, FailsToSend}
 use Rattle.session_core.specs.Pieces.{IsOver}
 use Rattle.session_core.specs.Reading.{IsMet}
@@ -50,6 +51,7 @@ pub record IsTaken (o : OutputState) (last : Option Receipted) (answers : List T
   pub answers_are : answers ≡ with_last o.answers last
   pub held_is : held ≡ o.sink.contents
   pub log_is : log ≡ o.sink.log
+  pub few : log.interruptions ≤ INTERRUPTIONS_MAX
 
 -- the session that is left
 abbrev pub session_of : SourceState → OutputState → Left → SessionState

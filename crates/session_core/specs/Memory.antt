@@ -1,5 +1,5 @@
 -- Readers and writers over memory (own).
-use Rattle.std.specs.Prelude.{◌≡◌, ℕ, ◌+◌, ◌%◌, ◌≤◌, ◌<◌, ◌==◌, Bool, false, List, [], ◌++◌, Option, None, Some, length, take, if◌then◌else◌}
+use Rattle.std.specs.Prelude.{◌≡◌, ℕ, ◌+◌, ◌%◌, ◌≤◌, ◌<◌, ◌==◌, Bool, false, List, [], ◌++◌, Option, None, Some, length, min, max, take, if◌then◌else◌}
 use Rattle.std.specs.declared.io.ErrorKind.{ErrorKind}
 use Rattle.std.specs.declared.io.ErrorKind.TheVariants as kinds
 use Rattle.session_core.specs.declared.memory.Manner.{Manner}
@@ -10,10 +10,11 @@ pub record ReaderState : Type 0 where
   pub calls : ℕ
   pub manner : Manner
 
--- what a writer holds, how often it was written to, and how it answers
+-- what a writer holds, how often it was written to and flushed, and how it answers
 pub record WriterState : Type 0 where
   pub bytes : List ℕ
   pub calls : ℕ
+  pub flushes : ℕ
   pub manner : Manner
 
 -- whether this call is the one that fails
@@ -26,10 +27,15 @@ abbrev pub fault_of : Manner → ℕ → Option ErrorKind
 fault_of manner call =
     if fails_now manner.fails_at call then Some kinds.ConnectionReset else if (call % (manner.interruptions + 1)) == 0 then None else Some kinds.Interrupted
 
+-- how many bytes a reader gives that may give so many, into a buffer of a length, of those that it has left
+abbrev pub given_count : ℕ → ℕ → ℕ → ℕ
+given_count most room left = min (min room (max most 1)) left
+
 -- so many bytes are given, and none only where there are none or none fit
 pub record GivesFront (old new : ReaderState) (buffer : List ℕ) (count : ℕ) : Type 0 where
   pub within : count ≤ length buffer
   pub gives : old.rest ≡ take count buffer ++ new.rest
   pub some : count ≡ 0 → 0 < length buffer → new.rest ≡ []
+  pub count_is : count ≡ given_count old.manner.most (length buffer) (length old.rest)
   pub calls : new.calls ≡ old.calls
   pub manner : new.manner ≡ old.manner

@@ -12,8 +12,8 @@ use Rattle.frame_codec.specs.Requests.{SpellsRequest}
 use Rattle.frame_codec.specs.declared.decoder.Progress.{Progress}
 use Rattle.frame_codec.specs.declared.decoder.Progress.TheVariants as progress
 use Rattle.record_book.specs.Seat.{Receipted, SeatState}
-use Rattle.system_lock.specs.Kernel.{IsOpening}
-use Rattle.session_core.specs.declared.stream.TheConstants.{READS_MAX}
+use Rattle.system_lock.specs.Kernel.{IsOpening, IsError}
+use Rattle.session_core.specs.declared.stream.TheConstants.{INTERRUPTIONS_MAX, READS_MAX}
 use Rattle.session_core.specs.declared.end.End.{End}
 use Rattle.session_core.specs.declared.end.End.TheVariants as end
 use Rattle.session_core.specs.declared.told.Told.{Told}
@@ -94,44 +94,52 @@ pub record HasExited (seat : SeatState) (answers : List Told) : Type 0 where
   pub receipts : seat.receipts ≡ receipts_of answers ++ exit ∷ []
   pub act_is : exit.record_is.act ≡ act.Exit
 
--- and one that is not answered before it
-pub record HasExitedUntold (seat : SeatState) (answers : List Told) : Type 0 where
+-- those of the answers, and one that would be the next answer: memory ran out for that
+pub record HasUntold (input : List ℕ) (receipts : List Receipted) (answers : List Told) : Type 0 where
   pub untold : Receipted
+  pub receipts_are : receipts ≡ receipts_of answers ++ untold ∷ []
+  pub talks : AnswersFirst input (answers ++ told.Recorded untold ∷ [])
+
+-- such a one before that of the exit
+pub record HasExitedUntold (input : List ℕ) (seat : SeatState) (answers : List Told) : Type 0 where
+  pub before : List Receipted
   pub exit : Receipted
-  pub receipts : seat.receipts ≡ receipts_of answers ++ untold ∷ exit ∷ []
+  pub receipts : seat.receipts ≡ before ++ exit ∷ []
+  pub has_untold : HasUntold input before answers
   pub act_is : exit.record_is.act ≡ act.Exit
 
--- the opening is refused in the record: there is its one receipt
+-- the opening is refused in the record: there is its one receipt, that of an error
 pub record IsRefusedOpening (seat : SeatState) (answers : List Told) : Type 0 where
   pub receipt : Receipted
   pub receipts : seat.receipts ≡ receipt ∷ []
   pub answers_are : answers ≡ told.Recorded receipt ∷ []
+  pub is_error : IsError receipt.record_is.outcome
 
 -- and that is not answered
-pub record IsRefusedUntold (seat : SeatState) (answers : List Told) : Type 0 where
-  pub untold : Receipted
-  pub receipts : seat.receipts ≡ untold ∷ []
-  pub answers_are : answers ≡ []
+pub record IsRefusedUntold (input : List ℕ) (seat : SeatState) (answers : List Told) : Type 0 where
+  pub none : answers ≡ []
+  pub has_untold : HasUntold input seat.receipts answers
+  pub is_error : IsError has_untold.untold.record_is.outcome
 
--- no exit is recorded: the receipts of the seat are those of the answers, and at most one more
-abbrev pub HasNoExit : SeatState → List Told → Type 0
-HasNoExit seat answers = (seat.receipts ≡ receipts_of answers) ⊎ ((untold : Receipted) × (seat.receipts ≡ receipts_of answers ++ untold ∷ []))
+-- no exit is recorded: the receipts of the seat are those of the answers, and at most one that would be the next answer
+abbrev pub HasNoExit : List ℕ → SeatState → List Told → Type 0
+HasNoExit input seat answers = (seat.receipts ≡ receipts_of answers) ⊎ HasUntold input seat.receipts answers
 
 -- the receipts of a seat, at each end
-abbrev pub IsSeatOf : SeatState → List Told → End → Type 0
-IsSeatOf seat answers end.Closed = HasExited seat answers ⊎ IsRefusedOpening seat answers
-IsSeatOf seat answers end.ReadFault = HasExited seat answers
-IsSeatOf seat answers (end.WriteFault sent) = HasExited seat answers ⊎ IsRefusedOpening seat answers
-IsSeatOf seat answers end.Malformed = HasExited seat answers
-IsSeatOf seat answers end.RunFull = HasExited seat answers
-IsSeatOf seat answers end.NoMemory = HasExited seat answers ⊎ (HasExitedUntold seat answers ⊎ IsRefusedUntold seat answers)
-IsSeatOf seat answers end.Foreign = HasNoExit seat answers
+abbrev pub IsSeatOf : List ℕ → SeatState → List Told → End → Type 0
+IsSeatOf input seat answers end.Closed = HasExited seat answers ⊎ IsRefusedOpening seat answers
+IsSeatOf input seat answers end.ReadFault = HasExited seat answers
+IsSeatOf input seat answers (end.WriteFault sent) = HasExited seat answers ⊎ IsRefusedOpening seat answers
+IsSeatOf input seat answers end.Malformed = HasExited seat answers
+IsSeatOf input seat answers end.RunFull = HasExited seat answers
+IsSeatOf input seat answers end.NoMemory = HasExited seat answers ⊎ (HasExitedUntold input seat answers ⊎ IsRefusedUntold input seat answers)
+IsSeatOf input seat answers end.Foreign = HasNoExit input seat answers
 
--- without a seat nothing is recorded
-abbrev pub IsSeated : Option SeatState → List Told → End → Type 0
-IsSeated None answers end.Foreign = ⊥
-IsSeated None answers other = receipts_of answers ≡ []
-IsSeated (Some seat) answers end = IsSeatOf seat answers end
+-- without a seat no answer has a receipt
+abbrev pub IsSeated : List ℕ → Option SeatState → List Told → End → Type 0
+IsSeated input None answers end.Foreign = ⊥
+IsSeated input None answers other = receipts_of answers ≡ []
+IsSeated input (Some seat) answers end = IsSeatOf input seat answers end
 
 -- ---- what was written
 
@@ -165,7 +173,7 @@ IsClosed input s = (IsAtEnd s.left × AnswersAll input s.answers) ⊎ (IsTurnedA
 abbrev pub IsRunFull : List ℕ → List Told → Type 0
 IsRunFull input answers = (answers ≡ told.Refused refusal.RunFull ∷ []) ⊎ AnswersToCut input answers (Some refusal.RunFull)
 
--- why a session ends. Of want of memory nothing is said
+-- why a session ends. Of want of memory, and of a seat that the kernel does not know, nothing is said here
 abbrev pub EndsFor : List ℕ → SessionState → End → Type 0
 EndsFor input s end.Closed = IsClosed input s
 EndsFor input s end.ReadFault = IsReadNoMore s.reads × AnswersAll input s.answers
@@ -179,12 +187,13 @@ EndsFor input s end.Foreign = Unit {0}
 pub record ComesTo (input : List ℕ) (base : Option (List ℕ)) (s : SessionState) : Type 0 where
   pub talks : AnswersFirst input s.answers
   pub written : IsWritten base s.held s.answers s.end_is
-  pub seated : IsSeated s.seat s.answers s.end_is
+  pub seated : IsSeated input s.seat s.answers s.end_is
   pub ends : EndsFor input s s.end_is
 
 -- a session, from what its reader has and its writer holds on
 pub record Serves (from base : Option (List ℕ)) (s : SessionState) : Type 0 where
   pub input : List ℕ
   pub consumes : Consumes from s.left input
-  pub few : s.reads.calls ≤ READS_MAX
+  pub few_reads : s.reads.calls ≤ READS_MAX
+  pub few_interrupted : (s.reads.interruptions ≤ INTERRUPTIONS_MAX) × (s.writes.interruptions ≤ INTERRUPTIONS_MAX)
   pub comes : ComesTo input base s

@@ -46,6 +46,7 @@ pub record SinkState : Type 0 where
 
 -- so many bytes were read, and not none
 pub record Takes (old new : Option (List ℕ)) (buffer : List ℕ) (count : ℕ) : Type 0 where
+  pub some : 0 < count
   pub within : count ≤ length buffer
   pub consumes : Consumes old new (take count buffer)
 

@@ -1,7 +1,6 @@
 -- A conversation: requests, and what is answered to each (own).
 use Rattle.std.specs.Prelude.{◌≡◌, Bool, true, false, ◌⊎◌, List, [], ◌∷◌, ◌++◌, Option, None, Some, map}
 use Rattle.std.specs.List.{flat_map}
-use Rattle.call_types.specs.declared.act.Act.{Act}
 use Rattle.call_types.specs.declared.act.Act.TheVariants as act
 use Rattle.call_types.specs.declared.call.Call.{Call}
 use Rattle.call_types.specs.declared.outcome.Outcome.{Outcome}
@@ -10,15 +9,9 @@ use Rattle.call_types.specs.declared.refusal.Refusal.{Refusal}
 use Rattle.call_types.specs.declared.request.Request.{Request}
 use Rattle.call_types.specs.declared.request.Request.TheVariants as request
 use Rattle.record_book.specs.Seat.{Receipted}
-use Rattle.system_lock.specs.Kernel.{IsOpening}
+use Rattle.system_lock.specs.Kernel.{IsOpening, IsWanting}
 use Rattle.session_core.specs.declared.told.Told.{Told}
 use Rattle.session_core.specs.declared.told.Told.TheVariants as told
-
--- the act of a request
-abbrev pub act_of : Request → Act
-act_of request.Join = act.Join
-act_of (request.Attach process) = act.Attach
-act_of (request.Call call) = act.Call call
 
 -- an outcome that ends a call
 abbrev pub IsReply : Outcome → Type 0
@@ -96,12 +89,17 @@ abbrev pub AreCalls : List Group → Type 0
 AreCalls [] = Unit {0}
 AreCalls (one ∷ more) = IsCallGroup one × AreCalls more
 
+-- the record of an opening: a join, or an attach of that process
+abbrev pub IsRecordOf : Request → Receipted → Type 0
+IsRecordOf request.Join receipt = receipt.record_is.act ≡ act.Join
+IsRecordOf (request.Attach process) receipt = (receipt.record_is.act ≡ act.Attach) × (receipt.record_is.actor ≡ process)
+IsRecordOf (request.Call call) receipt = ⊥
+
 -- the receipt of an opening
 pub record IsOpened (opening : Request) (told_of : List Told) : Type 0 where
   pub receipt : Receipted
   pub is : told_of ≡ told.Recorded receipt ∷ []
-  pub is_opening : IsOpening opening
-  pub act_is : receipt.record_is.act ≡ act_of opening
+  pub record_of : IsRecordOf opening receipt
 
 -- the requests of groups
 abbrev pub requests_of : List Group → List Request
@@ -134,6 +132,11 @@ abbrev pub told_last : Option Refusal → List Told
 told_last None = []
 told_last (Some refusal) = told.Refused refusal ∷ []
 
+-- it is for want of memory or of records
+abbrev pub IsWantingLast : Option Refusal → Type 0
+IsWantingLast None = Unit {0}
+IsWantingLast (Some refusal) = IsWanting refusal
+
 -- the last request is a call that waits and is not answered to its end; it may be told why it is given up
 pub record IsCut (handled : List Request) (answers : List Told) (given_up : Option Refusal) : Type 0 where
   pub before : List Request
@@ -142,6 +145,7 @@ pub record IsCut (handled : List Request) (answers : List Told) (given_up : Opti
   pub requests_are : handled ≡ before ++ request.Call call ∷ []
   pub answers_are : answers ≡ told_so_far ++ told_last given_up
   pub waits : Waits before told_so_far call
+  pub wants : IsWantingLast given_up
 
 -- an opening is refused, and that is not recorded
 pub record IsUnopened (handled : List Request) (answers : List Told) (refusal : Refusal) : Type 0 where
@@ -149,6 +153,7 @@ pub record IsUnopened (handled : List Request) (answers : List Told) (refusal : 
   pub requests_are : handled ≡ opening ∷ []
   pub is_opening : IsOpening opening
   pub answers_are : answers ≡ told.Refused refusal ∷ []
+  pub wants : IsWanting refusal
 
 -- each request is answered to its end
 abbrev pub AreAnswered : List Request → List Told → Type 0

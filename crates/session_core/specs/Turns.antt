@@ -6,7 +6,7 @@ use Rattle.call_types.specs.declared.refusal.Refusal.TheVariants as refusal
 use Rattle.call_types.specs.declared.request.Request.{Request}
 use Rattle.call_types.specs.declared.request.Request.TheVariants as request
 use Rattle.record_book.specs.Seat.{Receipted, SeatState}
-use Rattle.system_lock.specs.Kernel.{EndsBy}
+use Rattle.system_lock.specs.Kernel.{EndsBy, IsError}
 use Rattle.system_lock.specs.declared.kernel.Ended.{Ended}
 use Rattle.session_core.specs.declared.told.Told.{Told}
 use Rattle.session_core.specs.declared.told.Told.TheVariants as told
@@ -62,11 +62,12 @@ abbrev pub IsOne : List Receipted → Type 0
 IsOne receipts = (receipt : Receipted) × (receipts ≡ receipt ∷ [])
 
 -- nothing was answered of an opening that was recorded
-pub record IsUntoldOpening (base : Option (List ℕ)) (o : OutputState) (receipts : List Receipted) : Type 0 where
+pub record IsUntoldOpening (base : Option (List ℕ)) (requests : List Request) (o : OutputState) (receipts : List Receipted) (receipt : Receipted) : Type 0 where
   pub holds : Holds base o
   pub answers : o.answers ≡ []
   pub unsent : o.unsent ≡ []
-  pub one : IsOne receipts
+  pub one : receipts ≡ receipt ∷ []
+  pub with_it : Converses requests (told.Recorded receipt ∷ [])
 
 -- the last receipt is not answered
 pub record IsUntold (base : Option (List ℕ)) (requests : List Request) (o : OutputState) (receipts : List Receipted) (receipt : Receipted) : Type 0 where
@@ -79,8 +80,8 @@ pub record IsUntold (base : Option (List ℕ)) (requests : List Request) (o : Ou
 abbrev pub OverBy : Option (List ℕ) → List Request → Request → OutputState → Over → Type 0
 OverBy base handled next o (over.Leaves stage why) = LeavesBy base handled next o stage why
 OverBy base handled next o (over.Unwritten stage) = Broke base o × HasReceipts stage o.answers × Converses (handled ++ next ∷ []) o.answers
-OverBy base handled next o (over.OpeningUntold seat) = IsUntoldOpening base o seat.receipts
-OverBy base handled next o (over.RefusalUntold seat) = IsUntoldOpening base o seat.receipts
+OverBy base handled next o (over.OpeningUntold seat) = (receipt : Receipted) × IsUntoldOpening base (handled ++ next ∷ []) o seat.receipts receipt
+OverBy base handled next o (over.RefusalUntold seat) = (receipt : Receipted) × IsUntoldOpening base (handled ++ next ∷ []) o seat.receipts receipt × IsError receipt.record_is.outcome
 OverBy base handled next o (over.Untold seat receipt) = IsUntold base (handled ++ next ∷ []) o seat.receipts receipt
 OverBy base handled next o (over.Refused seat) = Holds base o × IsRefusedOpening seat o.answers × Talked (handled ++ next ∷ []) o.answers
 OverBy base handled next o (over.Lost seat) = Holds base o × HasExited seat o.answers × IsCut (handled ++ next ∷ []) o.answers None

@@ -5,15 +5,15 @@ pub enum End {
     Closed,
     /// The reader failed, was interrupted sixteen times in a row, or was read 1,048,576 times.
     ReadFault,
-    /// The writer failed, took no byte, or was interrupted sixteen times in a row, after it took so many bytes; at the greatest
-    /// number that many or more.
+    /// The writer failed, took no byte, or was interrupted sixteen times in a row, after it took so many bytes; `u64::MAX` stands for
+    /// that many or more.
     WriteFault { sent: u64 },
     /// Bytes that are no frame of a request, or a request out of place.
     Malformed,
-    /// The run was full for the opening, or when a call that waited could go on.
+    /// The run was full for the opening, or for the resume of a call that waited.
     RunFull,
-    /// Memory ran out.
+    /// Memory ran out for the session, for its opening, or for the resume of a call that waited. One receipt may be unanswered.
     NoMemory,
-    /// The kernel does not know the seat.
+    /// The kernel does not know the seat, so no exit is recorded. One receipt may be unanswered.
     Foreign,
 }

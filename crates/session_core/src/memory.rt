@@ -1,11 +1,11 @@
 //! Readers and writers over memory, which fail, are interrupted, and give or take few bytes, as they are told to.
 
-ghost use Rattle.std.specs.Prelude.{◌≡◌, ◌+◌, ◌≤◌, [], Some, None, List, length, IfErr, IsOk, OnOk};
+ghost use Rattle.std.specs.Prelude.{◌≡◌, ◌+◌, ◌≤◌, ◌⊎◌, [], Some, None, List, true, false, min, length, IfOk, IfErr, OnOk, OnErr};
 ghost use Rattle.std.specs.Io.{ReadsAtMost, WritesAtMost};
 ghost use Rattle.std.specs.Io.KnownBytes.{ReadConsumes, WriteAppends, Keeps};
 ghost use Rattle.std.specs.IoError.{error_kind};
 ghost use Rattle.session_core.specs.Streams.{one_more};
-ghost use Rattle.session_core.specs.Memory.{fault_of, GivesFront};
+ghost use Rattle.session_core.specs.Memory.{fault_of, fails_now, given_count, GivesFront};
 
 use std::alloc::Global;
 use std::io;
@@ -21,6 +21,8 @@ pub struct Manner {
     pub fails_at: Option<u64>,
     /// How many calls are interrupted before each one that is not.
     pub interruptions: u32,
+    /// Which flush of a writer fails, if one does. Flushes are counted by themselves.
+    pub flush_fails_at: Option<u64>,
 }
 
 impl Manner {
@@ -79,7 +81,7 @@ impl MemoryReader {
         self.calls
     }
 
-    /// Gives as many bytes as there are, as fit, and as it may, and at least one if there is one.
+    /// Gives as many bytes as there are, as fit, and as it may.
     fn give(&mut self, buffer: &mut [u8]) -> usize
         ensures gives { GivesFront self.old self.new buffer.new result }
         ensures long { length buffer.new ≡ length buffer.old }
@@ -103,6 +105,8 @@ impl Read for MemoryReader {
         ensures calls { self.new.calls ≡ one_more self.old.calls }
         ensures faulty { IfErr result (λ error. fault_of self.old.manner self.new.calls ≡ Some (error_kind error)) }
         ensures sound { OnOk result (fault_of self.old.manner self.new.calls ≡ None) }
+        ensures count { IfOk result (λ count. count ≡ given_count self.old.manner.most (length buffer.old) (length self.old.rest)) }
+        ensures manner { self.new.manner ≡ self.old.manner }
     {
         self.calls = self.calls.saturating_add(1);
         match self.manner.fault(self.calls) {
@@ -117,6 +121,7 @@ impl Read for MemoryReader {
 pub struct MemoryWriter {
     bytes: Vec<u8>,
     calls: u64,
+    flushes: u64,
     manner: Manner,
 }
 
@@ -125,17 +130,18 @@ impl Model for MemoryWriter {
 
     ghost Value = { WriterState };
 
-    ghost view = { λ w. record { bytes = w.bytes.items; calls = w.calls; manner = w.manner } };
+    ghost view = { λ w. record { bytes = w.bytes.items; calls = w.calls; flushes = w.flushes; manner = w.manner } };
 }
 
 impl MemoryWriter {
     /// A writer that holds nothing yet.
     pub fn new(alloc: Global, manner: Manner) -> Self
-        ensures { result ≡ record { bytes = []; calls = 0; manner = manner } }
+        ensures { result ≡ record { bytes = []; calls = 0; flushes = 0; manner = manner } }
     {
         MemoryWriter {
             bytes: Vec::new(alloc),
             calls: 0,
+            flushes: 0,
             manner,
         }
     }
@@ -145,6 +151,13 @@ impl MemoryWriter {
         ensures { result ≡ self.now.calls }
     {
         self.calls
+    }
+
+    /// How often it was flushed.
+    pub fn flushes(&self) -> u64
+        ensures { result ≡ self.now.flushes }
+    {
+        self.flushes
     }
 
     /// The bytes that it was given.
@@ -158,12 +171,15 @@ impl MemoryWriter {
 impl Write for MemoryWriter {
     ghost contents = { λ w. Some w.bytes };
 
-    /// Takes bytes, fails or is interrupted, as it was told.
+    /// Takes bytes, fails or is interrupted, as it was told; it also fails where memory runs out.
     fn write(&mut self, buffer: &[u8]) -> io::Result<usize>
         ensures bound { WritesAtMost result buffer.now }
         ensures bytes { WriteAppends (Some self.old.bytes) (Some self.new.bytes) result buffer.now }
         ensures calls { self.new.calls ≡ one_more self.old.calls }
+        ensures faulty { IfErr result (λ error. (fault_of self.old.manner self.new.calls ≡ Some (error_kind error)) ⊎ (error_kind error ≡ ErrorKind.OutOfMemory)) }
         ensures sound { OnOk result (fault_of self.old.manner self.new.calls ≡ None) }
+        ensures count { IfOk result (λ count. count ≡ min (length buffer.now) self.old.manner.most) }
+        ensures others { (self.new.flushes ≡ self.old.flushes) × (self.new.manner ≡ self.old.manner) }
     {
         self.calls = self.calls.saturating_add(1);
         if let Some(kind) = self.manner.fault(self.calls) {
@@ -174,12 +190,17 @@ impl Write for MemoryWriter {
         Ok(front.len())
     }
 
-    /// There is nothing to flush.
+    /// Fails, as it was told; there is nothing to do.
     fn flush(&mut self) -> io::Result<()>
         ensures bytes { Keeps (Some self.old.bytes) (Some self.new.bytes) }
-        ensures ok { IsOk result }
-        ensures same { self.new ≡ self.old }
+        ensures same { self.new ≡ record self.old { flushes = one_more self.old.flushes } }
+        ensures faulty { OnErr result (fails_now self.old.manner.flush_fails_at self.new.flushes ≡ true) }
+        ensures sound { OnOk result (fails_now self.old.manner.flush_fails_at self.new.flushes ≡ false) }
     {
+        self.flushes = self.flushes.saturating_add(1);
+        if self.manner.flush_fails_at == Some(self.flushes) {
+            return Err(Error::from(ErrorKind::ConnectionReset));
+        }
         Ok(())
     }
 }

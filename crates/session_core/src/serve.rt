@@ -17,7 +17,8 @@ use system_lock::kernel::Kernel;
 /// A session that is over.
 #[derive(Drop)]
 pub struct Served<R, W> {
-    /// The seat of its process, which has exited; or of an opening that was refused in the record. None where nothing was recorded.
+    /// The seat of its process, whose last receipt is that of its exit, but at `End::Foreign`; or of an opening that was refused in
+    /// the record. None where no process was opened, and none refused in the record.
     pub seat: Option<SpentSeat>,
     /// What it told its client, in order.
     pub answers: Vec<Told>,
@@ -30,8 +31,8 @@ pub struct Served<R, W> {
     pub writes: StreamLog,
 }
 
-/// Serves one process: reads its requests, asks the kernel for each, and writes each answer, until its bytes end, a stream fails, or
-/// bytes come that are no request in its place. Then its process is hung up. It waits where a call of its process waits.
+/// Serves one process: reads its requests, asks the kernel for each, and writes each answer, until the session ends for one of the
+/// reasons of `End`. Then its process is hung up. It waits where a call of its process waits.
 pub fn serve<Rt: Wait, R: Read, W: Write, K: Kernel>(
     rt: &Rt,
     alloc: Global,

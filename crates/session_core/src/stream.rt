@@ -40,6 +40,10 @@ impl Model for StreamLog {
     ghost Value = { LogState };
 
     ghost view = { λ log. record { calls = log.calls; interruptions = log.interruptions; failed = log.failed } };
+
+    ghost use Rattle.std.specs.Prelude.{◌≤◌};
+
+    ghost invariant = { λ log. log.interruptions ≤ 16 };
 }
 
 impl StreamLog {
@@ -63,7 +67,8 @@ impl StreamLog {
 
     /// How many calls up to the last one were interrupted, one after another.
     pub fn interruptions(&self) -> u32
-        ensures { result ≡ self.now.interruptions }
+        ensures value { result ≡ self.now.interruptions }
+        ensures few { result ≤ 16 }
     {
         self.interruptions
     }
@@ -129,7 +134,9 @@ impl<R: Read> Source<R> {
     pub(crate) fn into_parts(self) -> (R, StreamLog)
         ensures reader { R.remaining result.0 ≡ self.remaining }
         ensures log { result.1 ≡ self.log }
+        ensures few { result.1.interruptions ≤ 16 }
     {
+        let _few = self.log.interruptions();
         (self.reader, self.log)
     }
 
@@ -184,11 +191,13 @@ impl<W: Write> Sink<W> {
     pub(crate) fn into_parts(self) -> (W, StreamLog)
         ensures writer { W.contents result.0 ≡ self.contents }
         ensures log { result.1 ≡ self.log }
+        ensures few { result.1.interruptions ≤ 16 }
     {
+        let _few = self.log.interruptions();
         (self.writer, self.log)
     }
 
-    /// Writes once, of bytes of which there are some.
+    /// Writes once, of bytes that are not empty.
     fn write(&mut self, bytes: &[u8]) -> Gave
         requires { self.old.log.interruptions < 16 }
         ensures { WritesOnce self.old self.new bytes.now result }

@@ -33,7 +33,7 @@ fn put_first<W: Write>(output: &mut Output<W>, receipts: &[Receipt]) -> Result<(
     }
 }
 
-/// Answers what is not recorded for want of memory or of records, and tells for want of which the session ends.
+/// Answers a refusal for want of memory or of records, and says why the session ends. Where memory runs out for the answer, that is why.
 fn put_given_up<W: Write>(output: &mut Output<W>, refusal: Refusal) -> Why
     requires { IsWanting refusal }
     ensures { PutsGivenUp output.old output.new refusal result }
@@ -83,7 +83,7 @@ fn goes_on(outcome: &Outcome) -> bool
     }
 }
 
-/// Answers why a process has ended in the call that it waited in.
+/// Says how the session is over whose process has ended in the call that it waited in. Want of memory or of records is answered.
 fn give_up<W: Write>(output: &mut Output<W>, ended: Ended) -> Over
     requires { IsWhyFinished ended.why }
     ensures { GivesUp ended output.old output.new result }

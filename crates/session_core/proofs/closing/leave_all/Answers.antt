@@ -44,3 +44,8 @@ pub returns-in-Foreign : goal.returns-in-Foreign
 returns-in-Foreign g c =
     laws.left_as c.args.output.now c.args.output.now c.args.over (over.Foreign c.in-Foreign.seat) c.left_by-in-Foreign.result _ c.in-Foreign.is c.left_by-in-Foreign.ensures
     (laws.foreign c.args.output.now c.in-Foreign.seat)
+
+pub returns-in-RefusalUntold : goal.returns-in-RefusalUntold
+returns-in-RefusalUntold g c =
+    laws.left_as c.args.output.now c.args.output.now c.args.over (over.RefusalUntold c.in-RefusalUntold.seat) c.left_by-in-RefusalUntold.result _ c.in-RefusalUntold.is c.left_by-in-RefusalUntold.ensures
+    (laws.refusal_untold c.args.output.now c.in-RefusalUntold.seat)

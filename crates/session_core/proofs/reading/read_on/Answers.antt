@@ -18,7 +18,7 @@ returns-in-Nothing-clause-reads g c =
 
 pub returns-else-interruptions-lt-INTERRUPTIONS_MAX-clause-reads : goal.returns-else-interruptions-lt-INTERRUPTIONS_MAX-clause-reads
 returns-else-interruptions-lt-INTERRUPTIONS_MAX-clause-reads g c =
-    let enough : 16 ≤ c.read.new.self.log.interruptions = subst (λ (n : ℕ). 16 ≤ n) (c.interruptions.ensures ∙ ap (λ (log : LogState). log.interruptions) c.log.ensures) c.if-interruptions-lt-INTERRUPTIONS_MAX.false in
+    let enough : 16 ≤ c.read.new.self.log.interruptions = subst (λ (n : ℕ). 16 ≤ n) (c.interruptions.ensures.value ∙ ap (λ (log : LogState). log.interruptions) c.log.ensures) c.if-interruptions-lt-INTERRUPTIONS_MAX.false in
     subst (λ (t : Turn). ReadsOn c.args.source.now c.read.new.self c.args.decoder.now c.args.decoder.now c.args.stage c.args.output.now c.args.output.now t) (sym c.leaves-else-interruptions-lt-INTERRUPTIONS_MAX.ensures)
     (laws.interrupted_enough c.cuts_do_not_matter.ensures.requests c.args.source.now c.read.new.self c.read.new.buffer c.args.decoder.now c.args.stage c.args.output.now
     (subst (ReadsOnce c.args.source.now c.read.new.self c.read.new.buffer) c.in-Interrupted.is c.read.ensures) enough)
