@@ -47,8 +47,9 @@ INTERRUPTIONS_MAX = 16
 PIECE_MOST = 65_536
 GATHERED_MOST = 65_536
 
-# how a stream answers: the most bytes of a call, the call that fails (0 for none), and how many are interrupted before each other one
-Manner = collections.namedtuple("Manner", "most fails_at interruptions", defaults=(2**32, 0, 0))
+# how a stream answers: the most bytes of a call, the call that fails (0 for none), how many are interrupted before each other one, and
+# the flush that fails (0 for none)
+Manner = collections.namedtuple("Manner", "most fails_at interruptions flush_fails_at", defaults=(2**32, 0, 0, 0))
 PLAIN = Manner()
 
 
@@ -110,9 +111,12 @@ class Writer(Calls):
     def __init__(self, manner):
         super().__init__(manner)
         self.text = b""
+        self.flushes = 0
 
     def write(self, some):
-        """Writes all bytes, if the writer takes them."""
+        """Writes all bytes and flushes them, if the writer takes them."""
+        if not some:
+            return True
         while some and not self.is_broken():
             taken = self.call(lambda: some[: self.manner.most])
             if taken == b"":
@@ -120,7 +124,10 @@ class Writer(Calls):
             elif taken:
                 self.text += taken
                 some = some[len(taken) :]
-        return not some
+        if not some:
+            self.flushes += 1
+            self.failed = self.flushes == self.manner.flush_fails_at
+        return not some and not self.failed
 
 
 # ---- a session
@@ -151,10 +158,11 @@ def outcome_bytes(text):
 class Session:
     """One session, served by the model."""
 
-    def __init__(self, text, records=10_000, reads=PLAIN, writes=PLAIN, meanwhile=()):
+    def __init__(self, text, records=10_000, reads=PLAIN, writes=PLAIN, meanwhile=(), kernel="knows"):
         self.text = text
         self.meanwhile = list(meanwhile)
-        self.words = [str(records), *(",".join(map(str, manner)) for manner in (reads, writes)), *meanwhile]
+        self.kernel = kernel
+        self.words = [str(records), kernel, *(",".join(map(str, manner)) for manner in (reads, writes)), *meanwhile]
         self.reader, self.writer = Reader(text, reads), Writer(writes)
         self.run = plain_model.Run(records)
         self.process = None
@@ -172,6 +180,7 @@ class Session:
             f"answers {self.answers}",
             self.reader.line("reads"),
             self.writer.line("writes"),
+            f"flushes {self.writer.flushes}",
             *(self.receipts or ["no seat"]),
             f"records {self.run.records} in {self.run.world.bytes_in} out {self.run.world.bytes_out}",
         ]
@@ -186,6 +195,8 @@ class Session:
         if end != "WriteFault" and not self.send():
             end = "WriteFault"
         if self.process is not None and not self.is_spent:
+            if self.kernel == "forgets-all":
+                return "Foreign"
             self.hang_up()
         return f"WriteFault {len(self.writer.text)}" if end == "WriteFault" else end
 
@@ -246,6 +257,9 @@ class Session:
 
     def finish(self):
         """Takes up the call that waits."""
+        if self.kernel == "forgets-waiting":
+            self.is_spent = True
+            raise Over("Foreign")
         resume = plain_model.Act(self.process, "resume", ())
         place, outcome = self.act(resume)
         if outcome == "still":
@@ -445,6 +459,14 @@ def troubled(trial):
         for reads, writes in ((15, 0), (0, 15), (15, 15), (16, 0), (0, 16), (17, 1), (1, 40)):
             manners = {"reads": Manner(9, 0, reads), "writes": Manner(11, 0, writes)}
             yield f"{what}, {reads} and {writes} interruptions", lambda t=text, m=meanwhile, manners=manners: check(trial, t, meanwhile=m, **manners)
+        session = Session(text, meanwhile=meanwhile, reads=Manner(7))
+        session.wanted()
+        for at in range(1, session.writer.flushes + 2):
+            yield f"{what}, flush {at} fails", lambda t=text, m=meanwhile, at=at: check(trial, t, meanwhile=m, reads=Manner(7), writes=Manner(flush_fails_at=at))
+        for kernel in ("forgets-waiting", "forgets-all"):
+            for most in (1, 7, 2**20):
+                yield f"{what}, by {most}, a kernel that {kernel}", lambda t=text, m=meanwhile, k=kernel, n=most: check(trial, t, meanwhile=m, kernel=k, reads=Manner(n))
+                yield f"{what}, by {most}, a kernel that {kernel}, write 3 fails", lambda t=text, m=meanwhile, k=kernel, n=most: check(trial, t, meanwhile=m, kernel=k, reads=Manner(n), writes=Manner(9, 3))
         yield f"{what}, a writer that takes no byte", lambda t=text, m=meanwhile: check(trial, t, meanwhile=m, writes=Manner(0))
         for records in range(1, 40):
             yield f"{what}, in {records} records", lambda t=text, m=meanwhile, n=records: check(trial, t, n, meanwhile=m)
@@ -480,9 +502,9 @@ def often_read(trial, length):
     lines = given[1].decode().splitlines()
     calls = (length - 5) // 9
     end, reads = ("Closed", length + 1) if length < READS_MAX else ("ReadFault", READS_MAX)
-    wanted = [f"end {end}", f"answers {calls + 1}", f"reads {reads} 0 whole", f"writes {calls + 1} 0 whole"]
-    if given[0] != 0 or lines[1:5] != wanted or lines[-1] != f"records {calls + 2} in 0 out 0":
-        raise frames.Failure(f"wanted {wanted}, given {lines[1:5]} {lines[-1]}")
+    wanted = [f"end {end}", f"answers {calls + 1}", f"reads {reads} 0 whole", f"writes {calls + 1} 0 whole", f"flushes {calls + 1}"]
+    if given[0] != 0 or lines[1:6] != wanted or lines[-1] != f"records {calls + 2} in 0 out 0":
+        raise frames.Failure(f"wanted {wanted}, given {lines[1:6]} {lines[-1]}")
 
 
 # ---- want of memory
@@ -491,12 +513,8 @@ def often_read(trial, length):
 def refusals(refuser, trial):
     for what, text, meanwhile in long_ones():
         for most in (2**20, 13):
-            manner = Manner(most)
-            session = Session(text, meanwhile=meanwhile, reads=manner, writes=manner)
-            # an act of the others may be refused too
-            fewer = [meanwhile[:at] + meanwhile[at + 1 :] for at in range(len(meanwhile))]
-            others = [Session(text, meanwhile=acts, reads=manner, writes=manner).wanted() for acts in fewer]
-            yield f"{what}, by {most}, each allocation refused", lambda s=session, o=others: sweep(refuser, trial, s, o)
+            for fails_at, met in ((0, ("NoMemory", "Closed")), (3, ("NoMemory", "WriteFault"))):
+                yield f"{what}, by {most}, write {fails_at} fails, each allocation refused", lambda t=text, m=meanwhile, n=most, at=fails_at, met=met: sweep(refuser, trial, t, m, n, at, met)
 
 
 class Lines:
@@ -506,22 +524,27 @@ class Lines:
         lines = stdout.decode().splitlines()
         self.written = bytes.fromhex(lines[0][len("written ") :])
         self.end = lines[1][len("end ") :]
-        self.receipts = [line for line in lines[5:-1] if line != "no seat"]
+        self.receipts = [line for line in lines[6:-1] if line != "no seat"]
         self.records = int(lines[-1].split(" ")[1])
 
 
-def sweep(refuser, trial, session, others):
-    """Refuses each allocation of a run in turn."""
-    wanted = session.wanted()
-    words = [trial, *session.words]
-    whole = refuser.run(words, session.text)
-    if whole[:3] != (0, wanted, b"") or whole.count == 0:
+def sweep(refuser, trial, text, meanwhile, most, fails_at, met):
+    """Refuses each allocation of a run in turn: its answers begin those of a right session, and these ends are met."""
+
+    def session(acts, fails_at):
+        return Session(text, meanwhile=acts, reads=Manner(most), writes=Manner(most, fails_at))
+
+    words = [trial, *session(meanwhile, fails_at).words]
+    whole = refuser.run(words, text)
+    if whole[:3] != (0, session(meanwhile, fails_at).wanted(), b"") or whole.count == 0:
         raise frames.Failure(f"nothing refused: {whole.said()}")
-    right = Lines(wanted)
+    right = Lines(session(meanwhile, 0).wanted())
+    # an act of the others may be refused too
+    others = [session(meanwhile[:at] + meanwhile[at + 1 :], fails_at).wanted() for at in range(len(meanwhile))]
     ends = collections.Counter()
     for number in range(1, whole.count + 1):
         for last in (number, allocations.NEVER):
-            end = refuser.run(words, session.text, number, last)
+            end = refuser.run(words, text, number, last)
             if end[:3] == allocations.NO_MEMORY:
                 ends["none"] += 1
             elif end[0] != 0 or end[2]:
@@ -530,27 +553,34 @@ def sweep(refuser, trial, session, others):
                 ends["others"] += 1
             else:
                 ends[judged(right, Lines(end.stdout), number)] += 1
-    for end in ("NoMemory", "Closed"):
+    for end in met:
         if not ends[end]:
             raise frames.Failure(f"no session ended as {end}")
 
 
 def judged(right, given, number):
     """The end of a session to which an allocation was refused: it is as it would have been, or its end says why, and the exit is recorded."""
-    no_memory = frames.framed(b"\x02\x11")
     if given.receipts and not given.receipts[-1].endswith(" exit = ok"):
         raise frames.Failure(f"allocation {number} refused: no exit after {given.receipts[-1]}")
+    end = given.end.split(" ")[0]
     if given.end == right.end and given.written == right.written and given.receipts == right.receipts:
-        return given.end
-    if given.end == "NoMemory" or given.end.startswith("WriteFault "):
-        so_far = given.written[: -len(no_memory)] if given.written.endswith(no_memory) else given.written
-        if not right.written.startswith(so_far):
-            raise frames.Failure(f"allocation {number} refused: {given.end} after {given.written.hex()}")
-        return given.end.split(" ")[0]
-    # a call was refused, and the session went on
-    if no_memory not in given.written:
+        return end
+    # the frames as they would have been, and then perhaps that a request was refused
+    at = 0
+    while at < len(right.written):
+        next_at = at + 4 + int.from_bytes(right.written[at : at + 4], "big")
+        if given.written[at:next_at] != right.written[at:next_at]:
+            break
+        at = next_at
+    rest = given.written[at:]
+    no_memory = frames.framed(b"\x02\x11")
+    is_refused = rest.startswith(no_memory)
+    if not (is_refused or no_memory.startswith(rest) or right.written[at:].startswith(rest)):
+        raise frames.Failure(f"allocation {number} refused: {given.end} after {given.written.hex()}")
+    # a session whose call was refused goes on; any other says why it does not
+    if end not in ("NoMemory", "WriteFault") and not is_refused:
         raise frames.Failure(f"allocation {number} refused: {given.end}, and nothing was refused")
-    return given.end
+    return end
 
 
 # ---- random sessions

@@ -30,7 +30,7 @@ impl Ended {
 impl fmt::Display for Ended {
     fn fmt<W: fmt::Write>(&self, f: &mut fmt::Formatter<W>) -> fmt::Result {
         match self {
-            Ended::Usage => f.write_str("usage: session_trial RECORDS READS WRITES ACT..\n"),
+            Ended::Usage => f.write_str("usage: session_trial RECORDS KERNEL READS WRITES ACT..\n"),
             Ended::CannotRead => f.write_str("cannot read\n"),
             Ended::CannotWrite => f.write_str("cannot write\n"),
             Ended::NoMemory => f.write_str("no memory\n"),

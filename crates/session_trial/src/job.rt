@@ -1,5 +1,6 @@
 //! What the words of the command line ask for.
 use crate::ended::Ended;
+use crate::stranger::Forgets;
 use call_types::act::ScriptAct;
 use call_types::limits::Limits;
 use script_text::reading::read_act;
@@ -10,6 +11,7 @@ use std::alloc::{AllocError, Global};
 #[derive(Drop)]
 pub(crate) struct Job {
     pub limits: Limits,
+    pub forgets: Forgets,
     pub reads: Manner,
     pub writes: Manner,
     /// The acts that are run where a call would wait for the first time.
@@ -21,21 +23,35 @@ fn number_of(word: &str) -> Result<u64, Ended> {
     word.parse::<u64>().map_err(|_| Ended::Usage)
 }
 
+/// A call, none where the number is 0.
+fn call_of(word: &str) -> Result<Option<u64>, Ended> {
+    match number_of(word)? {
+        0 => Ok(None),
+        call => Ok(Some(call)),
+    }
+}
+
 /// How a stream answers.
 fn manner_of(word: &str) -> Result<Manner, Ended> {
     let (most, others) = word.split_once(",").ok_or(Ended::Usage)?;
-    let (fails_at, interruptions) = others.split_once(",").ok_or(Ended::Usage)?;
-    let most = number_of(most)? as usize;
-    let fails_at = match number_of(fails_at)? {
-        0 => None,
-        at => Some(at),
-    };
-    let interruptions = interruptions.parse::<u32>().map_err(|_| Ended::Usage)?;
+    let (fails_at, others) = others.split_once(",").ok_or(Ended::Usage)?;
+    let (interruptions, flush_fails_at) = others.split_once(",").ok_or(Ended::Usage)?;
     Ok(Manner {
-        most,
-        fails_at,
-        interruptions,
+        most: number_of(most)? as usize,
+        fails_at: call_of(fails_at)?,
+        interruptions: interruptions.parse::<u32>().map_err(|_| Ended::Usage)?,
+        flush_fails_at: call_of(flush_fails_at)?,
     })
+}
+
+/// What a kernel forgets.
+fn forgets_of(word: &str) -> Result<Forgets, Ended> {
+    match word {
+        "knows" => Ok(Forgets::Nothing),
+        "forgets-waiting" => Ok(Forgets::WhoWaits),
+        "forgets-all" => Ok(Forgets::All),
+        _ => Err(Ended::Usage),
+    }
 }
 
 /// The acts of lines.
@@ -51,8 +67,9 @@ fn acts_of(alloc: Global, lines: &[String]) -> Result<Vec<ScriptAct>, Ended> {
 /// The job that words ask for.
 pub(crate) fn job_of(alloc: Global, words: &[String]) -> Result<Job, Ended> {
     match words {
-        [_, records, reads, writes, lines @ ..] => Ok(Job {
+        [_, records, kernel, reads, writes, lines @ ..] => Ok(Job {
             limits: Limits::new(number_of(records.as_str())?).map_err(|_| Ended::Usage)?,
+            forgets: forgets_of(kernel.as_str())?,
             reads: manner_of(reads.as_str())?,
             writes: manner_of(writes.as_str())?,
             acts: acts_of(alloc, lines)?,

@@ -1,15 +1,17 @@
-//! The program `session_trial RECORDS READS WRITES ACT..`, for the bytes of one session on standard input.
+//! The program `session_trial RECORDS KERNEL READS WRITES ACT..`, for the bytes of one session on standard input.
 //!
-//! It serves them in a run of at most RECORDS records. READS and WRITES say how the session's reader and writer answer: three numbers with
-//! commas between, the most bytes of a call, the call that fails (0 for none), and how many calls are interrupted before each one that
-//! is not. Where a call of the session would wait for the first time, the acts are run, each one word as a line of a script has it. The
-//! program prints what was written, in hexadecimal, how the session ended, what its streams were asked, and the receipts of its seat.
+//! It serves them in a run of at most RECORDS records. READS and WRITES say how the session's reader and writer answer: four numbers with
+//! commas between, the most bytes of a call, the call that fails (0 for none), how many calls are interrupted before each one that is
+//! not, and the flush that fails (0 for none). KERNEL is `knows`; or `forgets-waiting` or `forgets-all`, where the kernel does not know
+//! the seat any more when a call waits, or when it is hung up. Where a call of the session would wait for the first time, the acts are
+//! run, each one word as a line of a script has it. The program prints what was written, in hexadecimal, how the session ended, what its streams were asked, and the receipts of its seat.
 //! `tests/sessions.py`, at the top of the repository, compares it with a model of its own.
 #![tactic(auto)]
 
 mod ended;
 mod job;
 mod shown;
+mod stranger;
 mod trial;
 
 use ended::Ended;

@@ -2,6 +2,7 @@
 use crate::ended::Ended;
 use crate::job::Job;
 use crate::shown::{put_log, put_number, put_word, put_written};
+use crate::stranger::Stranger;
 use record_book::book::Book;
 use record_book::seat::SpentSeat;
 use script_text::lines::{write_record, write_totals};
@@ -48,6 +49,7 @@ fn put_served(
     put_number(out, b"answers ", served.answers.len() as u64)?;
     put_log(out, b"reads ", &served.reads)?;
     put_log(out, b"writes ", &served.writes)?;
+    put_number(out, b"flushes ", served.writer.flushes())?;
     put_seat(out, &served.seat)
 }
 
@@ -58,7 +60,8 @@ pub(crate) fn tried<Rt: Wait>(
     job: Job,
     input: Vec<u8>,
 ) -> Result<Vec<u8>, Ended> {
-    let kernel = OneBook::new(alloc, Book::new(alloc, job.limits)?, job.acts);
+    let book = OneBook::new(alloc, Book::new(alloc, job.limits)?, job.acts);
+    let kernel = Stranger::new(book, job.forgets);
     let reader = MemoryReader::new(input, job.reads);
     let writer = MemoryWriter::new(alloc, job.writes);
     let served = serve(rt, alloc, reader, writer, &kernel);
