@@ -12,6 +12,7 @@ use Rattle.session_core.specs.declared.stage.Stage.TheVariants as stage
 use Rattle.session_core.specs.declared.stage.Why.{Why}
 use Rattle.session_core.specs.declared.stage.Why.TheVariants as why
 use Rattle.session_core.specs.declared.stage.Over.{Over}
+use Rattle.session_core.specs.declared.stage.Over.TheVariants as over
 use Rattle.session_core.specs.declared.stream.TheConstants.{INTERRUPTIONS_MAX}
 use Rattle.session_core.specs.Output.{OutputState, SendsAll, FailsToSend}
 use Rattle.session_core.specs.Pieces.{IsOver}
@@ -69,3 +70,21 @@ session_of source o left = record {
 abbrev pub LeavesAll : OutputState → OutputState → Over → Left → Type 0
 LeavesAll old new found left =
     (base : Option (List ℕ)) (input : List ℕ) (source : SourceState) → IsOver base input old found → IsMet source found → ComesTo input base (session_of source new left)
+
+-- a process is hung up
+abbrev pub HangsUpSeat : SeatState → Left → Type 0
+HangsUpSeat seat left = (wanted : End) × (spent : SeatState) × (left.seat ≡ Some spent) × HangsUp seat wanted spent left.end
+
+-- what becomes of the seat of a session that is over: a process that still is there is hung up
+abbrev pub KeepsSeat : Over → Left → Type 0
+KeepsSeat (over.Leaves stage.Opening why) left = left.seat ≡ None
+KeepsSeat (over.Leaves (stage.Ready seat) why) left = HangsUpSeat seat left
+KeepsSeat (over.Unwritten stage.Opening) left = left.seat ≡ None
+KeepsSeat (over.Unwritten (stage.Ready seat)) left = HangsUpSeat seat left
+KeepsSeat (over.OpeningUntold seat) left = HangsUpSeat seat left
+KeepsSeat (over.RefusalUntold seat) left = left.seat ≡ Some seat
+KeepsSeat (over.Untold seat receipt) left = HangsUpSeat seat left
+KeepsSeat (over.Refused seat) left = left.seat ≡ Some seat
+KeepsSeat (over.Lost seat) left = left.seat ≡ Some seat
+KeepsSeat (over.Ended seat why) left = left.seat ≡ Some seat
+KeepsSeat (over.Foreign seat) left = left.seat ≡ Some seat

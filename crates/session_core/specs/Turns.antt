@@ -8,6 +8,8 @@ use Rattle.call_types.specs.declared.request.Request.TheVariants as request
 use Rattle.record_book.specs.Seat.{Receipted, SeatState}
 use Rattle.system_lock.specs.Kernel.{EndsBy, IsError}
 use Rattle.system_lock.specs.declared.kernel.Ended.{Ended}
+use Rattle.system_lock.specs.declared.kernel.Why.{Why as EndedWhy}
+use Rattle.system_lock.specs.declared.kernel.Why.TheVariants as ended_why
 use Rattle.session_core.specs.declared.told.Told.{Told}
 use Rattle.session_core.specs.declared.told.Told.TheVariants as told
 use Rattle.session_core.specs.Answers.{receipts_of}
@@ -140,6 +142,14 @@ WaitsOut seat old new found = (base : Option (List ℕ)) (handled : List Request
 abbrev pub GivesUp : Ended → OutputState → OutputState → Over → Type 0
 GivesUp ended old new found =
     (base : Option (List ℕ)) (handled : List Request) (call : Call) (seat : SeatState) → IsWaitingAt base handled call seat old → EndsBy seat ended.seat ended.why → OverBy base handled (request.Call call) new found
+
+-- what is answered of a process that has ended in the call that it waited in
+abbrev pub TellsWhy : EndedWhy → OutputState → OutputState → Over → Type 0
+TellsWhy ended_why.NoMemory old new (over.Ended seat why) = PutsGivenUp old new refusal.NoMemory why
+TellsWhy ended_why.RunFull old new (over.Ended seat why) = PutsGivenUp old new refusal.RunFull why
+TellsWhy ended_why.Lost old new (over.Lost seat) = new ≡ old
+TellsWhy ended_why.Foreign old new (over.Foreign seat) = new ≡ old
+TellsWhy other old new found = ⊥
 
 -- requests that are taken up one after another: all of them, or those before one at which the session is over
 abbrev pub TurnsBy : Option (List ℕ) → List Request → List Request → OutputState → Turn → Type 0

@@ -1,6 +1,6 @@
 //! How a session is closed: its last answers are written, and its process is hung up.
 
-ghost use Rattle.session_core.specs.Closing.{SendsLast, HangsUp, LeavesWith, LeavesAll, end_of};
+ghost use Rattle.session_core.specs.Closing.{SendsLast, HangsUp, LeavesWith, LeavesAll, HangsUpSeat, KeepsSeat, end_of};
 ghost use Rattle.std.specs.Prelude.{◌≡◌, Some, None};
 ghost use Rattle.session_core.specs.declared.stage.Over.TheVariants as over;
 
@@ -92,7 +92,8 @@ fn leave_untold<Rt: Wait, W: Write, K: Kernel>(
     seat: Seat,
     receipt: Receipt,
 ) -> Left
-    ensures { LeavesAll output.old output.new (over.Untold seat receipt) result }
+    ensures all { LeavesAll output.old output.new (over.Untold seat receipt) result }
+    ensures seat { HangsUpSeat seat result }
 {
     match output.flush() {
         Ok(()) => left_by(hang_up(rt, kernel, seat, End::NoMemory), None),
@@ -112,7 +113,8 @@ pub(crate) fn leave_all<Rt: Wait, W: Write, K: Kernel>(
     kernel: &K,
     over: Over,
 ) -> Left
-    ensures { LeavesAll output.old output.new over result }
+    ensures all { LeavesAll output.old output.new over result }
+    ensures seat { KeepsSeat over result }
 {
     match over {
         Over::Leaves { stage, why } => {

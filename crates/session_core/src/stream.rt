@@ -1,9 +1,12 @@
 //! The streams of a session. What became of the calls on them is noted beside.
 
-ghost use Rattle.std.specs.Prelude.{◌≡◌, ◌+◌, ◌<◌, ◌≤◌, length, IfOk, OnOk, OnErr};
+ghost use Rattle.std.specs.Prelude.{◌≡◌, ◌+◌, ◌<◌, ◌≤◌, ◌⊎◌, ◌↔◌, ◌==◌, if◌then◌else◌, length, IfOk, IfErr, OnOk, OnErr};
+ghost use Rattle.std.specs.IoError.{error_kind};
+ghost use Rattle.session_core.specs.declared.stream.Gave.TheVariants as gave;
 ghost use Rattle.std.specs.Io.KnownBytes.{Keeps};
 ghost use Rattle.session_core.specs.Streams.{fresh_log, noted, ReadsOnce, WritesOnce, WritesFront, WritesNone, SomeWritten, IsBroken};
 
+use std::io;
 use std::io::{ErrorKind, Read, Write};
 use std::marker::Model;
 
@@ -97,6 +100,20 @@ impl StreamLog {
     }
 }
 
+/// What a call gave that told so: a number of bytes, of which 0 means this; that it was interrupted, or that it failed.
+fn gave_of(told: io::Result<usize>, none: Gave) -> Gave
+    ensures ok { IfOk told (λ count. result ≡ (if count == 0 then none else gave.Bytes count)) }
+    ensures interrupted { IfErr told (λ error. (result ≡ gave.Interrupted) ↔ (error_kind error ≡ ErrorKind.Interrupted)) }
+    ensures failed { IfErr told (λ error. (result ≡ gave.Interrupted) ⊎ (result ≡ gave.Failed)) }
+{
+    match told {
+        Ok(0) => none,
+        Ok(count) => Gave::Bytes(count),
+        Err(error) if error.kind() == ErrorKind::Interrupted => Gave::Interrupted,
+        Err(_) => Gave::Failed,
+    }
+}
+
 /// The reader of a session.
 #[derive(Drop)]
 pub(crate) struct Source<R: Read> {
@@ -146,12 +163,8 @@ impl<R: Read> Source<R> {
         requires few { self.old.log.interruptions < 16 }
         ensures { ReadsOnce self.old self.new buffer.new result }
     {
-        let gave = match self.reader.read(buffer) {
-            Ok(0) => Gave::Nothing,
-            Ok(count) => Gave::Bytes(count),
-            Err(error) if error.kind() == ErrorKind::Interrupted => Gave::Interrupted,
-            Err(_) => Gave::Failed,
-        };
+        let told = self.reader.read(buffer);
+        let gave = gave_of(told, Gave::Nothing);
         self.log.note(gave);
         gave
     }
@@ -202,12 +215,8 @@ impl<W: Write> Sink<W> {
         requires { self.old.log.interruptions < 16 }
         ensures { WritesOnce self.old self.new bytes.now result }
     {
-        let gave = match self.writer.write(bytes) {
-            Ok(0) => Gave::Failed,
-            Ok(count) => Gave::Bytes(count),
-            Err(error) if error.kind() == ErrorKind::Interrupted => Gave::Interrupted,
-            Err(_) => Gave::Failed,
-        };
+        let told = self.writer.write(bytes);
+        let gave = gave_of(told, Gave::Failed);
         self.log.note(gave);
         gave
     }
@@ -230,6 +239,7 @@ impl<W: Write> Sink<W> {
     /// Flushes what was written.
     fn flush(&mut self) -> Result<(), WriterFailed>
         ensures keeps { Keeps self.old.contents self.new.contents }
+        ensures ok { OnOk result (self.new.log ≡ self.old.log) }
         ensures err { OnErr result (IsBroken self.new.log) }
     {
         match self.writer.flush() {

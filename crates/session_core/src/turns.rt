@@ -1,10 +1,10 @@
 //! One request of a session.
 
-ghost use Rattle.std.specs.Prelude.{◌≡◌, OnOk, OnErr};
+ghost use Rattle.std.specs.Prelude.{◌≡◌, [], OnOk, OnErr};
 ghost use Rattle.call_types.specs.declared.request.Request.TheVariants as request;
 ghost use Rattle.session_core.specs.declared.stage.Stage.TheVariants as stage;
-ghost use Rattle.session_core.specs.Turns.{TakesUp, PutsFirst, PutsGivenUp, IsOne, WaitsOnce, WaitsOut, GivesUp, TakesAll};
-ghost use Rattle.system_lock.specs.Kernel.{IsOpening, IsWanting, IsWhyFinished};
+ghost use Rattle.session_core.specs.Turns.{TakesUp, PutsFirst, PutsGivenUp, IsOne, WaitsOnce, WaitsOut, GivesUp, TellsWhy, TakesAll};
+ghost use Rattle.system_lock.specs.Kernel.{IsOpening, IsWanting, IsWhyFinished, FinishesBy};
 ghost use Rattle.session_core.specs.Talk.{goes_on};
 
 use crate::output::Output;
@@ -86,7 +86,8 @@ fn goes_on(outcome: &Outcome) -> bool
 /// Says how the session is over whose process has ended in the call that it waited in. Want of memory or of records is answered.
 fn give_up<W: Write>(output: &mut Output<W>, ended: Ended) -> Over
     requires { IsWhyFinished ended.why }
-    ensures { GivesUp ended output.old output.new result }
+    ensures gives { GivesUp ended output.old output.new result }
+    ensures tells { TellsWhy ended.why output.old output.new result }
 {
     let seat = ended.seat;
     match ended.why {
@@ -104,6 +105,20 @@ fn give_up<W: Write>(output: &mut Output<W>, ended: Ended) -> Over
     }
 }
 
+/// Waits until a call goes on. All answers so far are written before.
+fn finish_sent<Rt: Wait, W: Write, K: Kernel>(
+    rt: &Rt,
+    output: &Output<W>,
+    kernel: &K,
+    seat: Seat,
+) -> Finished
+    requires { output.now.unsent ≡ [] }
+    ensures { FinishesBy seat result }
+{
+    let _output = output;
+    kernel.finish(rt, seat)
+}
+
 /// Waits until a call goes on, and answers what came of that.
 fn wait_once<Rt: Wait, W: Write, K: Kernel>(
     rt: &Rt,
@@ -119,7 +134,7 @@ fn wait_once<Rt: Wait, W: Write, K: Kernel>(
             return Waited::Done(Turn::Over(Over::Unwritten(Stage::Ready(seat))));
         }
     }
-    let (seat, receipt) = match kernel.finish(rt, seat) {
+    let (seat, receipt) = match finish_sent(rt, output, kernel, seat) {
         Finished::Resumed { seat, receipt } => (seat, receipt),
         Finished::Ended(ended) => return Waited::Done(Turn::Over(give_up(output, ended))),
     };

@@ -12,7 +12,7 @@ pub returns-in-Err : goal.returns-in-Err
 returns-in-Err g c base handled call w = laws.unsent base handled call c.args.seat _ _ c.in-Err.ensures.err w
 
 pub returns-in-Ended : goal.returns-in-Ended
-returns-in-Ended g c base handled call w = c.give_up.ensures base handled call c.args.seat (laws.still_waits base handled call c.args.seat _ _ c.in-Ok.ensures.ok w) c.in-Ended.ensures.0
+returns-in-Ended g c base handled call w = c.give_up.ensures.gives base handled call c.args.seat (laws.still_waits base handled call c.args.seat _ _ c.in-Ok.ensures.ok w) c.in-Ended.ensures.0
 
 pub returns-in-Ok-put_recorded : goal.returns-in-Ok-put_recorded
 returns-in-Ok-put_recorded g c base handled call w =
