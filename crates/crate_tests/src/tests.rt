@@ -1,7 +1,6 @@
-//! Tests of books, by seats, of the tables of names, of descriptions and of processes, of ledgers, and of the plain program.
+//! Tests of books, by seats, of the tables of names, of descriptions and of processes, and of the plain program.
 mod books;
 mod descriptions;
-mod ledgers;
 mod names;
 mod plain;
 mod processes;
