@@ -1,7 +1,7 @@
 //! The open file descriptions that are live, each under its number and with the count of the descriptors that refer to it.
 #![tactic(auto)]
 
-ghost use Rattle.std.specs.Prelude.{◌≡◌, ◌+◌, ◌<◌, ◌≤◌, ◌^◌, ◌∷◌, ◌++◌, [], Some, true, is_some, length, option_copied, OnOk};
+ghost use Rattle.std.specs.Prelude.{◌≡◌, ◌+◌, ◌<◌, ◌≤◌, ◌^◌, ◌∷◌, ◌++◌, [], Some, true, is_some, length, option_copied, OnOk, IsOk};
 ghost use Rattle.std.specs.Option.{option_map};
 ghost use Rattle.slots.specs.Slots.{slot, live, edited};
 ghost use Rattle.slots.specs.Uses.{uses_at, value_at, last_value, used_once, use_added, use_dropped, with_value};
@@ -124,6 +124,7 @@ impl DescriptionTable {
         ensures slots { self.new.0 ≡ self.old.0 }
         ensures room { OnOk result (0 < self.new.1) }
         ensures kept { self.old.1 ≤ self.new.1 }
+        ensures succeeds { 0 < self.old.1 → IsOk result }
     {
         self.descriptions.reserve()
     }
@@ -133,6 +134,7 @@ impl DescriptionTable {
         ensures slots { self.new.0 ≡ self.old.0 }
         ensures room { OnOk result (2 ≤ self.new.1) }
         ensures kept { self.old.1 ≤ self.new.1 }
+        ensures succeeds { 2 ≤ self.old.1 → IsOk result }
     {
         self.descriptions.reserve_more(2)
     }

@@ -1,7 +1,7 @@
 //! The names of files: a finite map from names to numbers, in the order of the names' bytes.
 #![tactic(auto)]
 
-ghost use Rattle.std.specs.Prelude.{◌≡◌, ◌+◌, ◌≤◌, ◌<◌, ◌==◌, ℕ, [], None, length, count_by, if◌then◌else◌, IfSome, OnOk};
+ghost use Rattle.std.specs.Prelude.{◌≡◌, ◌+◌, ◌≤◌, ◌<◌, ◌==◌, ℕ, [], None, length, count_by, if◌then◌else◌, IfSome, OnOk, IsOk};
 ghost use Rattle.std.specs.Ordering.{nat_cmp, is_eq, is_gt};
 ghost use Rattle.std.specs.Cmp.Lexicographic.{slice_cmp};
 ghost use Rattle.call_types.specs.Names.{file_of, with_name, without_name};
@@ -111,6 +111,7 @@ impl NameTable {
         ensures entries { self.new.0 ≡ self.old.0 }
         ensures room { OnOk result (0 < self.new.1) }
         ensures kept { self.old.1 ≤ self.new.1 }
+        ensures succeeds { 0 < self.old.1 → IsOk result }
     {
         self.entries.reserve(1)
     }

@@ -1,4 +1,4 @@
-ghost use Rattle.std.specs.Prelude.{◌≡◌, ◌+◌, ◌<◌, ◌≤◌, ◌∷◌, ◌++◌, [], Some, None, true, is_some, length, slice_set, option_copied, IfOk, IfSome, OnOk};
+ghost use Rattle.std.specs.Prelude.{◌≡◌, ◌+◌, ◌<◌, ◌≤◌, ◌∷◌, ◌++◌, [], Some, None, true, is_some, length, slice_set, option_copied, IfOk, IfSome, OnOk, IsOk};
 ghost use Rattle.slots.specs.Slots.{slot, live, lowest, edited};
 ghost use Rattle.call_types.specs.declared.limits.TheConstants.{OPEN_MAX};
 ghost use Rattle.process_table.specs.Tables.{two_lowest};
@@ -132,6 +132,7 @@ impl ProcessTable {
         ensures slots { self.new.0 ≡ self.old.0 }
         ensures room { OnOk result (0 < self.new.1) }
         ensures kept { self.old.1 ≤ self.new.1 }
+        ensures succeeds { 0 < self.old.1 → IsOk result }
     {
         self.processes.reserve()
     }

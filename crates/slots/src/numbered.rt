@@ -1,4 +1,4 @@
-ghost use Rattle.std.specs.Prelude.{◌≡◌, ℕ, ◌+◌, ◌<◌, ◌≤◌, ◌∷◌, [], ◌++◌, None, Some, true, is_some, length, slice_set, option_copied, IfOk, IfErr, OnOk};
+ghost use Rattle.std.specs.Prelude.{◌≡◌, ℕ, ◌+◌, ◌<◌, ◌≤◌, ◌∷◌, [], ◌++◌, None, Some, true, is_some, length, slice_set, option_copied, IfOk, IfErr, OnOk, IsOk};
 ghost use Rattle.slots.specs.Slots.{slot, live};
 ghost use Rattle.slots.specs.Entries.{found, EntriesRise, IsAt};
 
@@ -104,6 +104,7 @@ impl<T> Numbered<T> {
         ensures slots { self.new.0 ≡ self.old.0 }
         ensures room { OnOk result (0 < self.new.1) }
         ensures kept { self.old.1 ≤ self.new.1 }
+        ensures succeeds { 0 < self.old.1 → IsOk result }
     {
         if self.next == usize::MAX {
             return Err(AllocError);
@@ -116,6 +117,7 @@ impl<T> Numbered<T> {
         ensures slots { self.new.0 ≡ self.old.0 }
         ensures room { OnOk result (count ≤ self.new.1) }
         ensures kept { self.old.1 ≤ self.new.1 }
+        ensures succeeds { count ≤ self.old.1 → IsOk result }
     {
         if usize::MAX - self.next < count {
             return Err(AllocError);
