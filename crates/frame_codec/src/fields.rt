@@ -1,5 +1,6 @@
 //! The fields at the front of a payload.
 
+ghost use Rattle.std.specs.Prelude.{◌≡◌, IfErr};
 ghost use Rattle.std.specs.Int.{w32, w64};
 ghost use Rattle.call_types.specs.CallTable.{a_descriptor, a_position, a_count, a_name, a_payload, some_flags, a_whence};
 ghost use Rattle.frame_codec.specs.Reading.{Gives, front_at, number_at, counted_at};
@@ -128,7 +129,8 @@ pub(crate) fn flags(bytes: &[u8]) -> Result<(OpenFlags, &[u8]), PayloadFault>
 
 /// The base of an offset at the front.
 pub(crate) fn whence(bytes: &[u8]) -> Result<(Whence, &[u8]), PayloadFault>
-    ensures { Gives (λ x. (x.0, x.1.now)) result (field_at a_whence bytes.now) }
+    ensures reads { Gives (λ x. (x.0, x.1.now)) result (field_at a_whence bytes.now) }
+    ensures fault { IfErr result (λ fault. fault ≡ PayloadFault.Malformed) }
 {
     match bytes {
         [0, rest @ ..] => Ok((Whence::Set, rest)),

@@ -1,6 +1,6 @@
 //! The words of a line, with one space between two of them.
 
-ghost use Rattle.std.specs.Prelude.{◌≡◌};
+ghost use Rattle.std.specs.Prelude.{◌≡◌, IfErr};
 ghost use Rattle.std.specs.Option.{option_copied};
 ghost use Rattle.std.specs.Str.{bytes_eq};
 ghost use Rattle.script_text.specs.Reading.{Gives, Word, word_at, valued, ended};
@@ -62,7 +62,8 @@ pub(crate) fn next_word(left: Left<'_>) -> Result<Next<'_>, WordFault>
 
 /// A line ends where its act does.
 pub(crate) fn line_end(left: Left<'_>) -> Result<(), WordFault>
-    ensures { Gives (λ x. x) result (ended (option_copied left.entry)) }
+    ensures reads { Gives (λ x. x) result (ended (option_copied left.entry)) }
+    ensures fault { IfErr result (λ fault. ¬ (fault ≡ WordFault.NoMemory)) }
 {
     match left {
         None => Ok(()),
