@@ -1,6 +1,6 @@
 //! The closing of a run, which takes no memory: what it needs was made with the book and with each process.
 
-ghost use Rattle.std.specs.Prelude.{◌≡◌, ◌∷◌, [], false};
+ghost use Rattle.std.specs.Prelude.{◌≡◌, ◌∷◌, [], None, false, true};
 ghost use Rattle.record_book.specs.Book.{world_now};
 ghost use Rattle.record_book.specs.Exits.{closing_record};
 ghost use Rattle.record_book.specs.Refusals.{is_too_full};
@@ -59,15 +59,26 @@ impl Book {
         }
     }
 
+    /// A run whose house has given its receipts away is closed. It does nothing.
+    fn is_closed_for_good(&self)
+        requires { self.now.house ≡ None }
+        ensures { (world_now self.now).closed ≡ true }
+    {
+        let _house = &self.house;
+    }
+
     /// Closes a run: the exits of the processes that have no connection, by rising number, and then the closing itself; the
     /// house's seat, which has their receipts. Of a run that is closed nothing is recorded. It takes no memory.
     pub fn close_run(&mut self) -> Option<SpentSeat>
-        ensures { Closes self.old self.new result }
+        ensures closes { Closes self.old self.new result }
+        ensures closed { (world_now self.new).closed ≡ true }
     {
         if self.machine.is_closed() {
             return None;
         }
         self.end_orphans();
-        Some(self.record_closing())
+        let house = self.record_closing();
+        self.is_closed_for_good();
+        Some(house)
     }
 }
