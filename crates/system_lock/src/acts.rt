@@ -1,7 +1,7 @@
 //! The acts of a kernel on a book that is at hand.
 
 ghost use Rattle.system_lock.specs.Kernel.{IsOpening, OpensBy, CallsBy, IsReason, EndsFor};
-ghost use Rattle.system_lock.specs.Acts.{TriesBy};
+ghost use Rattle.system_lock.specs.Acts.{TriesBy, KeepsAsleep};
 
 use crate::kernel::{Ended, Why};
 use call_types::call::Call;
@@ -64,7 +64,8 @@ pub(crate) enum Tried {
 
 /// Takes up the call that a process waits in, if it is ready; where that is refused, the process ends.
 pub(crate) fn resume(book: &mut Book, alloc: Global, seat: Seat) -> Tried
-    ensures { TriesBy seat result }
+    ensures tries { TriesBy seat result }
+    ensures still { KeepsAsleep book.new seat result }
 {
     calls_end_or_wait();
     let mut seat = seat;

@@ -2,5 +2,8 @@
 #![tactic(auto)]
 
 mod acts;
+mod bells;
 pub mod kernel;
+pub mod lock;
 pub mod one_book;
+pub mod system;
