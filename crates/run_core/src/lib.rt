@@ -1,0 +1,6 @@
+//! A whole run: its sessions, each in a thread of its own, and its closing.
+#![tactic(auto)]
+
+pub mod report;
+pub mod sessions;
+pub mod source;
