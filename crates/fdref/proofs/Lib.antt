@@ -1,4 +1,6 @@
 pub mod Parses
+pub mod RequiredOptions
 pub mod OutputLemmas
 pub mod ReplayLemmas
 pub mod RunLemmas
+mod ServeLemmas

@@ -1,9 +1,10 @@
 -- What the words of a command line ask of the program (own).
 use Rattle.std.specs.Prelude.{◌≡◌, ◌≢◌, ◌≤◌, ◌⊎◌, ◌∷◌, ℕ, List, [], Option, Some, None, true, codes}
-use Rattle.std.specs.Prelude.{option_map, option_and_then, ⊤}
+use Rattle.std.specs.Prelude.{option_map, option_and_then, is_some, ⊤}
+use Rattle.std.specs.String.{string_bytes}
 use Rattle.std.specs.Str.Parse.{IsNumeral, digits_value, without_leading_plus}
 use Rattle.clap.specs.Words.{App, IsAmong, Rule, Text, fault_of, first_of, kind_of}
-use Rattle.clap.specs.Words.{new_app, new_rule, subcommand_name_of, subcommand_of, subcommand_rows_of}
+use Rattle.clap.specs.Words.{new_app, new_rule, subcommand_of, subcommand_rows_of}
 use Rattle.clap.specs.Words.{with_rule, with_subcommand}
 use Rattle.clap.specs.declared.parser.matches.ArgMatches.{ArgMatches}
 use Rattle.clap.specs.declared.error.Error.{Error}
@@ -13,18 +14,30 @@ use Rattle.call_types.specs.declared.limits.Bounds.{Bounds}
 use Rattle.call_types.specs.declared.limits.Limits.{Limits}
 use Rattle.call_types.specs.declared.limits.TheConstants.{RECORDS_MAX, FILE_SIZE_MAX, PIPE_CAPACITY}
 use Rattle.fdref.specs.declared.job.Job.{Job}
+use Rattle.fdref.specs.declared.job.Job.TheVariants.{Replay, Serve}
 use Rattle.fdref.specs.declared.job.JobFault.{JobFault}
 use Rattle.fdref.specs.declared.job.JobFault.TheVariants.{Usage, Shown, NoMemory}
+use Rattle.fdref.specs.declared.job.TheConstants.{SESSIONS_MAX}
 
 -- ---- what the program takes
 
--- the option `--records N`
-abbrev pub records_rule : Rule
-records_rule = record (new_rule (codes "records")) { long = Some (codes "records"); value_names = 1 }
+-- an option that is named so, and takes one value
+abbrev pub option_rule : Text → Rule
+option_rule id = record (new_rule id) { long = Some id; value_names = 1 }
+
+-- the same, where it has to be given
+abbrev pub required_rule : Text → Rule
+required_rule id = record (option_rule id) { required = true }
 
 -- the subcommand `replay`, with its one option
 abbrev pub replay_app : App
-replay_app = with_rule (new_app (codes "replay")) records_rule
+replay_app = with_rule (new_app (codes "replay")) (option_rule (codes "records"))
+
+-- the subcommand `serve`, with its three options
+abbrev pub serve_app : App
+serve_app = with_rule
+    (with_rule (with_rule (new_app (codes "serve")) (required_rule (codes "socket"))) (required_rule (codes "sessions")))
+    (required_rule (codes "records"))
 
 -- the program's settings: it has a version, wants a subcommand, and has none named `help`
 abbrev pub bare_app : App
@@ -39,7 +52,7 @@ bare_app = record (new_app (codes "fdref")) {
 
 -- the whole command line of the program
 abbrev pub fdref_app : App
-fdref_app = with_subcommand bare_app replay_app.top
+fdref_app = with_subcommand (with_subcommand bare_app replay_app.top) serve_app.top
 
 -- ---- what the words give
 
@@ -47,49 +60,87 @@ fdref_app = with_subcommand bare_app replay_app.top
 abbrev pub line : List Text → List Text
 line words = codes "fdref" ∷ words
 
+-- words that ask for a server
+abbrev pub served : List Text
+served = codes "serve" ∷ codes "--socket" ∷ codes "s" ∷ codes "--sessions" ∷ codes "2" ∷ codes "--records=5" ∷ []
+
 -- the name of the subcommand that the words give
 abbrev pub name_given : List Text → Option Text
 name_given words = option_map (λ p. p.0) (subcommand_of fdref_app words)
 
--- the text that the words give to `--records`
-abbrev pub records_given : List Text → Option Text
-records_given words = option_and_then (λ p. first_of (codes "records") p.1) (subcommand_of fdref_app words)
+-- the text that the words give to an option of their subcommand
+abbrev pub text_given : List Text → Text → Option Text
+text_given words option = option_and_then (λ p. first_of option p.1) (subcommand_of fdref_app words)
 
 -- n is what the text writes in decimal
 abbrev pub Writes : Text → ℕ → Type 0
 Writes text n = IsNumeral 10 (without_leading_plus text) × (n ≡ digits_value 10 (without_leading_plus text))
 
--- n is the number of records, the default where no text is given, and in its range
+-- n is the number that the text gives, from 1 to the most
+abbrev pub IsNumber : ℕ → Option Text → ℕ → Type 0
+IsNumber most None n = ⊥
+IsNumber most (Some text) n = Writes text n × (1 ≤ n) × (n ≤ most)
+
+-- the text is no such number
+abbrev pub IsNoNumber : ℕ → Option Text → Type 0
+IsNoNumber most text = (n : ℕ) → IsNumber most text n → ⊥
+
+-- n is the number of records of a replay, the default where no text is given
 abbrev pub IsRecords : Option Text → ℕ → Type 0
 IsRecords None n = n ≡ 10000
-IsRecords (Some text) n = Writes text n × (1 ≤ n) × (n ≤ RECORDS_MAX)
+IsRecords (Some text) n = IsNumber RECORDS_MAX (Some text) n
 
--- the text is no number of records
+-- the text is no number of records of a replay
 abbrev pub IsNoRecords : Option Text → Type 0
 IsNoRecords text = (n : ℕ) → IsRecords text n → ⊥
-
--- ---- what the program makes of them
-
--- the matches are those of the words, which name the subcommand that there is
-pub record IsParse (words : List Text) (m : ArgMatches) : Type 0 where
-  pub parsed : fault_of fdref_app words ≡ []
-  pub rows : subcommand_rows_of m ≡ subcommand_of fdref_app words
-  pub name : subcommand_name_of m ≡ Some (codes "replay")
 
 -- the limits of the model in each run
 abbrev pub standard : Bounds
 standard = record { file_size = FILE_SIZE_MAX; pipe_capacity = PIPE_CAPACITY }
 
--- the words ask for a replay with these limits
-pub record AsksReplay (words : List Text) (limits : Limits) : Type 0 where
-  pub parsed : fault_of fdref_app words ≡ []
-  pub name : name_given words ≡ Some (codes "replay")
-  pub records : IsRecords (records_given words) limits.records
+-- what is given to each option of a subcommand
+abbrev pub Given : Type 0
+Given = Text → Option Text
+
+-- the limits are those of a replay that is given so
+pub record IsReplay (given : Given) (limits : Limits) : Type 0 where
+  pub records : IsRecords (given (codes "records")) limits.records
   pub bounds : limits.bounds ≡ standard
 
--- the words ask for the job
-abbrev pub Asks : List Text → Job → Type 0
-Asks words job = AsksReplay words job.limits
+-- path, number of sessions and limits are those of a server that is given so
+pub record IsServe (given : Given) (path : Text) (count : ℕ) (limits : Limits) : Type 0 where
+  pub socket : given (codes "socket") ≡ Some path
+  pub sessions : IsNumber SESSIONS_MAX (given (codes "sessions")) count
+  pub records : IsNumber RECORDS_MAX (given (codes "records")) limits.records
+  pub bounds : limits.bounds ≡ standard
+
+-- the job is the one that the subcommand of this name asks for
+abbrev pub IsJobOf : Option Text → Given → Job → Type 0
+IsJobOf name given (Replay limits) = (name ≡ Some (codes "replay")) × IsReplay given limits
+IsJobOf name given (Serve path count limits) = (name ≡ Some (codes "serve")) × IsServe given (string_bytes path) count limits
+
+-- a number that the subcommand of this name is given is out of its range
+abbrev pub IsOutOfRange : Option Text → Given → Type 0
+IsOutOfRange name given = ((name ≡ Some (codes "replay")) × IsNoRecords (given (codes "records")))
+    ⊎ ((name ≡ Some (codes "serve")) × (IsNoNumber SESSIONS_MAX (given (codes "sessions"))
+    ⊎ IsNoNumber RECORDS_MAX (given (codes "records"))))
+
+-- each option of a server is given
+abbrev pub GivesAll : Given → Type 0
+GivesAll given = (is_some (given (codes "socket")) ≡ true) × (is_some (given (codes "sessions")) ≡ true)
+    × (is_some (given (codes "records")) ≡ true)
+
+-- ---- what the program makes of them
+
+-- the matches are those of the words, which have no fault
+pub record IsParse (words : List Text) (m : ArgMatches) : Type 0 where
+  pub parsed : fault_of fdref_app words ≡ []
+  pub rows : subcommand_rows_of m ≡ subcommand_of fdref_app words
+
+-- the words parse, and ask for the job
+pub record Asks (words : List Text) (job : Job) : Type 0 where
+  pub parsed : fault_of fdref_app words ≡ []
+  pub asked : IsJobOf (name_given words) (text_given words) job
 
 -- help or the version was asked for
 abbrev pub IsRequest : ErrorKind → Type 0
@@ -99,20 +150,16 @@ IsRequest k = (k ≡ kind.DisplayHelp) ⊎ (k ≡ kind.DisplayVersion)
 abbrev pub IsMistake : List Text → ErrorKind → Type 0
 IsMistake words k = IsAmong k (fault_of fdref_app words) × (IsRequest k → ⊥)
 
--- the words parse, but their number is out of range
-abbrev pub IsOutOfRange : List Text → ErrorKind → Type 0
-IsOutOfRange words k = (fault_of fdref_app words ≡ []) × IsNoRecords (records_given words)
+-- the words parse, but a number of theirs is out of its range
+abbrev pub IsBadNumber : List Text → ErrorKind → Type 0
+IsBadNumber words k = (fault_of fdref_app words ≡ []) × IsOutOfRange (name_given words) (text_given words)
     × (k ≡ kind.ValueValidation)
 
--- the job is a replay, with the records that the text gives
-abbrev pub IsReplayOf : Option Text → Job → Type 0
-IsReplayOf text job = IsRecords text job.limits.records × (job.limits.bounds ≡ standard)
-
--- the fault says that the text is no number of records, or that memory ran out
-abbrev pub RefusesRecords : Option Text → JobFault → Type 0
-RefusesRecords text (Usage e) = IsNoRecords text × (kind_of e ≡ kind.ValueValidation)
-RefusesRecords text (Shown e) = ⊥
-RefusesRecords text NoMemory = ⊤
+-- the fault says that a number is out of its range, or that memory ran out
+abbrev pub RefusesNumber : Option Text → Given → JobFault → Type 0
+RefusesNumber name given (Usage e) = IsOutOfRange name given × (kind_of e ≡ kind.ValueValidation)
+RefusesNumber name given (Shown e) = ⊥
+RefusesNumber name given NoMemory = ⊤
 
 -- the fault that an error of the parse is: its error, unless memory ran out
 abbrev pub IsFaultOf : Error → JobFault → Type 0
@@ -122,7 +169,7 @@ IsFaultOf error NoMemory = kind_of error ≡ kind.OutOfMemory
 
 -- the words deserve the fault, or memory ran out
 abbrev pub Deserves : List Text → JobFault → Type 0
-Deserves words (Usage e) = IsMistake words (kind_of e) ⊎ IsOutOfRange words (kind_of e)
+Deserves words (Usage e) = IsMistake words (kind_of e) ⊎ IsBadNumber words (kind_of e)
 Deserves words (Shown e) = IsAmong (kind_of e) (fault_of fdref_app words) × IsRequest (kind_of e)
 Deserves words NoMemory = ⊤
 

@@ -1,3 +1,5 @@
 pub mod CommandLine
 pub mod Output
 pub mod Replay
+pub mod Serve
+pub mod Perform

@@ -84,6 +84,8 @@ Ends limits input old new ended.TooLong = IfSome input (Refuses faults.TooLong) 
 Ends limits input old new ended.CannotRead = new ≡ old
 Ends limits input old new ended.CannotWrite = OfInput input (WritesReplayFront limits old new)
 Ends limits input old new ended.NoMemory = new ≡ old
+Ends limits input old new ended.CannotListen = ⊥
+Ends limits input old new ended.NoThread = ⊥
 
 -- the exit status of an end
 abbrev pub ended_status : Ended → ℕ
@@ -93,6 +95,8 @@ ended_status ended.TooLong = 3
 ended_status ended.CannotRead = 4
 ended_status ended.CannotWrite = 4
 ended_status ended.NoMemory = 5
+ended_status ended.CannotListen = 4
+ended_status ended.NoThread = 5
 
 -- what is written of an end on standard error (own)
 abbrev pub ended_text : Ended → List ℕ
@@ -102,3 +106,5 @@ ended_text ended.TooLong = codes "script too long\n"
 ended_text ended.CannotRead = codes "cannot read\n"
 ended_text ended.CannotWrite = codes "cannot write\n"
 ended_text ended.NoMemory = codes "no memory\n"
+ended_text ended.CannotListen = codes "cannot listen\n"
+ended_text ended.NoThread = codes "no thread\n"

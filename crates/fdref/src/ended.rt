@@ -21,6 +21,10 @@ pub enum Ended {
     CannotWrite,
     /// Memory ran out. Nothing was written.
     NoMemory,
+    /// There is no socket to listen on, or accepting failed; the sessions before were served and reported.
+    CannotListen,
+    /// A thread could not be started; the sessions before were served and reported.
+    NoThread,
 }
 
 impl Ended {
@@ -31,8 +35,8 @@ impl Ended {
         match self {
             Ended::Done => 0,
             Ended::BadLine { .. } | Ended::TooLong => 3,
-            Ended::CannotRead | Ended::CannotWrite => 4,
-            Ended::NoMemory => 5,
+            Ended::CannotRead | Ended::CannotWrite | Ended::CannotListen => 4,
+            Ended::NoMemory | Ended::NoThread => 5,
         }
     }
 }
@@ -53,6 +57,8 @@ impl fmt::Display for Ended {
             Ended::CannotRead => f.write_str("cannot read\n"),
             Ended::CannotWrite => f.write_str("cannot write\n"),
             Ended::NoMemory => f.write_str("no memory\n"),
+            Ended::CannotListen => f.write_str("cannot listen\n"),
+            Ended::NoThread => f.write_str("no thread\n"),
         }
     }
 }

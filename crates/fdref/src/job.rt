@@ -1,24 +1,35 @@
 //! What the words of a command line ask for.
-ghost use Rattle.std.specs.Prelude.{◌≡◌, ◌∷◌, [], IfOk, IfErr, IfSome, map, codes, false};
+ghost use Rattle.std.specs.Prelude.{◌≡◌, ◌∷◌, [], IfOk, IfErr, IfSome, map, codes, is_some, true, false};
 ghost use Rattle.clap.specs.Words.{app_of, found_of, first_value, fault_of, kind_of, rule_of};
 ghost use Rattle.clap.specs.declared.builder.command.Command.TheViews.{out-Command as fields_of};
-ghost use Rattle.fdref.specs.CommandLine.{Asks, Deserves, IsFaultOf, IsNoRecords, IsParse, IsRecords, IsReplayOf, RefusesRecords, SaysNotText, fdref_app, line, records_given, records_rule, replay_app, standard, status_of};
+ghost use Rattle.fdref.specs.CommandLine.{Asks, Deserves, GivesAll, IsFaultOf, IsJobOf, IsNoNumber, IsNoRecords, IsNumber, IsParse, IsRecords, RefusesNumber, SaysNotText, fdref_app, line, name_given, option_rule, replay_app, required_rule, serve_app, served, standard, status_of, text_given};
 
-use call_types::limits::Limits;
+use call_types::limits::{Limits, RECORDS_MAX};
 use clap::error::ErrorKind;
 use clap::{Arg, ArgMatches, Command, Error};
 use std::alloc::{AllocError, Global};
 use std::convert::AsStr;
 use std::fmt;
 
-/// The records of a run whose command line names no number.
+/// The records of a replay whose command line names no number.
 pub const DEFAULT_RECORDS: u64 = 10_000;
 
-/// What the program is asked to do: to run the script on standard input.
-#[derive(Clone, Copy, Debug)]
-pub struct Job {
-    /// What the run may take.
-    pub limits: Limits,
+/// The most sessions that a server may have.
+pub const SESSIONS_MAX: u8 = 64;
+
+/// What the program is asked to do.
+#[derive(Debug, Drop)]
+pub enum Job {
+    /// To run the script on standard input.
+    Replay {
+        limits: Limits,
+    },
+    /// To serve so many sessions, 1 to 64, over a Unix socket that it makes at this path.
+    Serve {
+        socket: String,
+        sessions: u8,
+        limits: Limits,
+    },
 }
 
 /// Why a command line gives no job.
@@ -65,15 +76,20 @@ impl From<AllocError> for JobFault {
     }
 }
 
-/// The option `--records N`.
-fn records_arg<'a>(alloc: Global) -> Arg<'a>
-    ensures rule { rule_of result ≡ records_rule }
+/// An option `--name VALUE`.
+fn option_arg<'a>(alloc: Global, name: &'a str, value: &'a str) -> Arg<'a>
+    ensures rule { rule_of result ≡ option_rule name.entry.now }
     ensures local { result.global ≡ false }
 {
-    Arg::new(alloc, "records")
-        .long("records")
-        .value_name("N")
-        .help("Records that the run may have, 1 to 1000000 [default: 10000]")
+    Arg::new(alloc, name).long(name).value_name(value)
+}
+
+/// An option `--name VALUE` that has to be given.
+fn required_arg<'a>(alloc: Global, name: &'a str, value: &'a str, help: &'a str) -> Arg<'a>
+    ensures rule { rule_of result ≡ required_rule name.entry.now }
+    ensures local { result.global ≡ false }
+{
+    option_arg(alloc, name, value).required(true).help(help)
 }
 
 /// The subcommand `replay`.
@@ -83,7 +99,26 @@ fn replay_command<'a>(alloc: Global) -> Result<Command<'a>, AllocError>
 {
     Command::new(alloc, "replay")
         .about("Runs the script on standard input and prints a line for each record")
-        .arg(records_arg(alloc))
+        .arg(option_arg(alloc, "records", "N").help(
+            "Records that the run may have, 1 to 1000000 [default: 10000]",
+        ))
+}
+
+/// The subcommand `serve`.
+fn serve_command<'a>(alloc: Global) -> Result<Command<'a>, AllocError>
+    ensures app { IfOk result (λ c. app_of c ≡ serve_app) }
+    ensures local { IfOk result (λ c. (fields_of c).has_globals ≡ false) }
+{
+    let socket = "Where the Unix socket is made; nothing may be there";
+    let sessions = "Connections that are accepted, 1 to 64; each is one process";
+    let records = "Records that the run may have, 1 to 1000000";
+    Command::new(alloc, "serve")
+        .about(
+            "Answers requests over a Unix socket and prints a report when all sessions have ended",
+        )
+        .arg(required_arg(alloc, "socket", "PATH", socket))?
+        .arg(required_arg(alloc, "sessions", "N", sessions))?
+        .arg(required_arg(alloc, "records", "N", records))
 }
 
 /// The command line of the program.
@@ -97,35 +132,68 @@ fn fdref_command<'a>(alloc: Global) -> Result<Command<'a>, AllocError>
         .propagate_version(true)
         .subcommand_required(true)
         .disable_help_subcommand(true)
-        .subcommand(replay_command(alloc)?)
+        .subcommand(replay_command(alloc)?)?
+        .subcommand(serve_command(alloc)?)
 }
 
-/// The error of `--records` with a text that is no number of records.
-fn records_error(alloc: Global, text: &str) -> Result<Error, AllocError>
+/// The error of a subcommand whose option has a text that is no number from 1 to the most.
+fn number_error(
+    alloc: Global,
+    mut command: Command<'_>,
+    option: &str,
+    text: &str,
+    most: u64,
+) -> Result<Error, AllocError>
     ensures { IfOk result (λ e. kind_of e ≡ ErrorKind.ValueValidation) }
 {
     let message = format!(in alloc;
-        "invalid value '{text}' for '--records <N>': not a number from 1 to 1000000"
+        "invalid value '{text}' for '--{option} <N>': not a number from 1 to {most}"
     )?;
-    replay_command(alloc)?
-        .bin_name("fdref replay")?
-        .error(ErrorKind::ValueValidation, message.as_str())
+    command.error(ErrorKind::ValueValidation, message.as_str())
+}
+
+/// The error of `replay` with a text that is no number of records.
+fn replay_error(alloc: Global, text: &str) -> Result<Error, AllocError>
+    ensures { IfOk result (λ e. kind_of e ≡ ErrorKind.ValueValidation) }
+{
+    let command = replay_command(alloc)?.bin_name("fdref replay")?;
+    number_error(alloc, command, "records", text, RECORDS_MAX)
+}
+
+/// The error of `serve` whose option has a text that is no number from 1 to the most.
+fn serve_error(alloc: Global, option: &str, text: &str, most: u64) -> Result<Error, AllocError>
+    ensures { IfOk result (λ e. kind_of e ≡ ErrorKind.ValueValidation) }
+{
+    let command = serve_command(alloc)?.bin_name("fdref serve")?;
+    number_error(alloc, command, option, text, most)
 }
 
 /// The limits that the text of `--records` gives.
 fn limits_of(text: &str) -> Option<Limits>
-    ensures given { IfSome result (λ limits. IsRecords (Some text.now) limits.records × (limits.bounds ≡ standard)) }
-    ensures refused { result ≡ None → IsNoRecords (Some text.now) }
+    ensures given { IfSome result (λ limits. IsNumber RECORDS_MAX (Some text.now) limits.records × (limits.bounds ≡ standard)) }
+    ensures refused { result ≡ None → IsNoNumber RECORDS_MAX (Some text.now) }
 {
     let records = text.parse::<u64>().ok()?;
     Limits::new(records).ok()
 }
 
-/// The limits of a run whose command line names no number.
+/// The limits of a replay whose command line names no number.
 fn default_limits() -> Limits
     ensures { IsRecords None result.records × (result.bounds ≡ standard) }
 {
     Limits::new(DEFAULT_RECORDS).unwrap()
+}
+
+/// The number of sessions that the text of `--sessions` gives.
+fn sessions_of(text: &str) -> Option<u8>
+    ensures given { IfSome result (λ sessions. IsNumber SESSIONS_MAX (Some text.now) sessions) }
+    ensures refused { result ≡ None → IsNoNumber SESSIONS_MAX (Some text.now) }
+{
+    let sessions = text.parse::<u8>().ok()?;
+    if sessions == 0 || sessions > SESSIONS_MAX {
+        return None;
+    }
+    Some(sessions)
 }
 
 /// The fault that an error of the parse is.
@@ -141,17 +209,55 @@ fn fault_of_parse(error: Error) -> JobFault
 
 /// The job that the matches of `replay` ask for.
 fn replay_job(alloc: Global, matches: &ArgMatches<'_>) -> Result<Job, JobFault>
-    ensures job { IfOk result (λ job. IsReplayOf (first_value (found_of matches.now) (codes "records")) job) }
-    ensures fault { IfErr result (λ fault. RefusesRecords (first_value (found_of matches.now) (codes "records")) fault) }
+    ensures job { IfOk result (λ job. IsJobOf (Some (codes "replay")) (first_value (found_of matches.now)) job) }
+    ensures fault { IfErr result (λ fault. RefusesNumber (Some (codes "replay")) (first_value (found_of matches.now)) fault) }
 {
     let limits = match matches.get_str("records") {
         None => default_limits(),
         Some(text) => match limits_of(text) {
             Some(limits) => limits,
-            None => return Err(JobFault::Usage(records_error(alloc, text)?)),
+            None => return Err(JobFault::Usage(replay_error(alloc, text)?)),
         },
     };
-    Ok(Job { limits })
+    Ok(Job::Replay { limits })
+}
+
+/// The text of an option that is given.
+fn given<'a>(matches: &ArgMatches<'a>, option: &str) -> &'a str
+    requires there { is_some (first_value (found_of matches.now) option.now) ≡ true }
+    ensures { first_value (found_of matches.now) option.now ≡ Some result.now }
+{
+    match matches.get_str(option) {
+        Some(text) => text,
+        None => unreachable!(),
+    }
+}
+
+/// The job that the matches of `serve` ask for, in which each of its options is given.
+fn serve_job(alloc: Global, matches: &ArgMatches<'_>) -> Result<Job, JobFault>
+    requires all { GivesAll (first_value (found_of matches.now)) }
+    ensures job { IfOk result (λ job. IsJobOf (Some (codes "serve")) (first_value (found_of matches.now)) job) }
+    ensures fault { IfErr result (λ fault. RefusesNumber (Some (codes "serve")) (first_value (found_of matches.now)) fault) }
+{
+    let text = given(matches, "sessions");
+    let sessions = match sessions_of(text) {
+        Some(sessions) => sessions,
+        None => {
+            let error = serve_error(alloc, "sessions", text, u64::from(SESSIONS_MAX))?;
+            return Err(JobFault::Usage(error));
+        }
+    };
+    let text = given(matches, "records");
+    let limits = match limits_of(text) {
+        Some(limits) => limits,
+        None => return Err(JobFault::Usage(serve_error(alloc, "records", text, RECORDS_MAX)?)),
+    };
+    let socket = String::from_str(alloc, given(matches, "socket"))?;
+    Ok(Job::Serve {
+        socket,
+        sessions,
+        limits,
+    })
 }
 
 /// The matches of the program's command line.
@@ -171,8 +277,11 @@ pub fn job_of<S: AsStr>(alloc: Global, words: &[S]) -> Result<Job, JobFault>
     ensures fault { IfErr result (λ fault. Deserves (map S.text words.entry.now) fault) }
 {
     let matches = parsed(alloc, words)?;
-    match matches.subcommand_matches("replay") {
-        Some(replay) => replay_job(alloc, replay),
+    if let Some(replay) = matches.subcommand_matches("replay") {
+        return replay_job(alloc, replay);
+    }
+    match matches.subcommand_matches("serve") {
+        Some(serve) => serve_job(alloc, serve),
         None => unreachable!(),
     }
 }
@@ -196,9 +305,9 @@ fn not_text_error(alloc: Global) -> Result<Error, AllocError>
 
 /// How the program's command line is read, at words that are written out.
 pub fn lines_read()
-    ensures plain { (fault_of fdref_app (line (codes "replay" ∷ [])) ≡ []) × (records_given (line (codes "replay" ∷ [])) ≡ None) }
-    ensures apart { (fault_of fdref_app (line (codes "replay" ∷ codes "--records" ∷ codes "5" ∷ [])) ≡ []) × (records_given (line (codes "replay" ∷ codes "--records" ∷ codes "5" ∷ [])) ≡ Some (codes "5")) }
-    ensures joined { (fault_of fdref_app (line (codes "replay" ∷ codes "--records=5" ∷ [])) ≡ []) × (records_given (line (codes "replay" ∷ codes "--records=5" ∷ [])) ≡ Some (codes "5")) }
+    ensures plain { (fault_of fdref_app (line (codes "replay" ∷ [])) ≡ []) × (text_given (line (codes "replay" ∷ [])) (codes "records") ≡ None) }
+    ensures apart { (fault_of fdref_app (line (codes "replay" ∷ codes "--records" ∷ codes "5" ∷ [])) ≡ []) × (text_given (line (codes "replay" ∷ codes "--records" ∷ codes "5" ∷ [])) (codes "records") ≡ Some (codes "5")) }
+    ensures joined { (fault_of fdref_app (line (codes "replay" ∷ codes "--records=5" ∷ [])) ≡ []) × (text_given (line (codes "replay" ∷ codes "--records=5" ∷ [])) (codes "records") ≡ Some (codes "5")) }
     ensures greatest { IsRecords (Some (codes "1000000")) 1000000 }
     ensures zero { IsNoRecords (Some (codes "0")) }
     ensures above { IsNoRecords (Some (codes "1000001")) }
@@ -208,4 +317,13 @@ pub fn lines_read()
     ensures version { fault_of fdref_app (line (codes "replay" ∷ codes "--version" ∷ [])) ≡ ErrorKind.DisplayVersion ∷ [] }
     ensures surplus { fault_of fdref_app (line (codes "replay" ∷ codes "x" ∷ [])) ≡ ErrorKind.UnknownArgument ∷ [] }
     ensures twice { fault_of fdref_app (line (codes "replay" ∷ codes "--records=5" ∷ codes "--records=5" ∷ [])) ≡ ErrorKind.ArgumentConflict ∷ [] }
+    ensures serve { (fault_of fdref_app (line served) ≡ []) × (name_given (line served) ≡ Some (codes "serve")) }
+    ensures socket { text_given (line served) (codes "socket") ≡ Some (codes "s") }
+    ensures sessions { text_given (line served) (codes "sessions") ≡ Some (codes "2") }
+    ensures records { text_given (line served) (codes "records") ≡ Some (codes "5") }
+    ensures incomplete { fault_of fdref_app (line (codes "serve" ∷ codes "--socket=s" ∷ codes "--records=5" ∷ [])) ≡ ErrorKind.MissingRequiredArgument ∷ [] }
+    ensures most_sessions { IsNumber SESSIONS_MAX (Some (codes "64")) 64 }
+    ensures no_sessions { IsNoNumber SESSIONS_MAX (Some (codes "0")) }
+    ensures too_many_sessions { IsNoNumber SESSIONS_MAX (Some (codes "65")) }
+    ensures word_of_sessions { IsNoNumber SESSIONS_MAX (Some (codes "x")) }
 {}

@@ -3,8 +3,11 @@
 
 mod ended;
 mod job;
+mod listener;
 mod output;
+mod perform;
 mod replay;
+mod serve;
 
 ghost use Rattle.std.specs.Prelude.{◌≡◌};
 ghost use Rattle.std.specs.Process.{exit_status};
@@ -13,7 +16,8 @@ ghost use Rattle.fdref.specs.Replay.{ended_status};
 
 use ended::Ended;
 use job::{Job, JobFault, job_of, not_text};
-use replay::perform;
+use listener::Sockets;
+use perform::perform;
 use std::io;
 use std::process::ExitCode;
 
@@ -57,7 +61,14 @@ fn code_of_fault(fault: &JobFault) -> ExitCode
 fn main(rt: HostRuntime) -> ExitCode {
     match asked(&rt) {
         Ok(job) => {
-            let ended = perform(rt.alloc(), rt.reader(), &mut io::writer(&rt), job);
+            let ended = perform(
+                rt,
+                rt.alloc(),
+                &Sockets { rt: &rt },
+                rt.reader(),
+                &mut io::writer(&rt),
+                job,
+            );
             let _ = eprint!(rt; "{ended}");
             code_of(ended)
         }

@@ -5,7 +5,6 @@ ghost use Rattle.script_text.specs.declared.script.TheConstants.{SCRIPT_MAX};
 ghost use Rattle.fdref.specs.Replay.{Ends, RunsNext, RunsScript, FailsAs};
 
 use crate::ended::Ended;
-use crate::job::Job;
 use crate::output::{put_line, write_lines};
 use call_types::act::ScriptAct;
 use call_types::limits::Limits;
@@ -104,16 +103,4 @@ pub fn replay<R: Read + Drop, W: Write>(
         Ok(()) => Ended::Done,
         Err(ended) => ended,
     }
-}
-
-/// Does a job: reads its input, writes its output, and says how it ended. It leaks what `replay` leaks: call it once in a process.
-pub fn perform<R: Read + Drop, W: Write>(
-    alloc: Global,
-    reader: R,
-    writer: &mut W,
-    job: Job,
-) -> Ended
-    ensures { Ends job.limits (R.remaining reader) (W.contents writer.old) (W.contents writer.new) result }
-{
-    replay(alloc, reader, writer, job.limits)
 }

@@ -34,3 +34,23 @@ returns-clause-surplus c = refl
 pub returns-clause-twice : goal.returns-clause-twice
 unfolding clap_on_literals
 returns-clause-twice c = refl
+
+pub returns-clause-serve : goal.returns-clause-serve
+unfolding clap_on_literals
+returns-clause-serve c = (refl, refl)
+
+pub returns-clause-socket : goal.returns-clause-socket
+unfolding clap_on_literals
+returns-clause-socket c = refl
+
+pub returns-clause-sessions : goal.returns-clause-sessions
+unfolding clap_on_literals
+returns-clause-sessions c = refl
+
+pub returns-clause-records : goal.returns-clause-records
+unfolding clap_on_literals
+returns-clause-records c = refl
+
+pub returns-clause-incomplete : goal.returns-clause-incomplete
+unfolding clap_on_literals
+returns-clause-incomplete c = refl

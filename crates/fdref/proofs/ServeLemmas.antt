@@ -1,0 +1,21 @@
+-- A report that is written whole says how the run ended.
+use Rattle.std.proofs.Common.{◌≡◌, ◌≤◌, ℕ, List, Option, None, Some, refl}
+use Rattle.std.specs.Io.KnownBytes.{Appends}
+use Rattle.system_lock.specs.System.{IsClosedRun}
+use Rattle.run_core.specs.declared.report.Shortage.{Shortage}
+use Rattle.run_core.specs.declared.report.Shortage.TheVariants as shortage
+use Rattle.fdref.specs.Serve.{IsReport, Reports, end_of, report_line}
+
+-- by what was short
+pub reports_by : (most : ℕ) (old new : Option (List ℕ)) (short : Option Shortage) (sessions records taken given : ℕ) (line : List ℕ)
+    → sessions ≤ most → (short ≡ None → sessions ≡ most) → IsClosedRun records taken given → line ≡ report_line sessions records taken given → Appends old new line
+    → Reports most old new (end_of short)
+reports_by most old new None sessions records taken given line few all run is written =
+    let report : IsReport most line = record { sessions = sessions; records = records; taken = taken; given = given; few = few; run = run; line_is = is } in
+    (line, (report, all refl), written)
+reports_by most old new (Some shortage.NoConnection) sessions records taken given line few all run is written =
+    let report : IsReport most line = record { sessions = sessions; records = records; taken = taken; given = given; few = few; run = run; line_is = is } in
+    (line, report, written)
+reports_by most old new (Some shortage.NoThread) sessions records taken given line few all run is written =
+    let report : IsReport most line = record { sessions = sessions; records = records; taken = taken; given = given; few = few; run = run; line_is = is } in
+    (line, report, written)

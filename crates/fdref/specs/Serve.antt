@@ -1,0 +1,43 @@
+-- What a run of sessions writes, and what its end says (own).
+use Rattle.std.specs.Prelude.{◌≡◌, ◌≤◌, ℕ, List, ◌++◌, Option, None, Some, codes, decimal}
+use Rattle.std.specs.Io.KnownBytes.{Appends}
+use Rattle.script_text.specs.Lines.{totals_line}
+use Rattle.system_lock.specs.System.{IsClosedRun}
+use Rattle.run_core.specs.declared.report.Shortage.{Shortage}
+use Rattle.run_core.specs.declared.report.Shortage.TheVariants as shortage
+use Rattle.fdref.specs.Output.{AppendsFront}
+use Rattle.fdref.specs.declared.ended.Ended.{Ended}
+use Rattle.fdref.specs.declared.ended.Ended.TheVariants as ended
+
+-- the line that reports a run: how many sessions were started, and the totals of its book
+abbrev pub report_line : ℕ → ℕ → ℕ → ℕ → List ℕ
+report_line sessions records taken given = codes "sessions " ++ (decimal sessions ++ (codes " " ++ totals_line records taken given))
+
+-- the line reports a run that is closed, with so many sessions at most
+pub record IsReport (most : ℕ) (line : List ℕ) : Type 0 where
+  pub sessions : ℕ
+  pub records : ℕ
+  pub taken : ℕ
+  pub given : ℕ
+  pub few : sessions ≤ most
+  pub run : IsClosedRun records taken given
+  pub line_is : line ≡ report_line sessions records taken given
+
+-- the same, with just so many
+abbrev pub IsFullReport : ℕ → List ℕ → Type 0
+IsFullReport sessions line = (report : IsReport sessions line) × (report.sessions ≡ sessions)
+
+-- how a run ended whose report is written
+abbrev pub end_of : Option Shortage → Ended
+end_of None = ended.Done
+end_of (Some shortage.NoConnection) = ended.CannotListen
+end_of (Some shortage.NoThread) = ended.NoThread
+
+-- what the end says of what was written
+abbrev pub Reports : ℕ → Option (List ℕ) → Option (List ℕ) → Ended → Type 0
+Reports most old new ended.Done = (line : List ℕ) × IsFullReport most line × Appends old new line
+Reports most old new ended.CannotListen = (line : List ℕ) × IsReport most line × Appends old new line
+Reports most old new ended.NoThread = (line : List ℕ) × IsReport most line × Appends old new line
+Reports most old new ended.CannotWrite = (line : List ℕ) × IsReport most line × AppendsFront old new line
+Reports most old new ended.NoMemory = new ≡ old
+Reports most old new other = ⊥

@@ -1,0 +1,62 @@
+//! A run of sessions, and the line that reports it.
+
+ghost use Rattle.std.specs.Prelude.{◌≡◌, ◌++◌, codes, decimal, vec_len, IfOk};
+ghost use Rattle.fdref.specs.Serve.{Reports, end_of, report_line};
+
+use crate::ended::Ended;
+use crate::output::write_lines;
+use call_types::limits::Limits;
+use run_core::report::{Report, RunFault, Shortage};
+use run_core::sessions::run_sessions;
+use run_core::source::Source;
+use script_text::lines::write_totals;
+use std::alloc::{AllocError, Global};
+use std::io::Write;
+use std::sync::Wait;
+use std::thread::Threads;
+
+/// The line of a report.
+fn line_of<R, V>(alloc: Global, report: &Report<R, V>) -> Result<Vec<u8>, AllocError>
+    ensures { IfOk result (λ line. line.items ≡ report_line (vec_len report.now.ends) report.now.records report.now.bytes_in report.now.bytes_out) }
+{
+    let sessions = report.ends.len();
+    let mut line = format!(in alloc; "sessions {sessions} ")?.into_bytes();
+    write_totals(&mut line, report.records, report.bytes_in, report.bytes_out)?;
+    Ok(line)
+}
+
+/// How a run ended whose report is written.
+fn end_of(shortage: Option<Shortage>) -> Ended
+    ensures { result ≡ end_of shortage }
+{
+    match shortage {
+        None => Ended::Done,
+        Some(Shortage::NoConnection) => Ended::CannotListen,
+        Some(Shortage::NoThread) => Ended::NoThread,
+    }
+}
+
+/// Serves so many sessions, and writes the line of their report.
+pub fn serve_on<Rt: Threads + Wait + Copy + Send + 'static, S: Source + Send + 'static, W: Write>(
+    rt: Rt,
+    alloc: Global,
+    source: &mut S,
+    sessions: usize,
+    limits: Limits,
+    writer: &mut W,
+) -> Ended
+    ensures { Reports sessions (W.contents writer.old) (W.contents writer.new) result }
+{
+    let report = match run_sessions(rt, alloc, source, sessions, limits) {
+        Ok(report) => report,
+        Err(RunFault::NoMemory) => return Ended::NoMemory,
+    };
+    let line = match line_of(alloc, &report) {
+        Ok(line) => line,
+        Err(_) => return Ended::NoMemory,
+    };
+    match write_lines(writer, line.as_slice()) {
+        Ok(()) => end_of(report.shortage),
+        Err(ended) => ended,
+    }
+}
