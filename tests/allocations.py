@@ -128,13 +128,13 @@ def kit():
     return os.path.dirname(page.stdout.strip())
 
 
-def build(folder):
-    """Builds the library that refuses, and gives its path."""
+def build(folder, text=REFUSES):
+    """Builds the library that refuses, or another one from its text, and gives its path."""
     source = os.path.join(folder, "refuses.c")
     library = os.path.join(folder, "refuses.so")
     toolchain = os.path.join(kit(), "toolchain")
     with open(source, "w", encoding="utf-8") as file:
-        file.write(REFUSES)
+        file.write(text)
     words = [os.path.join(toolchain, "bin", "clang"), f"--sysroot={toolchain}"]
     words += ["--target=x86_64-unknown-linux-gnu", "-shared", "-fPIC", "-O1", "-fno-builtin"]
     words += ["-nostdlib", "-fuse-ld=lld", source, "-o", library]

@@ -1,0 +1,127 @@
+#!/usr/bin/env python3
+"""Times the built server beside a bare echo of frames over the same kind of socket.
+
+usage: bench/serve.py [--program PATH] [--scale X] [--rounds N] [--cc COMMAND]
+
+Compiles bench/load.c, and puts the same load on `fdref serve` (crates/fdref/out/fdref, or PATH) and on an
+echo that answers each request with a frame of the same size and does nothing else. What the echo does is
+as much as this machine's sockets give. Each line has the median of N rounds (3 where no number is given),
+in which the two take turns, and their ratio, with the ratio that is aimed at. X makes all runs longer or
+shorter. A run of sleepers is held against one without, and a long run against one of a tenth.
+"""
+
+import argparse
+import os
+import re
+import statistics
+import subprocess
+import sys
+import tempfile
+import time
+
+sys.dont_write_bytecode = True
+
+TOP = os.path.dirname(os.path.dirname(os.path.abspath(__file__)))
+sys.path.insert(0, os.path.join(TOP, "tests"))
+
+from serving import is_listening, serve_words
+
+PROGRAM = os.path.join(TOP, "crates", "fdref", "out", "fdref")
+LOAD = os.path.join(TOP, "bench", "load.c")
+SECONDS = 300
+RECORDS_MOST = 1_000_000
+
+# what it is, the words of the load (mode, connections, depth), how many requests each connection makes, and the ratio that is aimed at
+BESIDE_ECHO = [
+    ("fstat, 1 connection, 1 in flight", "fstat", 1, 1, 100_000, 0.8),
+    ("fstat, 1 connection, 16 in flight", "fstat", 1, 16, 400_000, 0.4),
+    ("fstat, 64 connections, 1 in flight", "fstat", 64, 1, 6_000, 0.5),
+    ("pwrite of 8 bytes, 1 connection, 1 in flight", "pwrite", 1, 1, 100_000, None),
+    ("pipe, 1 pair, 1 in flight", "pipe", 2, 1, 50_000, None),
+    ("pipe, 16 pairs, 1 in flight", "pipe", 32, 1, 5_000, None),
+]
+SLEEPERS = 62
+
+
+class Bench:
+    """The two servers, and the load that is put on them."""
+
+    def __init__(self, program, folder, scale, rounds, compiler):
+        self.program = program
+        self.folder = folder
+        self.scale = scale
+        self.rounds = rounds
+        self.load = os.path.join(folder, "load")
+        words = [compiler, "-std=c11", "-O2", "-Wall", "-Wextra", "-pedantic", "-pthread", "-o", self.load, LOAD]
+        subprocess.run(words, check=True)
+
+    def echo(self, mode, connections, depth, requests):
+        """Requests a second of the echo."""
+        return self.run("echo", mode, connections, depth, requests)
+
+    def fdref(self, mode, connections, depth, requests):
+        """Requests a second of fdref, which is started for it."""
+        path = os.path.join(self.folder, "socket")
+        count = connections + (mode == "sleepers")
+        with subprocess.Popen(serve_words(self.program, path, count, RECORDS_MOST), stdout=subprocess.PIPE) as server:
+            try:
+                while not is_listening(path) and server.poll() is None:
+                    time.sleep(0.01)
+                rate = self.run("fdref", mode, connections, depth, requests)
+                stdout, _ = server.communicate(timeout=SECONDS)
+            finally:
+                server.kill()
+        os.unlink(path)
+        if server.returncode != 0 or not stdout.startswith(f"sessions {count} ".encode()):
+            raise SystemExit(f"the server ended with status {server.returncode} and {stdout!r}")
+        return rate
+
+    def run(self, which, mode, connections, depth, requests):
+        path = os.path.join(self.folder, "socket")
+        words = [self.load, which, path, mode, str(connections), str(depth), str(requests)]
+        done = subprocess.run(words, stdout=subprocess.PIPE, timeout=SECONDS, check=True)
+        return float(re.fullmatch(rb"(\d+) requests a second\n", done.stdout)[1])
+
+    def pair(self, first, second):
+        """The medians of two measures that take turns."""
+        rates = [(first(), second()) for _ in range(self.rounds)]
+        return [statistics.median(column) for column in zip(*rates)]
+
+    def count(self, requests):
+        return max(int(requests * self.scale), 100)
+
+
+def aim(value):
+    return f", aim {value}" if value else ""
+
+
+def measure(bench):
+    for what, mode, connections, depth, requests, wanted in BESIDE_ECHO:
+        load = (mode, connections, depth, bench.count(requests))
+        fdref, echo = bench.pair(lambda load=load: bench.fdref(*load), lambda load=load: bench.echo(*load))
+        print(f"{what}: fdref {fdref:.0f} a second, echo {echo:.0f}, ratio {fdref / echo:.2f}{aim(wanted)}", flush=True)
+    many, none = bench.pair(*(lambda count=count: bench.fdref("sleepers", count, 1, bench.count(100_000)) for count in (SLEEPERS, 0)))
+    print(f"fstat beside {SLEEPERS} sleepers: {many:.0f} a second, beside none {none:.0f}, times {none / many:.2f}{aim('at most 2')}", flush=True)
+    few = bench.count(80_000)
+    short, long = bench.pair(*(lambda count=count: bench.fdref("fstat", 1, 16, count) for count in (few, 10 * few)))
+    print(f"{few} records: {short:.0f} a second, ten times as many: {long:.0f}, growth {10 * short / long:.1f} for 10", flush=True)
+
+
+def main(words):
+    parser = argparse.ArgumentParser(description="Times the built server beside a bare echo of frames.")
+    parser.add_argument("--program", default=PROGRAM, help="the program [default: crates/fdref/out/fdref]")
+    parser.add_argument("--scale", type=float, default=1.0, help="makes all runs so many times as long, at most 1.2; 1 where no number is given")
+    parser.add_argument("--rounds", type=int, default=3, help="rounds of each measure; 3 where no number is given")
+    parser.add_argument("--cc", default="cc", help="the C compiler [default: cc]")
+    args = parser.parse_args(words)
+    program = os.path.abspath(args.program)
+    if not os.path.exists(program):
+        print(f"no program at {program}: ./fdref --version builds it")
+        return 1
+    with tempfile.TemporaryDirectory(prefix="fdref-") as folder:
+        measure(Bench(program, folder, args.scale, args.rounds, args.cc))
+    return 0
+
+
+if __name__ == "__main__":
+    sys.exit(main(sys.argv[1:]))

@@ -1,0 +1,106 @@
+#!/usr/bin/env python3
+"""Who gets which bytes of a pipe? Two processes ask, each in a thread of its own.
+
+usage: examples/shared_pipe.py --socket PATH
+       examples/shared_pipe.py --program PROGRAM
+
+PATH is where `fdref serve --socket PATH --sessions 2 --records 100` listens. With PROGRAM, which is the
+built program or `./fdref`, the example starts a server of its own and ends when that has ended.
+
+A parent makes a pipe and forks. The child reads it and waits, since nothing is there. The parent writes
+more than the child has asked for, and then reads what is left. Each line has the place of its record.
+"""
+
+import argparse
+import os
+import subprocess
+import sys
+import tempfile
+import threading
+import time
+
+sys.dont_write_bytecode = True
+sys.path.insert(0, os.path.join(os.path.dirname(os.path.dirname(os.path.abspath(__file__))), "clients", "python"))
+
+import fdref
+
+SECONDS = 10
+TOLD = []
+
+
+def tell(place, text):
+    TOLD.append((place, text))
+
+
+def read_waiting(child, is_waiting):
+    """The child reads five bytes, and tells when it waits for them."""
+
+    def waits(place, moved):
+        tell(place, "the child reads 5 bytes and waits")
+        is_waiting.set()
+
+    child.on_wait = waits
+    some = child.read(0, 5)
+    tell(child.place, f"the child gets {some}")
+
+
+def ask(path, parent):
+    """The parent makes a pipe, forks, and writes when the child waits. Both live until all is shown."""
+    tell(parent.place, f"the parent is process {parent.pid}")
+    reading, writing = parent.pipe()
+    tell(parent.place, f"the parent makes a pipe: it reads from {reading} and writes to {writing}")
+    pid = parent.fork()
+    tell(parent.place, f"the parent forks process {pid}")
+    with fdref.attach(path, pid) as child:
+        tell(child.place, f"the child is process {child.pid}")
+        is_waiting = threading.Event()
+        reader = threading.Thread(target=read_waiting, args=(child, is_waiting))
+        reader.start()
+        if not is_waiting.wait(SECONDS):
+            raise SystemExit("the child does not wait")
+        count = parent.write(writing, b"hello world")
+        tell(parent.place, f"the parent writes {count} bytes")
+        reader.join()
+        some = parent.read(reading, 100)
+        tell(parent.place, f"the parent gets {some}")
+        show()
+
+
+def show():
+    """Prints the lines in the order of their places."""
+    print("\n".join(f"{place} {text}" for place, text in sorted(TOLD)), flush=True)
+
+
+def join_when_ready(path, server):
+    """Joins as soon as a server that was just started listens."""
+    while server.poll() is None:
+        try:
+            return fdref.join(path)
+        except (FileNotFoundError, ConnectionRefusedError):
+            time.sleep(0.01)
+    raise SystemExit(f"the server ended with status {server.returncode}")
+
+
+def main(words):
+    parser = argparse.ArgumentParser(description="Who gets which bytes of a pipe?")
+    which = parser.add_mutually_exclusive_group(required=True)
+    which.add_argument("--socket", metavar="PATH", help="where a server listens")
+    which.add_argument("--program", help="the program, to start a server of its own")
+    args = parser.parse_args(words)
+    if args.socket:
+        with fdref.join(args.socket) as parent:
+            ask(args.socket, parent)
+        return 0
+    with tempfile.TemporaryDirectory() as folder:
+        path = os.path.join(folder, "socket")
+        with subprocess.Popen([args.program, "serve", "--socket", path, "--sessions", "2", "--records", "100"]) as server:
+            try:
+                with join_when_ready(path, server) as parent:
+                    ask(path, parent)
+                return server.wait()
+            finally:
+                server.kill()
+
+
+if __name__ == "__main__":
+    sys.exit(main(sys.argv[1:]))
