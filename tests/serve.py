@@ -84,7 +84,7 @@ def worked(program, size):
 
 
 def worked_at_once(program):
-    """The worked example, where each client sends all its requests at once and then reads to the end."""
+    """The worked example, where each client sends all its requests at once."""
     with Server(program, 2, 100) as server:
         clients = [server.client(), server.client()]
         texts = [[b"".join(bytes.fromhex(row[at]) for row in WORKED if row[0] == which) for at in (1, 2)] for which in (0, 1)]
@@ -93,8 +93,9 @@ def worked_at_once(program):
         first.stop()
         waiting = first.receive(22 * 3 + 18)
         second.send(texts[1][0])
-        second.stop()
         answers = [waiting + first.receive(23), second.receive(14 + 22)]
+        # not before: its exit might be recorded before the first client's resume
+        second.stop()
         require(answers == [text for _, text in texts], f"given {[answer.hex() for answer in answers]}")
         server.ended(report(2, 10, 5, 5))
 
