@@ -1,0 +1,782 @@
+#!/usr/bin/env python3
+"""Runs scripts on the system at hand and on fdref, and tells where they differ.
+
+usage: tools/compare.py SCRIPT-OR-FOLDER...
+       tools/compare.py --random N --seed S [--first K] [--acts A] [--class small|full-pipes|all]
+
+Each script is run by tools/ask_kernel.c, with a real process for each of its processes. The acts of
+the run that happened are then given to `fdref replay`, and the two are compared line by line; a `?`
+fits any number. At the end of each script acts are added that look at all that can be reached: size
+and links, offset and contents of each descriptor and of each name.
+
+A difference is told with the lines before it and with its reason, if there is one: the page of the
+standard, and whether the system departs from it or the profile chose (own). Where system and fdref are
+apart after it, its act is struck from the script and the script is run again, so that one difference is
+not a hundred. A random script with a difference without a reason is shrunk.
+
+The last lines count the differences by reason. Exit status: 0 where each difference had a reason, 1
+where one had none, 2 for wrong words, 3 where a script could not be run. docs/KERNELS.md has more.
+"""
+
+import argparse
+import collections
+import itertools
+import os
+import random
+import shlex
+import subprocess
+import sys
+import tempfile
+import time
+
+# the modules of tests are imported from there, which is to stay as it is
+sys.dont_write_bytecode = True
+TOP = os.path.dirname(os.path.dirname(os.path.abspath(__file__)))
+sys.path.insert(1, os.path.join(TOP, "tests"))
+
+import plain_model
+import random_runs
+from plain_model import FILE_SIZE_MAX, OFFSET_MAX, OPEN_MAX, PIPE_BUF, PIPE_CAPACITY, TRANSFER_MAX
+
+PROGRAM = os.path.join(TOP, "crates", "fdref", "out", "fdref")
+SECONDS = 120
+LINES_BEFORE = 12
+STRIKES_MOST = 8
+ORDERS_MOST = 150
+SHRINK_SECONDS = 120
+ALL_RECORDS = 1_000_000
+
+
+# ---- reasons
+
+
+class Difference:
+    """A line in which a system and fdref differ, with the model's world before it."""
+
+    def __init__(self, place, lines, system, fdref, world):
+        self.place = place
+        self.lines = lines
+        self.act = plain_model.read_act(act_of(system).encode()) if system.act else TOTALS
+        self.system = system.outcome
+        self.fdref = fdref.outcome
+        self.world = world
+        self.process = world.processes.get(self.act.actor)
+        self.at = self.description(self.act)
+        self.reason = None
+
+    def description(self, act):
+        """The open file description that a call is made on, or None."""
+        has_fd = plain_model.FIELDS.get(act.word, ())[:1] == (plain_model.read_fd,)
+        return self.process.table.get(act.fields[0]) if has_fd and self.process else None
+
+    def words(self, *words):
+        return self.act.word in words
+
+    def gives(self, *outcomes):
+        """Whether fdref gives one of these."""
+        return self.fdref in outcomes
+
+    def succeeds(self):
+        """Whether the system does what fdref refuses."""
+        return not self.system.startswith("error ") and self.fdref.startswith("error ")
+
+    def are_errors(self):
+        return self.system.startswith("error ") and self.fdref.startswith("error ")
+
+    def names(self):
+        kinds = plain_model.FIELDS.get(self.act.word, ())
+        return [value for kind, value in zip(kinds, self.act.fields) if kind is plain_model.read_name]
+
+    def flags(self):
+        return self.act.fields[1].split(",")
+
+    def is_on_fifo(self):
+        return random_runs.is_fifo(self.world.names.get(self.act.fields[0]))
+
+    def count(self):
+        """How many bytes a read or write asks for or gives."""
+        last = self.act.fields[-1]
+        return len(last) if isinstance(last, bytes) else last
+
+    def start(self):
+        """Where a read or write of a regular file begins."""
+        if self.words("pread", "pwrite"):
+            return self.act.fields[1]
+        return len(self.at.file.data) if self.at.append and self.words("write") else self.at.offset
+
+    def is_settled(self):
+        """Whether system and fdref are in the same state after it, so that the run can go on."""
+        return self.are_errors() or self.words("fstat") and not follows_append(self) or self.system == "not asked"
+
+
+def due(it):
+    """The errors that are due of a call, in whatever order they are asked."""
+    word, at, fields = it.act.word, it.at, it.act.fields
+    wants = {"pread": "r", "read": "r", "pwrite": "w", "write": "w", "ftruncate": "w"}.get(word, "")
+    errors = {"EBADF"} if not at or wants not in at.mode else set()
+    if word in ("pread", "pwrite"):
+        count = it.count()
+        errors |= {"ESPIPE"} if at and at.pipe else set()
+        errors |= {"EINVAL"} if fields[1] < 0 or count > TRANSFER_MAX or count and fields[1] + count > OFFSET_MAX else set()
+        errors |= {"EFBIG"} if word == "pwrite" and count and fields[1] >= FILE_SIZE_MAX else set()
+    elif word == "ftruncate":
+        errors |= {"EINVAL"} if fields[1] < 0 or at and (at.pipe or "w" not in at.mode) else set()
+        errors |= {"EFBIG"} if fields[1] > FILE_SIZE_MAX else set()
+    elif word == "open":
+        errors = due_of_open(it)
+    return errors
+
+
+def due_of_open(it):
+    name, flags = it.act.fields[0], it.flags()
+    file = it.world.names.get(name)
+    errors = {"EMFILE"} if it.process and len(it.process.table) == OPEN_MAX else set()
+    errors |= {"ENOENT"} if not file and "creat" not in flags or not name else set()
+    errors |= {"EEXIST"} if file and "creat" in flags and "excl" in flags else set()
+    errors |= {"EINVAL", "ENAMETOOLONG"} if has_own_name_fault(it) or has_own_flags(it) else set()
+    if random_runs.is_fifo(file):
+        errors |= {"EINVAL"} if flags[0] == "rw" else set()
+        errors |= {"ENXIO"} if flags[0] == "w" and "nonblock" in flags and not it.world.has_end(file.pipe, "r") else set()
+    return errors
+
+
+def is_order(it):
+    return it.are_errors() and {it.system[6:], it.fdref[6:]} <= due(it)
+
+
+def is_append(act, at):
+    return act.word == "pwrite" and at and at.append and not at.pipe and "w" in at.mode
+
+
+def follows_append(it):
+    """Whether it is the fstat that looks at what a pwrite under append has done."""
+    before = plain_model.read_act(act_of(it.lines[it.place - 1]).encode()) if it.place else it.act
+    is_same = it.act.word == "fstat" and (before.actor, before.fields[:1]) == (it.act.actor, it.act.fields)
+    return is_same and is_append(before, it.at)
+
+
+def is_pwrite_appended(it):
+    return is_append(it.act, it.at) or follows_append(it)
+
+
+def is_lseek_overflow(it):
+    return it.words("lseek") and it.gives("error EOVERFLOW") and it.system == "error EINVAL"
+
+
+def is_lseek_past_files(it):
+    return it.words("lseek") and it.fdref.isdigit() and int(it.fdref) >= 2**40 and it.system == "error EINVAL"
+
+
+def is_offset_and_count(it):
+    if not it.words("read", "pread", "write", "pwrite") or not it.at or it.at.pipe or it.system != "error EINVAL":
+        return False
+    return it.count() > 0 and it.start() + it.count() > OFFSET_MAX
+
+
+def is_room(it):
+    """A write to a pipe that has more room on the system than in the profile, or less."""
+    if not it.words("write") or not it.at or not it.at.pipe:
+        return False
+    whole, held = it.count(), len(it.at.pipe.data)
+    are_moved = all(outcome.isdigit() or outcome.startswith("parked") or outcome == "error EAGAIN" for outcome in (it.system, it.fdref))
+    return are_moved and (held + whole > PIPE_CAPACITY or it.system != str(whole) and held + whole > PIPE_BUF)
+
+
+def is_stat_of_pipe(it):
+    """Size and links of a pipe; of a FIFO, which has names, the size alone."""
+    if not it.words("fstat") or not it.at or not it.at.pipe:
+        return False
+    system, fdref = it.system.split(" "), it.fdref.split(" ")
+    return len(system) == len(fdref) == 3 and system[0] == fdref[0] and (system[0] == "pipe" or system[2] == fdref[2])
+
+
+def has_own_name_fault(it):
+    return any(name_fault(name) in ("EINVAL", "ENAMETOOLONG") for name in it.names())
+
+
+def name_fault(name):
+    try:
+        plain_model.check_name(name)
+    except plain_model.Errno as fault:
+        return str(fault)
+    return None
+
+
+def is_own_name(it):
+    return has_own_name_fault(it) and it.gives("error EINVAL", "error ENAMETOOLONG", "error ENOENT")
+
+
+def has_own_flags(it):
+    mode, *flags = it.flags()
+    return mode == "-" or "excl" in flags and "creat" not in flags or "trunc" in flags and "w" not in mode
+
+
+def is_own_flags(it):
+    return it.words("open") and it.gives("error EINVAL") and has_own_flags(it)
+
+
+def is_fifo_for_both(it):
+    return it.words("open") and it.gives("error EINVAL") and it.flags()[0] == "rw" and it.is_on_fifo() and it.system.isdigit()
+
+
+def is_count(it):
+    is_asked = it.words("read", "pread", "write", "pwrite") and it.gives("error EINVAL") and it.count() > TRANSFER_MAX
+    return is_asked and (it.succeeds() or it.system in ("error EFBIG", "error EPIPE", "error EAGAIN"))
+
+
+def is_full(it):
+    return it.words("join", "fork") and it.gives("error EAGAIN") and not it.world.is_closed and it.system.isdigit()
+
+
+# the act of the last line
+TOTALS = plain_model.Act(None, "totals", ())
+
+SYSTEM, OWN = "the system departs", "own"
+Reason = collections.namedtuple("Reason", "name who page fits")
+
+# Each reason of a difference, the narrow ones first. `fits` looks at the call, its descriptor and both outcomes.
+REASONS = [
+    Reason("pwrite under O_APPEND appends", SYSTEM, "page of write (pwrite)", is_pwrite_appended),
+    Reason("lseek past the greatest offset is EINVAL, not EOVERFLOW", SYSTEM, "page of lseek", is_lseek_overflow),
+    Reason("lseek past the greatest file of the file system is EINVAL", SYSTEM, "page of lseek", is_lseek_past_files),
+    Reason("offset and count pass the greatest offset: EINVAL", SYSTEM, "pages of read and write", is_offset_and_count),
+    Reason("order of refusals, where several are due", OWN, "XSH 2.3", is_order),
+    Reason("room of a pipe", OWN, "page of write", is_room),
+    Reason("size and links of a pipe in fstat", OWN, "page of fstat", is_stat_of_pipe),
+    Reason("names that the profile does not take", OWN, "XBD 3, Portable Filename Character Set", is_own_name),
+    Reason("flags that the standard leaves undefined", OWN, "page of open", is_own_flags),
+    Reason("a FIFO opened for both", OWN, "page of open", is_fifo_for_both),
+    Reason("more than 65,536 bytes in a call", OWN, "pages of read and write", is_count),
+    Reason("more than 8 links", OWN, "page of link", lambda it: it.gives("error EMLINK") and it.succeeds()),
+    Reason("more than 1,024 names", OWN, "pages of open, link and mkfifo", lambda it: it.gives("error ENOSPC") and it.succeeds()),
+    Reason("more than 1,024 descriptions", OWN, "pages of open and pipe", lambda it: it.gives("error ENFILE") and it.succeeds()),
+    Reason("more than 64 processes", OWN, "page of fork", is_full),
+]
+
+
+# ---- lines of a run
+
+Line = collections.namedtuple("Line", "place act outcome")
+
+
+def line_of(text):
+    """A line of a run; a place of `-` is that of an act without a record. The last line has neither place nor act."""
+    if text.startswith("records "):
+        return Line("", "", text)
+    place, _, rest = text.partition(" ")
+    act, _, outcome = rest.rpartition(" = ")
+    return Line(place, act, outcome)
+
+
+def act_of(line):
+    """A line's act, as it stands in a script."""
+    who, _, word = line.act.partition(" ")
+    return word if word in ("join", "close-run") else line.act
+
+
+def is_told_back(line):
+    """Whether a line tells that a call came back: no act of the script stands for it."""
+    return line.act.endswith(" resume") and line.place != "-"
+
+
+def ends_of_closing(lines):
+    """The places of the exits that closing the run has made."""
+    unattached, found = set(), set()
+    for place, line in enumerate(lines):
+        who, _, word = line.act.partition(" ")
+        if word == "fork" and line.outcome.isdigit():
+            unattached.add(f"p{line.outcome}")
+        elif word == "attach" and line.outcome == "ok":
+            unattached.discard(who)
+        elif word == "exit" and who in unattached and line.place != "-":
+            found.add(place)
+    return found
+
+
+def fits(system, fdref, has_same_room):
+    """Whether two lines fit. How much a large write moved at once is `?`; it is the same where a pipe has the same room."""
+    if system.act != fdref.act:
+        return False
+    if system.outcome == "?":
+        return True
+    if not system.act:
+        return all(word in ("?", other) for word, other in zip(system.outcome.split(" "), fdref.outcome.split(" ")))
+    if system.outcome == "parked ?":
+        return has_same_room and fdref.outcome.startswith("parked ")
+    return (system.place == "-", system.outcome) == (fdref.place == "-", fdref.outcome)
+
+
+# ---- the two that are asked
+
+
+class CannotRun(Exception):
+    """A script could not be run by the driver or by fdref."""
+
+
+class Asked:
+    """The driver and fdref, as they are called."""
+
+    def __init__(self, program, driver):
+        self.program = program
+        self.driver = driver
+        self.has_same_room = self.room() == PIPE_CAPACITY
+
+    def run(self, words, script, who):
+        try:
+            done = subprocess.run(words, input=script, capture_output=True, timeout=SECONDS)
+        except subprocess.TimeoutExpired:
+            raise CannotRun(f"{who} is still running after {SECONDS} seconds") from None
+        except OSError as fault:
+            raise CannotRun(f"{who}: {fault}") from None
+        if done.returncode != 0:
+            raise CannotRun(f"{who} ends with status {done.returncode}: {done.stderr.decode('ascii', 'replace').strip()}")
+        lines = [line_of(line) for line in done.stdout.decode("ascii").splitlines()]
+        if any(line.outcome == "?" for line in lines):
+            # a resume that is told as `?` may be none, so the number of records is not known
+            lines[-1] = lines[-1]._replace(outcome=lines[-1].outcome.replace(lines[-1].outcome.split(" ")[1], "?", 1))
+        return lines
+
+    def room(self):
+        """How many bytes go into an empty pipe of the system, or 65,536 where they are more."""
+        lines = [b"join", b"p0 mkfifo f", b"p0 open f r,nonblock", b"p0 open f w,nonblock", b"p0 write 1 61*65536"]
+        outcome = self.system(lines)[-2].outcome
+        return int(outcome) if outcome.isdigit() else 0
+
+    def system(self, lines):
+        """The run of a script as it happened."""
+        return self.run(self.driver, b"".join(line + b"\n" for line in lines), "ask_kernel")
+
+    def fdref(self, lines):
+        """What fdref gives for the acts of a run."""
+        ends = ends_of_closing(lines)
+        script = "".join(act_of(line) + "\n" for place, line in enumerate(lines) if line.act and place not in ends)
+        records = min(2 * len(lines) + 200, ALL_RECORDS)
+        return self.run([*self.program, "replay", "--records", str(records)], script.encode(), "fdref")
+
+
+def first_unfit(asked, system, fdref, known):
+    """The place of the first lines that do not fit, but for those that are known, or None."""
+    for place in range(max(len(system), len(fdref))):
+        is_there = place < min(len(system), len(fdref))
+        if place not in known and not (is_there and fits(system[place], fdref[place], asked.has_same_room)):
+            return place
+    return None
+
+
+def groups_before(lines, place):
+    """Where several calls came back one after another, up to a place: the last of them first."""
+    groups = []
+    for at, line in enumerate(lines):
+        if is_told_back(line) and line.outcome != "?":
+            if groups and groups[-1][1] == at:
+                groups[-1][1] = at + 1
+            else:
+                groups.append([at, at + 1])
+    return [(first, end) for first, end in reversed(groups) if first <= place and end - first > 1]
+
+
+def in_other_order(asked, lines, place, known):
+    """The run with calls that came back together in an order that fdref fits further, if there is one.
+
+    Which of them the kernel served first is not seen, so each order may be the one that happened. Differences that are
+    known stay where they are.
+    """
+    tries = 0
+    for first, end in groups_before(lines, place):
+        for order in itertools.permutations(lines[first:end]):
+            tries += 1
+            if tries > ORDERS_MOST:
+                return None
+            tried = lines[:first] + list(order) + lines[end:]
+            unfit = first_unfit(asked, tried, asked.fdref(tried), known)
+            if unfit is None or unfit > max(place, end - 1):
+                return tried
+    return None
+
+
+# ---- scripts
+
+
+class Settled(plain_model.Run):
+    """A run of the model in which a call goes on as soon as it can, as on a system."""
+
+    def __init__(self):
+        super().__init__(ALL_RECORDS)
+
+    def take(self, act):
+        super().take(act)
+        while any(self.goes_on(process) for process in list(self.world.processes.values())):
+            continue
+
+    def goes_on(self, process):
+        is_ready = process.waits and process.waits.is_ready(self.world)
+        if is_ready:
+            super().take(plain_model.Act(process.number, "resume", ()))
+        return is_ready
+
+
+def with_looks(lines):
+    """A script with acts that look at what a pwrite under append did and, at the end, at all that is there."""
+    run, looked = Settled(), []
+    for line in lines:
+        act = plain_model.read_act(line)
+        process = run.world.processes.get(act.actor)
+        looked.append(line)
+        if process and act.word == "pwrite" and is_append(act, process.table.get(act.fields[0])):
+            looked.append(b"p%d fstat %d" % (act.actor, act.fields[0]))
+        run.take(act)
+    return looked + [text.encode() for text in last_looks(run.world)]
+
+
+def last_looks(world):
+    """Acts that look at all that can be reached in a world, at the contents of pipes last."""
+    live = list(world.processes.values())
+    awake = [it for it in live if not it.waits]
+    looks = [f"p{it.number} attach" for it in live if not it.attached]
+    looks += [f"p{it.number} resume" for it in live if it.waits]
+    for it in awake:
+        for fd, at in sorted(it.table.items()):
+            # what fstat tells of a pipe without a name is the profile's own
+            looks += [f"p{it.number} fstat {fd}"] if at.file.kind != "pipe" else []
+            looks += [f"p{it.number} lseek {fd} 0 cur", *contents(it, fd, at.file)] if not at.pipe else []
+    looks += [look for it in awake if len(it.table) < OPEN_MAX for look in by_name(world, it)][:200]
+    # closed before those that wait are ended, so that readers come to the end
+    looks += [f"p{it.number} close {fd}" for it in awake for fd, at in sorted(it.table.items()) if at.pipe and at.mode == "w"]
+    looks += [f"p{it.number} exit" for it in live if it.waits]
+    reads = [(it.number, fd) for it in awake for fd, at in sorted(it.table.items()) if at.pipe and at.mode == "r"]
+    return looks + [f"p{number} read {fd} {count}" for number, fd in reads for count in (TRANSFER_MAX, 1)]
+
+
+def contents(process, fd, file):
+    """Acts that read a file through a descriptor, whatever its offset is."""
+    return [f"p{process.number} pread {fd} {start} {TRANSFER_MAX}" for start in range(0, len(file.data) + 1, TRANSFER_MAX)]
+
+
+def by_name(world, process):
+    """Acts by which a process opens each file that has a name."""
+    fd = plain_model.lowest_free(process)[0]
+    for name, file in sorted(world.names.items()):
+        if not random_runs.is_fifo(file):
+            yield from [f"p{process.number} open {plain_model.name_text(name)} r", f"p{process.number} fstat {fd}"]
+            yield from [*contents(process, fd, file), f"p{process.number} close {fd}"]
+
+
+class Walk(random_runs.Walk):
+    """A walk whose acts a system can follow: calls go on by themselves, and few acts reach a limit of the profile."""
+
+    def __init__(self, pick, processes, fills_pipes):
+        self.fills_pipes = fills_pipes
+        self.processes = processes
+        super().__init__(pick, ALL_RECORDS)
+        self.run = Settled()
+        self.world = self.run.world
+        self.lines = []
+        self.say("join")
+
+    def is_odd(self):
+        return self.pick.random() < 0.01
+
+    def walk(self, count):
+        """So many acts, in moods that change."""
+        self.most_live = self.processes
+        while len(self.lines) < count:
+            mood = self.pick.choice(["files", "files", "pipes", "fifos", *random_runs.MOODS])
+            for _ in range(self.pick.randrange(5, 25)):
+                self.act(random_runs.MOODS[mood])
+                if len(self.lines) >= count or self.world.is_closed and not self.world.processes:
+                    return
+
+    def descriptor(self, who, word):
+        """As in each walk, and more often one for which a call is refused: a broken pipe, a dry one under nonblock, any for files alone."""
+        wishes = {
+            "write": lambda at: at.pipe and at.mode == "w" and not self.world.has_end(at.pipe, "r"),
+            "read": lambda at: at.pipe and at.mode == "r" and at.nonblock and not at.pipe.data,
+        }
+        likely = 0.3 if word in wishes else 0.05
+        fit = [fd for fd, at in who.table.items() if word not in wishes or wishes[word](at)]
+        return self.pick.choice(fit) if fit and self.pick.random() < likely else super().descriptor(who, word)
+
+    def begin(self):
+        if self.processes > 1 and self.pick.random() < 0.4:
+            self.begin_with_two_ends()
+        elif self.pick.random() < 0.05:
+            self.begin_with_many_descriptors()
+        self.most_live = self.processes
+        for _ in range(self.pick.randrange(self.processes)):
+            self.act(self.pick.choice(["fork 1 attach 2", "join 1"]))
+
+    def begin_with_two_ends(self):
+        ends = ["p0 close 0", "p1 close 1"]
+        self.say("p0 pipe", "p0 fork", "p1 attach", *self.pick.choice([[], ends, [*ends, "p1 read 0 9"]]))
+
+    def count_into(self, at):
+        if not at.pipe or self.fills_pipes:
+            return super().count_into(at)
+        room = max(at.pipe.room() - 8, 0)
+        return self.pick.choice([0, *[min(count, room) for count in (1, 2, 3, 5, 8, 16, 17, 40, 100, 300)]])
+
+    def place(self, at):
+        """As in each walk, but seldom about the size limit, since a file of that size is slow to look at."""
+        place = super().place(at)
+        return place if place < 2**16 or self.pick.random() < 0.1 else self.pick.randrange(100)
+
+    def move(self, at):
+        whence = self.pick.choice(["set", "cur", "end"])
+        if self.pick.random() < 0.01:
+            return [self.pick.choice(random_runs.ODD_PLACES), whence]
+        base = {"set": 0, "cur": at.offset, "end": 0 if at.pipe else len(at.file.data)}[whence]
+        return [max(self.place(at) - base, -(2**63)), whence]
+
+
+CLASSES = ["small", "full-pipes"]
+
+
+def class_of(number, wanted):
+    """The class of a random script: one of ten fills pipes, where nothing else is asked."""
+    return wanted if wanted in CLASSES else CLASSES[number % 10 == 9]
+
+
+def random_lines(seed, number, acts, which):
+    pick = random.Random(f"{seed} {number} {acts} {which}")
+    walk = Walk(pick, pick.randrange(1, 7), which == "full-pipes")
+    walk.begin()
+    walk.walk(acts)
+    return walk.lines
+
+
+# ---- one script
+
+
+class Checked:
+    """What came of a script: how many calls the system made, its differences, and the first without a reason."""
+
+    def __init__(self):
+        self.calls = 0
+        self.differences = []
+        self.unexplained = None
+
+
+def reason_of(difference):
+    return next((reason for reason in REASONS if reason.fits(difference)), None)
+
+
+class Beside:
+    """A run of the model beside the lines of a run, so that its world before a line is known."""
+
+    def __init__(self, lines):
+        self.run = plain_model.Run(ALL_RECORDS)
+        self.lines = lines
+        self.ends = ends_of_closing(lines)
+        self.place = 0
+
+    def world_before(self, place):
+        for at in range(self.place, place):
+            if at not in self.ends and self.lines[at].act:
+                self.run.take(plain_model.read_act(act_of(self.lines[at]).encode()))
+        self.place = place
+        return self.run.world
+
+
+def compared(asked, lines):
+    """Runs a script once: the lines of the system, and its differences up to the first after which the two are apart."""
+    system = asked.system(lines)
+    fdref = asked.fdref(system)
+    found, known, beside = [], set(), Beside(system)
+    while True:
+        place = first_unfit(asked, system, fdref, known)
+        if place is None:
+            return system, found
+        reordered = in_other_order(asked, system, place, known)
+        if reordered:
+            system, fdref, beside = reordered, asked.fdref(reordered), Beside(reordered)
+            continue
+        if place >= min(len(system), len(fdref)):
+            raise CannotRun("the two runs have different numbers of lines")
+        difference = Difference(place, system, system[place], fdref[place], beside.world_before(place))
+        difference.reason = reason_of(difference)
+        found.append(difference)
+        if not difference.reason or not difference.is_settled():
+            return system, found
+        known.add(place)
+
+
+def struck(lines, system, difference):
+    """A script without the act of a difference, and without the pwrite that it looks at."""
+    ends = ends_of_closing(system)
+    of_script = [place for place, line in enumerate(system) if line.act and not is_told_back(line) and place not in ends]
+    at = of_script.index(difference.place) if difference.place in of_script else len(of_script)
+    first = at - 1 if follows_append(difference) else at
+    return lines[:first] + lines[at + 1 :]
+
+
+def checked(asked, lines):
+    """Compares a script, and again without the acts after which system and fdref are apart."""
+    result, apart = Checked(), []
+    lines = with_looks(lines)
+    for _ in range(STRIKES_MOST):
+        system, found = compared(asked, lines)
+        result.calls = sum(line.place not in ("-", "") and not is_told_back(line) for line in system)
+        result.differences = apart + found
+        last = found[-1] if found else None
+        if last and not last.reason:
+            result.unexplained = last
+            return result
+        if not last or last.is_settled():
+            return result
+        shorter = struck(lines, system, last)
+        if shorter == lines:
+            return result
+        apart, lines = apart + [last], shorter
+    return result
+
+
+# ---- telling
+
+
+def clipped(text):
+    return text if len(text) <= 160 else text[:100] + "..." + text[-40:]
+
+
+def told(difference):
+    """A difference, with the lines before it and its reason."""
+    before = difference.lines[max(difference.place - LINES_BEFORE, 0) : difference.place]
+    parts = [f"  {line.place} {line.act} = {line.outcome}" for line in before]
+    line = difference.lines[difference.place]
+    parts += [f"system: {line.place} {line.act} = {difference.system}", f"fdref:  {line.place} {line.act} = {difference.fdref}"]
+    reason = difference.reason
+    parts += [f"reason: {reason.name} ({reason.who}; {reason.page})" if reason else "reason: none"]
+    return "\n".join(map(clipped, parts))
+
+
+def shrunk(asked, lines):
+    """A short script that has a difference without a reason as well."""
+    end = time.monotonic() + SHRINK_SECONDS
+
+    def differs(fewer):
+        try:
+            return time.monotonic() < end and checked(asked, fewer).unexplained is not None
+        except (CannotRun, plain_model.NotAnAct):
+            return False
+
+    before = None
+    while lines != before:
+        before = lines
+        lines = random_runs.smaller_words(random_runs.fewer_lines(lines, differs), differs)
+    return lines
+
+
+# ---- the whole
+
+
+def scripts_in(paths):
+    """Names and lines of scripts: of files, and in folders of all files named `script` or `*.script`."""
+    for path in paths:
+        if os.path.isdir(path):
+            inside = [os.path.join(path, name) for name in sorted(os.listdir(path))]
+            yield from scripts_in([it for it in inside if os.path.isdir(it) or os.path.basename(it).endswith("script")])
+        else:
+            with open(path, "rb") as file:
+                yield path, [line for line in file.read().split(b"\n") if line]
+
+
+class Totals:
+    """What is counted over all scripts."""
+
+    def __init__(self):
+        self.scripts = self.calls = self.unexplained = self.failed = 0
+        self.by_reason = collections.Counter()
+
+    def add(self, result):
+        self.scripts += 1
+        self.calls += result.calls
+        self.unexplained += result.unexplained is not None
+        self.by_reason.update(it.reason.name for it in result.differences if it.reason)
+
+    def text(self):
+        lines = [f"{self.scripts} scripts, {self.calls} calls, {sum(self.by_reason.values()) + self.unexplained} differences"]
+        lines += [f"{self.by_reason[it.name]:8} {it.name} ({it.who}; {it.page})" for it in REASONS if self.by_reason[it.name]]
+        lines += [f"{self.unexplained:8} without a reason"]
+        return "\n".join(lines)
+
+    def status(self):
+        return 1 if self.unexplained else 3 if self.failed else 0
+
+
+def check_one(asked, totals, name, lines, is_random, keep):
+    """Compares a script and tells what is to be told of it."""
+    try:
+        result = checked(asked, lines)
+    except (CannotRun, plain_model.NotAnAct) as fault:
+        totals.failed += 1
+        print(f"{name}: {fault}" if isinstance(fault, CannotRun) else f"{name}: not a script", flush=True)
+        return
+    totals.add(result)
+    if result.unexplained:
+        print(f"{name}: a difference without a reason\n{told(result.unexplained)}", flush=True)
+        if is_random:
+            lines = shrunk(asked, lines)
+            print("shrunk to\n" + b"\n".join(lines).decode(), flush=True)
+        if keep:
+            with open(os.path.join(keep, os.path.basename(name).replace(" ", "-") + ".script"), "wb") as file:
+                file.write(b"".join(line + b"\n" for line in lines))
+    elif result.differences and not is_random:
+        print(f"{name}: the first of {len(result.differences)} differences\n{told(result.differences[0])}", flush=True)
+
+
+def compile_driver(folder):
+    path = os.path.join(folder, "ask_kernel")
+    source = os.path.join(TOP, "tools", "ask_kernel.c")
+    try:
+        subprocess.run([os.environ.get("CC", "cc"), "-std=c99", "-O2", "-o", path, source], check=True)
+    except (OSError, subprocess.CalledProcessError) as fault:
+        raise CannotRun(f"tools/ask_kernel.c is not compiled: {fault}") from None
+    return path
+
+
+def parse(words):
+    parser = argparse.ArgumentParser(description=__doc__, formatter_class=argparse.RawDescriptionHelpFormatter, usage=argparse.SUPPRESS)
+    parser.add_argument("paths", nargs="*", metavar="SCRIPT-OR-FOLDER", help="scripts, or folders of them")
+    parser.add_argument("--random", type=int, default=0, metavar="N", help="make N random scripts")
+    parser.add_argument("--first", type=int, default=0, metavar="K", help="the number of the first of them; 0 where none is given")
+    parser.add_argument("--seed", default="1", help="any word; script K of a seed is always the same")
+    parser.add_argument("--acts", type=int, default=60, help="acts of a random script; 60 where no number is given")
+    parser.add_argument("--class", dest="which", choices=[*CLASSES, "all"], default="all", help="small: pipes are never full; full-pipes: they are; all: every tenth")
+    parser.add_argument("--program", default=shlex.quote(PROGRAM), help="fdref, or a command that takes `replay` as its next word")
+    parser.add_argument("--ask", metavar="COMMAND", help="reads a script and prints its run: ask_kernel with its options, on whatever system; compiled for this run where it is not given")
+    parser.add_argument("--keep", metavar="DIR", help="a folder for scripts that differ without a reason")
+    args = parser.parse_args(words)
+    if not args.paths and args.random < 1:
+        parser.error("no scripts: give files, folders, or --random N")
+    for path in [*args.paths, *([args.keep] if args.keep else [])]:
+        if not os.path.exists(path):
+            parser.error(f"there is no {path}")
+    return args
+
+
+def check_all(args, totals, driver):
+    program = shlex.split(args.program)
+    if program == [PROGRAM] and not os.path.exists(PROGRAM):
+        raise CannotRun(f"no program at {PROGRAM}: ./fdref --version builds it")
+    asked = Asked(program, shlex.split(driver))
+    for name, lines in scripts_in(args.paths):
+        check_one(asked, totals, name, lines, False, args.keep)
+    for number in range(args.first, args.first + args.random):
+        lines = random_lines(args.seed, number, args.acts, class_of(number, args.which))
+        check_one(asked, totals, f"script {number} of seed {args.seed}", lines, True, args.keep)
+
+
+def main(words):
+    args = parse(words)
+    totals = Totals()
+    with tempfile.TemporaryDirectory(prefix="compare-") as folder:
+        try:
+            check_all(args, totals, args.ask or shlex.quote(compile_driver(folder)))
+        except CannotRun as fault:
+            print(f"compare.py: {fault}", file=sys.stderr)
+            return 3
+    print(totals.text())
+    return totals.status()
+
+
+if __name__ == "__main__":
+    sys.exit(main(sys.argv[1:]))
