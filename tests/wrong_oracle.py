@@ -1,0 +1,257 @@
+#!/usr/bin/env python3
+"""Prints what a wrong fdref would print, so that it can be seen whether random scripts find it out.
+
+usage: tests/wrong_oracle.py RULE replay [--records N] < script
+       tests/wrong_oracle.py --list
+
+It is tests/plain_model.py, which prints byte for byte what `fdref replay` prints, with one rule of it
+changed. RULE is one of those that --list prints, or `none`, which changes nothing. tools/compare.py
+takes it in the place of fdref: --program 'tests/wrong_oracle.py RULE'.
+"""
+
+import copy
+import sys
+
+# the model is imported from this folder, which is to stay as it is
+sys.dont_write_bytecode = True
+
+import plain_model
+from plain_model import World
+
+RULES = {}
+
+
+def rule(text):
+    """Marks a function that makes the model wrong, in a way that the text tells."""
+
+    def keep(function):
+        RULES[function.__name__.replace("_", "-")] = (text, function)
+        return function
+
+    return keep
+
+
+def wraps(owner, name):
+    """Puts a function in the place of one of the model's, which it is given as its first argument."""
+
+    def put(function):
+        right = getattr(owner, name)
+        setattr(owner, name, lambda *values: function(right, *values))
+
+    return put
+
+
+# ---- descriptors
+
+
+@rule("a child's descriptors have offsets of their own")
+def offsets_part_after_fork():
+    @wraps(World, "fork")
+    def fork(right, world, process):
+        number = right(world, process)
+        table = world.processes[number].table
+        table.update({fd: copy.copy(at) for fd, at in table.items()})
+        return number
+
+
+@rule("a duplicate has an offset of its own")
+def dup_parts_offsets():
+    @wraps(World, "dup")
+    def dup(right, world, process, fd):
+        to = right(world, process, fd)
+        process.table[to] = copy.copy(process.table[to])
+        return to
+
+
+@rule("open gives the second lowest free descriptor")
+def second_lowest_descriptor():
+    @wraps(plain_model, "lowest_free")
+    def lowest_free(right, process, count=1):
+        free = [fd for fd in range(plain_model.OPEN_MAX) if fd not in process.table]
+        return free[1:2] if count == 1 and len(free) > 1 else right(process, count)
+
+
+@rule("dup2 leaves an open descriptor as it was")
+def dup2_keeps_the_old_one():
+    @wraps(World, "dup2")
+    def dup2(right, world, process, fd, to):
+        before = process.table.get(to)
+        right(world, process, fd, to)
+        process.table[to] = before or process.table[to]
+        return to
+
+
+@rule("a child gets no descriptors")
+def fork_copies_nothing():
+    @wraps(World, "fork")
+    def fork(right, world, process):
+        number = right(world, process)
+        world.processes[number].table.clear()
+        return number
+
+
+# ---- files
+
+
+@rule("a file with several names has one link too few")
+def a_link_too_few():
+    @wraps(World, "links")
+    def links(right, world, file):
+        return max(right(world, file) - 1, min(right(world, file), 1))
+
+
+@rule("unlink empties a file that is open")
+def unlink_takes_what_is_open():
+    @wraps(World, "unlink")
+    def unlink(right, world, process, name):
+        file = world.names.get(name)
+        done = right(world, process, name)
+        if isinstance(file, plain_model.Regular) and not world.links(file):
+            file.data.clear()
+        return done
+
+
+@rule("a write under append begins at the offset")
+def append_is_forgotten():
+    @wraps(World, "write")
+    def write(right, world, process, fd, data):
+        at = process.table.get(fd)
+        if at and not at.pipe:
+            at.append = False
+        return right(world, process, fd, data)
+
+
+@rule("creat empties a file that is there")
+def creat_empties():
+    @wraps(World, "open")
+    def open_file(right, world, process, name, flags):
+        file = world.names.get(name)
+        fd = right(world, process, name, flags)
+        if "creat" in flags and isinstance(file, plain_model.Regular):
+            file.data.clear()
+        return fd
+
+
+@rule("pread moves the offset")
+def pread_moves():
+    @wraps(World, "pread")
+    def pread(right, world, process, fd, start, count):
+        given = right(world, process, fd, start, count)
+        process.table[fd].offset = start + len(given)
+        return given
+
+
+@rule("a gap reads as ones")
+def gaps_are_ones():
+    @wraps(World, "put_at")
+    def put_at(right, world, file, start, data):
+        size = len(file.data)
+        put = right(world, file, start, data)
+        if put and start > size:
+            file.data[size:start] = b"\xff" * (start - size)
+        return put
+
+
+@rule("an lseek from the end counts from the offset")
+def end_is_the_offset():
+    @wraps(World, "lseek")
+    def lseek(right, world, process, fd, move, whence):
+        return right(world, process, fd, move, "cur" if whence == "end" else whence)
+
+
+# ---- pipes, and what waits
+
+
+@rule("a read of an empty pipe with a writer is at the end")
+def end_in_place_of_waiting():
+    @wraps(World, "read_end")
+    def read_end(right, world, process, at, count):
+        return world.get(at.pipe, count)
+
+
+@rule("a pipe gives first what was written last")
+def last_in_first_out():
+    @wraps(World, "get")
+    def get(right, world, pipe, count):
+        given = bytes(pipe.data[max(len(pipe.data) - count, 0) :])
+        del pipe.data[len(pipe.data) - len(given) :]
+        return world.given(given)
+
+
+@rule("a reader is not woken when the last writer goes")
+def last_writer_wakes_nobody():
+    @wraps(plain_model.WaitingRead, "is_ready")
+    def is_ready(right, call, world):
+        return bool(call.pipe.data)
+
+
+@rule("a write that nobody can read succeeds")
+def no_broken_pipe():
+    @wraps(World, "write_end")
+    def write_end(right, world, process, at, data):
+        return right(world, process, at, data) if world.has_end(at.pipe, "r") else len(data)
+
+
+@rule("nonblock is forgotten by a read")
+def nonblock_waits():
+    @wraps(World, "read_end")
+    def read_end(right, world, process, at, count):
+        at.nonblock = False
+        return right(world, process, at, count)
+
+
+@rule("an open of a FIFO does not wait for the other end")
+def open_waits_for_nobody():
+    @wraps(World, "open_end")
+    def open_end(right, world, process, fd, fifo, mode, flags):
+        return right(world, process, fd, fifo, mode, [*flags, "nonblock"])
+
+
+@rule("an open of a FIFO for writing under nonblock succeeds without a reader")
+def no_enxio():
+    @wraps(World, "open")
+    def open_file(right, world, process, name, flags):
+        fifo = world.names.get(name)
+        if not isinstance(fifo, plain_model.Fifo) or not flags.startswith("w,") or world.has_end(fifo.pipe, "r"):
+            return right(world, process, name, flags)
+        # a reader for the time of the call
+        helper = plain_model.Process(-1, {0: plain_model.Description(fifo, "r", pipe=fifo.pipe)})
+        world.processes[-1] = helper
+        try:
+            return right(world, process, name, flags)
+        finally:
+            del world.processes[-1]
+
+
+@rule("an exit leaves the ends of its process open")
+def exit_closes_nothing():
+    gone = []
+
+    @wraps(plain_model.Run, "end")
+    def end(right, run, process):
+        gone.append(process)
+        right(run, process)
+
+    @wraps(World, "has_end")
+    def has_end(right, world, pipe, end):
+        return right(world, pipe, end) or any(at.pipe is pipe and at.mode == end for process in gone for at in process.table.values())
+
+
+def main(words):
+    if words == ["--list"]:
+        print("\n".join(f"{name}: {text}" for name, (text, _) in RULES.items()))
+        return 0
+    is_asked = len(words) in (2, 4) and (words[0] in RULES or words[0] == "none") and words[1] == "replay"
+    if not is_asked or words[2:3] not in ([], ["--records"]):
+        print(__doc__, file=sys.stderr)
+        return 2
+    if words[0] != "none":
+        RULES[words[0]][1]()
+    ran = plain_model.replay(sys.stdin.buffer.read(), int(words[3]) if words[2:] else plain_model.RECORDS_DEFAULT)
+    sys.stdout.buffer.write(ran.stdout)
+    sys.stderr.buffer.write(ran.stderr)
+    return ran.status
+
+
+if __name__ == "__main__":
+    sys.exit(main(sys.argv[1:]))
