@@ -51,8 +51,7 @@ static const struct {
     {"open", "sf", 'n'}, {"close", "d", 'o'}, {"read", "dn", 'b'}, {"write", "db", 'n'}, {"pread", "dpn", 'b'},
     {"pwrite", "dpb", 'n'}, {"lseek", "dpw", 'n'}, {"ftruncate", "dp", 'o'}, {"dup", "d", 'n'}, {"dup2", "dd", 'n'},
     {"pipe", "", 'e'}, {"mkfifo", "s", 'o'}, {"link", "ss", 'o'}, {"unlink", "s", 'o'}, {"fstat", "d", 't'},
-    {"fork", "", 'n'}, {"attach", "", 'o'}, {"resume", "", 'o'}, {"exit", "", 'o'}, {"join", "", 'n'},
-    {"close-run", "", 'o'}
+    {"fork", "", 'n'}, {"attach", "", 'o'}, {"resume", "", 'o'}, {"exit", "", 'o'}, {"join", "", 'n'}, {"close-run", "", 'o'}
 };
 
 /* An act. Each field has its text, as fdref writes it, but that of bytes, which stand in `data`. */
@@ -86,7 +85,7 @@ static struct process processes[PROCESSES_MOST];
 static unsigned long process_count;
 static unsigned long long records, bytes_in, bytes_out;
 static int is_closed, may_have_room, unknown_writes, sees_sleep, wait_ms = 20;
-static int listener = -1, guard_end = -1, channel = -1, highest;
+static int listener = -1, guard_end = -1, channel = -1, highest = 65535;
 static char folder[PATH_MAX];
 static pid_t group;
 static const int ending[] = {SIGINT, SIGTERM, SIGHUP};
@@ -111,9 +110,9 @@ static void die_of(const struct process *process, int status)
     die(status, who, status == PROCESS_LOST ? "was ended from outside" : "neither answered nor slept for ten seconds");
 }
 
-static void keep_signal(int number) { caught = number; }
+static void keep_signal(int number) { caught = number; close(STDIN_FILENO); }
 
-/* Ends this program as a signal that came wants it. */
+/* Ends this program as a signal wants it that came; the script ended there, so that none is missed before a line is read. */
 static void heed_signals(void)
 {
     if (!caught)
@@ -344,7 +343,7 @@ static void move(int fd, void *bytes, size_t size, int is_read, const struct pro
     }
 }
 
-/* The lowest descriptors are the script's; others go above them. */
+/* The lowest descriptors are the script's; others go above them. What this program was given up to `highest` is not passed on. */
 static int lifted(int fd)
 {
     int high = fd < OPEN_FILES ? fcntl(fd, F_DUPFD, OPEN_FILES) : fd;
@@ -522,13 +521,13 @@ static char state_of(pid_t pid, long *switches)
 
 static void nap(void) { nanosleep(&(struct timespec){0, 100000}, NULL); }
 
-/* Waits until a process is gone with all that it had open, and gives whether it is. A zombie has nothing any more. */
+/* Waits until a process is gone with what it had open, as a zombie is. Where that is not seen, it has so many milliseconds. */
 static int await_end(pid_t pid)
 {
     for (int naps = 0; naps < 10 * PATIENCE; naps++) {
         long switches;
         char state = sees_sleep ? state_of(pid, &switches) : 'R';
-        if (kill(pid, 0) != 0 || !state || state == 'Z' || state == 'X')
+        if (kill(pid, 0) != 0 || !state || state == 'Z' || state == 'X' || (!sees_sleep && naps >= 10 * wait_ms))
             return 1;
         nap();
     }
@@ -736,7 +735,7 @@ static void run_script(void)
     size_t room = 0;
     ssize_t size;
     struct act act;
-    for (unsigned long number = 1; errno = 0, (size = getline(&line, &room, stdin)) >= 0; number++) {
+    for (unsigned long number = 1; errno = 0, !ferror(stdout) && (size = getline(&line, &room, stdin)) >= 0; number++) {
         size -= line[size - 1] == '\n';
         line[size] = 0;
         snprintf(where, sizeof where, "line %lu", number);
@@ -748,13 +747,13 @@ static void run_script(void)
         settle();
     }
     heed_signals();
-    if (ferror(stdin))
+    if (ferror(stdin) || errno != 0)
         die(STREAM_FAILED, "cannot read", strerror(errno));
     free(line);
     printf("records %llu in ", records);
     printf(unknown_writes ? "?" : "%llu", bytes_in);
     printf(" out %llu\n", bytes_out);
-    if (fflush(stdout) != 0)
+    if (fflush(stdout) != 0 || ferror(stdout))
         die(STREAM_FAILED, "cannot write", strerror(errno));
 }
 
@@ -775,6 +774,7 @@ int main(int count, char **words)
     const char *dir = getenv("TMPDIR");
     long long ms = 0;
     long switches;
+    char state;
     dir = dir && *dir ? dir : "/tmp";
     for (int at = 1; at < count; at += 2) {
         const char *next = at + 1 < count ? words[at + 1] : "";
@@ -787,12 +787,13 @@ int main(int count, char **words)
         }
     }
     wait_ms = ms ? (int)ms : wait_ms;
+    limit(RLIMIT_NOFILE, RLIM_INFINITY);
     set_signals();
     umask(077);
     make_folder(dir);
     start_guard();
-    for (int naps = 0; !ms && !sees_sleep && naps < 500; naps++, nap())
-        sees_sleep = state_of(group, &switches) == 'S';
+    for (int naps = 0; !ms && !sees_sleep && naps < 3000 && (state = state_of(group, &switches)) != 0; naps++, nap())
+        sees_sleep = state == 'S';
     run_script();
     clean_up();
     return 0;
