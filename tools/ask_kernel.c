@@ -85,12 +85,11 @@ static struct process processes[PROCESSES_MOST];
 static unsigned long process_count;
 static unsigned long long records, bytes_in, bytes_out;
 static int is_closed, may_have_room, unknown_writes, sees_sleep, wait_ms = 20;
-static int listener = -1, guard_end = -1, channel = -1, highest = 65535;
+static int listener = -1, guard_end = -1, channel = -1, highest;
 static char folder[PATH_MAX];
 static pid_t group;
 static const int ending[] = {SIGINT, SIGTERM, SIGHUP};
 static volatile sig_atomic_t caught;
-
 static void clean_up(void);
 
 static void die(int status, const char *what, const char *why)
@@ -102,7 +101,6 @@ static void die(int status, const char *what, const char *why)
 }
 
 static void need(int done, const char *what) { if (!done) die(SYSTEM_REFUSED, what, strerror(errno)); }
-
 static void die_of(const struct process *process, int status)
 {
     char who[64];
@@ -343,7 +341,7 @@ static void move(int fd, void *bytes, size_t size, int is_read, const struct pro
     }
 }
 
-/* The lowest descriptors are the script's; others go above them. What this program was given up to `highest` is not passed on. */
+/* The lowest descriptors are the script's; others go above them. */
 static int lifted(int fd)
 {
     int high = fd < OPEN_FILES ? fcntl(fd, F_DUPFD, OPEN_FILES) : fd;
@@ -788,6 +786,8 @@ int main(int count, char **words)
     }
     wait_ms = ms ? (int)ms : wait_ms;
     limit(RLIMIT_NOFILE, RLIM_INFINITY);
+    for (int given = STDERR_FILENO + 1; given < 65536; given++)
+        close(given);
     set_signals();
     umask(077);
     make_folder(dir);
