@@ -1,1 +1,3 @@
 pub mod Tally
+pub mod Counted
+pub mod Gathering

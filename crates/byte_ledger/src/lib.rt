@@ -3,4 +3,6 @@
 #![tactic(auto)]
 
 pub mod gather;
+pub mod ledgers;
+pub mod tallies;
 pub mod tally;

@@ -1,7 +1,7 @@
 -- A report that is written whole says how the run ended.
 use Rattle.std.proofs.Common.{◌≡◌, ◌≤◌, ℕ, List, Option, None, Some, refl}
 use Rattle.std.specs.Io.KnownBytes.{Appends}
-use Rattle.system_lock.specs.System.{IsClosedRun}
+use Rattle.run_core.specs.Run.{IsClosedRun}
 use Rattle.run_core.specs.declared.report.Shortage.{Shortage}
 use Rattle.run_core.specs.declared.report.Shortage.TheVariants as shortage
 use Rattle.fdref.specs.Serve.{IsReport, Reports, end_of, report_line}

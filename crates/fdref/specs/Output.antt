@@ -16,7 +16,7 @@ receipt_line receipt = record_line receipt.place receipt.record_is
 -- the lines of what is told of an act: one, but a line for each record of a closing
 abbrev pub told_line : Told → List ℕ
 told_line (Recorded receipt) = receipt_line receipt
-told_line (Closed house) = flat_map receipt_line house.receipts
+told_line (Closed receipts) = flat_map receipt_line receipts.items
 told_line (Still actor act) = still_line actor act.now
 told_line (Refused actor act refusal) = refused_line actor act.now refusal
 

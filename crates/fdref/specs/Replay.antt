@@ -86,6 +86,7 @@ Ends limits input old new ended.CannotWrite = OfInput input (WritesReplayFront l
 Ends limits input old new ended.NoMemory = new ≡ old
 Ends limits input old new ended.CannotListen = ⊥
 Ends limits input old new ended.NoThread = ⊥
+Ends limits input old new ended.MissingShare = ⊥
 
 -- the exit status of an end
 abbrev pub ended_status : Ended → ℕ
@@ -97,6 +98,7 @@ ended_status ended.CannotWrite = 4
 ended_status ended.NoMemory = 5
 ended_status ended.CannotListen = 4
 ended_status ended.NoThread = 5
+ended_status ended.MissingShare = 6
 
 -- what is written of an end on standard error (own)
 abbrev pub ended_text : Ended → List ℕ
@@ -108,3 +110,4 @@ ended_text ended.CannotWrite = codes "cannot write\n"
 ended_text ended.NoMemory = codes "no memory\n"
 ended_text ended.CannotListen = codes "cannot listen\n"
 ended_text ended.NoThread = codes "no thread\n"
+ended_text ended.MissingShare = codes "missing share\n"

@@ -2,7 +2,9 @@
 use Rattle.std.specs.Prelude.{◌≡◌, ◌≤◌, ℕ, List, ◌++◌, Option, None, Some, codes, decimal}
 use Rattle.std.specs.Io.KnownBytes.{Appends}
 use Rattle.script_text.specs.Lines.{totals_line}
-use Rattle.system_lock.specs.System.{IsClosedRun}
+use Rattle.run_core.specs.Run.{IsClosedRun}
+use Rattle.run_core.specs.declared.report.RunFault.{RunFault}
+use Rattle.run_core.specs.declared.report.RunFault.TheVariants as fault
 use Rattle.run_core.specs.declared.report.Shortage.{Shortage}
 use Rattle.run_core.specs.declared.report.Shortage.TheVariants as shortage
 use Rattle.fdref.specs.Output.{AppendsFront}
@@ -33,6 +35,11 @@ end_of None = ended.Done
 end_of (Some shortage.NoConnection) = ended.CannotListen
 end_of (Some shortage.NoThread) = ended.NoThread
 
+-- how a run ended that gave no report
+abbrev pub ended_by : RunFault → Ended
+ended_by fault.NoMemory = ended.NoMemory
+ended_by fault.Missing = ended.MissingShare
+
 -- what the end says of what was written
 abbrev pub Reports : ℕ → Option (List ℕ) → Option (List ℕ) → Ended → Type 0
 Reports most old new ended.Done = (line : List ℕ) × IsFullReport most line × Appends old new line
@@ -40,4 +47,5 @@ Reports most old new ended.CannotListen = (line : List ℕ) × IsReport most lin
 Reports most old new ended.NoThread = (line : List ℕ) × IsReport most line × Appends old new line
 Reports most old new ended.CannotWrite = (line : List ℕ) × IsReport most line × AppendsFront old new line
 Reports most old new ended.NoMemory = new ≡ old
+Reports most old new ended.MissingShare = new ≡ old
 Reports most old new other = ⊥

@@ -25,6 +25,8 @@ pub enum Ended {
     CannotListen,
     /// A thread could not be started; the sessions before were served and reported.
     NoThread,
+    /// Shares of some seats are missing, so nothing was reported.
+    MissingShare,
 }
 
 impl Ended {
@@ -37,6 +39,7 @@ impl Ended {
             Ended::BadLine { .. } | Ended::TooLong => 3,
             Ended::CannotRead | Ended::CannotWrite | Ended::CannotListen => 4,
             Ended::NoMemory | Ended::NoThread => 5,
+            Ended::MissingShare => 6,
         }
     }
 }
@@ -59,6 +62,7 @@ impl fmt::Display for Ended {
             Ended::NoMemory => f.write_str("no memory\n"),
             Ended::CannotListen => f.write_str("cannot listen\n"),
             Ended::NoThread => f.write_str("no thread\n"),
+            Ended::MissingShare => f.write_str("missing share\n"),
         }
     }
 }

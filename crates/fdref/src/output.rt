@@ -62,7 +62,7 @@ pub(crate) fn put_line(out: &mut Vec<u8>, told: &Told<'_>) -> Result<(), AllocEr
 {
     match told {
         Told::Recorded(receipt) => write_record(out, receipt.place(), receipt.record()),
-        Told::Closed(house) => put_receipts(out, house.receipts()),
+        Told::Closed(receipts) => put_receipts(out, receipts.as_slice()),
         Told::Still { actor, act } => write_still(out, *actor, act),
         Told::Refused {
             actor,

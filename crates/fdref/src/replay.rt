@@ -6,6 +6,7 @@ ghost use Rattle.fdref.specs.Replay.{Ends, RunsNext, RunsScript, FailsAs};
 
 use crate::ended::Ended;
 use crate::output::{put_line, write_lines};
+use byte_ledger::ledgers::{Blanks, Ledgers};
 use call_types::act::ScriptAct;
 use call_types::limits::Limits;
 use record_book::book::Book;
@@ -16,6 +17,7 @@ use script_text::round_trip::{read_scripts_are_spelled, spelled_scripts_are_read
 use script_text::script::{SCRIPT_MAX, Script};
 use std::alloc::{AllocError, Global};
 use std::io::{ErrorKind, Read, Write};
+use std::marker::Brand;
 use std::mem::forget;
 
 /// Reads the whole script, or one byte more than a script has.
@@ -35,10 +37,10 @@ fn read_text<R: Read + Drop>(alloc: Global, reader: R) -> Result<Vec<u8>, Ended>
 
 /// Runs the next act, and gathers the lines of what is told of it. A recorded act is leaked, and so is its receipt: its name or
 /// data is shared with its record in the book. Any other act is dropped.
-fn run_next(
+fn run_next<L: Ledgers>(
     alloc: Global,
-    book: &mut Book,
-    seats: &mut Seats,
+    book: &mut Book<L>,
+    seats: &mut Seats<L>,
     act: ScriptAct,
     lines: &mut Vec<u8>,
 ) -> Result<(), AllocError>
@@ -55,12 +57,18 @@ fn run_next(
 
 /// Runs the acts of a script in a new book as they are read, and gathers the lines of what is told of each, and the line of
 /// totals. Where it succeeds, the book and the seats are leaked, and not dropped one record after another.
-fn run_script(alloc: Global, limits: Limits, text: &[u8]) -> Result<Vec<u8>, Ended>
+fn run_script<L: Ledgers>(
+    alloc: Global,
+    limits: Limits,
+    blanks: Blanks,
+    text: &[u8],
+) -> Result<Vec<u8>, Ended>
+    requires { blanks ≡ L.names }
     ensures lines { IfOk result (λ lines. RunsScript limits text.now lines.items) }
     ensures fault { IfErr result (λ ended. FailsAs text.now ended) }
 {
     let mut script = Script::new(text)?;
-    let mut book = Book::new(alloc, limits)?;
+    let mut book = Book::<L>::new(alloc, limits, blanks)?;
     let mut seats = Seats::new(alloc);
     let mut lines = Vec::with_capacity(alloc, 2 * text.len())?;
     while let Some(act) = script.next_act(alloc)? {
@@ -95,7 +103,7 @@ pub fn replay<R: Read + Drop, W: Write>(
         Ok(text) => text,
         Err(ended) => return ended,
     };
-    let lines = match run_script(alloc, limits, text.as_slice()) {
+    let lines = match run_script::<Brand>(alloc, limits, Blanks::new(), text.as_slice()) {
         Ok(lines) => lines,
         Err(ended) => return ended,
     };

@@ -1,10 +1,11 @@
 //! A run of sessions, and the line that reports it.
 
 ghost use Rattle.std.specs.Prelude.{◌≡◌, ◌++◌, codes, decimal, vec_len, IfOk};
-ghost use Rattle.fdref.specs.Serve.{Reports, end_of, report_line};
+ghost use Rattle.fdref.specs.Serve.{Reports, end_of, ended_by, report_line};
 
 use crate::ended::Ended;
 use crate::output::write_lines;
+use byte_ledger::ledgers::{Blanks, Ledgers};
 use call_types::limits::Limits;
 use run_core::report::{Report, RunFault, Shortage};
 use run_core::sessions::run_sessions;
@@ -12,6 +13,7 @@ use run_core::source::Source;
 use script_text::lines::write_totals;
 use std::alloc::{AllocError, Global};
 use std::io::Write;
+use std::marker::Brand;
 use std::sync::Wait;
 use std::thread::Threads;
 
@@ -36,6 +38,49 @@ fn end_of(shortage: Option<Shortage>) -> Ended
     }
 }
 
+/// The end of a run that gives no report.
+fn ended_by(fault: RunFault) -> Ended
+    ensures { result ≡ ended_by fault }
+{
+    match fault {
+        RunFault::NoMemory => Ended::NoMemory,
+        RunFault::Missing => Ended::MissingShare,
+    }
+}
+
+/// Serves so many sessions, counted by these ledgers, and writes the line of their report.
+fn serve_with<
+    Rt: Threads + Wait + Copy + Send + 'static,
+    S: Source + Send + 'static,
+    W: Write,
+    L: Ledgers + Send + Sync + 'static,
+>(
+    rt: Rt,
+    alloc: Global,
+    source: &mut S,
+    sessions: usize,
+    limits: Limits,
+    blanks: Blanks,
+    writer: &mut W,
+) -> Ended
+    requires { blanks ≡ L.names }
+    ensures { Reports sessions (W.contents writer.old) (W.contents writer.new) result }
+{
+    let ran = run_sessions::<Rt, S, L>(rt, alloc, source, sessions, limits, blanks);
+    let report = match ran {
+        Ok(report) => report,
+        Err(fault) => return ended_by(fault),
+    };
+    let line = match line_of(alloc, &report) {
+        Ok(line) => line,
+        Err(_) => return Ended::NoMemory,
+    };
+    match write_lines(writer, line.as_slice()) {
+        Ok(()) => end_of(report.shortage),
+        Err(ended) => ended,
+    }
+}
+
 /// Serves so many sessions, and writes the line of their report.
 pub fn serve_on<Rt: Threads + Wait + Copy + Send + 'static, S: Source + Send + 'static, W: Write>(
     rt: Rt,
@@ -47,16 +92,5 @@ pub fn serve_on<Rt: Threads + Wait + Copy + Send + 'static, S: Source + Send + '
 ) -> Ended
     ensures { Reports sessions (W.contents writer.old) (W.contents writer.new) result }
 {
-    let report = match run_sessions(rt, alloc, source, sessions, limits) {
-        Ok(report) => report,
-        Err(RunFault::NoMemory) => return Ended::NoMemory,
-    };
-    let line = match line_of(alloc, &report) {
-        Ok(line) => line,
-        Err(_) => return Ended::NoMemory,
-    };
-    match write_lines(writer, line.as_slice()) {
-        Ok(()) => end_of(report.shortage),
-        Err(ended) => ended,
-    }
+    serve_with::<Rt, S, W, Brand>(rt, alloc, source, sessions, limits, Blanks::new(), writer)
 }

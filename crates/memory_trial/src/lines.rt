@@ -16,7 +16,7 @@ fn put_receipts(out: &mut Vec<u8>, receipts: &[Receipt]) -> Result<(), AllocErro
 fn put_told(out: &mut Vec<u8>, told: &Told<'_>) -> Result<(), AllocError> {
     match told {
         Told::Recorded(receipt) => write_record(out, receipt.place(), receipt.record()),
-        Told::Closed(house) => put_receipts(out, house.receipts()),
+        Told::Closed(receipts) => put_receipts(out, receipts.as_slice()),
         Told::Still { actor, act } => write_still(out, *actor, act),
         Told::Refused {
             actor,

@@ -8,12 +8,15 @@ mod lines;
 mod stand;
 mod trial;
 
+use byte_ledger::ledgers::Blanks;
 use call_types::limits::Limits;
 use ended::Ended;
+use std::alloc::Global;
 use std::io;
-use std::io::Write;
+use std::io::{Read, Write};
+use std::marker::Brand;
 use std::process::ExitCode;
-use trial::tried;
+use trial::{Ran, tried};
 
 /// The records of a run for which no number is given.
 const DEFAULT_RECORDS: u64 = 10_000;
@@ -37,11 +40,16 @@ fn words_of(rt: &HostRuntime) -> Result<Vec<String>, Ended> {
     }
 }
 
+/// The run of the script that a reader gives.
+fn tried_on<R: Read + Drop>(alloc: Global, reader: R, limits: Limits) -> Result<Ran, Ended> {
+    tried::<R, Brand>(alloc, reader, limits, Blanks::new())
+}
+
 /// Runs the script on standard input, and prints its lines, and how many acts were given again as an error.
 fn run(rt: &HostRuntime) -> Result<(), Ended> {
     let words = words_of(rt)?;
     let limits = limits_of(words.as_slice())?;
-    let ran = tried(rt.alloc(), rt.reader(), limits)?;
+    let ran = tried_on(rt.alloc(), rt.reader(), limits)?;
     let mut out = io::writer(rt);
     if out.write_all(ran.lines.as_slice()).is_err() || out.flush().is_err() {
         return Err(Ended::CannotWrite);

@@ -1,7 +1,11 @@
 //! One run of a script, in which an act for which memory is wanting is given again.
+
+ghost use Rattle.std.specs.Prelude.{◌≡◌};
+
 use crate::ended::Ended;
 use crate::lines::gather;
 use crate::stand::Stand;
+use byte_ledger::ledgers::{Blanks, Ledgers};
 use call_types::act::ScriptAct;
 use call_types::limits::Limits;
 use call_types::refusal::Refusal;
@@ -24,24 +28,33 @@ fn is_wanting(told: &Told<'_>) -> bool {
     )
 }
 
-/// A run so far.
+/// A run that is over.
 #[derive(Drop)]
-pub(crate) struct Run {
-    book: Book,
-    seats: Seats,
+pub(crate) struct Ran {
     /// The lines of what was told.
     pub lines: Vec<u8>,
-    /// How many acts were given.
-    acts: u64,
     /// How many acts were given again.
     pub again: u64,
 }
 
-impl Run {
-    /// A run without records.
-    fn new(alloc: Global, limits: Limits) -> Result<Self, AllocError> {
+/// A run so far.
+#[derive(Drop)]
+struct Run<L: Ledgers> {
+    book: Book<L>,
+    seats: Seats<L>,
+    lines: Vec<u8>,
+    /// How many acts were given.
+    acts: u64,
+    again: u64,
+}
+
+impl<L: Ledgers> Run<L> {
+    /// A run without records, counted by these ledgers.
+    fn new(alloc: Global, limits: Limits, blanks: Blanks) -> Result<Self, AllocError>
+        requires { blanks ≡ L.names }
+    {
         Ok(Run {
-            book: Book::new(alloc, limits)?,
+            book: Book::new(alloc, limits, blanks)?,
             seats: Seats::new(alloc),
             lines: Vec::new(alloc),
             acts: 0,
@@ -87,15 +100,18 @@ fn read_text<R: Read + Drop>(alloc: Global, reader: R) -> Result<Vec<u8>, Ended>
     }
 }
 
-/// The run of the script that a reader gives.
-pub(crate) fn tried<R: Read + Drop>(
+/// The run of the script that a reader gives, counted by these ledgers.
+pub(crate) fn tried<R: Read + Drop, L: Ledgers>(
     alloc: Global,
     reader: R,
     limits: Limits,
-) -> Result<Run, Ended> {
+    blanks: Blanks,
+) -> Result<Ran, Ended>
+    requires { blanks ≡ L.names }
+{
     let text = read_text(alloc, reader)?;
     let mut script = Script::new(text.as_slice())?;
-    let mut run = Run::new(alloc, limits)?;
+    let mut run = Run::<L>::new(alloc, limits, blanks)?;
     while let Some(act) = script.next_act(alloc)? {
         run.give_next(alloc, act)?;
     }
@@ -106,5 +122,8 @@ pub(crate) fn tried<R: Read + Drop>(
         counts.bytes_in,
         counts.bytes_out,
     )?;
-    Ok(run)
+    Ok(Ran {
+        lines: run.lines,
+        again: run.again,
+    })
 }

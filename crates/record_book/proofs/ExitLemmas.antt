@@ -174,6 +174,7 @@ ends_as_one a b c rs s first last =
       history = last.history ∙ ap (λ h. h ++ rs) first.history ∙ append_assoc a.history xs rs;
       pid = last.pid;
       seen = last.seen;
+      counts = last.counts;
       given_away = last.given_away;
       receipts = last.receipts ∙ ap (λ n. told_more n rs b.house) place ∙ ap (λ house. told_more (length a.history + length xs) rs house) first.house ∙ told_twice (length a.history) xs rs a.house;
     }

@@ -1,4 +1,4 @@
--- A book with one more record is a book.
+-- A journal with one more record is a journal.
 use Rattle.std.proofs.Common.{◌≡◌, ◌∙◌, ℕ, ◌+◌, ◌≤◌, ◌||◌, Bool, true, false, cond, None, Some, set, sym, [], ◌∷◌, ◌++◌, length, refl, ap, subst, arith, length-append, vec_capacity}
 use Rattle.std.specs.Prelude.{not}
 use Rattle.std.proofs.lemmas.Bool.{leb-true}
@@ -21,21 +21,17 @@ use Rattle.record_book.specs.Exits.{exit_record, closing_record, exits_from}
 use Rattle.record_book.proofs.ExitLemmas.{exits_emptied}
 use Rattle.record_book.specs.House.{closing_of, HasRoom, SameHouse}
 use Rattle.record_book.specs.Planned.{IsPlanned}
-use Rattle.record_book.specs.Inside.{records_in, state_of, prepared_closing, IsBook}
-use Rattle.record_book.specs.declared.book.Book.TheInside.{Inside}
+use Rattle.record_book.specs.Inside.{records_in, state_of, prepared_closing, IsJournal}
+use Rattle.record_book.specs.declared.journal.Journal.TheInside.{Inside}
 use Rattle.record_book.proofs.HistoryLemmas.{world_from-push, legal_from-push, bytes_in-push, bytes_out-push}
 
--- a book with one more record of a planned act
+-- a journal with one more record of a planned act
 pub record IsGrown (b b' : Inside) (r : Record) (d : Decided) : Type 0 where
   pub planned : IsPlanned (state_of b) r.actor r.act d
   pub outcome : r.outcome ≡ d.outcome
   pub records : records_in b' ≡ records_in b ++ r ∷ []
   pub limits : b'.limits ≡ b.limits
   pub world : b'.machine.world ≡ (stepped (world_now (state_of b)) (given r.act) d).world
-  pub few_taken : took (world_now (state_of b)) r ≤ GIVEN_BYTES_MAX
-  pub few_given : gave (world_now (state_of b)) r ≤ GIVEN_BYTES_MAX
-  pub taken : b'.bytes_in ≡ b.bytes_in + took (world_now (state_of b)) r
-  pub given_is : b'.bytes_out ≡ b.bytes_out + gave (world_now (state_of b)) r
   pub room : vec_capacity b'.history ≡ vec_capacity b.history
   pub capacity : b'.machine.room.capacity ≡ b.machine.room.capacity
   pub exits : b'.exits.0 ≡ exits_from 0 (stepped (world_now (state_of b)) (given r.act) d).world.processes
@@ -46,28 +42,22 @@ pub record IsGrown (b b' : Inside) (r : Record) (d : Decided) : Type 0 where
 pub closed_same : (w v : World) (ends more : ℕ) (closing : Bool) → Counts w v more ends closing → closing ≡ false → v.closed ≡ w.closed
 closed_same w v ends more closing c none = c.closed ∙ ap (λ b. b || w.closed) none
 
--- a book in which nothing but room was made
+-- a journal in which nothing but room was made
 pub record IsSame (b b' : Inside) : Type 0 where
   pub world : b'.machine.world ≡ b.machine.world
   pub capacity : b'.machine.room.capacity ≡ b.machine.room.capacity
   pub history : b'.history ≡ b.history
   pub limits : b'.limits ≡ b.limits
-  pub bytes_in : b'.bytes_in ≡ b.bytes_in
-  pub bytes_out : b'.bytes_out ≡ b.bytes_out
   pub exits : b'.exits.0 ≡ b.exits.0
   pub house : SameHouse b.house b'.house
 
-pub book_stays : (b b' : Inside) → IsBook b → IsSame b b' → IsBook b'
-book_stays b b' book same = record {
+pub journal_stays : (b b' : Inside) → IsJournal b → IsSame b b' → IsJournal b'
+journal_stays b b' book same = record {
   is_legal = rw (same.history, same.limits) book.is_legal;
   world = rw (same.world, same.history, same.limits) book.world;
   capacity = rw (same.capacity, same.limits) book.capacity;
   reserve = rw (same.world, same.history, same.limits) book.reserve;
   room = rw (same.history, same.limits) book.room;
-  taken = rw (same.bytes_in, same.history, same.limits) book.taken;
-  given = rw (same.bytes_out, same.history, same.limits) book.given;
-  few_taken = rw (same.bytes_in, same.history) book.few_taken;
-  few_given = rw (same.bytes_out, same.history) book.few_given;
   exits = rw (same.exits, same.world) book.exits;
   closing = rw (same.house.closing, same.world) book.closing;
   house = rw same.world (same.house.room (live b.machine.world.processes) book.house);
@@ -78,8 +68,8 @@ not_false : (b : Bool) → not b ≡ false → b ≡ true
 not_false true e = refl
 not_false false e = cc
 
-pub book_grows : (b b' : Inside) (r : Record) (d : Decided) → IsBook b → IsGrown b b' r d → IsBook b'
-book_grows b b' r d book more =
+pub journal_grows : (b b' : Inside) (r : Record) (d : Decided) → IsJournal b → IsGrown b b' r d → IsJournal b'
+journal_grows b b' r d book more =
     let bounds = b.limits.bounds in
     let h = records_in b in
     let w = world_now (state_of b) in
@@ -94,10 +84,6 @@ book_grows b b' r d book more =
       capacity = rw (more.capacity, more.limits) book.capacity;
       reserve = rw (more.limits, more.world, count) fits;
       room = rw (more.limits, more.room) book.room;
-      taken = rw (more.records, more.limits, more.taken, bytes_in-push bounds h r, book.taken) refl;
-      given = rw (more.records, more.limits, more.given_is, bytes_out-push bounds h r, book.given) refl;
-      few_taken = omega (arith, more.taken, more.few_taken, book.few_taken, count);
-      few_given = omega (arith, more.given_is, more.few_given, book.few_given, count);
       exits = rw more.world more.exits;
       closing = rw more.world more.closing;
       house = rw more.world more.house;
@@ -108,33 +94,27 @@ book_grows b b' r d book more =
           rw (more.world, count) (omega (arith, now, same, book.few_processes));
     }
 
--- a book with the exit of a process
+-- a journal with the exit of a process
 pub record IsEnded (b b' : Inside) (p : ℕ) : Type 0 where
   pub records : records_in b' ≡ records_in b ++ exit_record p ∷ []
   pub limits : b'.limits ≡ b.limits
   pub world : b'.machine.world ≡ sweep (changed b.machine.world [] (exit p).change)
-  pub bytes_in : b'.bytes_in ≡ b.bytes_in
-  pub bytes_out : b'.bytes_out ≡ b.bytes_out
   pub room : vec_capacity b'.history ≡ vec_capacity b.history
   pub capacity : b'.machine.room.capacity ≡ b.machine.room.capacity
   pub exits : b'.exits.0 ≡ set b.exits.0 p None
   pub closing : closing_of b'.house ≡ closing_of b.house
   pub house : (k : ℕ) → k + 1 ≡ live b.machine.world.processes → HasRoom k b'.house
 
-pub book_ends : (b b' : Inside) (p : ℕ) → IsBook b → IsPlanned (state_of b) p act.Exit (exit p) → IsEnded b b' p → IsBook b'
-book_ends b b' p book planned e =
+pub journal_ends : (b b' : Inside) (p : ℕ) → IsJournal b → IsPlanned (state_of b) p act.Exit (exit p) → IsEnded b b' p → IsJournal b'
+journal_ends b b' p book planned e =
     let w = world_now (state_of b) in
     let next = (stepped w [] (exit p)).world in
-    book_grows b b' (exit_record p) (exit p) book (record {
+    journal_grows b b' (exit_record p) (exit p) book (record {
       planned = planned;
       outcome = refl;
       records = e.records;
       limits = e.limits;
       world = e.world ∙ ap (λ v. sweep (changed v [] (exit p).change)) book.world;
-      few_taken = omega arith;
-      few_given = omega arith;
-      taken = omega (arith, e.bytes_in);
-      given_is = omega (arith, e.bytes_out);
       room = e.room;
       capacity = e.capacity;
       exits = e.exits ∙ ap (λ es. set es p None) (book.exits ∙ ap (λ (v : World). exits_from 0 v.processes) book.world) ∙ sym (exits_emptied 0 w.processes p);
@@ -142,30 +122,24 @@ book_ends b b' p book planned e =
       house = e.house (live next.processes) (let same : live b.machine.world.processes ≡ live w.processes = ap (λ (v : World). live v.processes) book.world in omega (arith, planned.counts.living, same));
     })
 
--- a book with the closing of its run
+-- a journal with the closing of its run
 pub record IsShut (b b' : Inside) : Type 0 where
   pub records : records_in b' ≡ records_in b ++ closing_record ∷ []
   pub limits : b'.limits ≡ b.limits
   pub world : b'.machine.world ≡ sweep (changed b.machine.world [] close_run.change)
-  pub bytes_in : b'.bytes_in ≡ b.bytes_in
-  pub bytes_out : b'.bytes_out ≡ b.bytes_out
   pub room : vec_capacity b'.history ≡ vec_capacity b.history
   pub capacity : b'.machine.room.capacity ≡ b.machine.room.capacity
   pub exits : b'.exits.0 ≡ b.exits.0
   pub house : b'.house ≡ None
 
-pub book_shuts : (b b' : Inside) → IsBook b → IsPlanned (state_of b) HOUSE act.CloseRun close_run → IsShut b b' → IsBook b'
-book_shuts b b' book planned e =
-    book_grows b b' closing_record close_run book (record {
+pub journal_shuts : (b b' : Inside) → IsJournal b → IsPlanned (state_of b) HOUSE act.CloseRun close_run → IsShut b b' → IsJournal b'
+journal_shuts b b' book planned e =
+    journal_grows b b' closing_record close_run book (record {
       planned = planned;
       outcome = refl;
       records = e.records;
       limits = e.limits;
       world = e.world ∙ ap (λ v. sweep (changed v [] close_run.change)) book.world;
-      few_taken = omega arith;
-      few_given = omega arith;
-      taken = omega (arith, e.bytes_in);
-      given_is = omega (arith, e.bytes_out);
       room = e.room;
       capacity = e.capacity;
       exits = e.exits ∙ book.exits ∙ ap (λ (v : World). exits_from 0 v.processes) book.world;

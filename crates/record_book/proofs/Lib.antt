@@ -1,5 +1,6 @@
 pub mod ExitLemmas
 pub mod HistoryLemmas
 pub mod GrowLemmas
+pub mod CountLemmas
 pub mod PlanLemmas
 pub mod RunLemmas

@@ -7,7 +7,9 @@ use Rattle.call_types.specs.declared.act.Record.{Record}
 use Rattle.slots.specs.Slots.{live}
 use Rattle.posix_model.specs.Step.{step}
 use Rattle.posix_model.specs.History.{after_act, world_of}
+use Rattle.posix_model.specs.Turns.{took, gave}
 use Rattle.posix_model.specs.declared.world.World.{World}
+use Rattle.byte_ledger.specs.Counted.{counted_more}
 use Rattle.record_book.specs.Seat.{Receipted, SeatState}
 
 -- the limits of a run, its records so far, and the receipts of the house, which it holds until the run is closed
@@ -51,3 +53,13 @@ pub record Receives (old new : SeatState) (receipt : Receipted) : Type 0 where
   pub pid : new.pid ≡ old.pid
   pub seen : new.seen ≡ receipt.place + 1
   pub receipts : new.receipts ≡ old.receipts ++ receipt ∷ []
+
+-- the seat counts one record more, and the bytes that it took and gave in the world before it
+abbrev pub CountsMore : BookState → SeatState → SeatState → Record → Type 0
+CountsMore old s t r = t.counted ≡ counted_more (took (world_now old) r) (gave (world_now old) r) s.counted
+
+-- one record of this act of a seat's process is appended, and the seat has its receipt, and counts it
+pub record Records (old new : BookState) (s t : SeatState) (act : Act) (receipt : Receipted) : Type 0 where
+  pub appends : Appends old new s.pid act receipt
+  pub receives : Receives s t receipt
+  pub counts : CountsMore old s t receipt.record_is

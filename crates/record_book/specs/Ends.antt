@@ -5,12 +5,13 @@ use Rattle.call_types.specs.declared.act.TheConstants.{HOUSE}
 use Rattle.call_types.specs.declared.act.Act.TheVariants as act
 use Rattle.call_types.specs.declared.act.Record.{Record}
 use Rattle.record_book.specs.Seat.{Receipted, SeatState}
-use Rattle.record_book.specs.Book.{BookState, world_now, Appends, Receives}
-use Rattle.record_book.specs.Exits.{exit_record, orphans_exits, closing_records, receipts_from}
+use Rattle.record_book.specs.Book.{BookState, world_now, Records}
+use Rattle.record_book.specs.Counting.{only_records}
+use Rattle.record_book.specs.Exits.{exit_record, closing_record, orphans_exits, closing_records, receipts_from}
 
 -- the exit of a seat's process is recorded, and its receipt is the last of the seat
 abbrev pub ExitsBy : BookState → BookState → SeatState → SeatState → Receipted → Type 0
-ExitsBy old new s spent receipt = Appends old new s.pid act.Exit receipt × Receives s spent receipt
+ExitsBy old new s spent receipt = Records old new s spent act.Exit receipt
 
 -- the same, with some receipt
 abbrev pub Exits : BookState → BookState → SeatState → SeatState → Type 0
@@ -28,13 +29,22 @@ pub record IsOrphansExit (old new : BookState) (process : ℕ) : Type 0 where
   pub processes : (world_now new).processes ≡ slice_set (world_now old).processes process None
   pub closed : (world_now new).closed ≡ (world_now old).closed
 
--- these records are appended, and the house gives its receipts away with theirs, has seen all, and holds none any more
+-- the closing is recorded, and the receipts of the house are given away with its own
+pub record IsShutBy (old new : BookState) (receipts : List Receipted) : Type 0 where
+  pub limits : new.limits ≡ old.limits
+  pub history : new.history ≡ old.history ++ closing_record ∷ []
+  pub receipts_are : Some receipts ≡ told_more (length old.history) (closing_record ∷ []) old.house
+  pub given_away : new.house ≡ None
+
+-- these records are appended, and the house gives its receipts away with theirs, has seen all, counts a record for each, and holds none
+-- any more
 pub record Ends (old new : BookState) (rs : List Record) (house : SeatState) : Type 0 where
   pub limits : new.limits ≡ old.limits
   pub history : new.history ≡ old.history ++ rs
   pub pid : house.pid ≡ HOUSE
   pub seen : house.seen ≡ length new.history
   pub receipts : Some house.receipts ≡ told_more (length old.history) rs old.house
+  pub counts : house.counted ≡ only_records (length house.receipts)
   pub given_away : new.house ≡ None
 
 -- the exits of all processes without a connection are recorded, and the house has their receipts

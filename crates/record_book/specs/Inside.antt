@@ -1,22 +1,20 @@
--- What holds of each book.
-use Rattle.std.specs.Prelude.{◌≡◌, ◌+◌, ◌≤◌, ◌*◌, List, Option, None, Some, length, map, vec_capacity, if◌then◌else◌}
+-- What holds of each journal.
+use Rattle.std.specs.Prelude.{◌≡◌, ◌+◌, ◌≤◌, List, Option, None, Some, length, map, vec_capacity, if◌then◌else◌}
 use Rattle.std.specs.Arc.{arc_value}
 use Rattle.call_types.specs.declared.act.Record.{Record}
-use Rattle.call_types.specs.declared.limits.TheConstants.{GIVEN_BYTES_MAX}
 use Rattle.slots.specs.Slots.{live}
 use Rattle.posix_model.specs.History.{legal, world_of}
-use Rattle.posix_model.specs.Turns.{bytes_in, bytes_out}
 use Rattle.posix_model.specs.declared.world.World.{World}
 use Rattle.record_book.specs.Book.{BookState, exits_left}
 use Rattle.record_book.specs.Exits.{exits_from, closing_record}
 use Rattle.record_book.specs.House.{receipts_of, closing_of, HasRoom}
-use Rattle.record_book.specs.declared.book.Book.TheInside.{Inside}
+use Rattle.record_book.specs.declared.journal.Journal.TheInside.{Inside}
 
--- the records of a book, in the order of their places
+-- the records of a journal, in the order of their places
 abbrev pub records_in : Inside → List Record
 records_in b = map arc_value b.history.items
 
--- what contracts see of a book
+-- what contracts see of a journal, and of the book that holds it
 abbrev pub state_of : Inside → BookState
 state_of b = record { limits = b.limits; history = records_in b; house = receipts_of b.house }
 
@@ -25,18 +23,13 @@ abbrev pub prepared_closing : World → Option Record
 prepared_closing w = if w.closed then None else Some closing_record
 
 -- the history is legal, the machine's world is the world after it, its pipes hold what the limits
--- say, the exits and the closing have their records, each live
--- process has that of its exit prepared, and the counters are those of the history
-pub record IsBook (b : Inside) : Type 0 where
+-- say, the exits and the closing have their records, and each live process has that of its exit prepared
+pub record IsJournal (b : Inside) : Type 0 where
   pub is_legal : legal b.limits.bounds (records_in b)
   pub world : b.machine.world ≡ world_of b.limits.bounds (records_in b)
   pub capacity : b.machine.room.capacity ≡ b.limits.bounds.pipe_capacity
   pub reserve : length (records_in b) + exits_left b.machine.world ≤ b.limits.records
   pub room : b.limits.records ≤ vec_capacity b.history
-  pub taken : b.bytes_in ≡ bytes_in b.limits.bounds (records_in b)
-  pub given : b.bytes_out ≡ bytes_out b.limits.bounds (records_in b)
-  pub few_taken : b.bytes_in ≤ GIVEN_BYTES_MAX * length (records_in b)
-  pub few_given : b.bytes_out ≤ GIVEN_BYTES_MAX * length (records_in b)
   pub exits : b.exits.0 ≡ exits_from 0 b.machine.world.processes
   pub closing : closing_of b.house ≡ prepared_closing b.machine.world
   pub house : HasRoom (live b.machine.world.processes) b.house

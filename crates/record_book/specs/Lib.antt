@@ -1,9 +1,11 @@
 pub mod Seat
 pub mod Book
 pub mod Exits
+pub mod Counting
 pub mod House
 pub mod Refusals
 pub mod Planned
+pub mod Appended
 pub mod Inside
 pub mod Openings
 pub mod Resumes

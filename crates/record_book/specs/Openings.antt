@@ -7,16 +7,21 @@ use Rattle.process_table.specs.Processes.{awaits}
 use Rattle.posix_model.specs.Join.{is_full}
 use Rattle.record_book.specs.Seat.{Receipted, SeatState}
 use Rattle.record_book.specs.Book.{BookState, world_now, Appends}
-use Rattle.record_book.specs.declared.opening.Opened.{Opened}
+use Rattle.record_book.specs.Counting.{only_records}
+use Rattle.record_book.specs.declared.opening.Opened.{Opened as OpenedOf}
 use Rattle.record_book.specs.declared.opening.Opened.TheVariants.{Seated, Refused}
+
+-- what an opening of some book gives: contracts see a seat as what it holds
+abbrev pub Opened : Type 0
+Opened = OpenedOf SeatState SeatState
 
 -- the number of the next process
 abbrev pub next_pid : BookState → ℕ
 next_pid b = length (world_now b).processes
 
--- the seat of a process whose first record this is
+-- the seat of a process whose first record this is, which takes and gives no bytes
 abbrev pub first_seat : ℕ → Receipted → SeatState
-first_seat process receipt = record { pid = process; seen = receipt.place + 1; receipts = receipt ∷ [] }
+first_seat process receipt = record { pid = process; seen = receipt.place + 1; receipts = receipt ∷ []; counted = only_records 1 }
 
 -- the act is recorded, and its receipt is the first of the seat
 pub record IsOpening (old new : BookState) (process : ℕ) (act : Act) (s : SeatState) (receipt : Receipted) : Type 0 where

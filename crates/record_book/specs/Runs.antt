@@ -11,7 +11,8 @@ use Rattle.slots.specs.Slots.{slot}
 use Rattle.process_table.specs.Processes.{awaits}
 use Rattle.posix_model.specs.Join.{is_full}
 use Rattle.record_book.specs.Seat.{Receipted, SeatState}
-use Rattle.record_book.specs.Book.{BookState, world_now, Appends, Receives}
+use Rattle.record_book.specs.Book.{BookState, world_now, Appends, Records}
+use Rattle.record_book.specs.Counting.{only_records}
 use Rattle.record_book.specs.Refusals.{start_refusal, join_refusal, attach_refusal, exit_refusal, resume_refusal, is_ready_for, IsDue, ResumeRefused}
 use Rattle.record_book.specs.Openings.{next_pid, first_seat}
 use Rattle.record_book.specs.Ends.{Closes}
@@ -65,9 +66,8 @@ AttachRuns old new seats after process (Err refusal) = IsDue (attach_refusal old
 -- a call of a seat's process is recorded, and the seat has its receipt
 pub record CallRecorded (old new : BookState) (seats after : Seats) (process : ℕ) (s : SeatState) (c : Call) (receipt : Receipted) : Type 0 where
   pub free : start_refusal old s c ≡ None
-  pub appends : Appends old new s.pid (act.Call c) receipt
   pub seat : SeatState
-  pub receives : Receives s seat receipt
+  pub records : Records old new s seat (act.Call c) receipt
   pub seats_are : after ≡ slice_set seats process (Some seat)
 
 -- how a call of a process with this seat goes: NotHere where the script opened no such process
@@ -81,9 +81,8 @@ CallRuns old new seats after process c (Err refusal) None = (refusal ≡ NotHere
 pub record ResumeRecorded (old new : BookState) (seats after : Seats) (process : ℕ) (s : SeatState) (receipt : Receipted) : Type 0 where
   pub free : resume_refusal old s ≡ None
   pub ready : is_ready_for old s ≡ true
-  pub appends : Appends old new s.pid act.Resume receipt
   pub seat : SeatState
-  pub receives : Receives s seat receipt
+  pub records : Records old new s seat act.Resume receipt
   pub seats_are : after ≡ slice_set seats process (Some seat)
 
 -- how a resume of a process with this seat goes that is recorded or refused: NotHere where the script opened no such process
@@ -141,10 +140,14 @@ actor_of b (script.Resume process) = process
 actor_of b (script.Exit process) = process
 actor_of b script.CloseRun = HOUSE
 
+-- the seat of the house with these receipts, after the closing
+abbrev pub seat_of_house : BookState → List Receipted → SeatState
+seat_of_house b receipts = record { pid = HOUSE; seen = length b.history; receipts = receipts; counted = only_records (length receipts) }
+
 -- what is told of an act: its record, the records of a closing, that there is nothing to close or no call that is ready, or why there is no record
 abbrev pub Tells : BookState → BookState → Seats → Seats → ScriptAct → List Told → Type 0
 Tells old new seats after a (Recorded receipt ∷ []) = Runs old new seats after a (Ok receipt)
-Tells old new seats after a (Closed house ∷ []) = (a ≡ script.CloseRun) × Closes old new (Some house) × (after ≡ seats)
+Tells old new seats after a (Closed receipts ∷ []) = (a ≡ script.CloseRun) × Closes old new (Some (seat_of_house new receipts.items)) × (after ≡ seats)
 Tells old new seats after a (Still actor still ∷ []) = (actor ≡ actor_of old a) × (still.now ≡ a) × IsStill old new seats after a
 Tells old new seats after a (Refused actor refused refusal ∷ []) = (actor ≡ actor_of old a) × (refused.now ≡ a) × Runs old new seats after a (Err refusal)
 Tells old new seats after a other = ⊥

@@ -1,26 +1,26 @@
 ghost use Rattle.std.specs.Prelude.{◌≡◌, None, [], ◌∷◌, List, Option, IfOk, IfErr, OnOk, OnErr};
 ghost use Rattle.record_book.specs.Seat.{SeatState};
-ghost use Rattle.record_book.specs.Book.{Appends, Receives};
+ghost use Rattle.record_book.specs.Book.{Records};
 ghost use Rattle.record_book.specs.Refusals.{start_refusal, IsDue};
 
 use crate::book::Book;
 use crate::opening::Opened;
 use crate::resume::Resumed;
-use crate::seat::{Receipt, Seat, SpentSeat};
+use crate::seat::{Receipt, Seat};
 use crate::seats::Seats;
+use byte_ledger::ledgers::Ledgers;
 use call_types::act::{Act, HOUSE, ScriptAct};
 use call_types::call::Call;
 use call_types::refusal::Refusal;
-use posix_model::reader::Reader;
 use std::alloc::{AllocError, Global};
 
-/// What is told of an act of a script: its record; the records of a closing, which the house has; that a closing has nothing
+/// What is told of an act of a script: its record; the records of a closing, of which the house has the receipts; that a closing has nothing
 /// to close, or a process that is resumed waits in no call that is ready; or that the act is refused, with the process whose act
 /// it was or would have been, and why.
 #[derive(Drop)]
 pub enum Told<'a> {
     Recorded(Receipt),
-    Closed(SpentSeat),
+    Closed(Vec<Receipt>),
     Still {
         actor: u32,
         act: &'a ScriptAct,
@@ -39,21 +39,21 @@ fn copy_of(call: &Call) -> Result<Call, AllocError>
     call.clone()
 }
 
-impl Book {
+impl<L: Ledgers> Book<L> {
     /// The same as `start`, of a call that stays where it is: its copy is made once nothing but memory can refuse it.
     #[inline(always)]
     fn start_copy(
         &mut self,
         alloc: Global,
-        seat: &mut Seat,
+        seat: &mut Seat<L>,
         call: &Call,
     ) -> Result<Receipt, Refusal>
-        ensures recorded { IfOk result (λ receipt. Appends self.old self.new seat.old.pid (Act.Call call.now) receipt × Receives seat.old seat.new receipt) }
+        ensures recorded { IfOk result (λ receipt. Records self.old self.new seat.old seat.new (Act.Call call.now) receipt) }
         ensures not_refused { OnOk result (start_refusal self.old seat.old call.now ≡ None) }
         ensures refused { IfErr result (λ refusal. IsDue (start_refusal self.old seat.old call.now) refusal) }
         ensures unchanged { OnErr result ((self.new ≡ self.old) × (seat.new ≡ seat.old)) }
     {
-        if let Some(refusal) = self.start_refusal(seat, call) {
+        if let Some(refusal) = self.journal.start_refusal(seat, call) {
             return Err(refusal);
         }
         let call = copy_of(call)?;
@@ -64,12 +64,12 @@ impl Book {
     ghost use Rattle.record_book.specs.Runs.{Seats as ScriptSeats, JoinRuns, AttachRuns, CallRuns, ResumeGoes, ExitRuns, Tells, GoesOn, RunTells};
 
     /// Runs a join of a script; where it makes a process, its seat is put among the others.
-    fn run_join(&mut self, alloc: Global, seats: &mut Seats) -> Result<Receipt, Refusal>
+    fn run_join(&mut self, alloc: Global, seats: &mut Seats<L>) -> Result<Receipt, Refusal>
         ensures runs { JoinRuns self.old self.new seats.old.0 seats.new.0 result }
         ensures limits { self.new.limits ≡ self.old.limits }
     {
         let actor = self.next_pid();
-        if self.join_overfills() {
+        if self.journal.join_overfills() {
             return Err(Refusal::RunFull);
         }
         seats.reserve(actor as usize)?;
@@ -84,16 +84,16 @@ impl Book {
     fn run_attach(
         &mut self,
         alloc: Global,
-        seats: &mut Seats,
+        seats: &mut Seats<L>,
         process: u32,
     ) -> Result<Receipt, Refusal>
         ensures runs { AttachRuns self.old self.new seats.old.0 seats.new.0 process result }
         ensures limits { self.new.limits ≡ self.old.limits }
     {
-        if self.attach_overfills(process) {
+        if self.journal.attach_overfills(process) {
             return Err(Refusal::RunFull);
         }
-        if self.machine.awaits(process as usize) {
+        if self.journal.awaits(process) {
             seats.reserve(process as usize)?;
         }
         let (opened, receipt) = self.record_attach(alloc, process)?;
@@ -104,7 +104,7 @@ impl Book {
     }
 
     /// Runs an exit of a script; its seat is no longer among the others.
-    fn run_exit(&mut self, seats: &mut Seats, process: u32) -> Result<Receipt, Refusal>
+    fn run_exit(&mut self, seats: &mut Seats<L>, process: u32) -> Result<Receipt, Refusal>
         ensures runs { ExitRuns self.old self.new seats.old.0 seats.new.0 process result (slot seats.old.0 process) }
         ensures limits { self.new.limits ≡ self.old.limits }
     {
@@ -112,15 +112,18 @@ impl Book {
         if number >= seats.slots.len() {
             return Err(Refusal::NotHere);
         }
-        let pid = match &seats.slots[number] {
-            Some(seat) => match self.exit_refusal(seat) {
-                Some(refusal) => return Err(refusal),
-                None => seat.pid(),
-            },
+        match &seats.slots[number] {
+            Some(seat) => {
+                if let Some(refusal) = self.journal.exit_refusal(seat) {
+                    return Err(refusal);
+                }
+            }
             None => return Err(Refusal::NotHere),
-        };
-        seats.slots[number] = None;
-        Ok(self.record_exit(pid))
+        }
+        match seats.slots[number].take() {
+            Some(mut seat) => Ok(self.record_exit(&mut seat)),
+            None => unreachable!(),
+        }
     }
 
     /// Runs a closing of a script.
@@ -130,7 +133,10 @@ impl Book {
         ensures limits { self.new.limits ≡ self.old.limits }
     {
         match self.close_run() {
-            Some(house) => Told::Closed(house),
+            Some(house) => {
+                let (receipts, _shares) = house.into_parts();
+                Told::Closed(receipts)
+            }
             None => Told::Still { actor: HOUSE, act },
         }
     }
@@ -139,7 +145,7 @@ impl Book {
     fn run_call(
         &mut self,
         alloc: Global,
-        seats: &mut Seats,
+        seats: &mut Seats<L>,
         process: u32,
         call: &Call,
     ) -> Result<Receipt, Refusal>
@@ -160,7 +166,7 @@ impl Book {
     fn run_resume(
         &mut self,
         alloc: Global,
-        seats: &mut Seats,
+        seats: &mut Seats<L>,
         process: u32,
     ) -> Result<Resumed, Refusal>
         ensures runs { ResumeGoes self.old self.new seats.old.0 seats.new.0 process result (slot seats.old.0 process) }
@@ -178,7 +184,12 @@ impl Book {
 
     /// Runs the next act of a script, and tells of it; the seats are those that the script opened. What was told of the acts
     /// before and this are what is told of all of them.
-    pub fn run_act<'a>(&mut self, alloc: Global, seats: &mut Seats, act: &'a ScriptAct) -> Told<'a>
+    pub fn run_act<'a>(
+        &mut self,
+        alloc: Global,
+        seats: &mut Seats<L>,
+        act: &'a ScriptAct,
+    ) -> Told<'a>
         ensures tells { Tells self.old self.new seats.old.0 seats.new.0 act.now (result ∷ []) }
         ensures goes_on { GoesOn self.old self.new seats.old.0 seats.new.0 act.now result }
         ensures limits { self.new.limits ≡ self.old.limits }

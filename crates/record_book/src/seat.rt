@@ -1,7 +1,9 @@
-ghost use Rattle.std.specs.Prelude.{◌≡◌, ◌+◌, ◌<◌, ◌++◌, ◌∷◌, [], ◌^◌, max, IfOk, OnOk, OnErr};
+ghost use Rattle.std.specs.Prelude.{◌≡◌, ◌+◌, ◌<◌, ◌++◌, ◌∷◌, [], ◌^◌, max, IfOk};
 ghost use Rattle.std.specs.Arc.{arc_value};
 ghost use Rattle.record_book.specs.Seat.{Receipted, SeatState};
 
+use byte_ledger::ledgers::Ledgers;
+use byte_ledger::tallies::Shares;
 use call_types::act::Record;
 use std::alloc::{AllocError, Global};
 use std::marker::Model;
@@ -56,38 +58,44 @@ impl Receipt {
     }
 }
 
-/// What a process holds of a book: its number, how many records it has seen, and the receipts of its own acts.
-#[derive(Drop)]
-pub struct Seat {
-    pid: u32,
-    seen: u64,
-    receipts: Vec<Receipt>,
+/// What holds what a seat holds. Contracts of kernels see by it what a seat of theirs is.
+pub trait AsSeat {
+    ghost use Rattle.record_book.specs.Seat.{SeatState};
+
+    ghost as_seat: { Self → SeatState };
 }
 
-impl Model for Seat {
+impl<L: Ledgers> AsSeat for Seat<L> {
+    ghost as_seat = { λ s. s };
+}
+
+impl<L: Ledgers> AsSeat for SpentSeat<L> {
+    ghost as_seat = { λ s. s };
+}
+
+/// What a process holds of a book: its number, how many records it has seen, the receipts of its own acts, and shares that count
+/// them, and the bytes that they took and gave. Its type names the ledgers of its book.
+#[derive(Drop)]
+pub struct Seat<L: Ledgers> {
+    pub(crate) pid: u32,
+    pub(crate) seen: u64,
+    pub(crate) receipts: Vec<Receipt>,
+    pub(crate) shares: Shares<L>,
+}
+
+impl<L: Ledgers> Model for Seat<L> {
     ghost use Rattle.record_book.specs.Seat.{SeatState};
 
     ghost Value = { SeatState };
 
-    ghost view = { λ s. record { pid = s.pid; seen = s.seen; receipts = s.receipts.items } };
+    ghost view = { λ s. record { pid = s.pid; seen = s.seen; receipts = s.receipts.items; counted = s.shares } };
 
     ghost use Rattle.std.specs.Prelude.{◌<◌, vec_len, vec_capacity};
 
     ghost invariant = { λ s. vec_len s.receipts < vec_capacity s.receipts };
 }
 
-impl Seat {
-    /// A seat without receipts, with room for the last one.
-    pub(crate) fn new(alloc: Global, pid: u32) -> Result<Self, AllocError>
-        ensures { IfOk result (λ seat. seat ≡ record { pid = pid; seen = 0; receipts = [] }) }
-    {
-        Ok(Seat {
-            pid,
-            seen: 0,
-            receipts: Vec::with_capacity(alloc, 2)?,
-        })
-    }
-
+impl<L: Ledgers> Seat<L> {
     /// The number of the seat's process.
     pub fn pid(&self) -> u32
         ensures { result ≡ self.now.pid }
@@ -116,23 +124,10 @@ impl Seat {
         self.seen = self.seen.max(seen);
     }
 
-    /// Adds a receipt, with room for the last one kept behind it, or leaves the seat as it is.
-    #[inline(always)]
-    pub(crate) fn receive(&mut self, receipt: Receipt) -> Result<(), AllocError>
+    /// Adds the last receipt, for which there is always room. Its record is counted already.
+    pub(crate) fn spend(self, receipt: Receipt) -> SpentSeat<L>
         requires { receipt.place + 1 < 2 ^ 64 }
-        ensures ok { OnOk result (self.new ≡ record { pid = self.old.pid; seen = receipt.place + 1; receipts = self.old.receipts ++ receipt ∷ [] }) }
-        ensures err { OnErr result (self.new ≡ self.old) }
-    {
-        self.receipts.reserve(2)?;
-        self.seen = receipt.place() + 1;
-        self.receipts.push_reserved(receipt);
-        Ok(())
-    }
-
-    /// Adds the last receipt, for which there is always room.
-    pub(crate) fn spend(self, receipt: Receipt) -> SpentSeat
-        requires { receipt.place + 1 < 2 ^ 64 }
-        ensures { result ≡ record { pid = self.pid; seen = receipt.place + 1; receipts = self.receipts ++ receipt ∷ [] } }
+        ensures { result ≡ record { pid = self.pid; seen = receipt.place + 1; receipts = self.receipts ++ receipt ∷ []; counted = self.counted } }
     {
         let mut receipts = self.receipts;
         let seen = receipt.place() + 1;
@@ -141,45 +136,38 @@ impl Seat {
             pid: self.pid,
             seen,
             receipts,
+            shares: self.shares,
         }
     }
 }
 
 /// A seat that gets no more receipts: its process has ended, or its join or attach was refused. Contracts see the same as of a seat.
 #[derive(Drop)]
-pub struct SpentSeat {
-    pid: u32,
-    seen: u64,
-    receipts: Vec<Receipt>,
+pub struct SpentSeat<L: Ledgers> {
+    pub(crate) pid: u32,
+    pub(crate) seen: u64,
+    pub(crate) receipts: Vec<Receipt>,
+    pub(crate) shares: Shares<L>,
 }
 
-impl Model for SpentSeat {
+impl<L: Ledgers> Model for SpentSeat<L> {
     ghost use Rattle.record_book.specs.Seat.{SeatState};
 
     ghost Value = { SeatState };
 
-    ghost view = { λ s. record { pid = s.pid; seen = s.seen; receipts = s.receipts.items } };
+    ghost view = { λ s. record { pid = s.pid; seen = s.seen; receipts = s.receipts.items; counted = s.shares } };
 }
 
-impl SpentSeat {
-    pub(crate) fn new(pid: u32, seen: u64, receipts: Vec<Receipt>) -> Self
-        ensures { result ≡ record { pid = pid; seen = seen; receipts = receipts.items } }
-    {
-        SpentSeat {
-            pid,
-            seen,
-            receipts,
-        }
-    }
-
+impl<L: Ledgers> SpentSeat<L> {
     /// The same seat, which gets no more receipts.
-    pub fn of(seat: Seat) -> Self
+    pub fn of(seat: Seat<L>) -> Self
         ensures { result ≡ seat }
     {
         SpentSeat {
             pid: seat.pid,
             seen: seat.seen,
             receipts: seat.receipts,
+            shares: seat.shares,
         }
     }
 
@@ -202,5 +190,13 @@ impl SpentSeat {
         ensures { result.now ≡ self.now.receipts }
     {
         self.receipts.as_slice()
+    }
+
+    /// Its receipts, and what they count.
+    pub fn into_parts(self) -> (Vec<Receipt>, Shares<L>)
+        ensures receipts { result.0.items ≡ self.receipts }
+        ensures counted { result.1 ≡ self.counted }
+    {
+        (self.receipts, self.shares)
     }
 }

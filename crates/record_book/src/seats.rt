@@ -5,11 +5,12 @@ ghost use Rattle.record_book.specs.Seat.{SeatState};
 ghost use Rattle.record_book.specs.Runs.{with_seat};
 
 use crate::seat::Seat;
+use byte_ledger::ledgers::Ledgers;
 use std::alloc::{AllocError, Global};
 use std::marker::Model;
 
 /// Free slots up to a length, for which there is room.
-fn pad(slots: &mut Vec<Option<Seat>>, len: usize)
+fn pad<L: Ledgers>(slots: &mut Vec<Option<Seat<L>>>, len: usize)
     requires longer { vec_len slots.old ≤ len }
     requires room { len ≤ vec_capacity slots.old }
     ensures slots { slots.new.items ≡ slots.old.items ++ replicate (len - vec_len slots.old) None }
@@ -23,11 +24,11 @@ fn pad(slots: &mut Vec<Option<Seat>>, len: usize)
 /// The seats that a script opened: that of a process stands at the process's number. Contracts see the slots, and for how
 /// many there is room.
 #[derive(Drop)]
-pub struct Seats {
-    pub(crate) slots: Vec<Option<Seat>>,
+pub struct Seats<L: Ledgers> {
+    pub(crate) slots: Vec<Option<Seat<L>>>,
 }
 
-impl Model for Seats {
+impl<L: Ledgers> Model for Seats<L> {
     ghost use Rattle.std.specs.Prelude.{List, Option, ℕ, vec_capacity};
     ghost use Rattle.record_book.specs.Seat.{SeatState};
 
@@ -36,7 +37,7 @@ impl Model for Seats {
     ghost view = { λ s. (s.slots.items, vec_capacity s.slots) };
 }
 
-impl Seats {
+impl<L: Ledgers> Seats<L> {
     /// No seat.
     pub fn new(alloc: Global) -> Self
         ensures { result.0 ≡ [] }
@@ -47,7 +48,7 @@ impl Seats {
     }
 
     /// The seat of a process, if the script opened it and it did not exit.
-    pub fn seat(&self, process: u32) -> Option<&Seat>
+    pub fn seat(&self, process: u32) -> Option<&Seat<L>>
         ensures { option_copied result ≡ slot self.now.0 process }
     {
         self.slots.get(process as usize)?.as_ref()
@@ -66,7 +67,7 @@ impl Seats {
     }
 
     /// Puts the seat of a process, for which there is room.
-    pub(crate) fn put(&mut self, process: usize, seat: Seat)
+    pub(crate) fn put(&mut self, process: usize, seat: Seat<L>)
         requires { process < self.old.1 }
         ensures { self.new.0 ≡ with_seat process seat self.old.0 }
     {

@@ -1,12 +1,15 @@
 //! The sessions of a run, each in a thread of its own.
 
 ghost use Rattle.std.specs.Prelude.{◌≡◌, ◌≤◌, ◌+◌, All, None, vec_len, vec_capacity, IfOk};
-ghost use Rattle.system_lock.specs.System.{IsClosedRun};
 ghost use Rattle.session_core.specs.Served.{Serves};
-ghost use Rattle.run_core.specs.Run.{IsServed};
+ghost use Rattle.std.specs.Option.{option_map};
+ghost use Rattle.run_core.specs.Run.{IsClosedRun, IsServed, IsServedBy};
 
-use crate::report::{Report, RunFault, Shortage};
+use crate::closing::{close_run, unshared};
+use crate::report::{Report, RunFault, Session, Shortage};
 use crate::source::Source;
+use byte_ledger::ledgers::{Blanks, Ledgers};
+use byte_ledger::tallies::Shares;
 use call_types::limits::Limits;
 use session_core::serve::{Served, serve};
 use std::alloc::{AllocError, Global};
@@ -24,7 +27,7 @@ pub(crate) struct Serving<R: Read, W: Write> {
     writer: Snapshot<W>,
 }
 
-impl<R: Read, W: Write> Promise<Served<R, W>> for Serving<R, W> {
+impl<R: Read, W: Write, L: Ledgers> Promise<Served<R, W, L>> for Serving<R, W> {
     ghost use Rattle.session_core.specs.Served.{Serves};
 
     ghost kept_by = { λ p served. Serves (R.remaining p.reader.value) (W.contents p.writer.value) (record { left = R.remaining served.reader; reads = served.reads; held = W.contents served.writer; writes = served.writes; seat = served.seat; answers = served.answers.items; end_is = served.end }) };
@@ -44,16 +47,16 @@ impl<R: Read, W: Write> Serving<R, W> {
 }
 
 /// A session that goes on in its thread.
-type Running<R, W> = PromisedHandle<Served<R, W>, Serving<R, W>>;
+type Running<R, W, L> = PromisedHandle<Served<R, W, L>, Serving<R, W>>;
 
 /// Serves a connection, and ends it.
-fn serve_connection<Rt: Wait, S: Source>(
+fn serve_connection<Rt: Wait, S: Source, L: Ledgers>(
     rt: &Rt,
     alloc: Global,
-    lock: &SystemLock,
+    lock: &SystemLock<L>,
     reader: S::Reader,
     writer: S::Writer,
-) -> Served<S::Reader, S::Writer>
+) -> Served<S::Reader, S::Writer, L>
     ensures { Serves (S.Reader.Read.remaining reader) (S.Writer.Write.contents writer) (record { left = S.Reader.Read.remaining result.reader; reads = result.reads; held = S.Writer.Write.contents result.writer; writes = result.writes; seat = result.seat; answers = result.answers.items; end_is = result.end }) }
 {
     let served = serve(rt, alloc, reader, writer, lock);
@@ -62,15 +65,19 @@ fn serve_connection<Rt: Wait, S: Source>(
 }
 
 /// Serves a connection in a thread of its own, if one can be started.
-fn start<Rt: Threads + Wait + Copy + Send + 'static, S: Source + Send + 'static>(
+fn start<
+    Rt: Threads + Wait + Copy + Send + 'static,
+    S: Source + Send + 'static,
+    L: Ledgers + Send + Sync + 'static,
+>(
     rt: Rt,
     alloc: Global,
-    lock: Arc<SystemLock>,
+    lock: Arc<SystemLock<L>>,
     reader: S::Reader,
     writer: S::Writer,
-) -> Option<Running<S::Reader, S::Writer>> {
+) -> Option<Running<S::Reader, S::Writer, L>> {
     let promise = Serving::of(&reader, &writer);
-    let session = move || serve_connection::<Rt, S>(&rt, alloc, &*lock, reader, writer);
+    let session = move || serve_connection::<Rt, S, L>(&rt, alloc, &*lock, reader, writer);
     match thread::spawn_with(&rt, promise, session) {
         Ok(running) => Some(running),
         Err(_) => None,
@@ -78,38 +85,46 @@ fn start<Rt: Threads + Wait + Copy + Send + 'static, S: Source + Send + 'static>
 }
 
 /// Accepts a connection, and serves it in a thread of its own.
-fn next_session<Rt: Threads + Wait + Copy + Send + 'static, S: Source + Send + 'static>(
+fn next_session<
+    Rt: Threads + Wait + Copy + Send + 'static,
+    S: Source + Send + 'static,
+    L: Ledgers + Send + Sync + 'static,
+>(
     rt: Rt,
     alloc: Global,
-    lock: &Arc<SystemLock>,
+    lock: &Arc<SystemLock<L>>,
     source: &mut S,
-) -> Result<Running<S::Reader, S::Writer>, Shortage> {
+) -> Result<Running<S::Reader, S::Writer, L>, Shortage> {
     let (reader, writer) = match source.accept() {
         Ok(connection) => connection,
         Err(_) => return Err(Shortage::NoConnection),
     };
     match Arc::try_clone(lock) {
-        Ok(lock) => start::<Rt, S>(rt, alloc, lock, reader, writer).ok_or(Shortage::NoThread),
+        Ok(lock) => start::<Rt, S, L>(rt, alloc, lock, reader, writer).ok_or(Shortage::NoThread),
         Err(_) => Err(Shortage::NoThread),
     }
 }
 
 /// The sessions that were started, and why there are no more, if there are fewer than there were to be.
 #[derive(Drop)]
-struct Started<R: Read, W: Write> {
-    running: Vec<Running<R, W>>,
+struct Started<R: Read, W: Write, L: Ledgers> {
+    running: Vec<Running<R, W, L>>,
     shortage: Option<Shortage>,
 }
 
 /// Accepts so many connections, for which there is room, and serves each in a thread of its own.
-fn start_all<Rt: Threads + Wait + Copy + Send + 'static, S: Source + Send + 'static>(
+fn start_all<
+    Rt: Threads + Wait + Copy + Send + 'static,
+    S: Source + Send + 'static,
+    L: Ledgers + Send + Sync + 'static,
+>(
     rt: Rt,
     alloc: Global,
-    lock: &Arc<SystemLock>,
+    lock: &Arc<SystemLock<L>>,
     source: &mut S,
     sessions: usize,
-    room: Vec<Running<S::Reader, S::Writer>>,
-) -> Started<S::Reader, S::Writer>
+    room: Vec<Running<S::Reader, S::Writer, L>>,
+) -> Started<S::Reader, S::Writer, L>
     requires room { sessions ≤ vec_capacity room }
     requires empty { vec_len room ≡ 0 }
     ensures few { vec_len result.running ≤ sessions }
@@ -132,54 +147,120 @@ fn start_all<Rt: Threads + Wait + Copy + Send + 'static, S: Source + Send + 'sta
     }
 }
 
-/// Waits until all sessions have ended. There is room for them.
-fn join_all<Rt: Threads, R: Read + Drop, W: Write + Drop>(
-    rt: &Rt,
-    running: Vec<Running<R, W>>,
-    room: Vec<Served<R, W>>,
-) -> Vec<Served<R, W>>
-    requires room { vec_len room + vec_len running ≤ vec_capacity room }
-    requires empty { vec_len room ≡ 0 }
-    ensures served { All (λ s. IsServed (record { left = R.remaining s.reader; reads = s.reads; held = W.contents s.writer; writes = s.writes; seat = s.seat; answers = s.answers.items; end_is = s.end })) result.items }
-    ensures all { vec_len result ≡ vec_len running }
+/// The sessions of a run that is over, and the shares of their seats.
+#[derive(Drop)]
+struct Parted<R, W, L: Ledgers> {
+    sessions: Vec<Session<R, W>>,
+    shares: Vec<Shares<L>>,
+}
+
+/// A session without its seat, and the shares of the seat.
+fn part<R: Read + Drop, W: Write + Drop, L: Ledgers>(
+    served: Served<R, W, L>,
+) -> (Session<R, W>, Option<Shares<L>>)
+    requires { IsServed (record { left = R.remaining served.reader; reads = served.reads; held = W.contents served.writer; writes = served.writes; seat = served.seat; answers = served.answers.items; end_is = served.end }) }
+    ensures { IsServedBy (λ seat. record { left = R.remaining result.0.reader; reads = result.0.reads; held = W.contents result.0.writer; writes = result.0.writes; seat = seat; answers = result.0.answers.items; end_is = result.0.end }) (option_map (λ r. r.items) result.0.receipts) }
 {
-    let mut ends = room;
-    for session in running {
-        ends.push_reserved(session.join(rt));
+    let Served {
+        seat,
+        answers,
+        end,
+        reader,
+        reads,
+        writer,
+        writes,
+    } = served;
+    let (receipts, shares) = match seat {
+        Some(seat) => {
+            let (receipts, shares) = seat.into_parts();
+            (Some(receipts), Some(shares))
+        }
+        None => (None, None),
+    };
+    let session = Session {
+        receipts,
+        answers,
+        end,
+        reader,
+        reads,
+        writer,
+        writes,
+    };
+    (session, shares)
+}
+
+/// Waits until all sessions have ended, and parts each from its seat. There is room for them.
+fn join_all<Rt: Threads, R: Read + Drop, W: Write + Drop, L: Ledgers>(
+    rt: &Rt,
+    running: Vec<Running<R, W, L>>,
+    room: Parted<R, W, L>,
+) -> Parted<R, W, L>
+    requires sessions { vec_len room.sessions + vec_len running ≤ vec_capacity room.sessions }
+    requires shares { vec_len room.shares + vec_len running ≤ vec_capacity room.shares }
+    requires empty { vec_len room.sessions ≡ 0 }
+    ensures served { All (λ s. IsServedBy (λ seat. record { left = R.remaining s.reader; reads = s.reads; held = W.contents s.writer; writes = s.writes; seat = seat; answers = s.answers.items; end_is = s.end }) (option_map (λ r. r.items) s.receipts)) result.sessions.items }
+    ensures all { vec_len result.sessions ≡ vec_len running }
+{
+    let Parted {
+        mut sessions,
+        mut shares,
+    } = room;
+    for thread in running {
+        let (session, counted) = part(thread.join(rt));
+        sessions.push_reserved(session);
+        if let Some(counted) = counted {
+            shares.push_reserved(counted);
+        }
     }
-    ends
+    Parted { sessions, shares }
 }
 
 /// The kernel of a run that has no records yet, to be shared.
-fn shared_lock(alloc: Global, limits: Limits) -> Result<Arc<SystemLock>, AllocError> {
-    Ok(Arc::new(alloc, SystemLock::new(alloc, limits)?)?)
+fn shared_lock<L: Ledgers>(
+    alloc: Global,
+    limits: Limits,
+    blanks: Blanks,
+) -> Result<Arc<SystemLock<L>>, AllocError>
+    requires { blanks ≡ L.names }
+{
+    Ok(Arc::new(alloc, SystemLock::new(alloc, limits, blanks)?)?)
 }
 
-/// Runs so many sessions, each in a thread of its own, and closes the run when all have ended. Where accepting fails, or a thread
-/// cannot be started, those that were started are served to their end.
-pub fn run_sessions<Rt: Threads + Wait + Copy + Send + 'static, S: Source + Send + 'static>(
+/// Runs so many sessions, each in a thread of its own, closes the run when all have ended, and gathers what their seats counted. Where
+/// accepting fails, or a thread cannot be started, those that were started are served to their end.
+pub fn run_sessions<
+    Rt: Threads + Wait + Copy + Send + 'static,
+    S: Source + Send + 'static,
+    L: Ledgers + Send + Sync + 'static,
+>(
     rt: Rt,
     alloc: Global,
     source: &mut S,
     sessions: usize,
     limits: Limits,
+    blanks: Blanks,
 ) -> Result<Report<S::Reader, S::Writer>, RunFault>
+    requires { blanks ≡ L.names }
     ensures run { IfOk result (λ report. IsClosedRun report.records report.bytes_in report.bytes_out) }
     ensures few { IfOk result (λ report. vec_len report.ends ≤ sessions) }
     ensures all { IfOk result (λ report. report.shortage ≡ None → vec_len report.ends ≡ sessions) }
-    ensures served { IfOk result (λ report. All (λ s. IsServed (record { left = S.Reader.Read.remaining s.reader; reads = s.reads; held = S.Writer.Write.contents s.writer; writes = s.writes; seat = s.seat; answers = s.answers.items; end_is = s.end })) report.ends.items) }
+    ensures served { IfOk result (λ report. All (λ s. IsServedBy (λ seat. record { left = S.Reader.Read.remaining s.reader; reads = s.reads; held = S.Writer.Write.contents s.writer; writes = s.writes; seat = seat; answers = s.answers.items; end_is = s.end }) (option_map (λ r. r.items) s.receipts)) report.ends.items) }
 {
-    let lock = shared_lock(alloc, limits)?;
+    let lock: Arc<SystemLock<L>> = shared_lock(alloc, limits, blanks)?;
     let room = Vec::with_capacity(alloc, sessions)?;
-    let room_for_ends = Vec::with_capacity(alloc, sessions)?;
+    let room_for_ends = Parted {
+        sessions: Vec::with_capacity(alloc, sessions)?,
+        shares: Vec::with_capacity(alloc, sessions)?,
+    };
     let started = start_all(rt, alloc, &lock, source, sessions, room);
-    let ends = join_all(&rt, started.running, room_for_ends);
-    let counts = lock.close_run(&rt);
+    let parted = join_all(&rt, started.running, room_for_ends);
+    let book = unshared(&rt, lock).take().into_book();
+    let sums = close_run(alloc, book, parted.shares)?;
     Ok(Report {
-        records: counts.records,
-        bytes_in: counts.bytes_in,
-        bytes_out: counts.bytes_out,
-        ends,
+        records: sums.records,
+        bytes_in: sums.bytes_in,
+        bytes_out: sums.bytes_out,
+        ends: parted.sessions,
         shortage: started.shortage,
     })
 }

@@ -10,8 +10,7 @@ use Rattle.frame_codec.specs.Laws.{CutsDoNotMatter}
 use Rattle.frame_codec.specs.declared.decoder.Progress.{Progress}
 use Rattle.frame_codec.specs.declared.decoder.Progress.TheVariants as progress
 use Rattle.session_core.specs.declared.told.Told.{Told}
-use Rattle.session_core.specs.declared.stage.Stage.{Stage}
-use Rattle.session_core.specs.declared.stage.Over.{Over}
+use Rattle.session_core.specs.Stages.{Stage, Over}
 use Rattle.session_core.specs.declared.stage.Turn.TheVariants as turn
 use Rattle.session_core.specs.Output.{OutputState, SendsAll, FailsToSend}
 use Rattle.session_core.specs.Talk.{Converses}

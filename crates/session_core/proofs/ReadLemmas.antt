@@ -8,12 +8,10 @@ use Rattle.frame_codec.specs.Decoding.{DecoderState, fresh}
 use Rattle.frame_codec.specs.Laws.{CutsDoNotMatter}
 use Rattle.frame_codec.specs.Requests.{SpellsRequest}
 use Rattle.frame_codec.specs.declared.decoder.Progress.TheVariants as progress
-use Rattle.session_core.specs.declared.stage.Stage.{Stage}
+use Rattle.session_core.specs.Stages.{Stage, Over, Turn}
 use Rattle.session_core.specs.declared.stage.Stage.TheVariants as stage
 use Rattle.session_core.specs.declared.stage.Why.TheVariants as why
-use Rattle.session_core.specs.declared.stage.Over.{Over}
 use Rattle.session_core.specs.declared.stage.Over.TheVariants as over
-use Rattle.session_core.specs.declared.stage.Turn.{Turn}
 use Rattle.session_core.specs.declared.stage.Turn.TheVariants as turn
 use Rattle.session_core.specs.declared.stream.TheConstants.{INTERRUPTIONS_MAX, READS_MAX}
 use Rattle.session_core.specs.Output.{OutputState, fresh_output}

@@ -2,9 +2,8 @@
 use Rattle.std.proofs.Common.{◌≡◌, ℕ, ◌≤◌, List, [], Option, None, arith, refl, sym, ap, subst}
 use Rattle.std.specs.Io.KnownBytes.{Appends, Consumes}
 use Rattle.std.proofs.KnownBytes.{Appends-nil, Consumes-nil}
-use Rattle.session_core.specs.declared.closing.Left.{Left}
 use Rattle.session_core.specs.declared.end.End.TheVariants as end
-use Rattle.session_core.specs.declared.stage.Over.{Over}
+use Rattle.session_core.specs.Stages.{Over, Left}
 use Rattle.session_core.specs.declared.stream.TheConstants.{INTERRUPTIONS_MAX, READS_MAX}
 use Rattle.session_core.specs.declared.told.Told.{Told}
 use Rattle.session_core.specs.Answers.{answers_text, receipts_of}

@@ -3,6 +3,7 @@ pub mod Streams
 pub mod Output
 pub mod Talk
 pub mod Served
+pub mod Stages
 pub mod Turns
 pub mod Pieces
 pub mod Reading

@@ -3,11 +3,9 @@ use Rattle.std.specs.Prelude.{◌≡◌, ℕ, ◌<◌, List, ◌++◌, Option}
 use Rattle.std.specs.Io.KnownBytes.{Consumes, IsAtEnd}
 use Rattle.frame_codec.specs.Decoding.{DecoderState}
 use Rattle.session_core.specs.declared.stream.TheConstants.{INTERRUPTIONS_MAX}
-use Rattle.session_core.specs.declared.stage.Stage.{Stage}
+use Rattle.session_core.specs.Stages.{Stage, Over, Turn}
 use Rattle.session_core.specs.declared.stage.Why.TheVariants as why
-use Rattle.session_core.specs.declared.stage.Over.{Over}
 use Rattle.session_core.specs.declared.stage.Over.TheVariants as over
-use Rattle.session_core.specs.declared.stage.Turn.{Turn}
 use Rattle.session_core.specs.declared.stage.Turn.TheVariants as turn
 use Rattle.session_core.specs.Output.{OutputState, fresh_output}
 use Rattle.session_core.specs.Pieces.{IsServing, IsOver}

@@ -6,8 +6,7 @@ use Rattle.call_types.specs.declared.refusal.Refusal.TheVariants as refusal
 use Rattle.call_types.specs.declared.request.Request.{Request}
 use Rattle.call_types.specs.declared.request.Request.TheVariants as request
 use Rattle.record_book.specs.Seat.{Receipted, SeatState}
-use Rattle.system_lock.specs.Kernel.{EndsBy, IsError}
-use Rattle.system_lock.specs.declared.kernel.Ended.{Ended}
+use Rattle.system_lock.specs.Kernel.{Ended, EndsBy, IsError}
 use Rattle.system_lock.specs.declared.kernel.Why.{Why as EndedWhy}
 use Rattle.system_lock.specs.declared.kernel.Why.TheVariants as ended_why
 use Rattle.session_core.specs.declared.told.Told.{Told}
@@ -16,15 +15,12 @@ use Rattle.session_core.specs.Answers.{receipts_of}
 use Rattle.session_core.specs.Output.{OutputState, Holds, Broke, Puts}
 use Rattle.session_core.specs.Talk.{IsCut, IsUnopened, Converses, Talked, Waits}
 use Rattle.session_core.specs.Served.{HasExited, IsRefusedOpening}
-use Rattle.session_core.specs.declared.stage.Stage.{Stage}
+use Rattle.session_core.specs.Stages.{Stage, Over, Turn, Waited}
 use Rattle.session_core.specs.declared.stage.Stage.TheVariants as stage
 use Rattle.session_core.specs.declared.stage.Why.{Why}
 use Rattle.session_core.specs.declared.stage.Why.TheVariants as why
-use Rattle.session_core.specs.declared.stage.Over.{Over}
 use Rattle.session_core.specs.declared.stage.Over.TheVariants as over
-use Rattle.session_core.specs.declared.stage.Turn.{Turn}
 use Rattle.session_core.specs.declared.stage.Turn.TheVariants as turn
-use Rattle.session_core.specs.declared.stage.Waited.{Waited}
 use Rattle.session_core.specs.declared.stage.Waited.TheVariants as waited
 
 -- these requests are answered to their end, and the seat has the receipts of the answers

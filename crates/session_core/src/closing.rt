@@ -6,16 +6,17 @@ ghost use Rattle.session_core.specs.declared.stage.Over.TheVariants as over;
 
 use crate::end::End;
 use crate::output::Output;
-use crate::stage::{Over, Stage, Why};
+use crate::stage::{Over, OverOf, Stage, StageOf, Why};
+use byte_ledger::ledgers::Ledgers;
 use record_book::seat::{Receipt, Seat, SpentSeat};
 use std::io::Write;
 use std::sync::Wait;
 use system_lock::kernel::{Kernel, Why as EndedWhy};
 
-/// A session that is left: its seat, its end, and the receipt of a last answer that is not written, if there is one.
+/// A session that is left: its spent seat, of the kind `P`, its end, and the receipt of a last answer that is not written, if there is one.
 #[derive(Drop)]
-pub(crate) struct Left {
-    pub(crate) seat: Option<SpentSeat>,
+pub(crate) struct Left<P> {
+    pub(crate) seat: Option<P>,
     pub(crate) end: End,
     pub(crate) last: Option<Receipt>,
 }
@@ -46,7 +47,12 @@ fn send_last<W: Write>(output: &mut Output<W>, why: Why) -> End
 }
 
 /// Hangs up a process, and tells the end of its session.
-fn hang_up<Rt: Wait, K: Kernel>(rt: &Rt, kernel: &K, seat: Seat, end: End) -> (SpentSeat, End)
+fn hang_up<Rt: Wait, L: Ledgers, K: Kernel<Seat<L>, SpentSeat<L>>>(
+    rt: &Rt,
+    kernel: &K,
+    seat: Seat<L>,
+    end: End,
+) -> (SpentSeat<L>, End)
     ensures { HangsUp seat end result.0 result.1 }
 {
     let ended = kernel.hang_up(rt, seat);
@@ -57,7 +63,12 @@ fn hang_up<Rt: Wait, K: Kernel>(rt: &Rt, kernel: &K, seat: Seat, end: End) -> (S
 }
 
 /// Hangs up the process of a session, if there is one.
-fn leave<Rt: Wait, K: Kernel>(rt: &Rt, kernel: &K, stage: Stage, end: End) -> Left
+fn leave<Rt: Wait, L: Ledgers, K: Kernel<Seat<L>, SpentSeat<L>>>(
+    rt: &Rt,
+    kernel: &K,
+    stage: StageOf<L>,
+    end: End,
+) -> Left<SpentSeat<L>>
     ensures seat { LeavesWith stage end result.seat result.end }
     ensures last { result.last ≡ None }
 {
@@ -72,7 +83,7 @@ fn leave<Rt: Wait, K: Kernel>(rt: &Rt, kernel: &K, stage: Stage, end: End) -> Le
 }
 
 /// A session with this seat and end.
-fn left_by(ended: (SpentSeat, End), last: Option<Receipt>) -> Left
+fn left_by<P: Drop>(ended: (P, End), last: Option<Receipt>) -> Left<P>
     ensures { result ≡ record { seat = Some ended.0; end = ended.1; last = last } }
 {
     let (seat, end) = ended;
@@ -85,13 +96,13 @@ fn left_by(ended: (SpentSeat, End), last: Option<Receipt>) -> Left
 
 /// Writes the last answers and hangs up a process for whose last answer memory ran out. Where the writer fails, that answer is
 /// told among those that are not written.
-fn leave_untold<Rt: Wait, W: Write, K: Kernel>(
+fn leave_untold<Rt: Wait, W: Write, L: Ledgers, K: Kernel<Seat<L>, SpentSeat<L>>>(
     rt: &Rt,
     output: &mut Output<W>,
     kernel: &K,
-    seat: Seat,
+    seat: Seat<L>,
     receipt: Receipt,
-) -> Left
+) -> Left<SpentSeat<L>>
     ensures all { LeavesAll output.old output.new (over.Untold seat receipt) result }
     ensures seat { HangsUpSeat seat result }
 {
@@ -107,12 +118,12 @@ fn leave_untold<Rt: Wait, W: Write, K: Kernel>(
 }
 
 /// Leaves a session that is over.
-pub(crate) fn leave_all<Rt: Wait, W: Write, K: Kernel>(
+pub(crate) fn leave_all<Rt: Wait, W: Write, L: Ledgers, K: Kernel<Seat<L>, SpentSeat<L>>>(
     rt: &Rt,
     output: &mut Output<W>,
     kernel: &K,
-    over: Over,
-) -> Left
+    over: OverOf<L>,
+) -> Left<SpentSeat<L>>
     ensures all { LeavesAll output.old output.new over result }
     ensures seat { KeepsSeat over result }
 {

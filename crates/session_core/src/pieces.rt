@@ -3,24 +3,26 @@
 ghost use Rattle.session_core.specs.Pieces.{TakesPiece};
 
 use crate::output::Output;
-use crate::stage::{Over, Stage, Turn, Why};
+use crate::stage::{Over, StageOf, Turn, TurnOf, Why};
 use crate::turns::take_all;
+use byte_ledger::ledgers::Ledgers;
 use frame_codec::decoder::{Decoder, Progress};
 use frame_codec::kind::Requests;
 use frame_codec::laws::cuts_do_not_matter;
+use record_book::seat::{Seat, SpentSeat};
 use std::io::Write;
 use std::sync::Wait;
 use system_lock::kernel::Kernel;
 
 /// Takes up the requests that a piece completes, and writes all answers.
-pub(crate) fn take_piece<Rt: Wait, W: Write, K: Kernel>(
+pub(crate) fn take_piece<Rt: Wait, W: Write, L: Ledgers, K: Kernel<Seat<L>, SpentSeat<L>>>(
     rt: &Rt,
     output: &mut Output<W>,
     kernel: &K,
     decoder: &mut Decoder<Requests>,
-    stage: Stage,
+    stage: StageOf<L>,
     piece: &[u8],
-) -> Turn
+) -> TurnOf<L>
     ensures { TakesPiece piece.now decoder.old decoder.new stage output.old output.new result }
 {
     cuts_do_not_matter();

@@ -9,11 +9,13 @@ ghost use Rattle.session_core.specs.Streams.{fresh_log};
 
 use crate::output::Output;
 use crate::pieces::take_piece;
-use crate::stage::{Over, Stage, Turn, Why};
+use crate::stage::{Over, OverOf, Stage, StageOf, Turn, TurnOf, Why};
 use crate::stream::{Gave, INTERRUPTIONS_MAX, READS_MAX, Source};
+use byte_ledger::ledgers::Ledgers;
 use frame_codec::decoder::Decoder;
 use frame_codec::kind::Requests;
 use frame_codec::laws::cuts_do_not_matter;
+use record_book::seat::{Seat, SpentSeat};
 use std::alloc::Global;
 use std::io::{Read, Write};
 use std::sync::Wait;
@@ -23,22 +25,22 @@ use system_lock::kernel::Kernel;
 const PIECE: usize = 65_536;
 
 /// A session that leaves off where it is.
-fn leaves(stage: Stage, why: Why) -> Turn
+fn leaves<S: Drop, P: Drop>(stage: Stage<S>, why: Why) -> Turn<S, P>
     ensures { result ≡ turn.Over (over.Leaves stage why) }
 {
     Turn::Over(Over::Leaves { stage, why })
 }
 
 /// Reads once more, and takes up what that gives.
-fn read_on<Rt: Wait, R: Read, W: Write, K: Kernel>(
+fn read_on<Rt: Wait, R: Read, W: Write, L: Ledgers, K: Kernel<Seat<L>, SpentSeat<L>>>(
     rt: &Rt,
     source: &mut Source<R>,
     output: &mut Output<W>,
     kernel: &K,
     decoder: &mut Decoder<Requests>,
     buffer: &mut [u8],
-    stage: Stage,
-) -> Turn
+    stage: StageOf<L>,
+) -> TurnOf<L>
     requires room { 0 < length buffer.old }
     requires few { source.old.log.interruptions < 16 }
     ensures reads { ReadsOn source.old source.new decoder.old decoder.new stage output.old output.new result }
@@ -63,14 +65,14 @@ fn read_on<Rt: Wait, R: Read, W: Write, K: Kernel>(
 }
 
 /// Reads as often as a session may, and takes up what that gives, until the session is over.
-fn read_often<Rt: Wait, R: Read, W: Write, K: Kernel>(
+fn read_often<Rt: Wait, R: Read, W: Write, L: Ledgers, K: Kernel<Seat<L>, SpentSeat<L>>>(
     rt: &Rt,
     source: &mut Source<R>,
     output: &mut Output<W>,
     kernel: &K,
     decoder: &mut Decoder<Requests>,
     buffer: &mut [u8],
-) -> Over
+) -> OverOf<L>
     requires room { 0 < length buffer.old }
     requires unread { source.old.log ≡ fresh_log }
     requires unfed { decoder.old ≡ fresh }
@@ -92,13 +94,13 @@ fn read_often<Rt: Wait, R: Read, W: Write, K: Kernel>(
 }
 
 /// Reads a session to its end.
-pub(crate) fn read_all<Rt: Wait, R: Read, W: Write, K: Kernel>(
+pub(crate) fn read_all<Rt: Wait, R: Read, W: Write, L: Ledgers, K: Kernel<Seat<L>, SpentSeat<L>>>(
     rt: &Rt,
     alloc: Global,
     source: &mut Source<R>,
     output: &mut Output<W>,
     kernel: &K,
-) -> Over
+) -> OverOf<L>
     requires { source.old.log ≡ fresh_log }
     ensures few { source.new.log.calls ≤ 1048576 }
     ensures reads { ReadsFresh source.old source.new output.old output.new result }

@@ -8,7 +8,8 @@ use crate::output::Output;
 use crate::reading::read_all;
 use crate::stream::{Source, StreamLog};
 use crate::told::Told;
-use record_book::seat::SpentSeat;
+use byte_ledger::ledgers::Ledgers;
+use record_book::seat::{Seat, SpentSeat};
 use std::alloc::Global;
 use std::io::{Read, Write};
 use std::sync::Wait;
@@ -16,10 +17,10 @@ use system_lock::kernel::Kernel;
 
 /// A session that is over.
 #[derive(Drop)]
-pub struct Served<R, W> {
+pub struct Served<R, W, L: Ledgers> {
     /// The seat of its process, whose last receipt is that of its exit, but at `End::Foreign`; or of an opening that was refused in
     /// the record. None where no process was opened, and none refused in the record.
-    pub seat: Option<SpentSeat>,
+    pub seat: Option<SpentSeat<L>>,
     /// What it told its client, in order.
     pub answers: Vec<Told>,
     pub end: End,
@@ -33,13 +34,13 @@ pub struct Served<R, W> {
 
 /// Serves one process: reads its requests, asks the kernel for each, and writes each answer, until the session ends for one of the
 /// reasons of `End`. Then its process is hung up. It waits where a call of its process waits.
-pub fn serve<Rt: Wait, R: Read, W: Write, K: Kernel>(
+pub fn serve<Rt: Wait, R: Read, W: Write, L: Ledgers, K: Kernel<Seat<L>, SpentSeat<L>>>(
     rt: &Rt,
     alloc: Global,
     reader: R,
     writer: W,
     kernel: &K,
-) -> Served<R, W>
+) -> Served<R, W, L>
     ensures { Serves (R.remaining reader) (W.contents writer) (record { left = R.remaining result.reader; reads = result.reads; held = W.contents result.writer; writes = result.writes; seat = result.seat; answers = result.answers.items; end_is = result.end }) }
 {
     let mut output = match Output::new(alloc, writer) {
@@ -63,7 +64,7 @@ pub fn serve<Rt: Wait, R: Read, W: Write, K: Kernel>(
 }
 
 /// A session that has read nothing, since memory ran out.
-fn unserved<R: Read, W: Write>(alloc: Global, reader: R, writer: W) -> Served<R, W>
+fn unserved<R: Read, W: Write, L: Ledgers>(alloc: Global, reader: R, writer: W) -> Served<R, W, L>
     ensures { Serves (R.remaining reader) (W.contents writer) (record { left = R.remaining result.reader; reads = result.reads; held = W.contents result.writer; writes = result.writes; seat = result.seat; answers = result.answers.items; end_is = result.end }) }
 {
     Served {

@@ -2,13 +2,13 @@
 
 use record_book::seat::{Receipt, Seat, SpentSeat};
 
-/// How far a session has come.
+/// How far a session has come, with a seat of the kind `S`.
 #[derive(Drop)]
-pub(crate) enum Stage {
+pub(crate) enum Stage<S> {
     /// No process is opened yet.
     Opening,
     /// The process of this seat makes calls.
-    Ready(Seat),
+    Ready(S),
 }
 
 /// Why a session leaves off.
@@ -21,39 +21,48 @@ pub(crate) enum Why {
     NoMemory,
 }
 
-/// A session that goes on no more.
+/// A session that goes on no more, with a seat of the kind `S`, or a spent one of the kind `P`.
 #[derive(Drop)]
-pub(crate) enum Over {
+pub(crate) enum Over<S, P> {
     /// It leaves off where it is. Its process, if it has one, is still to be hung up.
-    Leaves { stage: Stage, why: Why },
+    Leaves { stage: Stage<S>, why: Why },
     /// Its writer has failed. Its process, if it has one, is still to be hung up.
-    Unwritten(Stage),
+    Unwritten(Stage<S>),
     /// Memory ran out for the answer of its opening. Nothing was answered, and its process is still to be hung up.
-    OpeningUntold(Seat),
+    OpeningUntold(S),
     /// Memory ran out for the answer of its refused opening. Nothing was answered.
-    RefusalUntold(SpentSeat),
+    RefusalUntold(P),
     /// Memory ran out for the answer of this receipt, its last. Its process is still to be hung up.
-    Untold { seat: Seat, receipt: Receipt },
+    Untold { seat: S, receipt: Receipt },
     /// Its opening was refused in the record, and that was answered.
-    Refused(SpentSeat),
+    Refused(P),
     /// The kernel gave up the call that its process waited in, and has recorded its exit.
-    Lost(SpentSeat),
+    Lost(P),
     /// The process has ended for want of memory or of records, in the call that it waited in. That was answered, unless memory ran out for it.
-    Ended { seat: SpentSeat, why: Why },
+    Ended { seat: P, why: Why },
     /// The kernel knows no such seat.
-    Foreign(SpentSeat),
+    Foreign(P),
 }
 
 /// What came of a request.
 #[derive(Drop)]
-pub(crate) enum Turn {
-    GoesOn(Stage),
-    Over(Over),
+pub(crate) enum Turn<S, P> {
+    GoesOn(Stage<S>),
+    Over(Over<S, P>),
 }
 
 /// What came of one turn of a call that waits.
 #[derive(Drop)]
-pub(crate) enum Waited {
-    Still(Seat),
-    Done(Turn),
+pub(crate) enum Waited<S, P> {
+    Still(S),
+    Done(Turn<S, P>),
 }
+
+/// Each of these for the seats of one book.
+pub(crate) type StageOf<L> = Stage<Seat<L>>;
+
+pub(crate) type OverOf<L> = Over<Seat<L>, SpentSeat<L>>;
+
+pub(crate) type TurnOf<L> = Turn<Seat<L>, SpentSeat<L>>;
+
+pub(crate) type WaitedOf<L> = Waited<Seat<L>, SpentSeat<L>>;

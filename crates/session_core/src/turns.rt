@@ -8,17 +8,18 @@ ghost use Rattle.system_lock.specs.Kernel.{IsOpening, IsWanting, IsWhyFinished, 
 ghost use Rattle.session_core.specs.Talk.{goes_on};
 
 use crate::output::Output;
-use crate::stage::{Over, Stage, Turn, Waited, Why};
+use crate::stage::{Over, OverOf, Stage, StageOf, Turn, TurnOf, Waited, WaitedOf, Why};
+use byte_ledger::ledgers::Ledgers;
 use call_types::call::Call;
 use call_types::outcome::Outcome;
 use call_types::refusal::Refusal;
 use call_types::request::Request;
 use record_book::opening::Opened;
-use record_book::seat::{Receipt, Seat};
+use record_book::seat::{Receipt, Seat, SpentSeat};
 use std::alloc::AllocError;
 use std::io::Write;
 use std::sync::Wait;
-use system_lock::kernel::{Ended, Finished, Kernel, Why as EndedWhy};
+use system_lock::kernel::{EndedIn, Finished, FinishedIn, Kernel, Why as EndedWhy};
 
 /// Answers an opening by the one receipt that there is.
 fn put_first<W: Write>(output: &mut Output<W>, receipts: &[Receipt]) -> Result<(), AllocError>
@@ -45,12 +46,12 @@ fn put_given_up<W: Write>(output: &mut Output<W>, refusal: Refusal) -> Why
 }
 
 /// Takes up the first request of a session.
-fn take_opening<Rt: Wait, W: Write, K: Kernel>(
+fn take_opening<Rt: Wait, W: Write, L: Ledgers, K: Kernel<Seat<L>, SpentSeat<L>>>(
     rt: &Rt,
     output: &mut Output<W>,
     kernel: &K,
     request: Request,
-) -> Turn
+) -> TurnOf<L>
     requires { IsOpening request }
     ensures { TakesUp stage.Opening request output.old output.new result }
 {
@@ -84,7 +85,7 @@ fn goes_on(outcome: &Outcome) -> bool
 }
 
 /// Says how the session is over whose process has ended in the call that it waited in. Want of memory or of records is answered.
-fn give_up<W: Write>(output: &mut Output<W>, ended: Ended) -> Over
+fn give_up<W: Write, L: Ledgers>(output: &mut Output<W>, ended: EndedIn<L>) -> OverOf<L>
     requires { IsWhyFinished ended.why }
     ensures gives { GivesUp ended output.old output.new result }
     ensures tells { TellsWhy ended.why output.old output.new result }
@@ -106,12 +107,12 @@ fn give_up<W: Write>(output: &mut Output<W>, ended: Ended) -> Over
 }
 
 /// Waits until a call goes on. All answers so far are written before.
-fn finish_sent<Rt: Wait, W: Write, K: Kernel>(
+fn finish_sent<Rt: Wait, W: Write, L: Ledgers, K: Kernel<Seat<L>, SpentSeat<L>>>(
     rt: &Rt,
     output: &Output<W>,
     kernel: &K,
-    seat: Seat,
-) -> Finished
+    seat: Seat<L>,
+) -> FinishedIn<L>
     requires { output.now.unsent ≡ [] }
     ensures { FinishesBy seat result }
 {
@@ -120,12 +121,12 @@ fn finish_sent<Rt: Wait, W: Write, K: Kernel>(
 }
 
 /// Waits until a call goes on, and answers what came of that.
-fn wait_once<Rt: Wait, W: Write, K: Kernel>(
+fn wait_once<Rt: Wait, W: Write, L: Ledgers, K: Kernel<Seat<L>, SpentSeat<L>>>(
     rt: &Rt,
     output: &mut Output<W>,
     kernel: &K,
-    seat: Seat,
-) -> Waited
+    seat: Seat<L>,
+) -> WaitedOf<L>
     ensures { WaitsOnce seat output.old output.new result }
 {
     match output.flush() {
@@ -147,12 +148,12 @@ fn wait_once<Rt: Wait, W: Write, K: Kernel>(
 }
 
 /// Waits for the reply of a call, and answers what comes of it until then.
-fn wait_out<Rt: Wait, W: Write, K: Kernel>(
+fn wait_out<Rt: Wait, W: Write, L: Ledgers, K: Kernel<Seat<L>, SpentSeat<L>>>(
     rt: &Rt,
     output: &mut Output<W>,
     kernel: &K,
-    seat: Seat,
-) -> Turn
+    seat: Seat<L>,
+) -> TurnOf<L>
     ensures { WaitsOut seat output.old output.new result }
 {
     let mut seat = seat;
@@ -166,13 +167,13 @@ fn wait_out<Rt: Wait, W: Write, K: Kernel>(
 }
 
 /// Takes up a call of the session's process, and waits for its reply.
-fn take_call<Rt: Wait, W: Write, K: Kernel>(
+fn take_call<Rt: Wait, W: Write, L: Ledgers, K: Kernel<Seat<L>, SpentSeat<L>>>(
     rt: &Rt,
     output: &mut Output<W>,
     kernel: &K,
-    seat: Seat,
+    seat: Seat<L>,
     call: Call,
-) -> Turn
+) -> TurnOf<L>
     ensures { TakesUp (stage.Ready seat) (request.Call call) output.old output.new result }
 {
     let mut seat = seat;
@@ -197,13 +198,13 @@ fn take_call<Rt: Wait, W: Write, K: Kernel>(
 }
 
 /// Takes up a request where a session is.
-fn take_up<Rt: Wait, W: Write, K: Kernel>(
+fn take_up<Rt: Wait, W: Write, L: Ledgers, K: Kernel<Seat<L>, SpentSeat<L>>>(
     rt: &Rt,
     output: &mut Output<W>,
     kernel: &K,
-    stage: Stage,
+    stage: StageOf<L>,
     request: Request,
-) -> Turn
+) -> TurnOf<L>
     ensures { TakesUp stage request output.old output.new result }
 {
     match (stage, request) {
@@ -220,13 +221,13 @@ fn take_up<Rt: Wait, W: Write, K: Kernel>(
 }
 
 /// Takes up a request where a session is. What was gathered is written first, if it is much.
-fn take_next<Rt: Wait, W: Write, K: Kernel>(
+fn take_next<Rt: Wait, W: Write, L: Ledgers, K: Kernel<Seat<L>, SpentSeat<L>>>(
     rt: &Rt,
     output: &mut Output<W>,
     kernel: &K,
-    stage: Stage,
+    stage: StageOf<L>,
     request: Request,
-) -> Turn
+) -> TurnOf<L>
     ensures { TakesUp stage request output.old output.new result }
 {
     match output.flush_much() {
@@ -236,13 +237,13 @@ fn take_next<Rt: Wait, W: Write, K: Kernel>(
 }
 
 /// Takes up requests, one after another, until the session is over.
-pub(crate) fn take_all<Rt: Wait, W: Write, K: Kernel>(
+pub(crate) fn take_all<Rt: Wait, W: Write, L: Ledgers, K: Kernel<Seat<L>, SpentSeat<L>>>(
     rt: &Rt,
     output: &mut Output<W>,
     kernel: &K,
-    stage: Stage,
+    stage: StageOf<L>,
     requests: Vec<Request>,
-) -> Turn
+) -> TurnOf<L>
     ensures { TakesAll stage requests.items output.old output.new result }
 {
     let mut stage = stage;

@@ -14,10 +14,12 @@ mod shown;
 mod stranger;
 mod trial;
 
+use byte_ledger::ledgers::Blanks;
 use ended::Ended;
 use job::job_of;
 use std::io;
 use std::io::{ErrorKind, Read, Write};
+use std::marker::Brand;
 use std::process::ExitCode;
 use std::sync::Wait;
 use trial::tried;
@@ -46,7 +48,7 @@ fn run<R: Wait>(rt: &HostRuntime, waiting: &R) -> Result<(), Ended> {
     let words = words_of(rt)?;
     let job = job_of(rt.alloc(), words.as_slice())?;
     let input = read_input(rt)?;
-    let lines = tried(waiting, rt.alloc(), job, input)?;
+    let lines = tried::<R, Brand>(waiting, rt.alloc(), job, input, Blanks::new())?;
     let mut out = io::writer(rt);
     if out.write_all(lines.as_slice()).is_err() || out.flush().is_err() {
         return Err(Ended::CannotWrite);

@@ -1,15 +1,17 @@
 //! A kernel that does not know its seats any more.
 
 ghost use Rattle.std.specs.Prelude.{◌≡◌};
+ghost use Rattle.system_lock.specs.Kernel.{FinishesBy, HangsUpBy};
 
+use byte_ledger::ledgers::Ledgers;
+use byte_ledger::tallies::Sums;
 use call_types::call::Call;
 use call_types::refusal::Refusal;
 use call_types::request::Request;
-use record_book::book::Counts;
-use record_book::opening::Opened;
+use record_book::opening::OpenedIn;
 use record_book::seat::{Receipt, Seat, SpentSeat};
 use std::sync::Wait;
-use system_lock::kernel::{Ended, Finished, Kernel, Why};
+use system_lock::kernel::{Ended, EndedIn, Finished, FinishedIn, Kernel, Why};
 use system_lock::one_book::OneBook;
 
 /// What it does not know.
@@ -24,25 +26,25 @@ pub(crate) enum Forgets {
 
 /// A book for one thread, which may forget the seats that it gave.
 #[derive(Drop)]
-pub(crate) struct Stranger {
-    book: OneBook,
+pub(crate) struct Stranger<L: Ledgers> {
+    book: OneBook<L>,
     forgets: Forgets,
 }
 
-impl Stranger {
+impl<L: Ledgers> Stranger<L> {
     /// A kernel of this book that forgets so much.
-    pub(crate) fn new(book: OneBook, forgets: Forgets) -> Self {
+    pub(crate) fn new(book: OneBook<L>, forgets: Forgets) -> Self {
         Stranger { book, forgets }
     }
 
     /// How much its book holds.
-    pub(crate) fn counts<R: Wait>(&self, rt: &R) -> Counts {
+    pub(crate) fn counts<R: Wait>(&self, rt: &R) -> Sums {
         self.book.counts(rt)
     }
 }
 
 /// A seat that is not known.
-fn foreign(seat: Seat) -> Ended
+fn foreign<L: Ledgers>(seat: Seat<L>) -> EndedIn<L>
     ensures seat { result.seat ≡ seat }
     ensures why { result.why ≡ Why.Foreign }
 {
@@ -52,23 +54,27 @@ fn foreign(seat: Seat) -> Ended
     }
 }
 
-impl Kernel for Stranger {
-    fn open<R: Wait>(&self, rt: &R, request: Request) -> Result<Opened, Refusal> {
+impl<L: Ledgers> Kernel<Seat<L>, SpentSeat<L>> for Stranger<L> {
+    fn open<R: Wait>(&self, rt: &R, request: Request) -> Result<OpenedIn<L>, Refusal> {
         self.book.open(rt, request)
     }
 
-    fn call<R: Wait>(&self, rt: &R, seat: &mut Seat, call: Call) -> Result<Receipt, Refusal> {
+    fn call<R: Wait>(&self, rt: &R, seat: &mut Seat<L>, call: Call) -> Result<Receipt, Refusal> {
         self.book.call(rt, seat, call)
     }
 
-    fn finish<R: Wait>(&self, rt: &R, seat: Seat) -> Finished {
+    fn finish<R: Wait>(&self, rt: &R, seat: Seat<L>) -> FinishedIn<L>
+        ensures { FinishesBy seat result }
+    {
         match self.forgets {
             Forgets::WhoWaits => Finished::Ended(foreign(seat)),
             _ => self.book.finish(rt, seat),
         }
     }
 
-    fn hang_up<R: Wait>(&self, rt: &R, seat: Seat) -> Ended {
+    fn hang_up<R: Wait>(&self, rt: &R, seat: Seat<L>) -> EndedIn<L>
+        ensures { HangsUpBy seat result }
+    {
         match self.forgets {
             Forgets::All => foreign(seat),
             _ => self.book.hang_up(rt, seat),

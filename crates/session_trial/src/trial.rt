@@ -1,8 +1,12 @@
 //! One session over memory.
+
+ghost use Rattle.std.specs.Prelude.{◌≡◌};
+
 use crate::ended::Ended;
 use crate::job::Job;
 use crate::shown::{put_log, put_number, put_word, put_written};
 use crate::stranger::Stranger;
+use byte_ledger::ledgers::{Blanks, Ledgers};
 use record_book::book::Book;
 use record_book::seat::SpentSeat;
 use script_text::lines::{write_record, write_totals};
@@ -27,7 +31,7 @@ fn put_end(out: &mut Vec<u8>, end: End) -> Result<(), AllocError> {
 }
 
 /// Appends the lines of a seat's receipts.
-fn put_seat(out: &mut Vec<u8>, seat: &Option<SpentSeat>) -> Result<(), AllocError> {
+fn put_seat<L: Ledgers>(out: &mut Vec<u8>, seat: &Option<SpentSeat<L>>) -> Result<(), AllocError> {
     match seat {
         Some(seat) => {
             for receipt in seat.receipts() {
@@ -40,9 +44,9 @@ fn put_seat(out: &mut Vec<u8>, seat: &Option<SpentSeat>) -> Result<(), AllocErro
 }
 
 /// Appends the lines of a session that is over.
-fn put_served(
+fn put_served<L: Ledgers>(
     out: &mut Vec<u8>,
-    served: &Served<MemoryReader, MemoryWriter>,
+    served: &Served<MemoryReader, MemoryWriter, L>,
 ) -> Result<(), AllocError> {
     put_written(out, served.writer.bytes())?;
     put_end(out, served.end)?;
@@ -53,14 +57,18 @@ fn put_served(
     put_seat(out, &served.seat)
 }
 
-/// The lines of what comes of a session.
-pub(crate) fn tried<Rt: Wait>(
+/// The lines of what comes of a session, counted by these ledgers.
+pub(crate) fn tried<Rt: Wait, L: Ledgers>(
     rt: &Rt,
     alloc: Global,
     job: Job,
     input: Vec<u8>,
-) -> Result<Vec<u8>, Ended> {
-    let book = OneBook::new(alloc, Book::new(alloc, job.limits)?, job.acts);
+    blanks: Blanks,
+) -> Result<Vec<u8>, Ended>
+    requires { blanks ≡ L.names }
+{
+    let book = Book::<L>::new(alloc, job.limits, blanks)?;
+    let book = OneBook::new(alloc, book, job.acts);
     let kernel = Stranger::new(book, job.forgets);
     let reader = MemoryReader::new(input, job.reads);
     let writer = MemoryWriter::new(alloc, job.writes);

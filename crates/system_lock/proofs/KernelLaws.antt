@@ -12,7 +12,7 @@ use Rattle.slots.specs.Slots.{slot}
 use Rattle.posix_model.specs.Step.{Stepped, step, is_parked}
 use Rattle.posix_model.specs.WaitLaws.{CallsEndOrWait, EndsOrWaits}
 use Rattle.record_book.specs.Seat.{Receipted, SeatState}
-use Rattle.record_book.specs.Book.{BookState, world_now, Appends, Receives}
+use Rattle.record_book.specs.Book.{BookState, world_now, Appends, Receives, Records}
 use Rattle.record_book.specs.Refusals.{first_refusal, seat_refusals, start_refusal, is_too_full}
 use Rattle.system_lock.specs.Kernel.{Adds, CallsBy}
 
@@ -41,6 +41,6 @@ abbrev call_refusals : BookState → SeatState → Call → List (Bool × Refusa
 call_refusals b s call = (is_parked (slot (world_now b).processes s.pid), Waiting) ∷ (is_too_full b s.pid (act.Call call), RunFull) ∷ []
 
 pub called : (old new : BookState) (s t : SeatState) (call : Call) (r : Result Receipted Refusal) → CallsEndOrWait
-    → IfOk r (λ (receipt : Receipted). Appends old new s.pid (act.Call call) receipt × Receives s t receipt) → OnOk r (start_refusal old s call ≡ None) → OnErr r ((new ≡ old) × (t ≡ s)) → CallsBy s t call r
-called old new s t call (Ok receipt) all h none same = (adds old new s t (act.Call call) receipt h.0 h.1 (seen_known old s (call_refusals old s call) none), tells old new s.pid call receipt all h.0)
+    → IfOk r (λ (receipt : Receipted). Records old new s t (act.Call call) receipt) → OnOk r (start_refusal old s call ≡ None) → OnErr r ((new ≡ old) × (t ≡ s)) → CallsBy s t call r
+called old new s t call (Ok receipt) all h none same = (adds old new s t (act.Call call) receipt h.appends h.receives (seen_known old s (call_refusals old s call) none), tells old new s.pid call receipt all h.appends)
 called old new s t call (Err refusal) all h none same = same.1

@@ -20,9 +20,8 @@ use Rattle.posix_model.specs.declared.change.Decided.{Decided}
 use Rattle.posix_model.specs.declared.world.World.{World}
 use Rattle.record_book.specs.Seat.{Receipted, SeatState}
 use Rattle.record_book.specs.Book.{BookState, world_now}
-use Rattle.record_book.specs.Openings.{IsOpening, next_pid, Joins, Attaches}
+use Rattle.record_book.specs.Openings.{Opened, IsOpening, next_pid, Joins, Attaches}
 use Rattle.record_book.specs.Refusals.{first_refusal, join_refusal, attach_refusal, is_too_full, IsDue}
-use Rattle.record_book.specs.declared.opening.Opened.{Opened}
 use Rattle.record_book.specs.declared.opening.Opened.TheVariants as opened
 use Rattle.system_lock.specs.Kernel.{IsError, IsWanting, Opens, OpensBy}
 

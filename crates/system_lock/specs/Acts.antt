@@ -6,9 +6,14 @@ use Rattle.record_book.specs.Seat.{SeatState}
 use Rattle.record_book.specs.Book.{BookState}
 use Rattle.system_lock.specs.System.{is_ready_in}
 use Rattle.system_lock.specs.Kernel.{Adds, EndsBy, IsWhyFinished}
-use Rattle.system_lock.specs.declared.acts.Tried.{Tried}
+use Rattle.system_lock.specs.declared.acts.Tried.{Tried as TriedOf}
 use Rattle.system_lock.specs.declared.acts.Tried.TheVariants as tried
 
+-- what one try gives of the seats of some book
+abbrev pub Tried : Type 0
+Tried = TriedOf SeatState SeatState
+
+-- a resume is recorded; or the call is not ready, and the seat stays as it is; or the process ends
 abbrev pub TriesBy : SeatState → Tried → Type 0
 TriesBy old (tried.Resumed seat receipt) = Adds old seat act.Resume receipt × EndsOrGoesOn receipt.record_is.outcome
 TriesBy old (tried.Still seat) = seat ≡ old

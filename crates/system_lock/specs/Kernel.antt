@@ -13,14 +13,25 @@ use Rattle.call_types.specs.declared.refusal.Refusal.TheVariants as refusal
 use Rattle.posix_model.specs.WaitLaws.{EndsOrWaits, EndsOrGoesOn}
 use Rattle.record_book.specs.Seat.{Receipted, SeatState}
 use Rattle.record_book.specs.Book.{Receives}
-use Rattle.record_book.specs.Openings.{first_seat}
-use Rattle.record_book.specs.declared.opening.Opened.{Opened}
+use Rattle.record_book.specs.Openings.{Opened, first_seat}
+use Rattle.record_book.specs.declared.opening.Opened.{Opened as OpenedOf}
 use Rattle.record_book.specs.declared.opening.Opened.TheVariants as opened
 use Rattle.system_lock.specs.declared.kernel.Why.{Why}
 use Rattle.system_lock.specs.declared.kernel.Why.TheVariants as why
-use Rattle.system_lock.specs.declared.kernel.Ended.{Ended}
-use Rattle.system_lock.specs.declared.kernel.Finished.{Finished}
+use Rattle.system_lock.specs.declared.kernel.Ended.{Ended as EndedOf}
+use Rattle.system_lock.specs.declared.kernel.Finished.{Finished as FinishedOf}
 use Rattle.system_lock.specs.declared.kernel.Finished.TheVariants as finished
+
+-- what kernels give of the seats of some book
+abbrev pub Ended : Type 0
+Ended = EndedOf SeatState
+
+abbrev pub Finished : Type 0
+Finished = FinishedOf SeatState SeatState
+
+-- a seat that is what it holds
+abbrev pub itself : SeatState → SeatState
+itself s = s
 
 -- a request that opens a session
 abbrev pub IsOpening : Request → Type 0
@@ -59,10 +70,14 @@ IsWanting refusal.RunFull = Unit {0}
 IsWanting other = ⊥
 
 -- an opening is recorded, with a seat, or with the one receipt of an error; or it is refused for want of memory or of records
+abbrev pub OpensAs : {S P : Type 0} → (S → SeatState) → (P → SeatState) → Request → Result (OpenedOf S P) Refusal → Type 0
+OpensAs as_seat as_spent request (Ok (opened.Seated seat)) = (receipt : Receipted) × OpensFor request (as_seat seat) receipt
+OpensAs as_seat as_spent request (Ok (opened.Refused seat)) = (receipt : Receipted) × OpensFor request (as_spent seat) receipt × IsError receipt.record_is.outcome
+OpensAs as_seat as_spent request (Err refusal) = IsWanting refusal
+
+-- the same, of what seats hold
 abbrev pub OpensBy : Request → Result Opened Refusal → Type 0
-OpensBy request (Ok (opened.Seated seat)) = (receipt : Receipted) × OpensFor request seat receipt
-OpensBy request (Ok (opened.Refused seat)) = (receipt : Receipted) × OpensFor request seat receipt × IsError receipt.record_is.outcome
-OpensBy request (Err refusal) = IsWanting refusal
+OpensBy request opened = OpensAs itself itself request opened
 
 -- a call is recorded, with its reply or as one that waits; or it is refused, and the seat stays as it is
 abbrev pub CallsBy : SeatState → SeatState → Call → Result Receipted Refusal → Type 0
@@ -93,13 +108,21 @@ IsWhyHungUp why.Foreign = Unit {0}
 IsWhyHungUp other = ⊥
 
 -- a call that waited is taken up, or its process ends
+abbrev pub FinishesAs : {S P : Type 0} → (S → SeatState) → (P → SeatState) → SeatState → FinishedOf S P → Type 0
+FinishesAs as_seat as_spent old (finished.Resumed seat receipt) = Adds old (as_seat seat) act.Resume receipt × EndsOrGoesOn receipt.record_is.outcome
+FinishesAs as_seat as_spent old (finished.Ended ended) = EndsBy old (as_spent ended.seat) ended.why × IsWhyFinished ended.why
+
+-- the same, of what seats hold
 abbrev pub FinishesBy : SeatState → Finished → Type 0
-FinishesBy old (finished.Resumed seat receipt) = Adds old seat act.Resume receipt × EndsOrGoesOn receipt.record_is.outcome
-FinishesBy old (finished.Ended ended) = EndsBy old ended.seat ended.why × IsWhyFinished ended.why
+FinishesBy old finished = FinishesAs itself itself old finished
 
 -- a process that is hung up ends
+abbrev pub HangsUpAs : {P : Type 0} → (P → SeatState) → SeatState → EndedOf P → Type 0
+HangsUpAs as_spent old ended = EndsBy old (as_spent ended.seat) ended.why × IsWhyHungUp ended.why
+
+-- the same, of what seats hold
 abbrev pub HangsUpBy : SeatState → Ended → Type 0
-HangsUpBy old ended = EndsBy old ended.seat ended.why × IsWhyHungUp ended.why
+HangsUpBy old ended = HangsUpAs itself old ended
 
 -- a reason for which an exit is recorded
 abbrev pub IsReason : Why → Type 0

@@ -3,19 +3,24 @@
 ghost use Rattle.system_lock.specs.Kernel.{IsOpening, OpensBy, CallsBy, IsReason, EndsFor};
 ghost use Rattle.system_lock.specs.Acts.{TriesBy, KeepsAsleep};
 
-use crate::kernel::{Ended, Why};
+use crate::kernel::{Ended, EndedIn, Why};
+use byte_ledger::ledgers::Ledgers;
 use call_types::call::Call;
 use call_types::refusal::Refusal;
 use call_types::request::Request;
 use posix_model::pipe_laws::calls_end_or_wait;
 use record_book::book::Book;
-use record_book::opening::Opened;
+use record_book::opening::OpenedIn;
 use record_book::resume::Resumed;
 use record_book::seat::{Receipt, Seat, SpentSeat};
 use std::alloc::Global;
 
 /// Opens a process.
-pub(crate) fn open(book: &mut Book, alloc: Global, request: Request) -> Result<Opened, Refusal>
+pub(crate) fn open<L: Ledgers>(
+    book: &mut Book<L>,
+    alloc: Global,
+    request: Request,
+) -> Result<OpenedIn<L>, Refusal>
     requires { IsOpening request }
     ensures { OpensBy request result }
 {
@@ -27,10 +32,10 @@ pub(crate) fn open(book: &mut Book, alloc: Global, request: Request) -> Result<O
 }
 
 /// Records a call.
-pub(crate) fn call(
-    book: &mut Book,
+pub(crate) fn call<L: Ledgers>(
+    book: &mut Book<L>,
     alloc: Global,
-    seat: &mut Seat,
+    seat: &mut Seat<L>,
     call: Call,
 ) -> Result<Receipt, Refusal>
     ensures { CallsBy seat.old seat.new call result }
@@ -40,7 +45,7 @@ pub(crate) fn call(
 }
 
 /// Records an exit, for a reason that is not `Foreign`; that is told where the book knows no such seat.
-pub(crate) fn exit(book: &mut Book, seat: Seat, reason: Why) -> Ended
+pub(crate) fn exit<L: Ledgers>(book: &mut Book<L>, seat: Seat<L>, reason: Why) -> EndedIn<L>
     requires { IsReason reason }
     ensures { EndsFor seat reason result }
 {
@@ -55,15 +60,18 @@ pub(crate) fn exit(book: &mut Book, seat: Seat, reason: Why) -> Ended
 
 /// What came of one try of a resume.
 #[derive(Drop)]
-pub(crate) enum Tried {
-    Resumed { seat: Seat, receipt: Receipt },
+pub(crate) enum Tried<S, P> {
+    Resumed { seat: S, receipt: Receipt },
     /// The process waits in no call that is ready.
-    Still(Seat),
-    Ended(Ended),
+    Still(S),
+    Ended(Ended<P>),
 }
 
+/// The same, of the seats of one book.
+pub(crate) type TriedIn<L> = Tried<Seat<L>, SpentSeat<L>>;
+
 /// Takes up the call that a process waits in, if it is ready; where that is refused, the process ends.
-pub(crate) fn resume(book: &mut Book, alloc: Global, seat: Seat) -> Tried
+pub(crate) fn resume<L: Ledgers>(book: &mut Book<L>, alloc: Global, seat: Seat<L>) -> TriedIn<L>
     ensures tries { TriesBy seat result }
     ensures still { KeepsAsleep book.new seat result }
 {

@@ -4,7 +4,7 @@ use call_types::call::Call;
 use call_types::refusal::Refusal;
 use call_types::request::Request;
 use record_book::opening::Opened;
-use record_book::seat::{Receipt, Seat, SpentSeat};
+use record_book::seat::{AsSeat, Receipt, Seat, SpentSeat};
 use std::sync::Wait;
 
 /// Why a process has ended.
@@ -22,42 +22,48 @@ pub enum Why {
     Foreign,
 }
 
-/// The seat of a process that has ended. Its last receipt is that of the exit, but for `Foreign`.
+/// The spent seat, of the kind `P`, of a process that has ended. Its last receipt is that of the exit, but for `Foreign`.
 #[derive(Drop)]
-pub struct Ended {
-    pub seat: SpentSeat,
+pub struct Ended<P> {
+    pub seat: P,
     pub why: Why,
 }
 
-/// What came of a call that waited.
+/// What came of a call that waited, with a seat of the kind `S` or a spent one of the kind `P`.
 #[derive(Drop)]
-pub enum Finished {
+pub enum Finished<S, P> {
     /// It was taken up: its reply, or how many bytes it moved so far. The seat has the receipt too.
-    Resumed { seat: Seat, receipt: Receipt },
-    Ended(Ended),
+    Resumed { seat: S, receipt: Receipt },
+    Ended(Ended<P>),
 }
 
-/// What records the acts of processes, each in one book and for any thread. None of its calls says that it returns.
-pub trait Kernel {
-    ghost use Rattle.system_lock.specs.Kernel.{IsOpening, OpensBy, CallsBy, FinishesBy, HangsUpBy};
+/// What records the acts of processes, each in one book and for any thread. None of its calls says that it returns. Its seats are of the
+/// kind `S`, and of the kind `P` when they are spent; their types name the ledgers of its book.
+pub trait Kernel<S: AsSeat, P: AsSeat> {
+    ghost use Rattle.system_lock.specs.Kernel.{IsOpening, OpensAs, CallsBy, FinishesAs, HangsUpAs};
 
     /// Opens a process: by a join a new one, by an attach a child that is not attached yet. Where the record is an error there is no process, and the
     /// spent seat has its one receipt. A `Refusal` is NoMemory or RunFull, and
     /// is not recorded. It waits for the lock alone.
-    fn open<R: Wait>(&self, rt: &R, request: Request) -> Result<Opened, Refusal>
+    fn open<R: Wait>(&self, rt: &R, request: Request) -> Result<Opened<S, P>, Refusal>
         requires { IsOpening request }
-        ensures { OpensBy request result };
+        ensures { OpensAs S.as_seat P.as_seat request result };
 
     /// Records a call of the seat's process: its reply, or that it waits. The seat gets the receipt too. A `Refusal` is not
     /// recorded, and leaves the seat as it was. It waits for the lock alone, and never for another process's call.
-    fn call<R: Wait>(&self, rt: &R, seat: &mut Seat, call: Call) -> Result<Receipt, Refusal>
-        ensures { CallsBy seat.old seat.new call result };
+    fn call<R: Wait>(&self, rt: &R, seat: &mut S, call: Call) -> Result<Receipt, Refusal>
+        ensures { CallsBy (S.as_seat seat.old) (S.as_seat seat.new) call result };
 
     /// Waits until the call that the seat's process waits in can go on, and takes it up; or ends the process.
-    fn finish<R: Wait>(&self, rt: &R, seat: Seat) -> Finished
-        ensures { FinishesBy seat result };
+    fn finish<R: Wait>(&self, rt: &R, seat: S) -> Finished<S, P>
+        ensures { FinishesAs S.as_seat P.as_seat (S.as_seat seat) result };
 
     /// Records the exit of the seat's process. It waits for the lock alone.
-    fn hang_up<R: Wait>(&self, rt: &R, seat: Seat) -> Ended
-        ensures { HangsUpBy seat result };
+    fn hang_up<R: Wait>(&self, rt: &R, seat: S) -> Ended<P>
+        ensures { HangsUpAs P.as_seat (S.as_seat seat) result };
 }
+
+/// These of the seats of one book.
+pub type EndedIn<L> = Ended<SpentSeat<L>>;
+
+pub type FinishedIn<L> = Finished<Seat<L>, SpentSeat<L>>;

@@ -1,67 +1,63 @@
 //! The kernel of a run: one lock round a book and the processes that sleep.
 
-ghost use Rattle.system_lock.specs.System.{IsClosedRun};
+ghost use Rattle.std.specs.Prelude.{◌≡◌};
+ghost use Rattle.system_lock.specs.Kernel.{FinishesBy, HangsUpBy};
 
 use crate::acts::Tried;
 use crate::bells::Bells;
-use crate::kernel::{Ended, Finished, Kernel};
+use crate::kernel::{EndedIn, Finished, FinishedIn, Kernel};
 use crate::system::System;
+use byte_ledger::ledgers::{Blanks, Ledgers};
 use call_types::call::Call;
 use call_types::limits::Limits;
 use call_types::refusal::Refusal;
 use call_types::request::Request;
-use record_book::book::Counts;
-use record_book::opening::Opened;
-use record_book::seat::{Receipt, Seat};
+use record_book::opening::OpenedIn;
+use record_book::seat::{Receipt, Seat, SpentSeat};
 use std::alloc::{AllocError, Global};
 use std::sync::{Mutex, Wait};
 
 /// A system that any thread may ask: each holding of its lock is one event, of which at most one record comes. A process
-/// whose call is not ready sleeps until an event makes it ready.
+/// whose call is not ready sleeps until an event makes it ready. Its type names the ledgers of its book, so another book does not fit.
 #[derive(Drop)]
-pub struct SystemLock {
+pub struct SystemLock<L: Ledgers> {
     alloc: Global,
-    system: Mutex<System>,
+    system: Mutex<System<L>>,
     bells: Bells,
 }
 
-impl SystemLock {
+impl<L: Ledgers> SystemLock<L> {
     /// The kernel of a run that has no records yet.
-    pub fn new(alloc: Global, limits: Limits) -> Result<Self, AllocError> {
+    pub fn new(alloc: Global, limits: Limits, blanks: Blanks) -> Result<Self, AllocError>
+        requires { blanks ≡ L.names }
+    {
         Ok(SystemLock {
             alloc,
-            system: Mutex::new(System::new(alloc, limits)?),
+            system: Mutex::new(System::new(alloc, limits, blanks)?),
             bells: Bells::new(alloc)?,
         })
     }
 
-    /// Closes the run: the exits of the processes without a connection, and the closing. What the book holds then. It waits for the
-    /// lock alone, and takes no memory.
-    pub fn close_run<R: Wait>(&self, rt: &R) -> Counts
-        ensures { IsClosedRun result.records result.bytes_in result.bytes_out }
-    {
-        let mut system = self.system.lock(rt);
-        system.close_run(&self.bells)
-    }
-
     /// What stood under the lock. It takes no memory.
-    pub fn take(self) -> System {
+    pub fn take(self) -> System<L> {
         self.system.into_inner()
     }
 }
 
-impl Kernel for SystemLock {
-    fn open<R: Wait>(&self, rt: &R, request: Request) -> Result<Opened, Refusal> {
+impl<L: Ledgers> Kernel<Seat<L>, SpentSeat<L>> for SystemLock<L> {
+    fn open<R: Wait>(&self, rt: &R, request: Request) -> Result<OpenedIn<L>, Refusal> {
         let mut system = self.system.lock(rt);
         system.open(self.alloc, &self.bells, request)
     }
 
-    fn call<R: Wait>(&self, rt: &R, seat: &mut Seat, call: Call) -> Result<Receipt, Refusal> {
+    fn call<R: Wait>(&self, rt: &R, seat: &mut Seat<L>, call: Call) -> Result<Receipt, Refusal> {
         let mut system = self.system.lock(rt);
         system.call(self.alloc, &self.bells, seat, call)
     }
 
-    fn finish<R: Wait>(&self, rt: &R, seat: Seat) -> Finished {
+    fn finish<R: Wait>(&self, rt: &R, seat: Seat<L>) -> FinishedIn<L>
+        ensures { FinishesBy seat result }
+    {
         let process = seat.pid();
         let mut seat = seat;
         let mut system = self.system.lock(rt);
@@ -77,7 +73,9 @@ impl Kernel for SystemLock {
         unreachable!()
     }
 
-    fn hang_up<R: Wait>(&self, rt: &R, seat: Seat) -> Ended {
+    fn hang_up<R: Wait>(&self, rt: &R, seat: Seat<L>) -> EndedIn<L>
+        ensures { HangsUpBy seat result }
+    {
         let mut system = self.system.lock(rt);
         system.hang_up(&self.bells, seat)
     }

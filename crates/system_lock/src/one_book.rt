@@ -1,38 +1,40 @@
 //! A kernel of one thread, for tests: where a call would wait, acts of other processes are run, which stand ready.
 
-ghost use Rattle.system_lock.specs.Kernel.{FinishesBy};
+ghost use Rattle.system_lock.specs.Kernel.{FinishesBy, HangsUpBy};
 
 use crate::acts;
 use crate::acts::Tried;
-use crate::kernel::{Ended, Finished, Kernel, Why};
+use crate::kernel::{EndedIn, Finished, FinishedIn, Kernel, Why};
+use byte_ledger::ledgers::Ledgers;
+use byte_ledger::tallies::Sums;
 use call_types::act::ScriptAct;
 use call_types::call::Call;
 use call_types::refusal::Refusal;
 use call_types::request::Request;
-use record_book::book::{Book, Counts};
-use record_book::opening::Opened;
-use record_book::seat::{Receipt, Seat};
+use record_book::book::Book;
+use record_book::opening::OpenedIn;
+use record_book::seat::{Receipt, Seat, SpentSeat};
 use std::alloc::Global;
 use std::mem;
 use std::sync::{Mutex, Wait};
 
 /// A book, and the acts that are run when a call first waits.
 #[derive(Drop)]
-struct Held {
-    book: Book,
+struct Held<L: Ledgers> {
+    book: Book<L>,
     acts: Vec<ScriptAct>,
 }
 
 /// A book round which a lock is put. When a call would wait for the first time, the acts that stand ready are run; where it would
 /// still wait, it is given up.
 #[derive(Drop)]
-pub struct OneBook {
+pub struct OneBook<L: Ledgers> {
     alloc: Global,
-    held: Mutex<Held>,
+    held: Mutex<Held<L>>,
 }
 
 /// Takes up a call that waits; where it would wait, the acts that stand ready are run, and it is tried once more.
-fn finish(held: &mut Held, alloc: Global, seat: Seat) -> Finished
+fn finish<L: Ledgers>(held: &mut Held<L>, alloc: Global, seat: Seat<L>) -> FinishedIn<L>
     ensures { FinishesBy seat result }
 {
     let seat = match acts::resume(&mut held.book, alloc, seat) {
@@ -49,9 +51,9 @@ fn finish(held: &mut Held, alloc: Global, seat: Seat) -> Finished
     }
 }
 
-impl OneBook {
+impl<L: Ledgers> OneBook<L> {
     /// A kernel of this book, and the acts that are run when a call first waits.
-    pub fn new(alloc: Global, book: Book, acts: Vec<ScriptAct>) -> Self {
+    pub fn new(alloc: Global, book: Book<L>, acts: Vec<ScriptAct>) -> Self {
         OneBook {
             alloc,
             held: Mutex::new(Held { book, acts }),
@@ -59,28 +61,32 @@ impl OneBook {
     }
 
     /// How much its book holds.
-    pub fn counts<R: Wait>(&self, rt: &R) -> Counts {
+    pub fn counts<R: Wait>(&self, rt: &R) -> Sums {
         self.held.lock(rt).book.counts()
     }
 }
 
-impl Kernel for OneBook {
-    fn open<R: Wait>(&self, rt: &R, request: Request) -> Result<Opened, Refusal> {
+impl<L: Ledgers> Kernel<Seat<L>, SpentSeat<L>> for OneBook<L> {
+    fn open<R: Wait>(&self, rt: &R, request: Request) -> Result<OpenedIn<L>, Refusal> {
         let mut held = self.held.lock(rt);
         acts::open(&mut held.book, self.alloc, request)
     }
 
-    fn call<R: Wait>(&self, rt: &R, seat: &mut Seat, call: Call) -> Result<Receipt, Refusal> {
+    fn call<R: Wait>(&self, rt: &R, seat: &mut Seat<L>, call: Call) -> Result<Receipt, Refusal> {
         let mut held = self.held.lock(rt);
         acts::call(&mut held.book, self.alloc, seat, call)
     }
 
-    fn finish<R: Wait>(&self, rt: &R, seat: Seat) -> Finished {
+    fn finish<R: Wait>(&self, rt: &R, seat: Seat<L>) -> FinishedIn<L>
+        ensures { FinishesBy seat result }
+    {
         let mut held = self.held.lock(rt);
         finish(&mut held, self.alloc, seat)
     }
 
-    fn hang_up<R: Wait>(&self, rt: &R, seat: Seat) -> Ended {
+    fn hang_up<R: Wait>(&self, rt: &R, seat: Seat<L>) -> EndedIn<L>
+        ensures { HangsUpBy seat result }
+    {
         let mut held = self.held.lock(rt);
         acts::exit(&mut held.book, seat, Why::HungUp)
     }

@@ -3,30 +3,31 @@
 ghost use Rattle.std.specs.Prelude.{◌≡◌, false, All};
 ghost use Rattle.system_lock.specs.Kernel.{IsOpening, OpensBy, CallsBy, HangsUpBy};
 ghost use Rattle.system_lock.specs.Acts.{TriesBy};
-ghost use Rattle.system_lock.specs.System.{IsClosedRun, SleepsSound, is_ready_in};
+ghost use Rattle.system_lock.specs.System.{SleepsSound, is_ready_in};
 
 use crate::acts;
-use crate::acts::Tried;
+use crate::acts::{Tried, TriedIn};
 use crate::bells::Bells;
-use crate::kernel::{Ended, Why};
+use crate::kernel::{EndedIn, Why};
+use byte_ledger::ledgers::{Blanks, Ledgers};
 use call_types::call::Call;
 use call_types::limits::{Limits, PROCESSES_MAX};
 use call_types::refusal::Refusal;
 use call_types::request::Request;
-use record_book::book::{Book, Counts};
-use record_book::opening::Opened;
+use record_book::book::Book;
+use record_book::opening::OpenedIn;
 use record_book::seat::{Receipt, Seat};
 use std::alloc::{AllocError, Global};
 use std::marker::Model;
 
 /// A book, and the numbers of the processes that sleep until the call that they wait in is ready. None of these is ready.
 #[derive(Drop)]
-pub struct System {
-    book: Book,
+pub struct System<L: Ledgers> {
+    book: Book<L>,
     asleep: Vec<u32>,
 }
 
-impl Model for System {
+impl<L: Ledgers> Model for System<L> {
     ghost use Rattle.system_lock.specs.System.{SystemState, SleepsSound};
 
     ghost Value = { SystemState };
@@ -37,7 +38,7 @@ impl Model for System {
 }
 
 /// Takes the processes that wait in a call that is ready out of those that sleep, and wakes them.
-fn wake_ready(asleep: &mut Vec<u32>, book: &Book, bells: &Bells)
+fn wake_ready<L: Ledgers>(asleep: &mut Vec<u32>, book: &Book<L>, bells: &Bells)
     ensures { SleepsSound book.now asleep.new.items }
 {
     asleep.retain(|process| {
@@ -49,11 +50,13 @@ fn wake_ready(asleep: &mut Vec<u32>, book: &Book, bells: &Bells)
     });
 }
 
-impl System {
+impl<L: Ledgers> System<L> {
     /// A new book, in which no process sleeps.
-    pub(crate) fn new(alloc: Global, limits: Limits) -> Result<Self, AllocError> {
+    pub(crate) fn new(alloc: Global, limits: Limits, blanks: Blanks) -> Result<Self, AllocError>
+        requires { blanks ≡ L.names }
+    {
         Ok(System {
-            book: Book::new(alloc, limits)?,
+            book: Book::new(alloc, limits, blanks)?,
             asleep: Vec::with_capacity(alloc, PROCESSES_MAX)?,
         })
     }
@@ -67,19 +70,10 @@ impl System {
     }
 
     /// The book.
-    pub fn into_book(self) -> Book
+    pub fn into_book(self) -> Book<L>
         ensures { result ≡ self.book_is }
     {
         self.book
-    }
-
-    /// Closes the run, wakes whom that concerns, and tells what the book holds.
-    pub(crate) fn close_run(&mut self, bells: &Bells) -> Counts
-        ensures { IsClosedRun result.records result.bytes_in result.bytes_out }
-    {
-        let _house = self.book.close_run();
-        wake_ready(&mut self.asleep, &self.book, bells);
-        self.book.counts()
     }
 
     /// Whether a process sleeps.
@@ -93,7 +87,7 @@ impl System {
         alloc: Global,
         bells: &Bells,
         request: Request,
-    ) -> Result<Opened, Refusal>
+    ) -> Result<OpenedIn<L>, Refusal>
         requires { IsOpening request }
         ensures { OpensBy request result }
     {
@@ -107,7 +101,7 @@ impl System {
         &mut self,
         alloc: Global,
         bells: &Bells,
-        seat: &mut Seat,
+        seat: &mut Seat<L>,
         call: Call,
     ) -> Result<Receipt, Refusal>
         ensures { CallsBy seat.old seat.new call result }
@@ -118,7 +112,7 @@ impl System {
     }
 
     /// Takes up the call that a process waits in. Where it is not ready, the process sleeps from now on.
-    pub(crate) fn take_up(&mut self, alloc: Global, bells: &Bells, seat: Seat) -> Tried
+    pub(crate) fn take_up(&mut self, alloc: Global, bells: &Bells, seat: Seat<L>) -> TriedIn<L>
         ensures { TriesBy seat result }
     {
         let process = seat.pid();
@@ -134,7 +128,7 @@ impl System {
     }
 
     /// Records the exit of a process, and wakes whom it concerns.
-    pub(crate) fn hang_up(&mut self, bells: &Bells, seat: Seat) -> Ended
+    pub(crate) fn hang_up(&mut self, bells: &Bells, seat: Seat<L>) -> EndedIn<L>
         ensures { HangsUpBy seat result }
     {
         let ended = acts::exit(&mut self.book, seat, Why::HungUp);

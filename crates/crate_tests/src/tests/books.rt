@@ -1,4 +1,8 @@
 //! A book by its seats: what a server will call, and a script does not.
+
+ghost use Rattle.std.specs.Prelude.{◌≡◌};
+
+use byte_ledger::ledgers::{Blanks, Ledgers};
 use call_types::act::{Act, HOUSE};
 use call_types::bounded::Name;
 use call_types::call::Call;
@@ -11,10 +15,11 @@ use record_book::book::Book;
 use record_book::opening::Opened;
 use record_book::seat::{Receipt, Seat};
 use std::alloc::Global;
+use std::marker::Brand;
 use std::test::Fail;
 
 /// The seat of the next process.
-fn joined(alloc: Global, book: &mut Book) -> Result<Seat, Fail> {
+fn joined<L: Ledgers>(alloc: Global, book: &mut Book<L>) -> Result<Seat<L>, Fail> {
     match book.join(alloc) {
         Ok(Opened::Seated(seat)) => Ok(seat),
         _ => Err("there is room for a process")?,
@@ -56,7 +61,7 @@ fn is_closing(receipt: &Receipt, place: u64) -> bool {
 }
 
 /// The seat of a child that an attach gives.
-fn attached(alloc: Global, book: &mut Book, process: u32) -> Result<Seat, Fail> {
+fn attached<L: Ledgers>(alloc: Global, book: &mut Book<L>, process: u32) -> Result<Seat<L>, Fail> {
     match book.attach(alloc, process) {
         Ok(Opened::Seated(seat)) => Ok(seat),
         _ => Err("the child waits for its connection")?,
@@ -64,7 +69,11 @@ fn attached(alloc: Global, book: &mut Book, process: u32) -> Result<Seat, Fail> 
 }
 
 /// How many records a seat has seen, and the book has, of a call that is refused as another book's.
-fn foreign(alloc: Global, book: &mut Book, seat: &mut Seat) -> Option<(u64, u64)> {
+fn foreign<L: Ledgers>(
+    alloc: Global,
+    book: &mut Book<L>,
+    seat: &mut Seat<L>,
+) -> Option<(u64, u64)> {
     match book.start(alloc, seat, Call::Close { fd: 0 }) {
         Err(Refusal::Foreign { seen, len }) => Some((seen, len)),
         _ => None,
@@ -72,7 +81,7 @@ fn foreign(alloc: Global, book: &mut Book, seat: &mut Seat) -> Option<(u64, u64)
 }
 
 /// Whether the process of a seat makes a new file and opens it, as record 1.
-fn opens(alloc: Global, book: &mut Book, seat: &mut Seat) -> bool {
+fn opens<L: Ledgers>(alloc: Global, book: &mut Book<L>, seat: &mut Seat<L>) -> bool {
     let name = match Name::copied(alloc, b"a") {
         Ok(name) => name,
         Err(_) => return false,
@@ -85,19 +94,21 @@ fn opens(alloc: Global, book: &mut Book, seat: &mut Seat) -> bool {
 }
 
 /// Whether the process of a seat makes so many children.
-fn forks(alloc: Global, book: &mut Book, seat: &mut Seat, children: u32) -> bool {
+fn forks<L: Ledgers>(alloc: Global, book: &mut Book<L>, seat: &mut Seat<L>, children: u32) -> bool {
     (0..children).all(|_| book.start(alloc, seat, Call::Fork).is_ok())
 }
 
 /// How many records a seat has seen, and how many receipts it has.
-fn held(seat: &Seat) -> (u64, usize) {
+fn held<L: Ledgers>(seat: &Seat<L>) -> (u64, usize) {
     (seat.seen(), seat.receipts().len())
 }
 
-#[test]
-fn seat_has_its_receipts_and_is_of_one_book(rt: HostRuntime) -> Result<(), Fail> {
+/// A seat of one book is told of more records than the book has.
+fn is_of_one_book<L: Ledgers>(rt: &HostRuntime, blanks: Blanks) -> Result<(), Fail>
+    requires { blanks ≡ L.names }
+{
     let alloc = rt.alloc();
-    let mut book = Book::new(alloc, Limits::new(10)?)?;
+    let mut book = Book::<L>::new(alloc, Limits::new(10)?, blanks)?;
     let mut seat = joined(alloc, &mut book)?;
     assert!(rt; opens(alloc, &mut book, &mut seat));
     assert_eq!(rt; (seat.pid(), held(&seat)), (0, (2, 2)));
@@ -107,8 +118,13 @@ fn seat_has_its_receipts_and_is_of_one_book(rt: HostRuntime) -> Result<(), Fail>
     Ok(())
 }
 
+#[test]
+fn seat_has_its_receipts_and_is_of_one_book(rt: HostRuntime) -> Result<(), Fail> {
+    is_of_one_book::<Brand>(&rt, Blanks::new())
+}
+
 /// Whether the book refuses the exit of a seat that has seen 3 records, and gives that seat back.
-fn gives_back(book: &mut Book, seat: Seat) -> bool {
+fn gives_back<L: Ledgers>(book: &mut Book<L>, seat: Seat<L>) -> bool {
     match book.exit(seat) {
         Ok(_) => false,
         Err(unspent) => {
@@ -119,10 +135,12 @@ fn gives_back(book: &mut Book, seat: Seat) -> bool {
     }
 }
 
-#[test]
-fn exit_in_another_book_gives_the_seat_back(rt: HostRuntime) -> Result<(), Fail> {
+/// An exit of such a seat.
+fn gives_the_seat_back<L: Ledgers>(rt: &HostRuntime, blanks: Blanks) -> Result<(), Fail>
+    requires { blanks ≡ L.names }
+{
     let alloc = rt.alloc();
-    let mut book = Book::new(alloc, Limits::new(10)?)?;
+    let mut book = Book::<L>::new(alloc, Limits::new(10)?, blanks)?;
     let mut seat = joined(alloc, &mut book)?;
     seat.told(3);
     assert!(rt; gives_back(&mut book, seat));
@@ -130,8 +148,13 @@ fn exit_in_another_book_gives_the_seat_back(rt: HostRuntime) -> Result<(), Fail>
     Ok(())
 }
 
+#[test]
+fn exit_in_another_book_gives_the_seat_back(rt: HostRuntime) -> Result<(), Fail> {
+    gives_the_seat_back::<Brand>(&rt, Blanks::new())
+}
+
 /// Whether a second attach of process 1 is recorded as refused, at place 3.
-fn is_attached_once(alloc: Global, book: &mut Book) -> bool {
+fn is_attached_once<L: Ledgers>(alloc: Global, book: &mut Book<L>) -> bool {
     match book.attach(alloc, 1) {
         Ok(Opened::Refused(spent)) => match spent.receipts() {
             [only] => (spent.pid(), spent.seen()) == (1, 4) && is_error(only, 3, Errno::ESRCH),
@@ -142,7 +165,7 @@ fn is_attached_once(alloc: Global, book: &mut Book) -> bool {
 }
 
 /// Whether the exit of process 1 is recorded at place 4.
-fn ends(book: &mut Book, child: Seat) -> bool {
+fn ends<L: Ledgers>(book: &mut Book<L>, child: Seat<L>) -> bool {
     match book.exit(child) {
         Ok(spent) => match spent.receipts() {
             [_attach, exit] => (spent.pid(), spent.seen()) == (1, 5) && is_exit(exit, 4, 1),
@@ -152,10 +175,12 @@ fn ends(book: &mut Book, child: Seat) -> bool {
     }
 }
 
-#[test]
-fn child_is_attached_once_and_ends(rt: HostRuntime) -> Result<(), Fail> {
+/// A child that is attached, and ends.
+fn attaches_once<L: Ledgers>(rt: &HostRuntime, blanks: Blanks) -> Result<(), Fail>
+    requires { blanks ≡ L.names }
+{
     let alloc = rt.alloc();
-    let mut book = Book::new(alloc, Limits::new(20)?)?;
+    let mut book = Book::<L>::new(alloc, Limits::new(20)?, blanks)?;
     let mut parent = joined(alloc, &mut book)?;
     assert!(rt; forks(alloc, &mut book, &mut parent, 1));
     let child = attached(alloc, &mut book, 1)?;
@@ -165,8 +190,13 @@ fn child_is_attached_once_and_ends(rt: HostRuntime) -> Result<(), Fail> {
     Ok(())
 }
 
+#[test]
+fn child_is_attached_once_and_ends(rt: HostRuntime) -> Result<(), Fail> {
+    attaches_once::<Brand>(&rt, Blanks::new())
+}
+
 /// Whether the closing ends processes 1 and 3, which have no connection, and stands at place 7.
-fn ends_one_and_three(book: &mut Book) -> bool {
+fn ends_one_and_three<L: Ledgers>(book: &mut Book<L>) -> bool {
     match book.close_run() {
         Some(house) => match house.receipts() {
             [first, second, last] => {
@@ -181,10 +211,12 @@ fn ends_one_and_three(book: &mut Book) -> bool {
     }
 }
 
-#[test]
-fn closing_ends_the_children_without_a_connection(rt: HostRuntime) -> Result<(), Fail> {
+/// Two children that are never attached.
+fn ends_orphans<L: Ledgers>(rt: &HostRuntime, blanks: Blanks) -> Result<(), Fail>
+    requires { blanks ≡ L.names }
+{
     let alloc = rt.alloc();
-    let mut book = Book::new(alloc, Limits::new(20)?)?;
+    let mut book = Book::<L>::new(alloc, Limits::new(20)?, blanks)?;
     let mut parent = joined(alloc, &mut book)?;
     assert!(rt; forks(alloc, &mut book, &mut parent, 3));
     let _child = attached(alloc, &mut book, 2)?;
@@ -192,4 +224,9 @@ fn closing_ends_the_children_without_a_connection(rt: HostRuntime) -> Result<(),
     assert!(rt; book.close_run().is_none());
     assert_eq!(rt; book.counts().records, 8);
     Ok(())
+}
+
+#[test]
+fn closing_ends_the_children_without_a_connection(rt: HostRuntime) -> Result<(), Fail> {
+    ends_orphans::<Brand>(&rt, Blanks::new())
 }

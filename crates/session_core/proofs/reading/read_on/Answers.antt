@@ -1,5 +1,5 @@
 use Rattle.std.proofs.Common.{ℕ, ◌≤◌, sym, ◌∙◌, ap, subst}
-use Rattle.session_core.specs.declared.stage.Turn.{Turn}
+use Rattle.session_core.specs.Stages.{Turn}
 use Rattle.session_core.specs.Reading.{ReadsOn}
 use Rattle.session_core.specs.Streams.{LogState, ReadsOnce}
 use Rattle.session_core.proofs.ReadLemmas as laws

@@ -5,4 +5,4 @@ use Rattle.system_lock.proofs.system.wake_ready.Goals as goal
 
 -- whom the closure keeps is not ready
 pub returns : goal.returns
-returns c = All-from_retain _ (λ process. is_ready_in c.args.book.now process ≡ false) _ (λ x b f' k. search rules) _ _ c.retain.ensures.filtered
+returns g c = All-from_retain _ (λ process. is_ready_in c.args.book.now process ≡ false) _ (λ x b f' k. search rules) _ _ c.retain.ensures.filtered

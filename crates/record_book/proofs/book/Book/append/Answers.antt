@@ -1,91 +1,12 @@
-use Rattle.std.proofs.Common.{◌≡◌, ◌≤◌, ◌+◌, ◌∙◌, cond, None, Some, refl, sym, ap, subst, arith, length}
-use Rattle.std.specs.Arc.{arc_value}
-use Rattle.std.proofs.lemmas.List.{map-append}
-use Rattle.call_types.specs.declared.act.Record.{Record}
-use Rattle.call_types.specs.declared.limits.TheConstants.{GIVEN_BYTES_MAX}
-use Rattle.call_types.specs.Stored.{part_bytes}
-use Rattle.slots.specs.Slots.{live}
-use Rattle.posix_model.specs.Whole.{EachThere, IsItsFifo}
-use Rattle.posix_model.specs.declared.world.World.{World}
-use Rattle.posix_model.specs.Step.{given, stepped}
-use Rattle.posix_model.specs.Sound.{data_of, ended_by, adds, ended, closes}
-use Rattle.posix_model.specs.Turns.{took, gave}
-use Rattle.record_book.specs.Book.{world_now}
-use Rattle.record_book.specs.Inside.{state_of, prepared_closing}
-use Rattle.record_book.specs.Exits.{closing_record, prepared_for}
-use Rattle.record_book.proofs.GrowLemmas.{book_grows, book_stays, closed_same}
-use Rattle.record_book.proofs.ExitLemmas.{exits_changed, prepared_count, house_grows}
+use Rattle.std.proofs.Common.{◌≡◌, ap, arith}
+use Rattle.record_book.proofs.CountLemmas.{counts_appended}
 use Rattle.record_book.proofs.book.Book.append.Goals as goal
 
-pub apply-requires-clause-ends : goal.apply-requires-clause-ends
-apply-requires-clause-ends c =
-    let planned = rw (← c.self.view_is) at c.requires.planned in
-    let P : World → Type 0 = λ w. EachThere (λ d. IsItsFifo w.files d.target) w.descriptions in
-    subst P (sym (c.in_ok-reserve_for.ensures.world ∙ c.self.invariant.world)) planned.whole.ends
-
 pub invariant_of-self-2 : goal.invariant_of-self-2
-invariant_of-self-2 c =
-    let b = c.self.inside in
-    let w = world_now (state_of b) in
-    let planned = rw (← c.self.view_is) at c.requires.planned in
-    let r : Record = record { actor = c.args.actor; act = c.args.act; outcome = c.args.decided.outcome } in
-    let item_is : arc_value c.in_ok-item.item ≡ r = c.in_ok-item.ensures.ok in
-    let given_is : part_bytes c.given-bytes.result ≡ given c.args.act = rw (c.given-bytes.ensures.bytes, c.deref.ensures, item_is) refl in
-    let took_is : c.took.result ≡ took w r = rw (c.took.ensures, c.deref-3.ensures, item_is, c.in_ok-reserve_for.ensures.world, c.self.invariant.world) refl in
-    let gave_is : c.gave.result ≡ gave w r = rw (c.gave.ensures.bytes w, c.deref-4.ensures, item_is) refl in
-    let w_is : b.machine.world ≡ w = c.self.invariant.world in
-    let next = (stepped w (given r.act) c.args.decided).world in
-    let none : ended_by c.args.decided.change.process ≡ 0 = planned.told.ended ∙ c.requires.ends in
-    let number_is : c.next_process-number.result ≡ length w.processes = rw (c.next_process-number.ensures, c.in_ok-reserve_for.ensures.world, w_is) refl in
-    let live_is : c.live_processes-live.result ≡ live w.processes = rw (c.live_processes-live.ensures, c.in_ok-reserve_for.ensures.world, w_is) refl in
-    let prepared_is : c.in_ok-prepared.prepared ≡ prepared_for (length w.processes) c.args.decided.change.process =
-    c.in_ok-prepared.ensures.prepared ∙ ap (λ n. prepared_for n c.args.decided.change.process) number_is in
-    book_grows b _ r c.args.decided c.self.invariant (record {
-      planned = planned;
-      outcome = refl;
-      records = rw (c.push_reserved.ensures.items, map-append, item_is) refl;
-      limits = refl;
-      world = rw (c.apply.ensures.world, c.in_ok-reserve_for.ensures.world, c.self.invariant.world, given_is) refl;
-      few_taken =
-          let data_is : part_bytes c.data_of-data.result ≡ data_of w c.args.actor c.args.act = rw (c.data_of-data.ensures.bytes, c.deref-2.ensures, item_is, c.in_ok-reserve_for.ensures.world, w_is) refl in
-          let short : length (data_of w c.args.actor c.args.act) ≤ GIVEN_BYTES_MAX = rw (← data_is) c.data_of-data.ensures.few in
-          omega (arith, planned.few, short);
-      few_given = let few = rw gave_is at c.gave.ensures.few in omega (arith, few);
-      taken = rw took_is refl;
-      given_is = rw gave_is refl;
-      room = c.push_reserved.ensures.capacity;
-      capacity = c.apply.ensures.capacity ∙ c.in_ok-reserve_for.ensures.capacity;
-      exits = rw (c.keep_exit.ensures, prepared_is, c.in_ok-prepared.ensures.exits, c.self.invariant.exits, w_is) (sym (exits_changed w (given r.act) c.args.decided.change none));
-      closing =
-          c.in_ok-prepared.ensures.house.closing ∙ c.self.invariant.closing ∙ ap prepared_closing w_is ∙
-          ap (λ b. cond b None (Some closing_record)) (sym (closed_same w next (ended r.act) (adds w r.act) (closes r.act) planned.counts c.requires.closes));
-      house =
-          let grown = house_grows b.house _ (live w.processes) (adds w r.act) c.in_ok-prepared.prepared c.in_ok-prepared.ensures.house (rw (← w_is) c.self.invariant.house)
-          (λ some. rw (← live_is) (c.in_ok-prepared.ensures.house_room some)) (sym planned.told.planned ∙ rw prepared_is (prepared_count (length w.processes) c.args.decided.change.process)) in
-          let living : live next.processes ≡ live w.processes + adds w r.act = omega (arith, planned.counts.living, c.requires.ends) in
-          rw living grown;
-    })
-
-pub invariant_of-self-in_err-prepared : goal.invariant_of-self-in_err-prepared
-invariant_of-self-in_err-prepared c = book_stays c.self.inside _ c.self.invariant (record {
-  world = c.in_ok-reserve_for.ensures.world;
-  capacity = c.in_ok-reserve_for.ensures.capacity;
-  history = refl;
-  limits = refl;
-  bytes_in = refl;
-  bytes_out = refl;
-  exits = c.in_err-prepared.ensures.exits;
-  house = c.in_err-prepared.ensures.house;
-})
-
-pub invariant_of-self-in_err-receive : goal.invariant_of-self-in_err-receive
-invariant_of-self-in_err-receive c = book_stays c.self.inside _ c.self.invariant (record {
-  world = c.in_ok-reserve_for.ensures.world;
-  capacity = c.in_ok-reserve_for.ensures.capacity;
-  history = refl;
-  limits = refl;
-  bytes_in = refl;
-  bytes_out = refl;
-  exits = c.in_ok-prepared.ensures.exits;
-  house = c.in_ok-prepared.ensures.house;
-})
+invariant_of-self-2 g c =
+    let moved = c.in_ok-appended.ensures.moved in
+    let none = c.requires.opens in
+    let same : c.count.new.self.opened ≡ c.self.inside.tallies.opened = ap (λ t. t.opened) c.count.ensures.tallies in
+    counts_appended c.processes_are_counted.ensures.planned c.self.inside.journal c.append.new.self c.self.inside.tallies c.count.new.self c.self.inside.house _ c.args.act c.in_ok-appended.appended.receipt
+    c.in_ok-appended.appended.taken c.in_ok-appended.appended.given c.self.invariant c.in_ok-appended.ensures.appends c.requires.closes (omega (arith, none)) moved.taken moved.given moved.few_taken moved.few_given
+    (ap (λ t. t.counted) c.count.ensures.tallies) (omega (arith, same, none))

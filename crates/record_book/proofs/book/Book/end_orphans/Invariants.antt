@@ -7,7 +7,7 @@ use Rattle.record_book.proofs.book.Book.end_orphans.Given as goal
 
 -- the exits so far, and those that are left
 abbrev pub invariant-loop-process : goal.invariant-loop-process
-invariant-loop-process l =
+invariant-loop-process g l =
     let left = exits_behind l.process (world_now l.self).processes in
     record {
       limits : l.self.limits ≡ l.fn.self.limits;

@@ -1,23 +1,25 @@
-use Rattle.std.proofs.Common.{◌≡◌, ◌∙◌, false, Some, refl, sym}
-use Rattle.std.proofs.lemmas.List.{map-append}
-use Rattle.record_book.specs.Exits.{closing_record}
-use Rattle.record_book.proofs.ExitLemmas.{closing_is}
-use Rattle.record_book.proofs.GrowLemmas.{book_shuts}
+use Rattle.std.proofs.Common.{◌≡◌, ◌∙◌, Some, refl, sym}
+use Rattle.record_book.proofs.CountLemmas.{counts_closing, house_counts}
 use Rattle.record_book.proofs.book.Book.record_closing.Goals as goal
 
 pub invariant_of-self : goal.invariant_of-self
-invariant_of-self c =
-    let stays_open : c.self.inside.machine.world.closed ≡ false = rw c.self.invariant.world (rw (← c.self.view_is) at c.requires) in
-    let has : c.self.inside.house ≡ Some c.in-Some.house = sym c.take.ensures.value ∙ c.in-Some.is in
-    let closing : c.in-Some.house.closing ≡ closing_record = closing_is c.in-Some.house.closing c.self.inside.machine.world (rw has at c.self.invariant.closing) stays_open in
-    book_shuts c.self.inside _ c.self.invariant (rw (← c.self.view_is, c.decide_close_run-decided.ensures) at c.is_planned.ensures) (record {
-      records = rw (c.push_reserved.ensures.items, map-append, c.shares-kept.ensures.kept, closing) refl;
-      limits = refl;
-      world = rw (c.apply.ensures.world, c.decide_close_run-decided.ensures) refl;
-      capacity = c.apply.ensures.capacity;
-      bytes_in = refl;
-      bytes_out = refl;
-      room = c.push_reserved.ensures.capacity;
-      exits = refl;
-      house = c.take.ensures.after;
+invariant_of-self g c =
+    let has : c.self.inside.house ≡ Some c.in-Some.shares = sym c.take.ensures.value ∙ c.in-Some.is in
+    rw c.take.ensures.after
+    (counts_closing c.self.inside.journal c.record_closing-receipts.new.self c.self.inside.tallies c.count.new.self c.in-Some.shares c.record_closing-receipts.result.items (rw has at c.self.invariant)
+    c.record_closing-receipts.ensures c.count.ensures.tallies)
+
+pub returns : goal.returns
+returns g c =
+    let has : c.self.inside.house ≡ Some c.in-Some.shares = sym c.take.ensures.value ∙ c.in-Some.is in
+    let shut = c.record_closing-receipts.ensures in
+    rw (← c.self.view_is) (record {
+      limits = shut.limits;
+      history = shut.history;
+      pid = refl;
+      seen = c.len.ensures;
+      receipts = shut.receipts_are;
+      counts = house_counts c.self.inside.journal c.record_closing-receipts.new.self c.in-Some.shares c.count.new.shares c.record_closing-receipts.result.items c.self.inside.tallies (rw has at c.self.invariant) shut
+          c.count.ensures.shares;
+      given_away = shut.given_away;
     })

@@ -1,25 +1,12 @@
-use Rattle.std.proofs.Common.{◌≡◌, true, refl, arith}
-use Rattle.std.specs.Prelude.{is_some}
-use Rattle.slots.specs.Slots.{slot, live}
-use Rattle.record_book.proofs.ExitLemmas.{prepared_there, room_less}
-use Rattle.record_book.proofs.GrowLemmas.{book_ends}
+use Rattle.std.proofs.Common.{◌≡◌, refl, ap, arith}
+use Rattle.call_types.specs.declared.act.Act.TheVariants as act
+use Rattle.record_book.proofs.CountLemmas.{counts_appended}
 use Rattle.record_book.proofs.book.Book.record_exit.Goals as goal
 
-pub end_process-requires-clause-prepared : goal.end_process-requires-clause-prepared
-end_process-requires-clause-prepared c =
-    let there : is_some (slot c.self.inside.machine.world.processes c.args.process) ≡ true = rw c.self.invariant.world (rw (← c.self.view_is) at c.requires) in
-    rw c.self.invariant.exits (prepared_there c.self.inside.machine.world.processes c.args.process there)
-
 pub invariant_of-self : goal.invariant_of-self
-invariant_of-self c = book_ends c.self.inside _ c.args.process c.self.invariant (rw (← c.self.view_is) at c.is_exit_planned.ensures) (record {
-  records = c.end_process.ensures.history;
-  limits = refl;
-  world = c.end_process.ensures.world;
-  bytes_in = refl;
-  bytes_out = refl;
-  room = c.end_process.ensures.capacity;
-  capacity = c.end_process.ensures.pipes;
-  exits = c.end_process.ensures.exits;
-  closing = refl;
-  house = λ k less. room_less (live c.self.inside.machine.world.processes) k c.self.inside.house (omega (arith, less)) c.self.invariant.house;
-})
+invariant_of-self g c =
+    let receipt = c.record_exit-receipt.result in
+    let same : c.count.new.self.opened ≡ c.self.inside.tallies.opened = ap (λ t. t.opened) c.count.ensures.tallies in
+    counts_appended c.processes_are_counted.ensures.planned c.self.inside.journal c.record_exit-receipt.new.self c.self.inside.tallies c.count.new.self c.self.inside.house _ act.Exit receipt 0 0
+    c.self.invariant c.record_exit-receipt.ensures.appends refl (omega arith) (rw c.record_exit-receipt.ensures.record_is refl) (rw c.record_exit-receipt.ensures.record_is refl) (omega arith) (omega arith)
+    (ap (λ t. t.counted) c.count.ensures.tallies) (omega (arith, same))

@@ -3,7 +3,7 @@ use Rattle.std.proofs.lemmas.List.{take_more}
 use Rattle.record_book.proofs.book.Book.run_acts.Goals as goal
 
 pub loop-act-preserved : goal.loop-act-preserved
-loop-act-preserved c =
+loop-act-preserved g c =
     let within : c.loop-act.act-index < length c.args.acts.now = c.loop-act-test.true in
     record {
       runs = rw (take_more c.args.acts.now c.loop-act.act-index c.act-item.result within, ← c.act-item.is, c.push_reserved.ensures.items)

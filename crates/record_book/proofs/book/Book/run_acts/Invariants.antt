@@ -4,7 +4,7 @@ use Rattle.record_book.proofs.book.Book.run_acts.Given as goal
 
 -- what is told so far is that of the acts so far
 abbrev pub invariant-loop-act : goal.invariant-loop-act
-invariant-loop-act l =
+invariant-loop-act g l =
     record {
       runs : RunTells l.fn.self l.self [] l.seats.0 (take l.act-index l.acts) l.told.items;
       limits : l.self.limits ≡ l.fn.self.limits;

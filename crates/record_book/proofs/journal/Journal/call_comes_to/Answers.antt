@@ -4,7 +4,7 @@ use Rattle.call_types.specs.declared.limits.Bounds.{Bounds}
 use Rattle.posix_model.specs.Step.{decided}
 use Rattle.posix_model.specs.declared.world.World.{World}
 use Rattle.record_book.specs.Book.{world_now}
-use Rattle.record_book.proofs.book.Book.call_comes_to.Goals as goal
+use Rattle.record_book.proofs.journal.Journal.call_comes_to.Goals as goal
 
 pub returns : goal.returns
 returns c =

@@ -1,5 +1,5 @@
 use Rattle.std.proofs.Common.{◌≡◌}
-use Rattle.system_lock.proofs.lock.SystemLockKernel.finish.Given as goal
+use Rattle.system_lock.proofs.lock.SystemLockKernelSeatSpentSeat.finish.Given as goal
 
 -- the seat stays as it was
 abbrev pub invariant-loop : goal.invariant-loop

@@ -1,6 +1,6 @@
 use Rattle.std.proofs.Common.{◌∙◌}
 use Rattle.fdref.proofs.ServeLemmas.{reports_by}
-use Rattle.fdref.proofs.serve.serve_on.Goals as goal
+use Rattle.fdref.proofs.serve.serve_with.Goals as goal
 
 pub returns-in-Ok-write_lines : goal.returns-in-Ok-write_lines
 returns-in-Ok-write_lines g c =

@@ -1,5 +1,5 @@
 use Rattle.record_book.proofs.PlanLemmas.{plans}
-use Rattle.record_book.proofs.book.Book.is_planned.Goals as goal
+use Rattle.record_book.proofs.journal.Journal.is_planned.Goals as goal
 
 pub returns : goal.returns
 returns c =

@@ -5,7 +5,7 @@ use Rattle.slots.specs.Slots.{live}
 use Rattle.posix_model.specs.Sound.{adds}
 use Rattle.record_book.specs.Book.{world_now, world_after, exits_left}
 use Rattle.record_book.proofs.PlanLemmas.{call_exits}
-use Rattle.record_book.proofs.book.Book.call_overfills.Goals as goal
+use Rattle.record_book.proofs.journal.Journal.call_overfills.Goals as goal
 
 pub returns : goal.returns
 returns c =

@@ -1,0 +1,23 @@
+-- What the three tallies of a run count (own).
+use Rattle.std.specs.Prelude.{ℕ, ◌+◌}
+
+-- what the three ledgers of a run are called
+pub record Names : Type 0 where
+  pub records : ℕ
+  pub bytes_in : ℕ
+  pub bytes_out : ℕ
+
+-- how many records were counted, and how many bytes they took and gave
+pub record Counted : Type 0 where
+  pub records : ℕ
+  pub bytes_in : ℕ
+  pub bytes_out : ℕ
+
+-- the same with one record more, which took and gave so many bytes
+abbrev pub counted_more : ℕ → ℕ → Counted → Counted
+counted_more taken given c = record { records = c.records + 1; bytes_in = c.bytes_in + taken; bytes_out = c.bytes_out + given }
+
+-- how many holders have shares, and what was counted through all of them
+pub record TalliesState : Type 0 where
+  pub opened : ℕ
+  pub counted : Counted

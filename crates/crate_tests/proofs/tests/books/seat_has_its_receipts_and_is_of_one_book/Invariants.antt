@@ -1,0 +1,5 @@
+-- The ledgers of the run are those that the call makes.
+use Rattle.crate_tests.proofs.tests.books.seat_has_its_receipts_and_is_of_one_book.Given as goal
+
+abbrev pub ghosts-is_of_one_book : goal.ghosts-is_of_one_book
+ghosts-is_of_one_book g a = record { names = a.blanks }

@@ -1,0 +1,23 @@
+use Rattle.std.proofs.Common.{◌≡◌, true, refl, arith}
+use Rattle.std.specs.Prelude.{is_some}
+use Rattle.slots.specs.Slots.{slot, live}
+use Rattle.record_book.proofs.ExitLemmas.{prepared_there, room_less}
+use Rattle.record_book.proofs.GrowLemmas.{journal_ends}
+use Rattle.record_book.proofs.journal.Journal.record_exit.Goals as goal
+
+pub end_process-requires-clause-prepared : goal.end_process-requires-clause-prepared
+end_process-requires-clause-prepared c =
+    let there : is_some (slot c.self.inside.machine.world.processes c.args.process) ≡ true = rw c.self.invariant.world (rw (← c.self.view_is) at c.requires) in
+    rw c.self.invariant.exits (prepared_there c.self.inside.machine.world.processes c.args.process there)
+
+pub invariant_of-self : goal.invariant_of-self
+invariant_of-self c = journal_ends c.self.inside _ c.args.process c.self.invariant (rw (← c.self.view_is) at c.is_exit_planned.ensures) (record {
+  records = c.end_process.ensures.history;
+  limits = refl;
+  world = c.end_process.ensures.world;
+  room = c.end_process.ensures.capacity;
+  capacity = c.end_process.ensures.pipes;
+  exits = c.end_process.ensures.exits;
+  closing = refl;
+  house = λ k less. room_less (live c.self.inside.machine.world.processes) k c.self.inside.house (omega (arith, less)) c.self.invariant.house;
+})

@@ -1,0 +1,14 @@
+-- What is told of a record that a journal appended, beside the record (own).
+use Rattle.std.specs.Prelude.{◌≡◌, ℕ, ◌≤◌}
+use Rattle.call_types.specs.declared.limits.TheConstants.{GIVEN_BYTES_MAX}
+use Rattle.posix_model.specs.Turns.{took, gave}
+use Rattle.record_book.specs.Book.{BookState, world_now}
+use Rattle.record_book.specs.declared.append.Appended.{Appended}
+
+-- its receipt is there twice, and the bytes are those that it took and gave in the world before it
+pub record TellsMoved (old : BookState) (a : Appended) : Type 0 where
+  pub shared : a.shared ≡ a.receipt
+  pub taken : a.taken ≡ took (world_now old) a.receipt.record_is
+  pub given : a.given ≡ gave (world_now old) a.receipt.record_is
+  pub few_taken : a.taken ≤ GIVEN_BYTES_MAX
+  pub few_given : a.given ≤ GIVEN_BYTES_MAX

@@ -1,0 +1,97 @@
+//! What a book holds of a run but for what is counted: its records, and the machine after them.
+
+ghost use Rattle.std.specs.Prelude.{◌≡◌, ◌≤◌, ◌+◌, false, true, is_some, length, IfOk};
+ghost use Rattle.slots.specs.Slots.{slot};
+ghost use Rattle.process_table.specs.Processes.{awaits};
+ghost use Rattle.posix_model.specs.History.{legal};
+ghost use Rattle.record_book.specs.Book.{new_book, world_now, exits_left};
+
+use crate::house::House;
+use crate::prepared::Prepared;
+use call_types::act::{Act, HOUSE, Record};
+use call_types::limits::{Limits, PROCESSES_MAX};
+use machine_state::machine::Machine;
+use posix_model::reader::Reader;
+use slots::numbered::Numbered;
+use std::alloc::{AllocError, Global};
+use std::marker::Model;
+use std::sync::Arc;
+
+/// The records of a run in their order, and the machine that they led to. Contracts see what they see of a book.
+#[derive(Drop)]
+pub(crate) struct Journal {
+    pub(crate) machine: Machine,
+    pub(crate) history: Vec<Arc<Record>>,
+    pub(crate) limits: Limits,
+    pub(crate) exits: Numbered<Prepared>,
+    pub(crate) house: Option<House>,
+}
+
+impl Model for Journal {
+    ghost use Rattle.record_book.specs.Book.{BookState};
+
+    ghost Value = { BookState };
+
+    ghost use Rattle.record_book.specs.Inside.{state_of, IsJournal};
+
+    ghost view = { state_of };
+
+    ghost invariant = { IsJournal };
+}
+
+impl Journal {
+    /// A journal without records, with room for all of them, and with all that the closing of its run will need.
+    pub(crate) fn new(alloc: Global, limits: Limits) -> Result<Self, AllocError>
+        ensures { IfOk result (λ journal. journal ≡ new_book limits) }
+    {
+        let records = limits.records();
+        let house = House {
+            receipts: Vec::with_capacity(alloc, PROCESSES_MAX + 1)?,
+            closing: Prepared::new(alloc, HOUSE, Act::CloseRun)?,
+        };
+        Ok(Journal {
+            machine: Machine::new(alloc, limits.bounds().pipe_capacity as usize),
+            history: Vec::with_capacity(alloc, records as usize)?,
+            limits,
+            exits: Numbered::new(alloc),
+            house: Some(house),
+        })
+    }
+
+    /// What it holds is a run of the model, in which the exits and the closing have their records. It does nothing.
+    pub(crate) fn is_run(&self)
+        ensures is_legal { legal self.now.limits.bounds self.now.history }
+        ensures reserve { length self.now.history + exits_left (world_now self.now) ≤ self.now.limits.records }
+        ensures short { length self.now.history + exits_left (world_now self.now) ≤ 1000000 }
+    {
+        let _records = self.limits.records();
+    }
+
+    /// Whether its run is closed.
+    pub(crate) fn is_closed(&self) -> bool
+        ensures { result ≡ (world_now self.now).closed }
+    {
+        self.machine.is_closed()
+    }
+
+    /// Whether a process has no connection yet.
+    pub(crate) fn awaits(&self, process: u32) -> bool
+        ensures { result ≡ awaits (slot (world_now self.now).processes process) }
+    {
+        self.machine.awaits(process as usize)
+    }
+
+    /// How many records there are.
+    pub(crate) fn len(&self) -> u64
+        ensures { result ≡ length self.now.history }
+    {
+        self.history.len() as u64
+    }
+
+    /// The house of a run that is open holds its receipts. It does nothing.
+    pub(crate) fn has_house(&self)
+        ensures { (world_now self.now).closed ≡ false → is_some self.now.house ≡ true }
+    {
+        let _house = &self.house;
+    }
+}

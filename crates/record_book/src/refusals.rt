@@ -1,0 +1,194 @@
+//! What a journal says of an act before it is recorded: whether it is refused, and what it comes to.
+
+ghost use Rattle.std.specs.Prelude.{◌≡◌, ◌≤◌, ◌+◌, Some, true, false, not, nat_le, length, if◌then◌else◌, IfOk};
+ghost use Rattle.slots.specs.Slots.{slot, live as live_in};
+ghost use Rattle.posix_model.specs.Join.{is_full};
+ghost use Rattle.posix_model.specs.Resume.{is_ready};
+ghost use Rattle.posix_model.specs.Step.{can_call, comes_to, decided};
+ghost use Rattle.record_book.specs.Book.{world_now};
+ghost use Rattle.record_book.specs.Openings.{next_pid};
+ghost use Rattle.record_book.specs.Refusals.{exit_refusal, start_refusal, is_too_full};
+ghost use Rattle.record_book.specs.Planned.{IsPlanned};
+
+use crate::journal::Journal;
+use crate::seat::Seat;
+use byte_ledger::ledgers::Ledgers;
+use call_types::act::Act;
+use call_types::call::Call;
+use call_types::refusal::Refusal;
+use pipe_calls::resume::decide_resume;
+use posix_model::change::Decided;
+use posix_model::laws::{acts_are_sound, numbers_rise, processes_are_counted};
+use posix_model::reader::Reader;
+use std::alloc::{AllocError, Global};
+use table_calls::attach::decide_attach;
+use table_calls::decide::{call_adds, decide_call, join_adds};
+use table_calls::join::{decide_join, is_full};
+
+impl Journal {
+    /// The number that the next process will have.
+    pub(crate) fn next_pid(&self) -> u32
+        ensures { result ≡ next_pid self.now }
+    {
+        let _records = self.limits.records();
+        self.machine.next_process() as u32
+    }
+
+    /// Whether a process waits in a call that is ready.
+    pub(crate) fn is_ready(&self, process: u32) -> bool
+        ensures { result ≡ is_ready self.now.limits.bounds (world_now self.now) process }
+    {
+        pipe_calls::resume::is_ready(&self.machine, self.limits.bounds(), process as usize)
+    }
+
+    /// Whether too few records would be left after one more, with so many live processes.
+    pub(crate) fn overfills(&self, live: usize) -> bool
+        requires { live ≤ live_in (world_now self.now).processes + 1 }
+        ensures { result ≡ not (nat_le ((length self.now.history + 1) + (if (world_now self.now).closed then live else live + 1)) self.now.limits.records) }
+    {
+        let exits = if self.machine.is_closed() {
+            live as u64
+        } else {
+            live as u64 + 1
+        };
+        self.history.len() as u64 + 1 + exits > self.limits.records()
+    }
+
+    /// Whether the record of a call of a process that may make one would leave too few records.
+    fn call_overfills(&self, process: u32, call: &Call) -> bool
+        requires { can_call (slot (world_now self.now).processes process) ≡ true }
+        ensures { result ≡ is_too_full self.now process (Act.Call call.now) }
+    {
+        let _process = process;
+        processes_are_counted();
+        self.overfills(self.machine.live_processes() + call_adds(&self.machine, call))
+    }
+
+    /// Whether the record of a join would leave too few records.
+    pub(crate) fn join_overfills(&self) -> bool
+        ensures { result ≡ is_too_full self.now (next_pid self.now) Act.Join }
+    {
+        processes_are_counted();
+        self.overfills(self.machine.live_processes() + join_adds(&self.machine))
+    }
+
+    /// Whether the record of an attach would leave too few records.
+    pub(crate) fn attach_overfills(&self, process: u32) -> bool
+        ensures { result ≡ is_too_full self.now process Act.Attach }
+    {
+        let _process = process;
+        processes_are_counted();
+        self.overfills(self.machine.live_processes())
+    }
+
+    /// Whether the record of a resume of a call that is ready would leave too few records.
+    pub(crate) fn resume_overfills(&self, process: u32) -> bool
+        requires { is_ready self.now.limits.bounds (world_now self.now) process ≡ true }
+        ensures { result ≡ is_too_full self.now process Act.Resume }
+    {
+        let _process = process;
+        processes_are_counted();
+        self.overfills(self.machine.live_processes())
+    }
+
+    /// The first refusal of an exit, and of whatever else the seat's process does.
+    #[inline(always)]
+    pub(crate) fn exit_refusal<L: Ledgers>(&self, seat: &Seat<L>) -> Option<Refusal>
+        ensures { result ≡ exit_refusal self.now seat.now }
+    {
+        let len = self.history.len() as u64;
+        if seat.seen() > len {
+            return Some(Refusal::Foreign {
+                seen: seat.seen(),
+                len,
+            });
+        }
+        if !self.machine.is_here(seat.pid() as usize) {
+            return Some(Refusal::NotHere);
+        }
+        None
+    }
+
+    /// The first refusal of a call that is not recorded.
+    pub(crate) fn start_refusal<L: Ledgers>(&self, seat: &Seat<L>, call: &Call) -> Option<Refusal>
+        ensures { result ≡ start_refusal self.now seat.now call.now }
+    {
+        if let Some(refusal) = self.exit_refusal(seat) {
+            return Some(refusal);
+        }
+        if self.machine.parked(seat.pid() as usize).is_some() {
+            return Some(Refusal::Waiting);
+        }
+        if self.call_overfills(seat.pid(), call) {
+            return Some(Refusal::RunFull);
+        }
+        None
+    }
+
+    /// What an act comes to, whose record fits into the run, the journal can record. It does nothing.
+    pub(crate) fn is_planned(&self, actor: u32, act: &Act, decided: &Decided)
+        requires comes { comes_to self.now.limits.bounds (world_now self.now) actor act.now ≡ Some decided.now }
+        requires roomy { is_too_full self.now actor act.now ≡ false }
+        ensures { IsPlanned self.now actor act.now decided.now }
+    {
+        let _actor = actor;
+        let _act = act;
+        let _decided = decided;
+        numbers_rise();
+        acts_are_sound();
+        processes_are_counted();
+        let _bounds = self.limits.bounds();
+    }
+
+    /// What a call comes to, by its page. An error says that memory ran out.
+    #[inline(always)]
+    pub(crate) fn call_comes_to(
+        &self,
+        alloc: Global,
+        actor: u32,
+        call: &Call,
+    ) -> Result<Decided, AllocError>
+        ensures { IfOk result (λ d. d ≡ decided self.now.limits.bounds (world_now self.now) actor call.now) }
+    {
+        decide_call(
+            &self.machine,
+            alloc,
+            self.limits.bounds(),
+            actor as usize,
+            call,
+        )
+    }
+
+    /// Whether no process more can be made.
+    pub(crate) fn is_full(&self) -> bool
+        ensures { result ≡ is_full (world_now self.now) }
+    {
+        is_full(&self.machine)
+    }
+
+    /// What a join comes to, by its page. An error says that memory ran out.
+    pub(crate) fn join_comes_to(&self, alloc: Global) -> Result<Decided, AllocError>
+        ensures { IfOk result (λ d. comes_to self.now.limits.bounds (world_now self.now) (next_pid self.now) Act.Join ≡ Some d) }
+    {
+        decide_join(&self.machine, alloc)
+    }
+
+    /// What an attach comes to, by its page.
+    pub(crate) fn attach_comes_to(&self, process: u32) -> Decided
+        ensures { comes_to self.now.limits.bounds (world_now self.now) process Act.Attach ≡ Some result }
+    {
+        decide_attach(&self.machine, process as usize)
+    }
+
+    /// What a resume of a call that is ready comes to. An error says that memory ran out.
+    pub(crate) fn resume_comes_to(&self, alloc: Global, process: u32) -> Result<Decided, AllocError>
+        requires { is_ready self.now.limits.bounds (world_now self.now) process ≡ true }
+        ensures { IfOk result (λ d. comes_to self.now.limits.bounds (world_now self.now) process Act.Resume ≡ Some d) }
+    {
+        let bounds = self.limits.bounds();
+        match decide_resume(&self.machine, alloc, bounds, process as usize)? {
+            Some(decided) => Ok(decided),
+            None => unreachable!(),
+        }
+    }
+}

@@ -1,0 +1,22 @@
+-- How far a session of some book has come, and how it ends (own): contracts see a seat as what it holds.
+use Rattle.record_book.specs.Seat.{SeatState}
+use Rattle.session_core.specs.declared.stage.Stage.{Stage as StageOf}
+use Rattle.session_core.specs.declared.stage.Over.{Over as OverOf}
+use Rattle.session_core.specs.declared.stage.Turn.{Turn as TurnOf}
+use Rattle.session_core.specs.declared.stage.Waited.{Waited as WaitedOf}
+use Rattle.session_core.specs.declared.closing.Left.{Left as LeftOf}
+
+abbrev pub Stage : Type 0
+Stage = StageOf SeatState
+
+abbrev pub Over : Type 0
+Over = OverOf SeatState SeatState
+
+abbrev pub Turn : Type 0
+Turn = TurnOf SeatState SeatState
+
+abbrev pub Waited : Type 0
+Waited = WaitedOf SeatState SeatState
+
+abbrev pub Left : Type 0
+Left = LeftOf SeatState
