@@ -1,7 +1,8 @@
-//! Tests of books, by seats, of the tables of names, of descriptions and of processes, and of the plain program.
+//! Tests of books, by seats, of tallies, of the tables of names, of descriptions and of processes, and of the plain program.
 mod books;
 mod descriptions;
 mod names;
 mod plain;
 mod processes;
 mod rings;
+mod tallies;

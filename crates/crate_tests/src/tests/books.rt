@@ -16,6 +16,7 @@ use record_book::opening::Opened;
 use record_book::seat::{Receipt, Seat};
 use std::alloc::Global;
 use std::marker::Brand;
+use std::process::Abort;
 use std::test::Fail;
 
 /// The seat of the next process.
@@ -104,10 +105,9 @@ fn held<L: Ledgers>(seat: &Seat<L>) -> (u64, usize) {
 }
 
 /// A seat of one book is told of more records than the book has.
-fn is_of_one_book<L: Ledgers>(rt: &HostRuntime, blanks: Blanks) -> Result<(), Fail>
+fn is_of_one_book<L: Ledgers>(rt: &impl Abort, alloc: Global, blanks: Blanks) -> Result<(), Fail>
     requires { blanks ≡ L.names }
 {
-    let alloc = rt.alloc();
     let mut book = Book::<L>::new(alloc, Limits::new(10)?, blanks)?;
     let mut seat = joined(alloc, &mut book)?;
     assert!(rt; opens(alloc, &mut book, &mut seat));
@@ -120,7 +120,7 @@ fn is_of_one_book<L: Ledgers>(rt: &HostRuntime, blanks: Blanks) -> Result<(), Fa
 
 #[test]
 fn seat_has_its_receipts_and_is_of_one_book(rt: HostRuntime) -> Result<(), Fail> {
-    is_of_one_book::<Brand>(&rt, Blanks::new())
+    is_of_one_book::<Brand>(&rt, rt.alloc(), Blanks::new())
 }
 
 /// Whether the book refuses the exit of a seat that has seen 3 records, and gives that seat back.
@@ -136,10 +136,13 @@ fn gives_back<L: Ledgers>(book: &mut Book<L>, seat: Seat<L>) -> bool {
 }
 
 /// An exit of such a seat.
-fn gives_the_seat_back<L: Ledgers>(rt: &HostRuntime, blanks: Blanks) -> Result<(), Fail>
+fn gives_the_seat_back<L: Ledgers>(
+    rt: &impl Abort,
+    alloc: Global,
+    blanks: Blanks,
+) -> Result<(), Fail>
     requires { blanks ≡ L.names }
 {
-    let alloc = rt.alloc();
     let mut book = Book::<L>::new(alloc, Limits::new(10)?, blanks)?;
     let mut seat = joined(alloc, &mut book)?;
     seat.told(3);
@@ -150,7 +153,7 @@ fn gives_the_seat_back<L: Ledgers>(rt: &HostRuntime, blanks: Blanks) -> Result<(
 
 #[test]
 fn exit_in_another_book_gives_the_seat_back(rt: HostRuntime) -> Result<(), Fail> {
-    gives_the_seat_back::<Brand>(&rt, Blanks::new())
+    gives_the_seat_back::<Brand>(&rt, rt.alloc(), Blanks::new())
 }
 
 /// Whether a second attach of process 1 is recorded as refused, at place 3.
@@ -176,10 +179,9 @@ fn ends<L: Ledgers>(book: &mut Book<L>, child: Seat<L>) -> bool {
 }
 
 /// A child that is attached, and ends.
-fn attaches_once<L: Ledgers>(rt: &HostRuntime, blanks: Blanks) -> Result<(), Fail>
+fn attaches_once<L: Ledgers>(rt: &impl Abort, alloc: Global, blanks: Blanks) -> Result<(), Fail>
     requires { blanks ≡ L.names }
 {
-    let alloc = rt.alloc();
     let mut book = Book::<L>::new(alloc, Limits::new(20)?, blanks)?;
     let mut parent = joined(alloc, &mut book)?;
     assert!(rt; forks(alloc, &mut book, &mut parent, 1));
@@ -192,7 +194,7 @@ fn attaches_once<L: Ledgers>(rt: &HostRuntime, blanks: Blanks) -> Result<(), Fai
 
 #[test]
 fn child_is_attached_once_and_ends(rt: HostRuntime) -> Result<(), Fail> {
-    attaches_once::<Brand>(&rt, Blanks::new())
+    attaches_once::<Brand>(&rt, rt.alloc(), Blanks::new())
 }
 
 /// Whether the closing ends processes 1 and 3, which have no connection, and stands at place 7.
@@ -212,10 +214,9 @@ fn ends_one_and_three<L: Ledgers>(book: &mut Book<L>) -> bool {
 }
 
 /// Two children that are never attached.
-fn ends_orphans<L: Ledgers>(rt: &HostRuntime, blanks: Blanks) -> Result<(), Fail>
+fn ends_orphans<L: Ledgers>(rt: &impl Abort, alloc: Global, blanks: Blanks) -> Result<(), Fail>
     requires { blanks ≡ L.names }
 {
-    let alloc = rt.alloc();
     let mut book = Book::<L>::new(alloc, Limits::new(20)?, blanks)?;
     let mut parent = joined(alloc, &mut book)?;
     assert!(rt; forks(alloc, &mut book, &mut parent, 3));
@@ -228,5 +229,5 @@ fn ends_orphans<L: Ledgers>(rt: &HostRuntime, blanks: Blanks) -> Result<(), Fail
 
 #[test]
 fn closing_ends_the_children_without_a_connection(rt: HostRuntime) -> Result<(), Fail> {
-    ends_orphans::<Brand>(&rt, Blanks::new())
+    ends_orphans::<Brand>(&rt, rt.alloc(), Blanks::new())
 }
