@@ -1,10 +1,11 @@
 -- A report that is written whole says how the run ended.
-use Rattle.std.proofs.Common.{◌≡◌, ◌≤◌, ℕ, List, Option, None, Some, refl}
+use Rattle.std.proofs.Common.{◌≡◌, ◌≤◌, ◌+◌, ℕ, List, Option, None, Some, refl}
 use Rattle.std.specs.Io.KnownBytes.{Appends}
-use Rattle.run_core.specs.Run.{IsClosedRun}
+use Rattle.run_core.specs.Run.{IsClosedRun, failures_after}
 use Rattle.run_core.specs.declared.report.Shortage.{Shortage}
 use Rattle.run_core.specs.declared.report.Shortage.TheVariants as shortage
 use Rattle.fdref.specs.Serve.{IsReport, Reports, end_of, report_line}
+use Rattle.fdref.specs.declared.ended.Ended.TheVariants as ended
 
 -- by what was short
 pub reports_by : (most : ℕ) (old new : Option (List ℕ)) (short : Option Shortage) (sessions records taken given : ℕ) (line : List ℕ)
@@ -19,3 +20,9 @@ reports_by most old new (Some shortage.NoConnection) sessions records taken give
 reports_by most old new (Some shortage.NoThread) sessions records taken given line few all run is written =
     let report : IsReport most line = record { sessions = sessions; records = records; taken = taken; given = given; few = few; run = run; line_is = is } in
     (line, report, written)
+
+-- it says that the source cannot listen only where a connection was wanting
+pub lost_connection : (before after : ℕ) (short : Option Shortage) → after ≡ failures_after before short → end_of short ≡ ended.CannotListen → after ≡ before + 1
+lost_connection before after None failed is = absurd cc
+lost_connection before after (Some shortage.NoConnection) failed is = failed
+lost_connection before after (Some shortage.NoThread) failed is = absurd cc

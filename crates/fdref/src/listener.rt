@@ -7,10 +7,11 @@ use std::io;
 use std::net::{Net, Shutdown};
 use std::os::unix::net::{UnixListener, UnixStream};
 
-/// A socket that listens.
+/// A socket that listens, and how many times it gave no connection.
 #[derive(Drop)]
 pub struct Listener {
     socket: UnixListener,
+    failures: u64,
 }
 
 impl Listener {
@@ -27,11 +28,20 @@ impl Source for Listener {
 
     type Writer = UnixStream;
 
+    ghost failures = { λ listener. listener.failures };
+
     fn accept(&mut self) -> Result<(UnixStream, UnixStream), AcceptFailed> {
         match self.next() {
             Ok(connection) => Ok(connection),
-            Err(_) => Err(AcceptFailed),
+            Err(_) => {
+                self.failures += 1;
+                Err(AcceptFailed)
+            }
         }
+    }
+
+    fn failures(&self) -> u64 {
+        self.failures
     }
 
     fn hang_up(_reader: &UnixStream, writer: &UnixStream) {
@@ -54,7 +64,10 @@ impl<'a, R: Files + Net> Listens for Sockets<'a, R> {
             return None;
         }
         match UnixListener::bind(self.rt, path) {
-            Ok(socket) => Some(Listener { socket }),
+            Ok(socket) => Some(Listener {
+                socket,
+                failures: 0,
+            }),
             Err(_) => None,
         }
     }

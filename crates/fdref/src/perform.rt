@@ -1,5 +1,6 @@
 //! A job, done.
 
+ghost use Rattle.std.specs.Prelude.{◌≡◌, IfSome};
 ghost use Rattle.fdref.specs.Perform.{Performs};
 
 use crate::ended::Ended;
@@ -17,7 +18,8 @@ pub trait Listens {
     type Source: Source + Send + Drop + 'static;
 
     /// A source of the connections to a path, at which nothing was before.
-    fn listen(&self, path: &str) -> Option<Self::Source>;
+    fn listen(&self, path: &str) -> Option<Self::Source>
+        ensures { IfSome result (λ source. Self.Source.Source.failures source ≡ 0) };
 }
 
 /// Does a job: reads its input or accepts its connections, writes its output, and says how it ended. It leaks what `replay` leaks:

@@ -1,7 +1,8 @@
 //! A run of sessions, and the line that reports it.
 
-ghost use Rattle.std.specs.Prelude.{◌≡◌, ◌++◌, codes, decimal, vec_len, IfOk};
+ghost use Rattle.std.specs.Prelude.{◌≡◌, ◌++◌, ◌+◌, ◌<◌, ◌^◌, codes, decimal, vec_len, IfOk};
 ghost use Rattle.fdref.specs.Serve.{Reports, end_of, ended_by, report_line};
+ghost use Rattle.fdref.specs.declared.ended.Ended.TheVariants as ended;
 
 use crate::ended::Ended;
 use crate::output::write_lines;
@@ -63,8 +64,10 @@ fn serve_with<
     blanks: Blanks,
     writer: &mut W,
 ) -> Ended
-    requires { blanks ≡ L.names }
-    ensures { Reports sessions (W.contents writer.old) (W.contents writer.new) result }
+    requires failures { S.failures source.old + 1 < 2 ^ 64 }
+    requires ledgers { blanks ≡ L.names }
+    ensures reports { Reports sessions (W.contents writer.old) (W.contents writer.new) result }
+    ensures failed { result ≡ ended.CannotListen → S.failures source.new ≡ S.failures source.old + 1 }
 {
     let ran = run_sessions::<Rt, S, L>(rt, alloc, source, sessions, limits, blanks);
     let report = match ran {
@@ -90,7 +93,9 @@ pub fn serve_on<Rt: Threads + Wait + Copy + Send + 'static, S: Source + Send + '
     limits: Limits,
     writer: &mut W,
 ) -> Ended
-    ensures { Reports sessions (W.contents writer.old) (W.contents writer.new) result }
+    requires failures { S.failures source.old + 1 < 2 ^ 64 }
+    ensures reports { Reports sessions (W.contents writer.old) (W.contents writer.new) result }
+    ensures failed { result ≡ ended.CannotListen → S.failures source.new ≡ S.failures source.old + 1 }
 {
     serve_with::<Rt, S, W, Brand>(rt, alloc, source, sessions, limits, Blanks::new(), writer)
 }

@@ -1,9 +1,9 @@
 //! The sessions of a run, each in a thread of its own.
 
-ghost use Rattle.std.specs.Prelude.{◌≡◌, ◌≤◌, ◌+◌, All, None, vec_len, vec_capacity, IfOk};
+ghost use Rattle.std.specs.Prelude.{◌≡◌, ◌≤◌, ◌<◌, ◌+◌, ◌^◌, All, None, Some, vec_len, vec_capacity, IfOk, IfErr, OnOk};
 ghost use Rattle.session_core.specs.Served.{Serves};
 ghost use Rattle.std.specs.Option.{option_map};
-ghost use Rattle.run_core.specs.Run.{IsClosedRun, IsServed, IsServedBy};
+ghost use Rattle.run_core.specs.Run.{IsClosedRun, IsServed, IsServedBy, failures_after};
 
 use crate::closing::{close_run, unshared};
 use crate::report::{Report, RunFault, Session, Shortage};
@@ -94,7 +94,11 @@ fn next_session<
     alloc: Global,
     lock: &Arc<SystemLock<L>>,
     source: &mut S,
-) -> Result<Running<S::Reader, S::Writer, L>, Shortage> {
+) -> Result<Running<S::Reader, S::Writer, L>, Shortage>
+    requires { S.failures source.old + 1 < 2 ^ 64 }
+    ensures started { OnOk result (S.failures source.new ≡ S.failures source.old) }
+    ensures short { IfErr result (λ shortage. S.failures source.new ≡ failures_after (S.failures source.old) (Some shortage)) }
+{
     let (reader, writer) = match source.accept() {
         Ok(connection) => connection,
         Err(_) => return Err(Shortage::NoConnection),
@@ -125,8 +129,10 @@ fn start_all<
     sessions: usize,
     room: Vec<Running<S::Reader, S::Writer, L>>,
 ) -> Started<S::Reader, S::Writer, L>
+    requires failures { S.failures source.old + 1 < 2 ^ 64 }
     requires room { sessions ≤ vec_capacity room }
     requires empty { vec_len room ≡ 0 }
+    ensures failures { S.failures source.new ≡ failures_after (S.failures source.old) result.shortage }
     ensures few { vec_len result.running ≤ sessions }
     ensures all { result.shortage ≡ None → vec_len result.running ≡ sessions }
 {
@@ -240,7 +246,9 @@ pub fn run_sessions<
     limits: Limits,
     blanks: Blanks,
 ) -> Result<Report<S::Reader, S::Writer>, RunFault>
-    requires { blanks ≡ L.names }
+    requires failures { S.failures source.old + 1 < 2 ^ 64 }
+    requires ledgers { blanks ≡ L.names }
+    ensures failures { IfOk result (λ report. S.failures source.new ≡ failures_after (S.failures source.old) report.shortage) }
     ensures run { IfOk result (λ report. IsClosedRun report.records report.bytes_in report.bytes_out) }
     ensures few { IfOk result (λ report. vec_len report.ends ≤ sessions) }
     ensures all { IfOk result (λ report. report.shortage ≡ None → vec_len report.ends ≡ sessions) }

@@ -1,8 +1,11 @@
-use Rattle.std.proofs.Common.{◌∙◌}
-use Rattle.fdref.proofs.ServeLemmas.{reports_by}
+use Rattle.std.proofs.Common.{◌∙◌, sym}
+use Rattle.fdref.proofs.ServeLemmas.{reports_by, lost_connection}
 use Rattle.fdref.proofs.serve.serve_with.Goals as goal
 
 pub returns-in-Ok-write_lines : goal.returns-in-Ok-write_lines
 returns-in-Ok-write_lines g c =
     let told = c.in-Ok.ensures in
-    rw c.end_of.ensures (reports_by _ _ _ c.in-Ok.report.shortage _ _ _ _ _ told.few told.all told.run (c.as_slice.ensures.value ∙ c.in-Ok-line_of.ensures) c.in-Ok-write_lines.ensures.text)
+    record {
+      reports = rw c.end_of.ensures (reports_by _ _ _ c.in-Ok.report.shortage _ _ _ _ _ told.few told.all told.run (c.as_slice.ensures.value ∙ c.in-Ok-line_of.ensures) c.in-Ok-write_lines.ensures.text);
+      failed = λ is. lost_connection _ _ c.in-Ok.report.shortage told.failures (sym c.end_of.ensures ∙ is);
+    }
