@@ -14,4 +14,5 @@ pub mod outcome;
 pub mod part;
 pub mod refusal;
 pub mod request;
+pub mod same;
 pub mod whence;
