@@ -13,6 +13,7 @@ mod leaving;
 mod moved;
 pub mod opening;
 mod prepared;
+pub mod reading;
 mod recording;
 mod refusals;
 pub mod resume;
