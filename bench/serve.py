@@ -7,7 +7,8 @@ Compiles bench/load.c, and puts the same load on `fdref serve` (crates/fdref/out
 echo that answers each request with a frame of the same size and does nothing else. What the echo does is
 as much as this machine's sockets give. Each line has the median of N rounds (3 where no number is given),
 in which the two take turns, and their ratio, with the ratio that is aimed at. X makes all runs longer or
-shorter. A run of sleepers is held against one without, and a long run against one of a tenth.
+shorter. A run of sleepers is held against one without, and a long run against one of a tenth, in time
+and in memory.
 """
 
 import argparse
@@ -17,6 +18,7 @@ import statistics
 import subprocess
 import sys
 import tempfile
+import threading
 import time
 
 sys.dont_write_bytecode = True
@@ -51,6 +53,7 @@ class Bench:
         self.folder = folder
         self.scale = scale
         self.rounds = rounds
+        self.peak = 0
         self.load = os.path.join(folder, "load")
         words = [compiler, "-std=c11", "-O2", "-Wall", "-Wextra", "-pedantic", "-pthread", "-o", self.load, LOAD]
         subprocess.run(words, check=True)
@@ -68,13 +71,28 @@ class Bench:
                 while not is_listening(path) and server.poll() is None:
                     time.sleep(0.01)
                 rate = self.run("fdref", mode, connections, depth, requests)
-                stdout, _ = server.communicate(timeout=SECONDS)
+                stdout, status, self.peak = self.ended(server)
             finally:
                 server.kill()
         os.unlink(path)
-        if server.returncode != 0 or not stdout.startswith(f"sessions {count} ".encode()):
-            raise SystemExit(f"the server ended with status {server.returncode} and {stdout!r}")
+        if status != 0 or not stdout.startswith(f"sessions {count} ".encode()):
+            raise SystemExit(f"the server ended with status {status} and {stdout!r}")
         return rate
+
+    def ended(self, server):
+        """What a server that ends by itself has printed, its status, and the most bytes that it had in memory."""
+        watch = threading.Timer(SECONDS, server.kill)
+        watch.start()
+        stdout = server.stdout.read()
+        _, status, usage = os.wait4(server.pid, 0)
+        watch.cancel()
+        server.returncode = os.waitstatus_to_exitcode(status)
+        return stdout, server.returncode, usage.ru_maxrss * 1024
+
+    def memory(self, requests):
+        """The most bytes that fdref has in memory while it answers so many requests of one connection."""
+        self.fdref("fstat", 1, 16, requests)
+        return self.peak
 
     def run(self, which, mode, connections, depth, requests):
         path = os.path.join(self.folder, "socket")
@@ -105,6 +123,8 @@ def measure(bench):
     few = bench.count(80_000)
     short, long = bench.pair(*(lambda count=count: bench.fdref("fstat", 1, 16, count) for count in (few, 10 * few)))
     print(f"{few} records: {short:.0f} a second, ten times as many: {long:.0f}, growth {10 * short / long:.1f} for 10", flush=True)
+    more = bench.memory(10 * few) - bench.memory(few)
+    print(f"memory of an answered fstat: {more / (9 * few):.0f} bytes{aim('less than 200')}", flush=True)
 
 
 def main(words):
