@@ -1,25 +1,38 @@
 -- A report that is written whole says how the run ended.
-use Rattle.std.proofs.Common.{◌≡◌, ◌≤◌, ◌+◌, ℕ, List, Option, None, Some, refl}
+use Rattle.std.proofs.Common.{◌≡◌, ◌≤◌, ◌+◌, ℕ, List, Option, None, Some, length, refl, ◌∙◌}
 use Rattle.std.specs.Io.KnownBytes.{Appends}
-use Rattle.run_core.specs.Run.{IsClosedRun, failures_after}
+use Rattle.run_core.specs.Receipts.{Held}
+use Rattle.run_core.specs.Run.{IsRunOf, failures_after}
 use Rattle.run_core.specs.declared.report.Shortage.{Shortage}
 use Rattle.run_core.specs.declared.report.Shortage.TheVariants as shortage
 use Rattle.fdref.specs.Serve.{IsReport, Reports, end_of, report_line}
 use Rattle.fdref.specs.declared.ended.Ended.TheVariants as ended
 
+-- the sessions of a report are those that hold its receipts
+pub report_of : (most sessions records taken given : ℕ) (held : List Held) (line : List ℕ)
+    → length held ≡ sessions → sessions ≤ most → IsRunOf records taken given held → line ≡ report_line sessions records taken given
+    → IsReport most line
+report_of most sessions records taken given held line all few run is = record {
+  held = held;
+  records = records;
+  taken = taken;
+  given = given;
+  few = rw all few;
+  run = run;
+  line_is = rw all is;
+}
+
 -- by what was short
-pub reports_by : (most : ℕ) (old new : Option (List ℕ)) (short : Option Shortage) (sessions records taken given : ℕ) (line : List ℕ)
-    → sessions ≤ most → (short ≡ None → sessions ≡ most) → IsClosedRun records taken given → line ≡ report_line sessions records taken given → Appends old new line
+pub reports_by : (most : ℕ) (old new : Option (List ℕ)) (short : Option Shortage) (sessions records taken given : ℕ) (held : List Held) (line : List ℕ)
+    → length held ≡ sessions → sessions ≤ most → (short ≡ None → sessions ≡ most) → IsRunOf records taken given held → line ≡ report_line sessions records taken given → Appends old new line
     → Reports most old new (end_of short)
-reports_by most old new None sessions records taken given line few all run is written =
-    let report : IsReport most line = record { sessions = sessions; records = records; taken = taken; given = given; few = few; run = run; line_is = is } in
-    (line, (report, all refl), written)
-reports_by most old new (Some shortage.NoConnection) sessions records taken given line few all run is written =
-    let report : IsReport most line = record { sessions = sessions; records = records; taken = taken; given = given; few = few; run = run; line_is = is } in
-    (line, report, written)
-reports_by most old new (Some shortage.NoThread) sessions records taken given line few all run is written =
-    let report : IsReport most line = record { sessions = sessions; records = records; taken = taken; given = given; few = few; run = run; line_is = is } in
-    (line, report, written)
+unfolding report_of
+reports_by most old new None sessions records taken given held line all few full run is written =
+    (line, (report_of most sessions records taken given held line all few run is, all ∙ full refl), written)
+reports_by most old new (Some shortage.NoConnection) sessions records taken given held line all few full run is written =
+    (line, report_of most sessions records taken given held line all few run is, written)
+reports_by most old new (Some shortage.NoThread) sessions records taken given held line all few full run is written =
+    (line, report_of most sessions records taken given held line all few run is, written)
 
 -- it says that the source cannot listen only where a connection was wanting
 pub lost_connection : (before after : ℕ) (short : Option Shortage) → after ≡ failures_after before short → end_of short ≡ ended.CannotListen → after ≡ before + 1

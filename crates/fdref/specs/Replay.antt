@@ -87,6 +87,7 @@ Ends limits input old new ended.NoMemory = new ≡ old
 Ends limits input old new ended.CannotListen = ⊥
 Ends limits input old new ended.NoThread = ⊥
 Ends limits input old new ended.MissingShare = ⊥
+Ends limits input old new (ended.Disagree place) = ⊥
 
 -- the exit status of an end
 abbrev pub ended_status : Ended → ℕ
@@ -99,6 +100,7 @@ ended_status ended.NoMemory = 5
 ended_status ended.CannotListen = 4
 ended_status ended.NoThread = 5
 ended_status ended.MissingShare = 6
+ended_status (ended.Disagree place) = 6
 
 -- what is written of an end on standard error (own)
 abbrev pub ended_text : Ended → List ℕ
@@ -111,3 +113,4 @@ ended_text ended.NoMemory = codes "no memory\n"
 ended_text ended.CannotListen = codes "cannot listen\n"
 ended_text ended.NoThread = codes "no thread\n"
 ended_text ended.MissingShare = codes "missing share\n"
+ended_text (ended.Disagree place) = codes "disagree at " ++ (decimal place ++ codes "\n")

@@ -1,8 +1,9 @@
 -- What a run of sessions writes, and what its end says (own).
-use Rattle.std.specs.Prelude.{◌≡◌, ◌≤◌, ℕ, List, ◌++◌, Option, None, Some, codes, decimal}
+use Rattle.std.specs.Prelude.{◌≡◌, ◌≤◌, ℕ, List, ◌++◌, Option, None, Some, codes, decimal, length}
 use Rattle.std.specs.Io.KnownBytes.{Appends}
 use Rattle.script_text.specs.Lines.{totals_line}
-use Rattle.run_core.specs.Run.{IsClosedRun}
+use Rattle.run_core.specs.Receipts.{Held}
+use Rattle.run_core.specs.Run.{IsRunOf}
 use Rattle.run_core.specs.declared.report.RunFault.{RunFault}
 use Rattle.run_core.specs.declared.report.RunFault.TheVariants as fault
 use Rattle.run_core.specs.declared.report.Shortage.{Shortage}
@@ -15,19 +16,19 @@ use Rattle.fdref.specs.declared.ended.Ended.TheVariants as ended
 abbrev pub report_line : ℕ → ℕ → ℕ → ℕ → List ℕ
 report_line sessions records taken given = codes "sessions " ++ (decimal sessions ++ (codes " " ++ totals_line records taken given))
 
--- the line reports a run that is closed, with so many sessions at most
+-- the line reports a run that is closed, with so many sessions at most, of which each holds its receipts
 pub record IsReport (most : ℕ) (line : List ℕ) : Type 0 where
-  pub sessions : ℕ
+  pub held : List Held
   pub records : ℕ
   pub taken : ℕ
   pub given : ℕ
-  pub few : sessions ≤ most
-  pub run : IsClosedRun records taken given
-  pub line_is : line ≡ report_line sessions records taken given
+  pub few : length held ≤ most
+  pub run : IsRunOf records taken given held
+  pub line_is : line ≡ report_line (length held) records taken given
 
 -- the same, with just so many
 abbrev pub IsFullReport : ℕ → List ℕ → Type 0
-IsFullReport sessions line = (report : IsReport sessions line) × (report.sessions ≡ sessions)
+IsFullReport sessions line = (report : IsReport sessions line) × (length report.held ≡ sessions)
 
 -- how a run ended whose report is written
 abbrev pub end_of : Option Shortage → Ended
@@ -39,6 +40,7 @@ end_of (Some shortage.NoThread) = ended.NoThread
 abbrev pub ended_by : RunFault → Ended
 ended_by fault.NoMemory = ended.NoMemory
 ended_by fault.Missing = ended.MissingShare
+ended_by (fault.Disagree place) = ended.Disagree place
 
 -- what the end says of what was written
 abbrev pub Reports : ℕ → Option (List ℕ) → Option (List ℕ) → Ended → Type 0
@@ -48,4 +50,5 @@ Reports most old new ended.NoThread = (line : List ℕ) × IsReport most line ×
 Reports most old new ended.CannotWrite = (line : List ℕ) × IsReport most line × AppendsFront old new line
 Reports most old new ended.NoMemory = new ≡ old
 Reports most old new ended.MissingShare = new ≡ old
+Reports most old new (ended.Disagree place) = new ≡ old
 Reports most old new other = ⊥

@@ -27,6 +27,8 @@ pub enum Ended {
     NoThread,
     /// Shares of some seats are missing, so nothing was reported.
     MissingShare,
+    /// The receipts of the sessions and the records differ, at this place at the least, so nothing was reported.
+    Disagree { place: u64 },
 }
 
 impl Ended {
@@ -39,7 +41,7 @@ impl Ended {
             Ended::BadLine { .. } | Ended::TooLong => 3,
             Ended::CannotRead | Ended::CannotWrite | Ended::CannotListen => 4,
             Ended::NoMemory | Ended::NoThread => 5,
-            Ended::MissingShare => 6,
+            Ended::MissingShare | Ended::Disagree { .. } => 6,
         }
     }
 }
@@ -63,6 +65,7 @@ impl fmt::Display for Ended {
             Ended::CannotListen => f.write_str("cannot listen\n"),
             Ended::NoThread => f.write_str("no thread\n"),
             Ended::MissingShare => f.write_str("missing share\n"),
+            Ended::Disagree { place } => write!(f, "disagree at {place}\n"),
         }
     }
 }

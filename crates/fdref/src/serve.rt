@@ -12,6 +12,7 @@ use run_core::report::{Report, RunFault, Shortage};
 use run_core::sessions::run_sessions;
 use run_core::source::Source;
 use script_text::lines::write_totals;
+use session_core::gate::OpenGate;
 use std::alloc::{AllocError, Global};
 use std::io::Write;
 use std::marker::Brand;
@@ -46,6 +47,7 @@ fn ended_by(fault: RunFault) -> Ended
     match fault {
         RunFault::NoMemory => Ended::NoMemory,
         RunFault::Missing => Ended::MissingShare,
+        RunFault::Disagree { place } => Ended::Disagree { place },
     }
 }
 
@@ -69,7 +71,9 @@ fn serve_with<
     ensures reports { Reports sessions (W.contents writer.old) (W.contents writer.new) result }
     ensures failed { result ≡ ended.CannotListen → S.failures source.new ≡ S.failures source.old + 1 }
 {
-    let ran = run_sessions::<Rt, S, L>(rt, alloc, source, sessions, limits, blanks);
+    let ran = run_sessions::<Rt, S, OpenGate, L>(
+        rt, alloc, source, sessions, limits, blanks, OpenGate,
+    );
     let report = match ran {
         Ok(report) => report,
         Err(fault) => return ended_by(fault),

@@ -1,25 +1,37 @@
 -- What a run of sessions comes to (own).
-use Rattle.std.specs.Prelude.{◌≡◌, ℕ, ◌+◌, true, List, Option, Some, length}
+use Rattle.std.specs.Prelude.{◌≡◌, ℕ, ◌+◌, ◌<◌, Bool, true, map, List, [], ◌∷◌, ◌++◌, Option, Some, length}
 use Rattle.std.specs.Option.{option_map}
 use Rattle.posix_model.specs.History.{legal}
 use Rattle.posix_model.specs.Turns.{bytes_in, bytes_out}
 use Rattle.record_book.specs.Seat.{Receipted, SeatState}
+use Rattle.call_types.specs.declared.act.Record.{Record}
+use Rattle.call_types.specs.declared.act.TheConstants.{HOUSE}
+use Rattle.run_core.specs.Receipts.{Held, IsSound}
 use Rattle.record_book.specs.Book.{BookState, world_now}
+use Rattle.record_book.specs.Counting.{seats_given}
+use Rattle.byte_ledger.specs.declared.tallies.GatherFault.{GatherFault}
+use Rattle.byte_ledger.specs.declared.tallies.GatherFault.TheVariants as gathered
+use Rattle.run_core.specs.declared.closing.CloseFault.{CloseFault}
+use Rattle.run_core.specs.declared.closing.CloseFault.TheVariants as fault
 use Rattle.session_core.specs.Served.{SessionState, Serves}
 use Rattle.run_core.specs.declared.report.Shortage.{Shortage}
 use Rattle.run_core.specs.declared.report.Shortage.TheVariants as shortage
 
--- these receipts are those of this seat, if there is one
-abbrev pub AreOf : Option SeatState → Option (List Receipted) → Type 0
-AreOf seat receipts = receipts ≡ option_map (λ s. s.receipts) seat
+-- what a seat holds beside its counts
+abbrev pub held_in : SeatState → Held
+held_in s = record { pid = s.pid; receipts = s.receipts }
 
--- a session kept what is promised of one, whatever its reader gave and its writer held before
-abbrev pub IsServed : SessionState → Type 0
-IsServed s = (from base : Option (List ℕ)) × Serves from base s
+-- this is the process of this seat, if there is one
+abbrev pub IsOf : Option SeatState → Option Held → Type 0
+IsOf seat process = process ≡ option_map held_in seat
 
--- the same, of a session of which its receipts are left in place of its seat
-abbrev pub IsServedBy : (Option SeatState → SessionState) → Option (List Receipted) → Type 0
-IsServedBy session receipts = (seat : Option SeatState) × AreOf seat receipts × IsServed (session seat)
+-- a session kept what is promised of one, under a gate that always says yes or under any, whatever its reader gave and its writer held before
+abbrev pub IsServed : Bool → SessionState → Type 0
+IsServed always s = (from base : Option (List ℕ)) × Serves always from base s
+
+-- the same, of a session of which its process is left in place of its seat
+abbrev pub IsServedBy : Bool → (Option SeatState → SessionState) → Option Held → Type 0
+IsServedBy always session process = (seat : Option SeatState) × IsOf seat process × IsServed always (session seat)
 
 -- how many times a source has failed, where this is what a run was short of: once more where it gave no connection
 abbrev pub failures_after : ℕ → Option Shortage → ℕ
@@ -34,3 +46,24 @@ pub record IsClosedRun (records taken given : ℕ) : Type 0 where
   pub records_are : records ≡ length book.history
   pub taken_is : taken ≡ bytes_in book.limits.bounds book.history
   pub given_is : given ≡ bytes_out book.limits.bounds book.history
+
+-- the receipts of all holders are the records, each of them once
+abbrev pub AreAll : List Record → List Held → Type 0
+AreAll h held = (p : ℕ) → IsSound h held p
+
+-- the sums of a legal run that is closed, of which each record stands in one receipt of these holders or of the house
+pub record IsRunOf (records taken given : ℕ) (held : List Held) : Type 0 where
+  pub run : IsClosedRun records taken given
+  pub house : List Receipted
+  pub all : AreAll run.book.history (held ++ record { pid = HOUSE; receipts = house } ∷ [])
+
+-- what a fault of gathering is for a run
+abbrev pub close_fault_of : GatherFault → CloseFault
+close_fault_of gathered.NoMemory = fault.NoMemory
+close_fault_of (gathered.Missing missing) = fault.Missing missing
+
+-- why a run comes to no totals: seats are missing, or none is and this is the least place at which records and receipts differ
+abbrev pub ClosesFor : BookState → List SeatState → CloseFault → Type 0
+ClosesFor b seats fault.NoMemory = Unit {0}
+ClosesFor b seats (fault.Missing m) = (m.held ≡ length seats) × (m.opened ≡ seats_given b) × (m.held < m.opened)
+ClosesFor b seats (fault.Disagree place) = (length seats ≡ seats_given b) × (IsSound b.history (map held_in seats) place → ⊥) × ((p : ℕ) → p < place → IsSound b.history (map held_in seats) p)

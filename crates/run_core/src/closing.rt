@@ -1,15 +1,23 @@
-//! The closing of a run whose sessions have ended, and the gathering of what they counted.
+//! The closing of a run whose sessions have ended: their receipts are compared with its records, and what they counted is gathered.
 
-ghost use Rattle.std.specs.Prelude.{◌≡◌, true, OnOk, IfOk};
+ghost use Rattle.std.specs.Prelude.{◌≡◌, ◌+◌, ◌≤◌, ℕ, map, true, length, vec_len, vec_capacity, OnOk, IfOk, IfErr};
 ghost use Rattle.std.specs.Arc.{arc_value};
-ghost use Rattle.run_core.specs.Run.{IsClosedRun};
+ghost use Rattle.posix_model.specs.History.{legal};
+ghost use Rattle.posix_model.specs.Turns.{bytes_in, bytes_out};
+ghost use Rattle.record_book.specs.Book.{world_now};
+ghost use Rattle.run_core.specs.Run.{AreAll, IsClosedRun, IsRunOf, ClosesFor, held_in};
 
+use crate::comparison::{HasReceipts, compare};
 use crate::report::RunFault;
+use byte_ledger::gather::Missing;
 use byte_ledger::ledgers::Ledgers;
-use byte_ledger::tallies::{Shares, Sums};
+use byte_ledger::tallies::{GatherFault, Shares, Sums};
 use record_book::book::Book;
-use std::alloc::Global;
+use record_book::seat::{Receipt, SpentSeat};
+use std::alloc::{AllocError, Global};
+use std::slice;
 use std::sync::{Arc, Wait};
+use thiserror::Error;
 
 /// What an `Arc` holds, once nobody else holds it too: it waits for that.
 pub(crate) fn unshared<Rt: Wait, T>(rt: &Rt, shared: Arc<T>) -> T
@@ -25,23 +33,131 @@ pub(crate) fn unshared<Rt: Wait, T>(rt: &Rt, shared: Arc<T>) -> T
     unreachable!()
 }
 
-/// Closes a run, if it is open, and gathers the shares of all seats, those of the house among them: the sums of its records and of the bytes
-/// that they took and gave.
+/// What a run comes to.
+#[derive(Drop)]
+pub struct Totals {
+    /// How many records there are, gathered from the shares of all seats.
+    pub records: u64,
+    /// How many bytes were written, and how many were read, by the calls of all processes, gathered in the same way.
+    pub bytes_in: u64,
+    pub bytes_out: u64,
+    /// The receipts of each seat, in the order of the seats.
+    pub receipts: Vec<Vec<Receipt>>,
+}
+
+/// Why a run comes to no totals.
+#[derive(Clone, Copy, Debug, PartialEq, Eq, Drop, Error)]
+pub enum CloseFault {
+    #[error("no memory")]
+    NoMemory,
+    /// Some seats are missing.
+    #[error("missing share")]
+    Missing(Missing),
+    /// The receipts and the records differ: this is the least place at which they do.
+    #[error("disagree at {place}")]
+    Disagree { place: u64 },
+}
+
+impl From<AllocError> for CloseFault {
+    ghost use Rattle.run_core.specs.declared.closing.CloseFault.TheVariants.{NoMemory};
+
+    ghost from_gives = { λ _ fault. fault ≡ NoMemory };
+
+    fn from(_fault: AllocError) -> CloseFault {
+        CloseFault::NoMemory
+    }
+}
+
+impl From<GatherFault> for CloseFault {
+    ghost use Rattle.run_core.specs.Run.{close_fault_of};
+
+    ghost from_gives = { λ told fault. fault ≡ close_fault_of told };
+
+    fn from(fault: GatherFault) -> CloseFault {
+        match fault {
+            GatherFault::NoMemory => CloseFault::NoMemory,
+            GatherFault::Missing(missing) => CloseFault::Missing(missing),
+        }
+    }
+}
+
+/// Seats by their receipts and their shares.
+#[derive(Drop)]
+struct Parted<L: Ledgers> {
+    receipts: Vec<Vec<Receipt>>,
+    shares: Vec<Shares<L>>,
+}
+
+/// Parts seats into their receipts and their shares.
+fn part<L: Ledgers>(alloc: Global, seats: Vec<SpentSeat<L>>) -> Result<Parted<L>, AllocError>
+    ensures receipts { IfOk result (λ parts. map (λ r. r.items) parts.receipts.items ≡ map (λ s. s.receipts) seats.items) }
+    ensures all { IfOk result (λ parts. vec_len parts.shares ≡ length seats.items) }
+{
+    let mut receipts = Vec::with_capacity(alloc, seats.len())?;
+    let mut shares = Vec::with_capacity(alloc, seats.len())?;
+    for seat in seats {
+        let (held, counted) = seat.into_parts();
+        receipts.push_reserved(held);
+        shares.push_reserved(counted);
+    }
+    Ok(Parted { receipts, shares })
+}
+
+/// Brings the seats of a run together, that of the house among them, which closed it: the sums of what they counted, and their receipts.
+/// These are the records of the book, each of them once and in its seat's own; else the least place that differs is told. That
+/// seats are missing is told before. It takes time in proportion to the records and the receipts.
 pub fn close_run<L: Ledgers>(
     alloc: Global,
     book: Book<L>,
+    seats: Vec<SpentSeat<L>>,
+) -> Result<Totals, CloseFault>
+    ensures records { IfOk result (λ totals. totals.records ≡ length book.history) }
+    ensures bytes_in { IfOk result (λ totals. totals.bytes_in ≡ bytes_in book.limits.bounds book.history) }
+    ensures bytes_out { IfOk result (λ totals. totals.bytes_out ≡ bytes_out book.limits.bounds book.history) }
+    ensures receipts { IfOk result (λ totals. map (λ r. r.items) totals.receipts.items ≡ map (λ s. s.receipts) seats.items) }
+    ensures all { OnOk result (AreAll book.history (map held_in seats.items)) }
+    ensures fault { IfErr result (ClosesFor book seats.items) }
+{
+    let others: Vec<SpentSeat<L>> = Vec::new(alloc);
+    let least = compare(alloc, &book, seats.as_slice(), others.as_slice())?;
+    let parted = part(alloc, seats)?;
+    let sums = book.gather(alloc, parted.shares)?;
+    match least {
+        Some(place) => Err(CloseFault::Disagree { place }),
+        None => Ok(Totals {
+            records: sums.records,
+            bytes_in: sums.bytes_in,
+            bytes_out: sums.bytes_out,
+            receipts: parted.receipts,
+        }),
+    }
+}
+
+/// Closes a run whose seats are parted into holders of their receipts and shares, compares the receipts with the records, and gathers
+/// the shares: the sums of the records and of the bytes that they took and gave.
+pub(crate) fn end_run<L: Ledgers, T: HasReceipts>(
+    alloc: Global,
+    book: Book<L>,
+    holders: &[T],
     shares: Vec<Shares<L>>,
 ) -> Result<Sums, RunFault>
-    ensures { IfOk result (λ sums. IsClosedRun sums.records sums.bytes_in sums.bytes_out) }
+    ensures { IfOk result (λ sums. IsRunOf sums.records sums.bytes_in sums.bytes_out (map T.held holders.now)) }
 {
     let mut book = book;
     let mut shares = shares;
-    if let Some(house) = book.close_run() {
-        let (_receipts, counted) = house.into_parts();
-        if shares.push(counted).is_err() {
-            return Err(RunFault::NoMemory);
-        }
+    let house = match book.close_run() {
+        Some(house) => house,
+        None => return Err(RunFault::Missing),
+    };
+    let least = compare(alloc, &book, holders, slice::from_ref(&house))?;
+    let (_receipts, counted) = house.into_parts();
+    if shares.push(counted).is_err() {
+        return Err(RunFault::NoMemory);
     }
     let _counts = book.counts();
-    Ok(book.gather(alloc, shares)?)
+    let sums = book.gather(alloc, shares)?;
+    match least {
+        Some(place) => Err(RunFault::Disagree { place }),
+        None => Ok(sums),
+    }
 }

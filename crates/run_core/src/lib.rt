@@ -2,6 +2,7 @@
 #![tactic(auto)]
 
 pub mod closing;
+pub mod comparison;
 pub mod report;
 pub mod sessions;
 pub mod source;

@@ -1,18 +1,55 @@
 //! What is told of a run.
 
+ghost use Rattle.std.specs.Prelude.{◌≡◌};
+ghost use Rattle.run_core.specs.Receipts.{held_by};
+
+use crate::comparison::HasReceipts;
 use byte_ledger::tallies::GatherFault;
 use record_book::seat::Receipt;
 use session_core::end::End;
 use session_core::stream::StreamLog;
 use session_core::told::Told;
 use std::alloc::AllocError;
+use std::marker::Model;
 use thiserror::Error;
+
+/// The process of a session, or one that was refused: its number, and the receipts of its acts, in the order of their places.
+/// Contracts see the two.
+#[derive(Drop)]
+pub struct Process {
+    pub(crate) pid: u32,
+    pub(crate) receipts: Vec<Receipt>,
+}
+
+impl Model for Process {
+    ghost use Rattle.run_core.specs.Receipts.{Held};
+
+    ghost Value = { Held };
+
+    ghost view = { λ p. record { pid = p.pid; receipts = p.receipts.items } };
+}
+
+impl Process {
+    /// The number of the process, or the one that was asked for.
+    pub fn pid(&self) -> u32
+        ensures { result ≡ self.now.pid }
+    {
+        self.pid
+    }
+
+    /// The receipts, in the order of their places.
+    pub fn receipts(&self) -> &[Receipt]
+        ensures { result.now ≡ self.now.receipts }
+    {
+        self.receipts.as_slice()
+    }
+}
 
 /// A session that is over, and whose shares are gathered.
 #[derive(Drop)]
 pub struct Session<R, W> {
-    /// The receipts of its process, if it opened one or was refused one in the record.
-    pub receipts: Option<Vec<Receipt>>,
+    /// Its process, if it opened one or was refused one in the record.
+    pub process: Option<Process>,
     /// What it told its client, in order.
     pub answers: Vec<Told>,
     pub end: End,
@@ -22,6 +59,24 @@ pub struct Session<R, W> {
     pub writer: W,
     /// What became of the writes.
     pub writes: StreamLog,
+}
+
+impl<R, W> HasReceipts for Session<R, W> {
+    ghost held = { λ s. held_by s.process };
+
+    fn pid(&self) -> u32 {
+        match &self.process {
+            Some(process) => process.pid(),
+            None => 0,
+        }
+    }
+
+    fn receipts(&self) -> &[Receipt] {
+        match &self.process {
+            Some(process) => process.receipts(),
+            None => &[],
+        }
+    }
 }
 
 /// A run that is over: all its sessions have ended, and it is closed.
@@ -50,12 +105,15 @@ pub enum Shortage {
 /// Why a run gives no report.
 #[derive(Clone, Copy, Debug, PartialEq, Eq, Drop, Error)]
 pub enum RunFault {
-    /// Memory ran out before the first session, or when the shares were gathered.
+    /// Memory ran out before the first session, or when the run was closed.
     #[error("no memory")]
     NoMemory,
     /// Shares of some seats are missing.
     #[error("missing share")]
     Missing,
+    /// The receipts of the sessions and the records differ: this is the least place at which they do.
+    #[error("disagree at {place}")]
+    Disagree { place: u64 },
 }
 
 impl From<AllocError> for RunFault {

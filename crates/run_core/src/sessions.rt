@@ -1,16 +1,17 @@
 //! The sessions of a run, each in a thread of its own.
 
-ghost use Rattle.std.specs.Prelude.{◌≡◌, ◌≤◌, ◌<◌, ◌+◌, ◌^◌, All, None, Some, vec_len, vec_capacity, IfOk, IfErr, OnOk};
+ghost use Rattle.std.specs.Prelude.{◌≡◌, ◌≤◌, ◌<◌, ◌+◌, ◌^◌, All, None, Some, map, vec_len, vec_capacity, IfOk, IfErr, OnOk};
 ghost use Rattle.session_core.specs.Served.{Serves};
-ghost use Rattle.std.specs.Option.{option_map};
-ghost use Rattle.run_core.specs.Run.{IsClosedRun, IsServed, IsServedBy, failures_after};
+ghost use Rattle.run_core.specs.Receipts.{held_by};
+ghost use Rattle.run_core.specs.Run.{IsRunOf, IsServed, IsServedBy, failures_after};
 
-use crate::closing::{close_run, unshared};
-use crate::report::{Report, RunFault, Session, Shortage};
+use crate::closing::{end_run, unshared};
+use crate::report::{Process, Report, RunFault, Session, Shortage};
 use crate::source::Source;
 use byte_ledger::ledgers::{Blanks, Ledgers};
 use byte_ledger::tallies::Shares;
 use call_types::limits::Limits;
+use session_core::gate::Gate;
 use session_core::serve::{Served, serve};
 use std::alloc::{AllocError, Global};
 use std::io::{Read, Write};
@@ -20,46 +21,67 @@ use std::thread;
 use std::thread::{Promise, PromisedHandle, Threads};
 use system_lock::lock::SystemLock;
 
+/// What all sessions of a run share: the lock round its book, and the gate that is asked before an answer is written.
+#[derive(Drop)]
+struct Shared<G: Gate, L: Ledgers> {
+    lock: Arc<SystemLock<L>>,
+    gate: Arc<G>,
+}
+
+impl<G: Gate, L: Ledgers> Shared<G, L> {
+    /// The same, for one session.
+    fn share(&self) -> Result<Self, AllocError> {
+        Ok(Shared {
+            lock: Arc::try_clone(&self.lock)?,
+            gate: Arc::try_clone(&self.gate)?,
+        })
+    }
+}
+
 /// What the thread of a session promises: that the connection is served.
 #[derive(Drop)]
-pub(crate) struct Serving<R: Read, W: Write> {
+pub(crate) struct Serving<R: Read, W: Write, G: Gate> {
     reader: Snapshot<R>,
     writer: Snapshot<W>,
+    gate: Snapshot<Arc<G>>,
 }
 
-impl<R: Read, W: Write, L: Ledgers> Promise<Served<R, W, L>> for Serving<R, W> {
+impl<R: Read, W: Write, G: Gate, L: Ledgers> Promise<Served<R, W, L>> for Serving<R, W, G> {
     ghost use Rattle.session_core.specs.Served.{Serves};
 
-    ghost kept_by = { λ p served. Serves (R.remaining p.reader.value) (W.contents p.writer.value) (record { left = R.remaining served.reader; reads = served.reads; held = W.contents served.writer; writes = served.writes; seat = served.seat; answers = served.answers.items; end_is = served.end }) };
+    ghost kept_by = { λ p served. Serves G.is_open (R.remaining p.reader.value) (W.contents p.writer.value) (record { left = R.remaining served.reader; reads = served.reads; held = W.contents served.writer; writes = served.writes; seat = served.seat; answers = served.answers.items; end_is = served.end }) };
 }
 
-impl<R: Read, W: Write> Serving<R, W> {
-    /// The promise to serve this reader and this writer.
-    fn of(reader: &R, writer: &W) -> Self
+impl<R: Read, W: Write, G: Gate> Serving<R, W, G> {
+    /// The promise to serve this reader and this writer under this gate.
+    fn of(reader: &R, writer: &W, gate: &Arc<G>) -> Self
         ensures reader { R.remaining result.reader.value ≡ R.remaining reader.now }
         ensures writer { W.contents result.writer.value ≡ W.contents writer.now }
     {
         Serving {
             reader: Snapshot::of(reader),
             writer: Snapshot::of(writer),
+            gate: Snapshot::of(gate),
         }
     }
 }
 
 /// A session that goes on in its thread.
-type Running<R, W, L> = PromisedHandle<Served<R, W, L>, Serving<R, W>>;
+type Running<R, W, G, L> = PromisedHandle<Served<R, W, L>, Serving<R, W, G>>;
 
 /// Serves a connection, and ends it.
-fn serve_connection<Rt: Wait, S: Source, L: Ledgers>(
+fn serve_connection<Rt: Wait, S: Source, G: Gate, L: Ledgers>(
     rt: &Rt,
     alloc: Global,
     lock: &SystemLock<L>,
+    gate: Arc<G>,
     reader: S::Reader,
     writer: S::Writer,
+    session: u64,
 ) -> Served<S::Reader, S::Writer, L>
-    ensures { Serves (S.Reader.Read.remaining reader) (S.Writer.Write.contents writer) (record { left = S.Reader.Read.remaining result.reader; reads = result.reads; held = S.Writer.Write.contents result.writer; writes = result.writes; seat = result.seat; answers = result.answers.items; end_is = result.end }) }
+    ensures { Serves G.is_open (S.Reader.Read.remaining reader) (S.Writer.Write.contents writer) (record { left = S.Reader.Read.remaining result.reader; reads = result.reads; held = S.Writer.Write.contents result.writer; writes = result.writes; seat = result.seat; answers = result.answers.items; end_is = result.end }) }
 {
-    let served = serve(rt, alloc, reader, writer, lock);
+    let served = serve(rt, alloc, reader, writer, lock, session, gate);
     S::hang_up(&served.reader, &served.writer);
     served
 }
@@ -68,17 +90,22 @@ fn serve_connection<Rt: Wait, S: Source, L: Ledgers>(
 fn start<
     Rt: Threads + Wait + Copy + Send + 'static,
     S: Source + Send + 'static,
+    G: Gate + Send + Sync + 'static,
     L: Ledgers + Send + Sync + 'static,
 >(
     rt: Rt,
     alloc: Global,
-    lock: Arc<SystemLock<L>>,
+    shared: Shared<G, L>,
     reader: S::Reader,
     writer: S::Writer,
-) -> Option<Running<S::Reader, S::Writer, L>> {
-    let promise = Serving::of(&reader, &writer);
-    let session = move || serve_connection::<Rt, S, L>(&rt, alloc, &*lock, reader, writer);
-    match thread::spawn_with(&rt, promise, session) {
+    session: u64,
+) -> Option<Running<S::Reader, S::Writer, G, L>> {
+    let Shared { lock, gate } = shared;
+    let promise = Serving::of(&reader, &writer, &gate);
+    let serving = move || {
+        serve_connection::<Rt, S, G, L>(&rt, alloc, &*lock, gate, reader, writer, session)
+    };
+    match thread::spawn_with(&rt, promise, serving) {
         Ok(running) => Some(running),
         Err(_) => None,
     }
@@ -88,13 +115,15 @@ fn start<
 fn next_session<
     Rt: Threads + Wait + Copy + Send + 'static,
     S: Source + Send + 'static,
+    G: Gate + Send + Sync + 'static,
     L: Ledgers + Send + Sync + 'static,
 >(
     rt: Rt,
     alloc: Global,
-    lock: &Arc<SystemLock<L>>,
+    shared: &Shared<G, L>,
     source: &mut S,
-) -> Result<Running<S::Reader, S::Writer, L>, Shortage>
+    session: u64,
+) -> Result<Running<S::Reader, S::Writer, G, L>, Shortage>
     requires { S.failures source.old + 1 < 2 ^ 64 }
     ensures started { OnOk result (S.failures source.new ≡ S.failures source.old) }
     ensures short { IfErr result (λ shortage. S.failures source.new ≡ failures_after (S.failures source.old) (Some shortage)) }
@@ -103,16 +132,18 @@ fn next_session<
         Ok(connection) => connection,
         Err(_) => return Err(Shortage::NoConnection),
     };
-    match Arc::try_clone(lock) {
-        Ok(lock) => start::<Rt, S, L>(rt, alloc, lock, reader, writer).ok_or(Shortage::NoThread),
+    match shared.share() {
+        Ok(shared) => start::<Rt, S, G, L>(rt, alloc, shared, reader, writer, session).ok_or(
+            Shortage::NoThread,
+        ),
         Err(_) => Err(Shortage::NoThread),
     }
 }
 
 /// The sessions that were started, and why there are no more, if there are fewer than there were to be.
 #[derive(Drop)]
-struct Started<R: Read, W: Write, L: Ledgers> {
-    running: Vec<Running<R, W, L>>,
+struct Started<R: Read, W: Write, G: Gate, L: Ledgers> {
+    running: Vec<Running<R, W, G, L>>,
     shortage: Option<Shortage>,
 }
 
@@ -120,15 +151,16 @@ struct Started<R: Read, W: Write, L: Ledgers> {
 fn start_all<
     Rt: Threads + Wait + Copy + Send + 'static,
     S: Source + Send + 'static,
+    G: Gate + Send + Sync + 'static,
     L: Ledgers + Send + Sync + 'static,
 >(
     rt: Rt,
     alloc: Global,
-    lock: &Arc<SystemLock<L>>,
+    shared: &Shared<G, L>,
     source: &mut S,
     sessions: usize,
-    room: Vec<Running<S::Reader, S::Writer, L>>,
-) -> Started<S::Reader, S::Writer, L>
+    room: Vec<Running<S::Reader, S::Writer, G, L>>,
+) -> Started<S::Reader, S::Writer, G, L>
     requires failures { S.failures source.old + 1 < 2 ^ 64 }
     requires room { sessions ≤ vec_capacity room }
     requires empty { vec_len room ≡ 0 }
@@ -137,8 +169,8 @@ fn start_all<
     ensures all { result.shortage ≡ None → vec_len result.running ≡ sessions }
 {
     let mut running = room;
-    for _session in 0..sessions {
-        let shortage = match next_session(rt, alloc, lock, source) {
+    for session in 0..sessions {
+        let shortage = match next_session(rt, alloc, shared, source, session as u64) {
             Ok(session) => {
                 running.push_reserved(session);
                 continue;
@@ -160,12 +192,12 @@ struct Parted<R, W, L: Ledgers> {
     shares: Vec<Shares<L>>,
 }
 
-/// A session without its seat, and the shares of the seat.
-fn part<R: Read + Drop, W: Write + Drop, L: Ledgers>(
+/// A session under this kind of gate without its seat, and the shares of the seat.
+fn part<R: Read + Drop, W: Write + Drop, G: Gate, L: Ledgers>(
     served: Served<R, W, L>,
 ) -> (Session<R, W>, Option<Shares<L>>)
-    requires { IsServed (record { left = R.remaining served.reader; reads = served.reads; held = W.contents served.writer; writes = served.writes; seat = served.seat; answers = served.answers.items; end_is = served.end }) }
-    ensures { IsServedBy (λ seat. record { left = R.remaining result.0.reader; reads = result.0.reads; held = W.contents result.0.writer; writes = result.0.writes; seat = seat; answers = result.0.answers.items; end_is = result.0.end }) (option_map (λ r. r.items) result.0.receipts) }
+    requires { IsServed G.is_open (record { left = R.remaining served.reader; reads = served.reads; held = W.contents served.writer; writes = served.writes; seat = served.seat; answers = served.answers.items; end_is = served.end }) }
+    ensures { IsServedBy G.is_open (λ seat. record { left = R.remaining result.0.reader; reads = result.0.reads; held = W.contents result.0.writer; writes = result.0.writes; seat = seat; answers = result.0.answers.items; end_is = result.0.end }) result.0.process }
 {
     let Served {
         seat,
@@ -176,15 +208,16 @@ fn part<R: Read + Drop, W: Write + Drop, L: Ledgers>(
         writer,
         writes,
     } = served;
-    let (receipts, shares) = match seat {
+    let (process, shares) = match seat {
         Some(seat) => {
+            let pid = seat.pid();
             let (receipts, shares) = seat.into_parts();
-            (Some(receipts), Some(shares))
+            (Some(Process { pid, receipts }), Some(shares))
         }
         None => (None, None),
     };
     let session = Session {
-        receipts,
+        process,
         answers,
         end,
         reader,
@@ -196,15 +229,15 @@ fn part<R: Read + Drop, W: Write + Drop, L: Ledgers>(
 }
 
 /// Waits until all sessions have ended, and parts each from its seat. There is room for them.
-fn join_all<Rt: Threads, R: Read + Drop, W: Write + Drop, L: Ledgers>(
+fn join_all<Rt: Threads, R: Read + Drop, W: Write + Drop, G: Gate, L: Ledgers>(
     rt: &Rt,
-    running: Vec<Running<R, W, L>>,
+    running: Vec<Running<R, W, G, L>>,
     room: Parted<R, W, L>,
 ) -> Parted<R, W, L>
     requires sessions { vec_len room.sessions + vec_len running ≤ vec_capacity room.sessions }
     requires shares { vec_len room.shares + vec_len running ≤ vec_capacity room.shares }
     requires empty { vec_len room.sessions ≡ 0 }
-    ensures served { All (λ s. IsServedBy (λ seat. record { left = R.remaining s.reader; reads = s.reads; held = W.contents s.writer; writes = s.writes; seat = seat; answers = s.answers.items; end_is = s.end }) (option_map (λ r. r.items) s.receipts)) result.sessions.items }
+    ensures served { All (λ s. IsServedBy G.is_open (λ seat. record { left = R.remaining s.reader; reads = s.reads; held = W.contents s.writer; writes = s.writes; seat = seat; answers = s.answers.items; end_is = s.end }) s.process) result.sessions.items }
     ensures all { vec_len result.sessions ≡ vec_len running }
 {
     let Parted {
@@ -212,7 +245,7 @@ fn join_all<Rt: Threads, R: Read + Drop, W: Write + Drop, L: Ledgers>(
         mut shares,
     } = room;
     for thread in running {
-        let (session, counted) = part(thread.join(rt));
+        let (session, counted) = part::<R, W, G, L>(thread.join(rt));
         sessions.push_reserved(session);
         if let Some(counted) = counted {
             shares.push_reserved(counted);
@@ -221,22 +254,27 @@ fn join_all<Rt: Threads, R: Read + Drop, W: Write + Drop, L: Ledgers>(
     Parted { sessions, shares }
 }
 
-/// The kernel of a run that has no records yet, to be shared.
-fn shared_lock<L: Ledgers>(
+/// What the sessions of a run share that has no records yet.
+fn shared_by<G: Gate, L: Ledgers>(
     alloc: Global,
     limits: Limits,
     blanks: Blanks,
-) -> Result<Arc<SystemLock<L>>, AllocError>
+    gate: G,
+) -> Result<Shared<G, L>, AllocError>
     requires { blanks ≡ L.names }
 {
-    Ok(Arc::new(alloc, SystemLock::new(alloc, limits, blanks)?)?)
+    Ok(Shared {
+        lock: Arc::new(alloc, SystemLock::new(alloc, limits, blanks)?)?,
+        gate: Arc::new(alloc, gate)?,
+    })
 }
 
-/// Runs so many sessions, each in a thread of its own, closes the run when all have ended, and gathers what their seats counted. Where
+/// Runs so many sessions, each in a thread of its own and each of its answers written once the gate lets it through, closes the run when all have ended, and gathers what their seats counted. Where
 /// accepting fails, or a thread cannot be started, those that were started are served to their end.
 pub fn run_sessions<
     Rt: Threads + Wait + Copy + Send + 'static,
     S: Source + Send + 'static,
+    G: Gate + Send + Sync + 'static,
     L: Ledgers + Send + Sync + 'static,
 >(
     rt: Rt,
@@ -245,30 +283,34 @@ pub fn run_sessions<
     sessions: usize,
     limits: Limits,
     blanks: Blanks,
+    gate: G,
 ) -> Result<Report<S::Reader, S::Writer>, RunFault>
     requires failures { S.failures source.old + 1 < 2 ^ 64 }
     requires ledgers { blanks ≡ L.names }
     ensures failures { IfOk result (λ report. S.failures source.new ≡ failures_after (S.failures source.old) report.shortage) }
-    ensures run { IfOk result (λ report. IsClosedRun report.records report.bytes_in report.bytes_out) }
+    ensures run { IfOk result (λ report. IsRunOf report.records report.bytes_in report.bytes_out (map (λ s. held_by s.process) report.ends.items)) }
     ensures few { IfOk result (λ report. vec_len report.ends ≤ sessions) }
     ensures all { IfOk result (λ report. report.shortage ≡ None → vec_len report.ends ≡ sessions) }
-    ensures served { IfOk result (λ report. All (λ s. IsServedBy (λ seat. record { left = S.Reader.Read.remaining s.reader; reads = s.reads; held = S.Writer.Write.contents s.writer; writes = s.writes; seat = seat; answers = s.answers.items; end_is = s.end }) (option_map (λ r. r.items) s.receipts)) report.ends.items) }
+    ensures served { IfOk result (λ report. All (λ s. IsServedBy G.is_open (λ seat. record { left = S.Reader.Read.remaining s.reader; reads = s.reads; held = S.Writer.Write.contents s.writer; writes = s.writes; seat = seat; answers = s.answers.items; end_is = s.end }) s.process) report.ends.items) }
 {
-    let lock: Arc<SystemLock<L>> = shared_lock(alloc, limits, blanks)?;
+    let shared: Shared<G, L> = shared_by(alloc, limits, blanks, gate)?;
     let room = Vec::with_capacity(alloc, sessions)?;
     let room_for_ends = Parted {
         sessions: Vec::with_capacity(alloc, sessions)?,
         shares: Vec::with_capacity(alloc, sessions)?,
     };
-    let started = start_all(rt, alloc, &lock, source, sessions, room);
-    let parted = join_all(&rt, started.running, room_for_ends);
-    let book = unshared(&rt, lock).take().into_book();
-    let sums = close_run(alloc, book, parted.shares)?;
+    let started = start_all(rt, alloc, &shared, source, sessions, room);
+    let Parted {
+        sessions: ends,
+        shares,
+    } = join_all(&rt, started.running, room_for_ends);
+    let book = unshared(&rt, shared.lock).take().into_book();
+    let sums = end_run(alloc, book, ends.as_slice(), shares)?;
     Ok(Report {
         records: sums.records,
         bytes_in: sums.bytes_in,
         bytes_out: sums.bytes_out,
-        ends: parted.sessions,
+        ends,
         shortage: started.shortage,
     })
 }

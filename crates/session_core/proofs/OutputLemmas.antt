@@ -1,5 +1,5 @@
 -- What was written so far.
-use Rattle.std.proofs.Common.{◌≡◌, ℕ, ◌+◌, ◌-◌, ◌≤◌, List, [], ◌++◌, Option, None, Some, Result, Ok, Err, OnOk, OnErr, length, length-append, length-take-le, take-append-drop, take, drop, length-drop, arith, refl, sym, ◌∙◌, ap, subst}
+use Rattle.std.proofs.Common.{◌≡◌, ℕ, ◌+◌, ◌-◌, ◌≤◌, List, [], ◌++◌, Option, None, Some, Result, Ok, Err, OnOk, OnErr, length, length-append, length-take-le, take-append-drop, take, drop, length-drop, arith, refl, sym, ◌∙◌, ap, subst, inl, inr}
 use Rattle.std.proofs.lemmas.List.{append-nil, append_assoc}
 use Rattle.std.proofs.Math.Seq.{take-add, drop-length}
 use Rattle.std.proofs.KnownBytes.{Appends-nil, Appends-trans}
@@ -7,7 +7,9 @@ use Rattle.std.specs.Io.KnownBytes.{Appends, Keeps}
 use Rattle.frame_codec.specs.Decoding.{told_place}
 use Rattle.session_core.specs.Answers.{answers_text, IsFrontWritten}
 use Rattle.session_core.specs.Output.{OutputState, Holds, SendsAll, FailsToSend, fresh_output}
-use Rattle.session_core.specs.Streams.{IsBroken, SomeWritten, WritesFront}
+use Rattle.session_core.specs.declared.stream.Gave.{Gave}
+use Rattle.session_core.specs.declared.stream.Gave.TheVariants as gave
+use Rattle.session_core.specs.Streams.{LogState, IsBroken, SomeWritten, WritesFront, held_back, noted}
 
 -- what was kept and then grew has grown by the same
 pub kept_appends : (a b c : Option (List ℕ)) (bs : List ℕ) → Keeps a b → Appends b c bs → Appends a c bs
@@ -67,7 +69,7 @@ fails_to_send r o new n bytes e front sent answers broken =
       answers = answers;
       breaks = λ (base : Option (List ℕ)) (h : Holds base o). record {
         front = front_written base o new n (subst (λ (l : List ℕ). WritesFront o.sink.contents new.sink.contents l n) e front) sent answers h;
-        broken = b;
+        broken = inl b;
       };
     }) broken
 
@@ -95,6 +97,23 @@ sends_all r o new n bytes same front sent answers none all =
       };
       all = none;
     }) all
+
+-- the gate held an answer back
+pub held_at_gate : (o : OutputState) → FailsToSend o (record o { sink = record { contents = o.sink.contents; log = held_back o.sink.log } })
+held_at_gate o = record {
+  answers = refl;
+  breaks = λ (base : Option (List ℕ)) (h : Holds base o). record {
+    front = record { text = h.text; rest = o.unsent; appends = h.appends; is = h.is; sent_is = h.sent_is };
+    broken = inr refl;
+  };
+}
+
+-- a call on a stream says nothing of a gate
+pub noted_gate : (log : LogState) (found : Gave) → (noted log found).held_back ≡ log.held_back
+noted_gate log (gave.Bytes count) = refl
+noted_gate log gave.Nothing = refl
+noted_gate log gave.Interrupted = refl
+noted_gate log gave.Failed = refl
 
 -- nothing was written
 pub holds_fresh : (base : Option (List ℕ)) → Holds base (fresh_output base)

@@ -3,7 +3,7 @@ use Rattle.std.specs.Prelude.{◌≡◌, ℕ, List, [], ◌∷◌, ◌++◌, Opt
 use Rattle.std.specs.Io.KnownBytes.{Appends}
 use Rattle.frame_codec.specs.Decoding.{told_place}
 use Rattle.session_core.specs.Answers.{answers_text, IsFrontWritten}
-use Rattle.session_core.specs.Streams.{SinkState, fresh_log, IsBroken}
+use Rattle.session_core.specs.Streams.{SinkState, fresh_log, IsWrittenNoMore}
 use Rattle.session_core.specs.declared.told.Told.{Told}
 
 -- the writer; the bytes that are not written yet; how many were, as it is told; and the answers
@@ -24,10 +24,10 @@ pub record Holds (base : Option (List ℕ)) (o : OutputState) : Type 0 where
   pub is : text ++ o.unsent ≡ answers_text o.answers
   pub sent_is : o.sent ≡ told_place (length text)
 
--- a front of the answers' text was written onto what the writer held, and the writer is broken
+-- a front of the answers' text was written onto what the writer held, and no more is written to it
 pub record Broke (base : Option (List ℕ)) (o : OutputState) : Type 0 where
   pub front : IsFrontWritten base o.sink.contents o.answers o.sent
-  pub broken : IsBroken o.sink.log
+  pub broken : IsWrittenNoMore o.sink.log
 
 -- what is written stays the text of the answers
 abbrev pub KeepsHolding : OutputState → OutputState → Type 0
@@ -52,7 +52,7 @@ pub record SendsAll (old new : OutputState) : Type 0 where
   pub flushes : Flushes old new
   pub all : new.unsent ≡ []
 
--- the answers stay, and the writer has failed
+-- the answers stay, and no more is written
 pub record FailsToSend (old new : OutputState) : Type 0 where
   pub answers : new.answers ≡ old.answers
   pub breaks : Breaks old new

@@ -1,5 +1,5 @@
 -- What a session has come to: what it read, what it answered and wrote, and why it ended (own).
-use Rattle.std.specs.Prelude.{◌≡◌, ℕ, ◌≤◌, ◌⊎◌, List, [], ◌∷◌, ◌++◌, Option, None, Some}
+use Rattle.std.specs.Prelude.{◌≡◌, ℕ, ◌≤◌, ◌⊎◌, Bool, true, false, List, [], ◌∷◌, ◌++◌, Option, None, Some}
 use Rattle.std.specs.Io.KnownBytes.{Appends, Consumes, IsAtEnd}
 use Rattle.call_types.specs.declared.act.Act.TheVariants as act
 use Rattle.call_types.specs.declared.refusal.Refusal.{Refusal}
@@ -19,7 +19,7 @@ use Rattle.session_core.specs.declared.end.End.TheVariants as end
 use Rattle.session_core.specs.declared.told.Told.{Told}
 use Rattle.session_core.specs.declared.told.Told.TheVariants as told
 use Rattle.session_core.specs.Answers.{answers_text, receipts_of, IsFrontWritten}
-use Rattle.session_core.specs.Streams.{LogState, IsBroken, IsReadNoMore}
+use Rattle.session_core.specs.Streams.{LogState, IsWrittenNoMore, IsReadNoMore}
 use Rattle.session_core.specs.Talk.{AreAnswered, Converses, IsCut}
 
 -- ---- what was read
@@ -177,7 +177,7 @@ IsRunFull input answers = (answers ≡ told.Refused refusal.RunFull ∷ []) ⊎ 
 abbrev pub EndsFor : List ℕ → SessionState → End → Type 0
 EndsFor input s end.Closed = IsClosed input s
 EndsFor input s end.ReadFault = IsReadNoMore s.reads × AnswersAll input s.answers
-EndsFor input s (end.WriteFault sent) = IsBroken s.writes
+EndsFor input s (end.WriteFault sent) = IsWrittenNoMore s.writes
 EndsFor input s end.Malformed = AnswersToFault input s.answers ⊎ AnswersToMisplaced input s.answers
 EndsFor input s end.RunFull = IsRunFull input s.answers
 EndsFor input s end.NoMemory = Unit {0}
@@ -190,10 +190,11 @@ pub record ComesTo (input : List ℕ) (base : Option (List ℕ)) (s : SessionSta
   pub seated : IsSeated input s.seat s.answers s.end_is
   pub ends : EndsFor input s s.end_is
 
--- a session, from what its reader has and its writer holds on
-pub record Serves (from base : Option (List ℕ)) (s : SessionState) : Type 0 where
+-- a session, from what its reader has and its writer holds on; under a gate that always says yes no answer is held back
+pub record Serves (always : Bool) (from base : Option (List ℕ)) (s : SessionState) : Type 0 where
   pub input : List ℕ
   pub consumes : Consumes from s.left input
   pub few_reads : s.reads.calls ≤ READS_MAX
   pub few_interrupted : (s.reads.interruptions ≤ INTERRUPTIONS_MAX) × (s.writes.interruptions ≤ INTERRUPTIONS_MAX)
+  pub let_through : always ≡ true → s.writes.held_back ≡ false
   pub comes : ComesTo input base s

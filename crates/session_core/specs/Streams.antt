@@ -5,15 +5,16 @@ use Rattle.session_core.specs.declared.stream.TheConstants.{INTERRUPTIONS_MAX, R
 use Rattle.session_core.specs.declared.stream.Gave.{Gave}
 use Rattle.session_core.specs.declared.stream.Gave.TheVariants as gave
 
--- how many calls there were, how many of the last ones were interrupted, and whether one failed
+-- how many calls there were, how many of the last ones were interrupted, whether one failed, and whether a gate held an answer back for good
 pub record LogState : Type 0 where
   pub calls : ℕ
   pub interruptions : ℕ
   pub failed : Bool
+  pub held_back : Bool
 
 -- no call yet
 abbrev pub fresh_log : LogState
-fresh_log = record { calls = 0; interruptions = 0; failed = false }
+fresh_log = record { calls = 0; interruptions = 0; failed = false; held_back = false }
 
 -- one call more, up to the greatest number that can be told
 abbrev pub one_more : ℕ → ℕ
@@ -21,14 +22,22 @@ one_more calls = min (calls + 1) (2 ^ 64 - 1)
 
 -- the log after one call more
 abbrev pub noted : LogState → Gave → LogState
-noted log (gave.Bytes count) = record { calls = one_more log.calls; interruptions = 0; failed = log.failed }
-noted log gave.Nothing = record { calls = one_more log.calls; interruptions = 0; failed = log.failed }
-noted log gave.Interrupted = record { calls = one_more log.calls; interruptions = log.interruptions + 1; failed = log.failed }
-noted log gave.Failed = record { calls = one_more log.calls; interruptions = 0; failed = true }
+noted log (gave.Bytes count) = record { calls = one_more log.calls; interruptions = 0; failed = log.failed; held_back = log.held_back }
+noted log gave.Nothing = record { calls = one_more log.calls; interruptions = 0; failed = log.failed; held_back = log.held_back }
+noted log gave.Interrupted = record { calls = one_more log.calls; interruptions = log.interruptions + 1; failed = log.failed; held_back = log.held_back }
+noted log gave.Failed = record { calls = one_more log.calls; interruptions = 0; failed = true; held_back = log.held_back }
 
 -- a stream that failed, or was interrupted sixteen times in a row
 abbrev pub IsBroken : LogState → Type 0
 IsBroken log = (log.failed ≡ true) ⊎ (INTERRUPTIONS_MAX ≤ log.interruptions)
+
+-- the log of a writer to which no more is written, since a gate held an answer back
+abbrev pub held_back : LogState → LogState
+held_back log = record { calls = log.calls; interruptions = log.interruptions; failed = log.failed; held_back = true }
+
+-- a writer to which no more is written: it is broken, or a gate held an answer back
+abbrev pub IsWrittenNoMore : LogState → Type 0
+IsWrittenNoMore log = IsBroken log ⊎ (log.held_back ≡ true)
 
 -- a stream that is read no more: it is broken, or was read as often as a session may
 abbrev pub IsReadNoMore : LogState → Type 0

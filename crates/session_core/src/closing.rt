@@ -5,6 +5,7 @@ ghost use Rattle.std.specs.Prelude.{◌≡◌, Some, None};
 ghost use Rattle.session_core.specs.declared.stage.Over.TheVariants as over;
 
 use crate::end::End;
+use crate::gate::Gate;
 use crate::output::Output;
 use crate::stage::{Over, OverOf, Stage, StageOf, Why};
 use byte_ledger::ledgers::Ledgers;
@@ -35,7 +36,7 @@ fn end_of(why: Why) -> End
 }
 
 /// Writes the answers that are not written yet, and tells the end of the session.
-fn send_last<W: Write>(output: &mut Output<W>, why: Why) -> End
+fn send_last<W: Write, G: Gate>(output: &mut Output<W, G>, why: Why) -> End
     ensures { SendsLast output.old output.new why result }
 {
     match output.flush() {
@@ -96,9 +97,9 @@ fn left_by<P: Drop>(ended: (P, End), last: Option<Receipt>) -> Left<P>
 
 /// Writes the last answers and hangs up a process for whose last answer memory ran out. Where the writer fails, that answer is
 /// told among those that are not written.
-fn leave_untold<Rt: Wait, W: Write, L: Ledgers, K: Kernel<Seat<L>, SpentSeat<L>>>(
+fn leave_untold<Rt: Wait, W: Write, G: Gate, L: Ledgers, K: Kernel<Seat<L>, SpentSeat<L>>>(
     rt: &Rt,
-    output: &mut Output<W>,
+    output: &mut Output<W, G>,
     kernel: &K,
     seat: Seat<L>,
     receipt: Receipt,
@@ -118,9 +119,9 @@ fn leave_untold<Rt: Wait, W: Write, L: Ledgers, K: Kernel<Seat<L>, SpentSeat<L>>
 }
 
 /// Leaves a session that is over.
-pub(crate) fn leave_all<Rt: Wait, W: Write, L: Ledgers, K: Kernel<Seat<L>, SpentSeat<L>>>(
+pub(crate) fn leave_all<Rt: Wait, W: Write, G: Gate, L: Ledgers, K: Kernel<Seat<L>, SpentSeat<L>>>(
     rt: &Rt,
-    output: &mut Output<W>,
+    output: &mut Output<W, G>,
     kernel: &K,
     over: OverOf<L>,
 ) -> Left<SpentSeat<L>>

@@ -5,8 +5,8 @@ pub enum End {
     Closed,
     /// The reader failed, was interrupted sixteen times in a row, or was read 1,048,576 times.
     ReadFault,
-    /// The writer failed, took no byte, or was interrupted sixteen times in a row, after it took so many bytes; `u64::MAX` stands for
-    /// that many or more.
+    /// The writer failed, took no byte, or was interrupted sixteen times in a row, or the gate refused an answer a thousand times, after
+    /// the writer took so many bytes; `u64::MAX` stands for that many or more.
     WriteFault { sent: u64 },
     /// Bytes that are no frame of a request, or a request out of place.
     Malformed,

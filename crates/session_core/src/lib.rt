@@ -3,6 +3,7 @@
 
 mod closing;
 pub mod end;
+pub mod gate;
 pub mod memory;
 mod output;
 mod pieces;

@@ -1,10 +1,11 @@
 //! The answers of a session, and their way to its writer.
 
-ghost use Rattle.std.specs.Prelude.{◌≡◌, ℕ, List, [], Option, length, OnOk, OnErr, IfOk, IfErr};
+ghost use Rattle.std.specs.Prelude.{◌≡◌, ℕ, true, false, List, [], Option, length, OnOk, OnErr, IfOk, IfErr};
 ghost use Rattle.session_core.specs.declared.told.Told.TheVariants as told;
 ghost use Rattle.session_core.specs.Output.{fresh_output, Puts, Flushes, SendsAll, FailsToSend};
 ghost use Rattle.session_core.specs.Closing.{IsTaken};
 
+use crate::gate::{Asked, Gate};
 use crate::stream::{Sink, StreamLog, WriterFailed};
 use crate::told::Told;
 use call_types::refusal::Refusal;
@@ -16,37 +17,39 @@ use std::marker::Model;
 
 /// The answers of a session, and those bytes of them that are not written yet. There is always room for one answer more.
 #[derive(Drop)]
-pub(crate) struct Output<W: Write> {
+pub(crate) struct Output<W: Write, G: Gate> {
     sink: Sink<W>,
+    gate: Asked<G>,
     unsent: Vec<u8>,
     /// How many bytes were written.
     sent: u64,
     answers: Vec<Told>,
 }
 
-impl<W: Write> Model for Output<W> {
-    ghost use Rattle.std.specs.Prelude.{◌<◌, vec_len, vec_capacity};
+impl<W: Write, G: Gate> Model for Output<W, G> {
+    ghost use Rattle.std.specs.Prelude.{◌≡◌, ◌<◌, true, false, vec_len, vec_capacity};
     ghost use Rattle.session_core.specs.Output.{OutputState};
 
     ghost Value = { OutputState };
 
     ghost view = { λ o. record { sink = o.sink; unsent = o.unsent.items; sent = o.sent; answers = o.answers.items } };
 
-    ghost invariant = { λ o. vec_len o.answers < vec_capacity o.answers };
+    ghost invariant = { λ o. (vec_len o.answers < vec_capacity o.answers) × (G.is_open ≡ true → o.sink.log.held_back ≡ false) };
 }
 
 /// How many bytes of answers are gathered at most before they are written.
 const GATHERED: usize = 65_536;
 
-impl<W: Write> Output<W> {
-    /// No answers yet, for this writer, which is given back where memory runs out.
-    pub(crate) fn new(alloc: Global, writer: W) -> Result<Self, W>
+impl<W: Write, G: Gate> Output<W, G> {
+    /// No answers yet of this session, for this writer, which is given back where memory runs out.
+    pub(crate) fn new(alloc: Global, writer: W, gate: Asked<G>) -> Result<Self, W>
         ensures ok { IfOk result (λ output. output ≡ fresh_output (W.contents writer)) }
         ensures err { IfErr result (λ back. back ≡ writer) }
     {
         match Vec::with_capacity(alloc, 1) {
             Ok(answers) => Ok(Output {
                 sink: Sink::new(writer),
+                gate,
                 unsent: Vec::new(alloc),
                 sent: 0,
                 answers,
@@ -62,7 +65,20 @@ impl<W: Write> Output<W> {
         self.sent
     }
 
-    /// Writes what is not written yet. After an error the writer has failed, and nothing more is to be written.
+    /// Asks the gate for what is not written yet. After an error nothing more is to be written.
+    fn pass(&mut self) -> Result<(), WriterFailed>
+        ensures ok { OnOk result (self.new ≡ self.old) }
+        ensures err { OnErr result (FailsToSend self.old self.new) }
+    {
+        if self.gate.lets_all(self.answers.as_slice()) {
+            return Ok(());
+        }
+        self.sink.hold_back();
+        Err(WriterFailed)
+    }
+
+    /// Writes what is not written yet, once the gate lets it through. After an error the writer has failed, or the gate held an answer
+    /// back, and nothing more is to be written.
     pub(crate) fn flush(&mut self) -> Result<(), WriterFailed>
         ensures ok { OnOk result (SendsAll self.old self.new) }
         ensures err { OnErr result (FailsToSend self.old self.new) }
@@ -70,18 +86,27 @@ impl<W: Write> Output<W> {
         if self.unsent.is_empty() {
             return Ok(());
         }
+        self.pass()?;
+        self.send()
+    }
+
+    /// Writes what is not written yet. After an error the writer has failed, and nothing more is to be written.
+    fn send(&mut self) -> Result<(), WriterFailed>
+        ensures ok { OnOk result (SendsAll self.old self.new) }
+        ensures err { OnErr result (FailsToSend self.old self.new) }
+    {
         let (written, result) = self.sink.write_all(self.unsent.as_slice());
         self.sent = self.sent.saturating_add(written as u64);
         self.unsent.clear();
         result
     }
 
-    /// Writes what is not written yet, if it is much.
+    /// Writes what is not written yet, if it is much, or if the gate has to be asked for each answer.
     pub(crate) fn flush_much(&mut self) -> Result<(), WriterFailed>
         ensures ok { OnOk result (Flushes self.old self.new) }
         ensures err { OnErr result (FailsToSend self.old self.new) }
     {
-        if self.unsent.len() < GATHERED {
+        if self.unsent.len() < GATHERED && self.gate.is_always_open() {
             return Ok(());
         }
         self.flush()
@@ -122,7 +147,8 @@ impl<W: Write> Output<W> {
 
     /// The answers, with the last one, which is not written, if there is one; the writer, and what became of its calls.
     pub(crate) fn into_parts(self, last: Option<Receipt>) -> (Vec<Told>, W, StreamLog)
-        ensures { IsTaken self last result.0.items (W.contents result.1) result.2 }
+        ensures taken { IsTaken self last result.0.items (W.contents result.1) result.2 }
+        ensures gate { G.is_open ≡ true → result.2.held_back ≡ false }
     {
         let mut answers = self.answers;
         if let Some(receipt) = last {

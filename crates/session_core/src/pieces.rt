@@ -2,6 +2,7 @@
 
 ghost use Rattle.session_core.specs.Pieces.{TakesPiece};
 
+use crate::gate::Gate;
 use crate::output::Output;
 use crate::stage::{Over, StageOf, Turn, TurnOf, Why};
 use crate::turns::take_all;
@@ -15,9 +16,9 @@ use std::sync::Wait;
 use system_lock::kernel::Kernel;
 
 /// Takes up the requests that a piece completes, and writes all answers.
-pub(crate) fn take_piece<Rt: Wait, W: Write, L: Ledgers, K: Kernel<Seat<L>, SpentSeat<L>>>(
+pub(crate) fn take_piece<Rt: Wait, W: Write, G: Gate, L: Ledgers, K: Kernel<Seat<L>, SpentSeat<L>>>(
     rt: &Rt,
-    output: &mut Output<W>,
+    output: &mut Output<W, G>,
     kernel: &K,
     decoder: &mut Decoder<Requests>,
     stage: StageOf<L>,

@@ -7,6 +7,7 @@ ghost use Rattle.session_core.specs.declared.stage.Over.TheVariants as over;
 ghost use Rattle.session_core.specs.declared.stage.Turn.TheVariants as turn;
 ghost use Rattle.session_core.specs.Streams.{fresh_log};
 
+use crate::gate::Gate;
 use crate::output::Output;
 use crate::pieces::take_piece;
 use crate::stage::{Over, OverOf, Stage, StageOf, Turn, TurnOf, Why};
@@ -32,10 +33,10 @@ fn leaves<S: Drop, P: Drop>(stage: Stage<S>, why: Why) -> Turn<S, P>
 }
 
 /// Reads once more, and takes up what that gives.
-fn read_on<Rt: Wait, R: Read, W: Write, L: Ledgers, K: Kernel<Seat<L>, SpentSeat<L>>>(
+fn read_on<Rt: Wait, R: Read, W: Write, G: Gate, L: Ledgers, K: Kernel<Seat<L>, SpentSeat<L>>>(
     rt: &Rt,
     source: &mut Source<R>,
-    output: &mut Output<W>,
+    output: &mut Output<W, G>,
     kernel: &K,
     decoder: &mut Decoder<Requests>,
     buffer: &mut [u8],
@@ -65,10 +66,10 @@ fn read_on<Rt: Wait, R: Read, W: Write, L: Ledgers, K: Kernel<Seat<L>, SpentSeat
 }
 
 /// Reads as often as a session may, and takes up what that gives, until the session is over.
-fn read_often<Rt: Wait, R: Read, W: Write, L: Ledgers, K: Kernel<Seat<L>, SpentSeat<L>>>(
+fn read_often<Rt: Wait, R: Read, W: Write, G: Gate, L: Ledgers, K: Kernel<Seat<L>, SpentSeat<L>>>(
     rt: &Rt,
     source: &mut Source<R>,
-    output: &mut Output<W>,
+    output: &mut Output<W, G>,
     kernel: &K,
     decoder: &mut Decoder<Requests>,
     buffer: &mut [u8],
@@ -94,11 +95,18 @@ fn read_often<Rt: Wait, R: Read, W: Write, L: Ledgers, K: Kernel<Seat<L>, SpentS
 }
 
 /// Reads a session to its end.
-pub(crate) fn read_all<Rt: Wait, R: Read, W: Write, L: Ledgers, K: Kernel<Seat<L>, SpentSeat<L>>>(
+pub(crate) fn read_all<
+    Rt: Wait,
+    R: Read,
+    W: Write,
+    G: Gate,
+    L: Ledgers,
+    K: Kernel<Seat<L>, SpentSeat<L>>,
+>(
     rt: &Rt,
     alloc: Global,
     source: &mut Source<R>,
-    output: &mut Output<W>,
+    output: &mut Output<W, G>,
     kernel: &K,
 ) -> OverOf<L>
     requires { source.old.log ≡ fresh_log }

@@ -1,9 +1,11 @@
 //! A session from its first byte to its end.
 
+ghost use Rattle.std.specs.Prelude.{Bool};
 ghost use Rattle.session_core.specs.Served.{Serves};
 
 use crate::closing::leave_all;
 use crate::end::End;
+use crate::gate::{Asked, Gate};
 use crate::output::Output;
 use crate::reading::read_all;
 use crate::stream::{Source, StreamLog};
@@ -32,18 +34,21 @@ pub struct Served<R, W, L: Ledgers> {
     pub writes: StreamLog,
 }
 
-/// Serves one process: reads its requests, asks the kernel for each, and writes each answer, until the session ends for one of the
-/// reasons of `End`. Then its process is hung up. It waits where a call of its process waits.
-pub fn serve<Rt: Wait, R: Read, W: Write, L: Ledgers, K: Kernel<Seat<L>, SpentSeat<L>>>(
+/// Serves one process: reads its requests, asks the kernel for each, and writes each answer once the gate lets it through, until the
+/// session ends for one of the reasons of `End`. Then its process is hung up. It waits where a call of its process waits. The session
+/// is known to the gate by its number.
+pub fn serve<Rt: Wait, R: Read, W: Write, G: Gate, L: Ledgers, K: Kernel<Seat<L>, SpentSeat<L>>>(
     rt: &Rt,
     alloc: Global,
     reader: R,
     writer: W,
     kernel: &K,
+    session: u64,
+    gate: G,
 ) -> Served<R, W, L>
-    ensures { Serves (R.remaining reader) (W.contents writer) (record { left = R.remaining result.reader; reads = result.reads; held = W.contents result.writer; writes = result.writes; seat = result.seat; answers = result.answers.items; end_is = result.end }) }
+    ensures { Serves G.is_open (R.remaining reader) (W.contents writer) (record { left = R.remaining result.reader; reads = result.reads; held = W.contents result.writer; writes = result.writes; seat = result.seat; answers = result.answers.items; end_is = result.end }) }
 {
-    let mut output = match Output::new(alloc, writer) {
+    let mut output = match Output::new(alloc, writer, Asked::new(gate, session)) {
         Ok(output) => output,
         Err(writer) => return unserved(alloc, reader, writer),
     };
@@ -65,7 +70,7 @@ pub fn serve<Rt: Wait, R: Read, W: Write, L: Ledgers, K: Kernel<Seat<L>, SpentSe
 
 /// A session that has read nothing, since memory ran out.
 fn unserved<R: Read, W: Write, L: Ledgers>(alloc: Global, reader: R, writer: W) -> Served<R, W, L>
-    ensures { Serves (R.remaining reader) (W.contents writer) (record { left = R.remaining result.reader; reads = result.reads; held = W.contents result.writer; writes = result.writes; seat = result.seat; answers = result.answers.items; end_is = result.end }) }
+    ensures { (always : Bool) → Serves always (R.remaining reader) (W.contents writer) (record { left = R.remaining result.reader; reads = result.reads; held = W.contents result.writer; writes = result.writes; seat = result.seat; answers = result.answers.items; end_is = result.end }) }
 {
     Served {
         seat: None,

@@ -4,7 +4,7 @@ ghost use Rattle.std.specs.Prelude.{◌≡◌, ◌+◌, ◌<◌, ◌≤◌, ◌�
 ghost use Rattle.std.specs.IoError.{error_kind};
 ghost use Rattle.session_core.specs.declared.stream.Gave.TheVariants as gave;
 ghost use Rattle.std.specs.Io.KnownBytes.{Keeps};
-ghost use Rattle.session_core.specs.Streams.{fresh_log, noted, ReadsOnce, WritesOnce, WritesFront, WritesNone, SomeWritten, IsBroken};
+ghost use Rattle.session_core.specs.Streams.{fresh_log, noted, held_back, ReadsOnce, WritesOnce, WritesFront, WritesNone, SomeWritten, IsBroken};
 
 use std::io;
 use std::io::{ErrorKind, Read, Write};
@@ -35,6 +35,7 @@ pub struct StreamLog {
     calls: u64,
     interruptions: u32,
     failed: bool,
+    held_back: bool,
 }
 
 impl Model for StreamLog {
@@ -42,7 +43,7 @@ impl Model for StreamLog {
 
     ghost Value = { LogState };
 
-    ghost view = { λ log. record { calls = log.calls; interruptions = log.interruptions; failed = log.failed } };
+    ghost view = { λ log. record { calls = log.calls; interruptions = log.interruptions; failed = log.failed; held_back = log.held_back } };
 
     ghost use Rattle.std.specs.Prelude.{◌≤◌};
 
@@ -58,6 +59,7 @@ impl StreamLog {
             calls: 0,
             interruptions: 0,
             failed: false,
+            held_back: false,
         }
     }
 
@@ -81,6 +83,13 @@ impl StreamLog {
         ensures { result ≡ self.now.failed }
     {
         self.failed
+    }
+
+    /// Whether a gate said a thousand times in a row that an answer may not be written.
+    pub fn was_held_back(&self) -> bool
+        ensures { result ≡ self.now.held_back }
+    {
+        self.held_back
     }
 
     /// Notes what one call gave.
@@ -210,6 +219,13 @@ impl<W: Write> Sink<W> {
         (self.writer, self.log)
     }
 
+    /// Notes that a gate does not let an answer through.
+    pub(crate) fn hold_back(&mut self)
+        ensures { self.new ≡ record { contents = self.old.contents; log = held_back self.old.log } }
+    {
+        self.log.held_back = true;
+    }
+
     /// Writes once, of bytes that are not empty.
     fn write(&mut self, bytes: &[u8]) -> Gave
         requires { self.old.log.interruptions < 16 }
@@ -222,9 +238,11 @@ impl<W: Write> Sink<W> {
     }
 
     /// Writes a front of bytes that is not empty, unless the writer is broken.
+    #[tactic(auto, using(crate::proofs::OutputLemmas::noted_gate))]
     fn write_some(&mut self, bytes: &[u8]) -> Result<usize, WriterFailed>
         ensures ok { IfOk result (λ count. SomeWritten self.old.contents self.new.contents bytes.now count) }
         ensures err { OnErr result (WritesNone self.old self.new) }
+        ensures gate { self.new.log.held_back ≡ self.old.log.held_back }
     {
         while self.log.interruptions() < INTERRUPTIONS_MAX {
             match self.write(bytes) {
@@ -241,6 +259,7 @@ impl<W: Write> Sink<W> {
         ensures keeps { Keeps self.old.contents self.new.contents }
         ensures ok { OnOk result (self.new.log ≡ self.old.log) }
         ensures err { OnErr result (IsBroken self.new.log) }
+        ensures gate { self.new.log.held_back ≡ self.old.log.held_back }
     {
         match self.writer.flush() {
             Ok(()) => Ok(()),
@@ -256,6 +275,7 @@ impl<W: Write> Sink<W> {
         ensures front { WritesFront self.old.contents self.new.contents bytes.now result.0 }
         ensures whole { OnOk result.1 (result.0 ≡ length bytes.now) }
         ensures broken { OnErr result.1 (IsBroken self.new.log) }
+        ensures gate { self.new.log.held_back ≡ self.old.log.held_back }
     {
         let mut written: usize = 0;
         while written < bytes.len() {

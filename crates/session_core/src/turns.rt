@@ -7,6 +7,7 @@ ghost use Rattle.session_core.specs.Turns.{TakesUp, PutsFirst, PutsGivenUp, IsOn
 ghost use Rattle.system_lock.specs.Kernel.{IsOpening, IsWanting, IsWhyFinished, FinishesBy};
 ghost use Rattle.session_core.specs.Talk.{goes_on};
 
+use crate::gate::Gate;
 use crate::output::Output;
 use crate::stage::{Over, OverOf, Stage, StageOf, Turn, TurnOf, Waited, WaitedOf, Why};
 use byte_ledger::ledgers::Ledgers;
@@ -22,7 +23,10 @@ use std::sync::Wait;
 use system_lock::kernel::{EndedIn, Finished, FinishedIn, Kernel, Why as EndedWhy};
 
 /// Answers an opening by the one receipt that there is.
-fn put_first<W: Write>(output: &mut Output<W>, receipts: &[Receipt]) -> Result<(), AllocError>
+fn put_first<W: Write, G: Gate>(
+    output: &mut Output<W, G>,
+    receipts: &[Receipt],
+) -> Result<(), AllocError>
     requires { IsOne receipts.now }
     ensures ok { OnOk result (PutsFirst receipts.now output.old output.new) }
     ensures err { OnErr result (output.new ≡ output.old) }
@@ -35,7 +39,7 @@ fn put_first<W: Write>(output: &mut Output<W>, receipts: &[Receipt]) -> Result<(
 }
 
 /// Answers a refusal for want of memory or of records, and says why the session ends. Where memory runs out for the answer, that is why.
-fn put_given_up<W: Write>(output: &mut Output<W>, refusal: Refusal) -> Why
+fn put_given_up<W: Write, G: Gate>(output: &mut Output<W, G>, refusal: Refusal) -> Why
     requires { IsWanting refusal }
     ensures { PutsGivenUp output.old output.new refusal result }
 {
@@ -46,9 +50,9 @@ fn put_given_up<W: Write>(output: &mut Output<W>, refusal: Refusal) -> Why
 }
 
 /// Takes up the first request of a session.
-fn take_opening<Rt: Wait, W: Write, L: Ledgers, K: Kernel<Seat<L>, SpentSeat<L>>>(
+fn take_opening<Rt: Wait, W: Write, G: Gate, L: Ledgers, K: Kernel<Seat<L>, SpentSeat<L>>>(
     rt: &Rt,
-    output: &mut Output<W>,
+    output: &mut Output<W, G>,
     kernel: &K,
     request: Request,
 ) -> TurnOf<L>
@@ -85,7 +89,7 @@ fn goes_on(outcome: &Outcome) -> bool
 }
 
 /// Says how the session is over whose process has ended in the call that it waited in. Want of memory or of records is answered.
-fn give_up<W: Write, L: Ledgers>(output: &mut Output<W>, ended: EndedIn<L>) -> OverOf<L>
+fn give_up<W: Write, G: Gate, L: Ledgers>(output: &mut Output<W, G>, ended: EndedIn<L>) -> OverOf<L>
     requires { IsWhyFinished ended.why }
     ensures gives { GivesUp ended output.old output.new result }
     ensures tells { TellsWhy ended.why output.old output.new result }
@@ -107,9 +111,9 @@ fn give_up<W: Write, L: Ledgers>(output: &mut Output<W>, ended: EndedIn<L>) -> O
 }
 
 /// Waits until a call goes on. All answers so far are written before.
-fn finish_sent<Rt: Wait, W: Write, L: Ledgers, K: Kernel<Seat<L>, SpentSeat<L>>>(
+fn finish_sent<Rt: Wait, W: Write, G: Gate, L: Ledgers, K: Kernel<Seat<L>, SpentSeat<L>>>(
     rt: &Rt,
-    output: &Output<W>,
+    output: &Output<W, G>,
     kernel: &K,
     seat: Seat<L>,
 ) -> FinishedIn<L>
@@ -121,9 +125,9 @@ fn finish_sent<Rt: Wait, W: Write, L: Ledgers, K: Kernel<Seat<L>, SpentSeat<L>>>
 }
 
 /// Waits until a call goes on, and answers what came of that.
-fn wait_once<Rt: Wait, W: Write, L: Ledgers, K: Kernel<Seat<L>, SpentSeat<L>>>(
+fn wait_once<Rt: Wait, W: Write, G: Gate, L: Ledgers, K: Kernel<Seat<L>, SpentSeat<L>>>(
     rt: &Rt,
-    output: &mut Output<W>,
+    output: &mut Output<W, G>,
     kernel: &K,
     seat: Seat<L>,
 ) -> WaitedOf<L>
@@ -148,9 +152,9 @@ fn wait_once<Rt: Wait, W: Write, L: Ledgers, K: Kernel<Seat<L>, SpentSeat<L>>>(
 }
 
 /// Waits for the reply of a call, and answers what comes of it until then.
-fn wait_out<Rt: Wait, W: Write, L: Ledgers, K: Kernel<Seat<L>, SpentSeat<L>>>(
+fn wait_out<Rt: Wait, W: Write, G: Gate, L: Ledgers, K: Kernel<Seat<L>, SpentSeat<L>>>(
     rt: &Rt,
-    output: &mut Output<W>,
+    output: &mut Output<W, G>,
     kernel: &K,
     seat: Seat<L>,
 ) -> TurnOf<L>
@@ -167,9 +171,9 @@ fn wait_out<Rt: Wait, W: Write, L: Ledgers, K: Kernel<Seat<L>, SpentSeat<L>>>(
 }
 
 /// Takes up a call of the session's process, and waits for its reply.
-fn take_call<Rt: Wait, W: Write, L: Ledgers, K: Kernel<Seat<L>, SpentSeat<L>>>(
+fn take_call<Rt: Wait, W: Write, G: Gate, L: Ledgers, K: Kernel<Seat<L>, SpentSeat<L>>>(
     rt: &Rt,
-    output: &mut Output<W>,
+    output: &mut Output<W, G>,
     kernel: &K,
     seat: Seat<L>,
     call: Call,
@@ -198,9 +202,9 @@ fn take_call<Rt: Wait, W: Write, L: Ledgers, K: Kernel<Seat<L>, SpentSeat<L>>>(
 }
 
 /// Takes up a request where a session is.
-fn take_up<Rt: Wait, W: Write, L: Ledgers, K: Kernel<Seat<L>, SpentSeat<L>>>(
+fn take_up<Rt: Wait, W: Write, G: Gate, L: Ledgers, K: Kernel<Seat<L>, SpentSeat<L>>>(
     rt: &Rt,
-    output: &mut Output<W>,
+    output: &mut Output<W, G>,
     kernel: &K,
     stage: StageOf<L>,
     request: Request,
@@ -221,9 +225,9 @@ fn take_up<Rt: Wait, W: Write, L: Ledgers, K: Kernel<Seat<L>, SpentSeat<L>>>(
 }
 
 /// Takes up a request where a session is. What was gathered is written first, if it is much.
-fn take_next<Rt: Wait, W: Write, L: Ledgers, K: Kernel<Seat<L>, SpentSeat<L>>>(
+fn take_next<Rt: Wait, W: Write, G: Gate, L: Ledgers, K: Kernel<Seat<L>, SpentSeat<L>>>(
     rt: &Rt,
-    output: &mut Output<W>,
+    output: &mut Output<W, G>,
     kernel: &K,
     stage: StageOf<L>,
     request: Request,
@@ -237,9 +241,9 @@ fn take_next<Rt: Wait, W: Write, L: Ledgers, K: Kernel<Seat<L>, SpentSeat<L>>>(
 }
 
 /// Takes up requests, one after another, until the session is over.
-pub(crate) fn take_all<Rt: Wait, W: Write, L: Ledgers, K: Kernel<Seat<L>, SpentSeat<L>>>(
+pub(crate) fn take_all<Rt: Wait, W: Write, G: Gate, L: Ledgers, K: Kernel<Seat<L>, SpentSeat<L>>>(
     rt: &Rt,
-    output: &mut Output<W>,
+    output: &mut Output<W, G>,
     kernel: &K,
     stage: StageOf<L>,
     requests: Vec<Request>,

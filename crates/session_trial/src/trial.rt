@@ -11,6 +11,7 @@ use record_book::book::Book;
 use record_book::seat::SpentSeat;
 use script_text::lines::{write_record, write_totals};
 use session_core::end::End;
+use session_core::gate::OpenGate;
 use session_core::memory::{MemoryReader, MemoryWriter};
 use session_core::serve::{Served, serve};
 use std::alloc::{AllocError, Global};
@@ -72,7 +73,7 @@ pub(crate) fn tried<Rt: Wait, L: Ledgers>(
     let kernel = Stranger::new(book, job.forgets);
     let reader = MemoryReader::new(input, job.reads);
     let writer = MemoryWriter::new(alloc, job.writes);
-    let served = serve(rt, alloc, reader, writer, &kernel);
+    let served = serve(rt, alloc, reader, writer, &kernel, 0, OpenGate);
     let counts = kernel.counts(rt);
     let mut lines = Vec::new(alloc);
     put_served(&mut lines, &served)?;

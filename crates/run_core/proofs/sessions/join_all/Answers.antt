@@ -1,5 +1,4 @@
 use Rattle.std.proofs.Common.{◌≡◌, ◌+◌, ◌≤◌, All, vec_len, vec_capacity, arith, rules}
-use Rattle.std.specs.Option.{option_map}
 use Rattle.std.proofs.lemmas.List.Elements.{All-push}
 use Rattle.run_core.specs.Run.{IsServedBy}
 use Rattle.run_core.proofs.sessions.join_all.Goals as goal
@@ -22,7 +21,7 @@ loop-thread-preserved-in-Some-counted g c =
       room = let room = before.room in omega arith;
       shares_room = let room = before.shares_room in omega arith;
       served = rw c.push_reserved.ensures.items
-          (All-push (λ s. IsServedBy (λ seat. record { left = g.R.Read.remaining s.reader; reads = s.reads; held = g.W.Write.contents s.writer; writes = s.writes; seat = seat; answers = s.answers.items; end_is = s.end }) (option_map (λ r. r.items) s.receipts)) c.loop-thread.sessions.items c.part-session.result.0 before.served c.part-session.ensures);
+          (All-push (λ s. IsServedBy g.G.Gate.is_open (λ seat. record { left = g.R.Read.remaining s.reader; reads = s.reads; held = g.W.Write.contents s.writer; writes = s.writes; seat = seat; answers = s.answers.items; end_is = s.end }) s.process) c.loop-thread.sessions.items c.part-session.result.0 before.served c.part-session.ensures);
       goes = search rules;
       ends = search rules;
     }
@@ -38,7 +37,7 @@ loop-thread-preserved g c =
       room = let room = before.room in omega arith;
       shares_room = let room = before.shares_room in omega arith;
       served = rw c.push_reserved.ensures.items
-          (All-push (λ s. IsServedBy (λ seat. record { left = g.R.Read.remaining s.reader; reads = s.reads; held = g.W.Write.contents s.writer; writes = s.writes; seat = seat; answers = s.answers.items; end_is = s.end }) (option_map (λ r. r.items) s.receipts)) c.loop-thread.sessions.items c.part-session.result.0 before.served c.part-session.ensures);
+          (All-push (λ s. IsServedBy g.G.Gate.is_open (λ seat. record { left = g.R.Read.remaining s.reader; reads = s.reads; held = g.W.Write.contents s.writer; writes = s.writes; seat = seat; answers = s.answers.items; end_is = s.end }) s.process) c.loop-thread.sessions.items c.part-session.result.0 before.served c.part-session.ensures);
       goes = search rules;
       ends = search rules;
     }

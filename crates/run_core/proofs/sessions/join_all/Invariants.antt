@@ -1,5 +1,4 @@
 use Rattle.std.proofs.Common.{◌≡◌, ◌+◌, ◌≤◌, All, vec_len, vec_capacity}
-use Rattle.std.specs.Option.{option_map}
 use Rattle.std.specs.Vec.Iter.{into_iter_len}
 use Rattle.run_core.specs.Run.{IsServedBy}
 use Rattle.run_core.proofs.sessions.join_all.Given as goal
@@ -10,7 +9,7 @@ invariant-loop-thread g l = record {
   count : vec_len l.sessions + into_iter_len l.thread-iterator ≡ vec_len l.fn.running;
   room : vec_len l.sessions + into_iter_len l.thread-iterator ≤ vec_capacity l.sessions;
   shares_room : vec_len l.shares + into_iter_len l.thread-iterator ≤ vec_capacity l.shares;
-  served : All (λ s. IsServedBy (λ seat. record { left = g.R.Read.remaining s.reader; reads = s.reads; held = g.W.Write.contents s.writer; writes = s.writes; seat = seat; answers = s.answers.items; end_is = s.end }) (option_map (λ r. r.items) s.receipts)) l.sessions.items;
+  served : All (λ s. IsServedBy g.G.Gate.is_open (λ seat. record { left = g.R.Read.remaining s.reader; reads = s.reads; held = g.W.Write.contents s.writer; writes = s.writes; seat = seat; answers = s.answers.items; end_is = s.end }) s.process) l.sessions.items;
   goes : (goal.iterator-loop-thread g).can_next l.thread-iterator;
   ends : (goal.iterator-loop-thread g).is_finite l.thread-iterator;
 }

@@ -5,6 +5,6 @@ use Rattle.run_core.proofs.sessions.start_all.Given as goal
 abbrev pub invariant-loop-session : goal.invariant-loop-session
 invariant-loop-session g l = record {
   failures : g.S.Source.failures l.source ≡ g.S.Source.failures l.fn.source;
-  running : vec_len l.running ≡ l._session;
+  running : vec_len l.running ≡ l.session;
   room : l.fn.sessions ≤ vec_capacity l.running;
 }

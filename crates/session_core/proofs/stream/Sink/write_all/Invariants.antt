@@ -1,10 +1,13 @@
 -- So many bytes were written so far.
-use Rattle.std.proofs.Common.{length, ◌-◌}
+use Rattle.std.proofs.Common.{◌≡◌, length, ◌-◌}
 use Rattle.session_core.specs.Streams.{WritesFront}
 use Rattle.session_core.proofs.stream.Sink.write_all.Given as goal
 
 abbrev pub invariant-loop-written : goal.invariant-loop-written
-invariant-loop-written g l = WritesFront l.fn.self.contents l.self.contents l.bytes l.written
+invariant-loop-written g l = record {
+  front : WritesFront l.fn.self.contents l.self.contents l.bytes l.written;
+  gate : l.self.log.held_back ≡ l.fn.self.log.held_back;
+}
 
 abbrev pub decreases-loop-written : goal.decreases-loop-written
 decreases-loop-written g l = length l.bytes - l.written

@@ -1,10 +1,13 @@
 -- An interrupted write takes nothing, and is counted.
-use Rattle.std.proofs.Common.{◌-◌}
+use Rattle.std.proofs.Common.{◌≡◌, ◌-◌}
 use Rattle.std.specs.Io.KnownBytes.{Keeps}
 use Rattle.session_core.proofs.stream.Sink.write_some.Given as goal
 
 abbrev pub invariant-loop-self : goal.invariant-loop-self
-invariant-loop-self g l = Keeps l.fn.self.contents l.self.contents
+invariant-loop-self g l = record {
+  keeps : Keeps l.fn.self.contents l.self.contents;
+  gate : l.self.log.held_back ≡ l.fn.self.log.held_back;
+}
 
 abbrev pub decreases-loop-self : goal.decreases-loop-self
 decreases-loop-self g l = 16 - l.self.log.interruptions

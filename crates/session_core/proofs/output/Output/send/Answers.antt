@@ -1,7 +1,7 @@
 use Rattle.std.proofs.Common.{OnOk, OnErr, refl, subst}
 use Rattle.session_core.specs.Output.{OutputState, SendsAll, FailsToSend}
 use Rattle.session_core.proofs.OutputLemmas.{sends_all, fails_to_send}
-use Rattle.session_core.proofs.output.Output.flush.Goals as goal
+use Rattle.session_core.proofs.output.Output.send.Goals as goal
 
 pub returns-clause-ok : goal.returns-clause-ok
 returns-clause-ok g c =

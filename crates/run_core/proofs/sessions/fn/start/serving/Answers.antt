@@ -1,0 +1,9 @@
+-- The streams may go to the session's thread, as the bounds of `start` say.
+use denote.Param.Send.{param_send}
+use Rattle.run_core.proofs.sessions.fn.start.serving.Goals as goal
+
+pub serve_connection-requires-send-S-Reader : goal.serve_connection-requires-send-S-Reader
+serve_connection-requires-send-S-Reader g c κs within = param_send 4 g.row.S-Reader c.requires.1.1.1.1.1.1.1.1.1.1.1.1.4
+
+pub serve_connection-requires-send-S-Writer : goal.serve_connection-requires-send-S-Writer
+serve_connection-requires-send-S-Writer g c κs within = param_send 5 g.row.S-Writer c.requires.1.1.1.1.1.1.1.1.1.1.1.1.5

@@ -1,0 +1,227 @@
+//! Whether the receipts of all seats are the records of a book, each of them once.
+
+ghost use Rattle.std.specs.Prelude.{◌≡◌, ◌↔◌, ◌<◌, ◌≤◌, ◌+◌, ◌==◌, ◌⊎◌, ◌++◌, ℕ, map, None, Some, true, false, length, if◌then◌else◌, IfOk, IfSome};
+ghost use Rattle.std.specs.List.{slice_index};
+ghost use Rattle.run_core.specs.Receipts.{Held, IsGood, IsOwn, IsAbove, GoodFrom, GoodAt, IsBefore, names, named, wanted, IsSound};
+
+use byte_ledger::ledgers::Ledgers;
+use call_types::act::{Act, HOUSE, Record};
+use record_book::book::Book;
+use record_book::seat::{Receipt, SpentSeat};
+use std::alloc::{AllocError, Global};
+
+/// What holds the receipts of one process, if it has any.
+pub trait HasReceipts {
+    ghost held: { Self → Held };
+
+    /// The number of the process.
+    fn pid(&self) -> u32
+        ensures { result ≡ (held self.now).pid };
+
+    /// Its receipts.
+    fn receipts(&self) -> &[Receipt]
+        ensures { result.now ≡ (held self.now).receipts };
+}
+
+impl<L: Ledgers> HasReceipts for SpentSeat<L> {
+    ghost held = { λ s. record { pid = s.pid; receipts = s.receipts } };
+
+    fn pid(&self) -> u32 {
+        self.pid()
+    }
+
+    fn receipts(&self) -> &[Receipt] {
+        self.receipts()
+    }
+}
+
+/// Whether an act is an exit.
+fn is_exit(act: &Act) -> bool
+    ensures { (result ≡ true) ↔ (act.now ≡ Act.Exit) }
+{
+    match act {
+        Act::Exit => true,
+        _ => false,
+    }
+}
+
+/// Whether a record is one of this process, or of the house.
+fn is_own(pid: u32, told: &Record) -> bool
+    ensures { (result ≡ true) ↔ IsOwn pid told.now }
+{
+    told.actor == pid || (pid == HOUSE && is_exit(&told.act))
+}
+
+/// Whether a place is above the one before, if there is one.
+fn is_above(before: Option<u64>, place: u64) -> bool
+    ensures { (result ≡ true) ↔ IsAbove before place }
+{
+    match before {
+        None => true,
+        Some(before) => before < place,
+    }
+}
+
+/// The lower of two places, of which one may not be there.
+fn lower(least: Option<u64>, place: u64) -> u64
+    ensures both { (p : ℕ) → p < result → IsBefore p least × (p < place) }
+    ensures one { ((result ≡ place) × IsBefore place least) ⊎ (least ≡ Some result) }
+{
+    match least {
+        None => place,
+        Some(least) => least.min(place),
+    }
+}
+
+/// The lower of two places, if there is one.
+fn lowest(one: Option<u64>, other: Option<u64>) -> Option<u64>
+    ensures both { (p : ℕ) → IsBefore p result → IsBefore p one × IsBefore p other }
+    ensures either { (result ≡ one) ⊎ ((result ≡ other) × IfSome result (λ q. IsBefore q one)) }
+{
+    match other {
+        None => one,
+        Some(place) => Some(lower(one, place)),
+    }
+}
+
+/// Whether a receipt tells the record at its place, which is one of this process, and its place is above the one before.
+fn is_good<L: Ledgers>(book: &Book<L>, pid: u32, before: Option<u64>, receipt: &Receipt) -> bool
+    ensures { (result ≡ true) ↔ IsGood book.now.history pid before receipt.now }
+{
+    let stands = match book.record_at(receipt.place()) {
+        Some(stands) => stands.is_same(receipt.record()),
+        None => false,
+    };
+    stands && is_own(pid, receipt.record()) && is_above(before, receipt.place())
+}
+
+/// The least place that a receipt names which is not good.
+fn least_bad<L: Ledgers>(book: &Book<L>, pid: u32, receipts: &[Receipt]) -> Option<u64>
+    ensures good { (p : ℕ) → IsBefore p result → GoodFrom book.now.history pid p None receipts.now }
+    ensures bad { IfSome result (λ p. GoodFrom book.now.history pid p None receipts.now → ⊥) }
+{
+    let mut least = None;
+    let mut before = None;
+    let mut left = receipts;
+    while let Some((receipt, rest)) = left.split_first() {
+        if !is_good(book, pid, before, receipt) {
+            least = Some(lower(least, receipt.place()));
+        }
+        before = Some(receipt.place());
+        left = rest;
+    }
+    least
+}
+
+/// The least place that a receipt of theirs names which is not good.
+fn least_bad_of<L: Ledgers, T: HasReceipts>(book: &Book<L>, holders: &[T]) -> Option<u64>
+    ensures good { (p : ℕ) → IsBefore p result → GoodAt book.now.history p (map T.held holders.now) }
+    ensures bad { IfSome result (λ p. GoodAt book.now.history p (map T.held holders.now) → ⊥) }
+{
+    let mut least = None;
+    let mut left = holders;
+    while let Some((holder, rest)) = left.split_first() {
+        least = lowest(least, least_bad(book, holder.pid(), holder.receipts()));
+        left = rest;
+    }
+    least
+}
+
+/// Marks a place, if it is one and is not marked yet.
+fn mark_one(marks: &mut [u8], place: u64) -> bool
+    ensures len { length marks.new ≡ length marks.old }
+    ensures ones { ((p : ℕ) → slice_index marks.old p ≤ 1) → (p : ℕ) → slice_index marks.new p ≤ 1 }
+    ensures marked { result ≡ true → (p : ℕ) → slice_index marks.new p ≡ (if place == p then slice_index marks.old p + 1 else slice_index marks.old p) }
+    ensures refused { result ≡ false → (marks.new ≡ marks.old) × (wanted (length marks.old) place ≤ slice_index marks.old place) }
+{
+    let at = place as usize;
+    if at < marks.len() && marks[at] == 0 {
+        marks[at] = 1;
+        return true;
+    }
+    false
+}
+
+/// Marks the places that receipts name. The least place that was marked before, or is no place of a record, or the least before.
+fn mark(marks: &mut [u8], least: Option<u64>, receipts: &[Receipt]) -> Option<u64>
+    ensures len { length marks.new ≡ length marks.old }
+    ensures ones { ((p : ℕ) → slice_index marks.old p ≤ 1) → (p : ℕ) → slice_index marks.new p ≤ 1 }
+    ensures marked { (p : ℕ) → IsBefore p result → slice_index marks.new p ≡ slice_index marks.old p + names p receipts.now }
+    ensures lower { (p : ℕ) → IsBefore p result → IsBefore p least }
+    ensures twice { (result ≡ least) ⊎ IfSome result (λ q. IsBefore q least × (wanted (length marks.old) q < slice_index marks.old q + names q receipts.now)) }
+{
+    let mut least = least;
+    let mut left = receipts;
+    while let Some((receipt, rest)) = left.split_first() {
+        let place = receipt.place();
+        if !mark_one(marks, place) {
+            least = Some(lower(least, place));
+        }
+        left = rest;
+    }
+    least
+}
+
+/// Marks the places that receipts of theirs name. The least place that was marked before, or is no place of a record, or the least
+/// before.
+fn mark_all<T: HasReceipts>(marks: &mut [u8], least: Option<u64>, holders: &[T]) -> Option<u64>
+    ensures len { length marks.new ≡ length marks.old }
+    ensures ones { ((p : ℕ) → slice_index marks.old p ≤ 1) → (p : ℕ) → slice_index marks.new p ≤ 1 }
+    ensures marked { (p : ℕ) → IsBefore p result → slice_index marks.new p ≡ slice_index marks.old p + named p (map T.held holders.now) }
+    ensures lower { (p : ℕ) → IsBefore p result → IsBefore p least }
+    ensures twice { (result ≡ least) ⊎ IfSome result (λ q. IsBefore q least × (wanted (length marks.old) q < slice_index marks.old q + named q (map T.held holders.now))) }
+{
+    let mut least = least;
+    let mut left = holders;
+    while let Some((holder, rest)) = left.split_first() {
+        least = mark(marks, least, holder.receipts());
+        left = rest;
+    }
+    least
+}
+
+/// The first place that is not marked.
+fn unmarked(marks: &[u8]) -> Option<u64>
+    ensures before { (p : ℕ) → IsBefore p result → p < length marks.now → 1 ≤ slice_index marks.now p }
+    ensures there { IfSome result (λ q. (q < length marks.now) × (slice_index marks.now q ≡ 0)) }
+{
+    for at in 0..marks.len() {
+        if marks[at] == 0 {
+            return Some(at as u64);
+        }
+    }
+    None
+}
+
+/// The least place that other than one receipt names, or other than none where there is no record. No place is marked yet.
+fn uncovered<T: HasReceipts, U: HasReceipts>(
+    marks: &mut [u8],
+    holders: &[T],
+    others: &[U],
+) -> Option<u64>
+    requires fresh { (p : ℕ) → slice_index marks.old p ≡ 0 }
+    ensures covered { (p : ℕ) → IsBefore p result → named p (map T.held holders.now ++ map U.held others.now) ≡ wanted (length marks.old) p }
+    ensures uncovered { IfSome result (λ q. named q (map T.held holders.now ++ map U.held others.now) ≡ wanted (length marks.old) q → ⊥) }
+{
+    let first = mark_all(marks, None, holders);
+    let twice = mark_all(marks, first, others);
+    lowest(twice, unmarked(marks))
+}
+
+/// The least place that is not sound: where the record does not stand, the same, in exactly one receipt of all holders, or where a
+/// receipt that names it is no good one. It takes time in proportion to the receipts and the records, and a byte of memory for each record.
+pub fn compare<L: Ledgers, T: HasReceipts, U: HasReceipts>(
+    alloc: Global,
+    book: &Book<L>,
+    holders: &[T],
+    others: &[U],
+) -> Result<Option<u64>, AllocError>
+    ensures sound { IfOk result (λ least. (p : ℕ) → IsBefore p least → IsSound book.now.history (map T.held holders.now ++ map U.held others.now) p) }
+    ensures broken { IfOk result (λ least. IfSome least (λ q. IsSound book.now.history (map T.held holders.now ++ map U.held others.now) q → ⊥)) }
+{
+    let records = book.counts().records as usize;
+    let mut marks = vec![in alloc; 0u8; records]?;
+    let uncovered = uncovered(marks.as_mut_slice(), holders, others);
+    let bad = lowest(least_bad_of(book, holders), least_bad_of(book, others));
+    Ok(lowest(uncovered, bad))
+}
