@@ -6,10 +6,10 @@ use Rattle.std.proofs.KnownBytes.{Appends-nil, Appends-trans}
 use Rattle.std.specs.Io.KnownBytes.{Appends, Keeps}
 use Rattle.frame_codec.specs.Decoding.{told_place}
 use Rattle.session_core.specs.Answers.{answers_text, IsFrontWritten}
-use Rattle.session_core.specs.Output.{OutputState, Holds, SendsAll, FailsToSend, fresh_output}
+use Rattle.session_core.specs.Output.{OutputState, Holds, Passes, SendsAll, FailsToSend, fresh_output}
 use Rattle.session_core.specs.declared.stream.Gave.{Gave}
 use Rattle.session_core.specs.declared.stream.Gave.TheVariants as gave
-use Rattle.session_core.specs.Streams.{LogState, IsBroken, SomeWritten, WritesFront, held_back, noted}
+use Rattle.session_core.specs.Streams.{LogState, IsBroken, SomeWritten, WritesFront, noted}
 
 -- what was kept and then grew has grown by the same
 pub kept_appends : (a b c : Option (List ℕ)) (bs : List ℕ) → Keeps a b → Appends b c bs → Appends a c bs
@@ -98,18 +98,47 @@ sends_all r o new n bytes same front sent answers none all =
       all = none;
     }) all
 
--- the gate held an answer back
-pub held_at_gate : (o : OutputState) → FailsToSend o (record o { sink = record { contents = o.sink.contents; log = held_back o.sink.log } })
-held_at_gate o = record {
-  answers = refl;
-  breaks = λ (base : Option (List ℕ)) (h : Holds base o). record {
-    front = record { text = h.text; rest = o.unsent; appends = h.appends; is = h.is; sent_is = h.sent_is };
-    broken = inr refl;
-  };
+-- what is written stays the text of the answers while a gate is asked
+pub passes_holds : (old new : OutputState) → Passes old new → (base : Option (List ℕ)) → Holds base old → Holds base new
+passes_holds old new p base h = record {
+  text = h.text;
+  appends = subst (λ (held : Option (List ℕ)). Appends base held h.text) (sym p.contents) h.appends;
+  is = ap (λ (bytes : List ℕ). h.text ++ bytes) p.unsent ∙ (h.is ∙ ap answers_text (sym p.answers));
+  sent_is = p.sent ∙ h.sent_is;
 }
 
+-- a gate has refused an answer as often as it is asked
+pub refused_at_gate : (old new : OutputState) → Passes old new → 1000 ≤ new.sink.log.refusals → FailsToSend old new
+unfolding passes_holds
+refused_at_gate old new p refused = record {
+  answers = p.answers;
+  breaks = λ (base : Option (List ℕ)) (h : Holds base old).
+      let held = passes_holds old new p base h in
+      record {
+        front = record { text = held.text; rest = new.unsent; appends = held.appends; is = held.is; sent_is = held.sent_is };
+        broken = inr refused;
+      };
+}
+
+-- what a gate has let through is written
+pub sent_after : {T E : Type 0} (r : Result T E) (old mid new : OutputState) → Passes old mid → OnOk r (SendsAll mid new) → OnOk r (SendsAll old new)
+sent_after r old mid new p = given_ok r (λ (s : SendsAll mid new). record {
+  flushes = record {
+    answers = s.flushes.answers ∙ p.answers;
+    holds = λ (base : Option (List ℕ)) (h : Holds base old). s.flushes.holds base (passes_holds old mid p base h);
+  };
+  all = s.all;
+})
+
+-- or the writer fails
+pub failed_after : {T E : Type 0} (r : Result T E) (old mid new : OutputState) → Passes old mid → OnErr r (FailsToSend mid new) → OnErr r (FailsToSend old new)
+failed_after r old mid new p = given_err r (λ (f : FailsToSend mid new). record {
+  answers = f.answers ∙ p.answers;
+  breaks = λ (base : Option (List ℕ)) (h : Holds base old). f.breaks base (passes_holds old mid p base h);
+})
+
 -- a call on a stream says nothing of a gate
-pub noted_gate : (log : LogState) (found : Gave) → (noted log found).held_back ≡ log.held_back
+pub noted_gate : (log : LogState) (found : Gave) → (noted log found).refusals ≡ log.refusals
 noted_gate log (gave.Bytes count) = refl
 noted_gate log gave.Nothing = refl
 noted_gate log gave.Interrupted = refl

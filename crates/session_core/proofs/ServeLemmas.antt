@@ -1,5 +1,5 @@
 -- A session from its first byte to its end.
-use Rattle.std.proofs.Common.{◌≡◌, ℕ, ◌≤◌, Bool, true, false, List, [], Option, None, arith, refl, sym, ap, subst}
+use Rattle.std.proofs.Common.{◌≡◌, ℕ, ◌≤◌, Bool, true, List, [], Option, None, arith, refl, sym, ap, subst}
 use Rattle.std.specs.Io.KnownBytes.{Appends, Consumes}
 use Rattle.std.proofs.KnownBytes.{Appends-nil, Consumes-nil}
 use Rattle.session_core.specs.declared.end.End.TheVariants as end
@@ -25,7 +25,7 @@ unserved from base reads writes answers unread unwritten none always = record {
   consumes = Consumes-nil from;
   few_reads = subst (λ (n : ℕ). n ≤ READS_MAX) (sym (ap (λ (log : LogState). log.calls) unread)) (omega arith);
   few_interrupted = (fresh_few reads unread, fresh_few writes unwritten);
-  let_through = λ given. ap (λ (log : LogState). log.held_back) unwritten;
+  let_through = λ given. ap (λ (log : LogState). log.refusals) unwritten;
   comes = record {
     talks = first_none [] [] answers (record { text = []; rest = []; is = refl; frames = refl }) none;
     written = subst (λ (l : List Told). Appends base base (answers_text l)) (sym none) (Appends-nil base);
@@ -36,7 +36,7 @@ unserved from base reads writes answers unread unwritten none always = record {
 
 -- what was read is answered, and the session is left
 pub served : (always : Bool) (from to : SourceState) (begin rest base : Option (List ℕ)) (old mid new : OutputState) (found : Over) (left : Left) (reads : LogState) (answers : List Told) (held : Option (List ℕ)) (log : LogState)
-    → from ≡ record { remaining = begin; log = fresh_log } → rest ≡ to.remaining → reads ≡ to.log → old ≡ fresh_output base → to.log.calls ≤ READS_MAX → reads.interruptions ≤ INTERRUPTIONS_MAX → ReadsFresh from to old mid found → LeavesAll mid new found left → IsTaken new left.last answers held log → (always ≡ true → log.held_back ≡ false)
+    → from ≡ record { remaining = begin; log = fresh_log } → rest ≡ to.remaining → reads ≡ to.log → old ≡ fresh_output base → to.log.calls ≤ READS_MAX → reads.interruptions ≤ INTERRUPTIONS_MAX → ReadsFresh from to old mid found → LeavesAll mid new found left → IsTaken new left.last answers held log → (always ≡ true → log.refusals ≡ 0)
     → Serves always begin base (record { left = rest; reads = reads; held = held; writes = log; seat = left.seat; answers = answers; end_is = left.end })
 served always from to begin rest base old mid new found left reads answers held log unread rest_is reads_are fresh few few_interrupted all leaves taken through =
     let r = all base fresh in

@@ -37,6 +37,13 @@ KeepsHolding old new = (base : Option (List ℕ)) → Holds base old → Holds b
 abbrev pub Breaks : OutputState → OutputState → Type 0
 Breaks old new = (base : Option (List ℕ)) → Holds base old → Broke base new
 
+-- a gate was asked: of what is answered, written and still to be written nothing has changed
+pub record Passes (old new : OutputState) : Type 0 where
+  pub contents : new.sink.contents ≡ old.sink.contents
+  pub unsent : new.unsent ≡ old.unsent
+  pub sent : new.sent ≡ old.sent
+  pub answers : new.answers ≡ old.answers
+
 -- one answer more, whose frame is still to be written
 pub record Puts (old new : OutputState) (answer : Told) : Type 0 where
   pub answers : new.answers ≡ old.answers ++ answer ∷ []

@@ -1,5 +1,5 @@
 -- What a session has come to: what it read, what it answered and wrote, and why it ended (own).
-use Rattle.std.specs.Prelude.{◌≡◌, ℕ, ◌≤◌, ◌⊎◌, Bool, true, false, List, [], ◌∷◌, ◌++◌, Option, None, Some}
+use Rattle.std.specs.Prelude.{◌≡◌, ℕ, ◌≤◌, ◌⊎◌, Bool, true, List, [], ◌∷◌, ◌++◌, Option, None, Some}
 use Rattle.std.specs.Io.KnownBytes.{Appends, Consumes, IsAtEnd}
 use Rattle.call_types.specs.declared.act.Act.TheVariants as act
 use Rattle.call_types.specs.declared.refusal.Refusal.{Refusal}
@@ -190,11 +190,11 @@ pub record ComesTo (input : List ℕ) (base : Option (List ℕ)) (s : SessionSta
   pub seated : IsSeated input s.seat s.answers s.end_is
   pub ends : EndsFor input s s.end_is
 
--- a session, from what its reader has and its writer holds on; under a gate that always says yes no answer is held back
+-- a session, from what its reader has and its writer holds on; under a gate that always says yes no answer is refused
 pub record Serves (always : Bool) (from base : Option (List ℕ)) (s : SessionState) : Type 0 where
   pub input : List ℕ
   pub consumes : Consumes from s.left input
   pub few_reads : s.reads.calls ≤ READS_MAX
   pub few_interrupted : (s.reads.interruptions ≤ INTERRUPTIONS_MAX) × (s.writes.interruptions ≤ INTERRUPTIONS_MAX)
-  pub let_through : always ≡ true → s.writes.held_back ≡ false
+  pub let_through : always ≡ true → s.writes.refusals ≡ 0
   pub comes : ComesTo input base s

@@ -1,20 +1,20 @@
 -- The streams of a session, and what became of the calls on them (own).
-use Rattle.std.specs.Prelude.{◌≡◌, ℕ, ◌+◌, ◌-◌, ◌^◌, ◌≤◌, ◌<◌, ◌⊎◌, min, Bool, true, false, List, [], Option, length, take}
+use Rattle.std.specs.Prelude.{◌≡◌, ℕ, ◌+◌, ◌-◌, ◌^◌, ◌≤◌, ◌<◌, ◌⊎◌, min, Bool, true, false, List, [], Option, length, take, if◌then◌else◌}
 use Rattle.std.specs.Io.KnownBytes.{Appends, Consumes, Keeps, IsAtEnd}
-use Rattle.session_core.specs.declared.stream.TheConstants.{INTERRUPTIONS_MAX, READS_MAX}
+use Rattle.session_core.specs.declared.stream.TheConstants.{INTERRUPTIONS_MAX, READS_MAX, TURNS_MAX}
 use Rattle.session_core.specs.declared.stream.Gave.{Gave}
 use Rattle.session_core.specs.declared.stream.Gave.TheVariants as gave
 
--- how many calls there were, how many of the last ones were interrupted, whether one failed, and whether a gate held an answer back for good
+-- how many calls there were, how many of the last ones were interrupted, whether one failed, and how often a gate refused the next answer so far
 pub record LogState : Type 0 where
   pub calls : ℕ
   pub interruptions : ℕ
   pub failed : Bool
-  pub held_back : Bool
+  pub refusals : ℕ
 
 -- no call yet
 abbrev pub fresh_log : LogState
-fresh_log = record { calls = 0; interruptions = 0; failed = false; held_back = false }
+fresh_log = record { calls = 0; interruptions = 0; failed = false; refusals = 0 }
 
 -- one call more, up to the greatest number that can be told
 abbrev pub one_more : ℕ → ℕ
@@ -22,22 +22,22 @@ one_more calls = min (calls + 1) (2 ^ 64 - 1)
 
 -- the log after one call more
 abbrev pub noted : LogState → Gave → LogState
-noted log (gave.Bytes count) = record { calls = one_more log.calls; interruptions = 0; failed = log.failed; held_back = log.held_back }
-noted log gave.Nothing = record { calls = one_more log.calls; interruptions = 0; failed = log.failed; held_back = log.held_back }
-noted log gave.Interrupted = record { calls = one_more log.calls; interruptions = log.interruptions + 1; failed = log.failed; held_back = log.held_back }
-noted log gave.Failed = record { calls = one_more log.calls; interruptions = 0; failed = true; held_back = log.held_back }
+noted log (gave.Bytes count) = record { calls = one_more log.calls; interruptions = 0; failed = log.failed; refusals = log.refusals }
+noted log gave.Nothing = record { calls = one_more log.calls; interruptions = 0; failed = log.failed; refusals = log.refusals }
+noted log gave.Interrupted = record { calls = one_more log.calls; interruptions = log.interruptions + 1; failed = log.failed; refusals = log.refusals }
+noted log gave.Failed = record { calls = one_more log.calls; interruptions = 0; failed = true; refusals = log.refusals }
 
 -- a stream that failed, or was interrupted sixteen times in a row
 abbrev pub IsBroken : LogState → Type 0
 IsBroken log = (log.failed ≡ true) ⊎ (INTERRUPTIONS_MAX ≤ log.interruptions)
 
--- the log of a writer to which no more is written, since a gate held an answer back
-abbrev pub held_back : LogState → LogState
-held_back log = record { calls = log.calls; interruptions = log.interruptions; failed = log.failed; held_back = true }
+-- the log after a gate was asked once more, which said yes or no
+abbrev pub asked : LogState → Bool → LogState
+asked log is_let = record { calls = log.calls; interruptions = log.interruptions; failed = log.failed; refusals = if is_let then 0 else log.refusals + 1 }
 
--- a writer to which no more is written: it is broken, or a gate held an answer back
+-- a writer to which no more is written: it is broken, or a gate refused the next answer as often as it is asked
 abbrev pub IsWrittenNoMore : LogState → Type 0
-IsWrittenNoMore log = IsBroken log ⊎ (log.held_back ≡ true)
+IsWrittenNoMore log = IsBroken log ⊎ (TURNS_MAX ≤ log.refusals)
 
 -- a stream that is read no more: it is broken, or was read as often as a session may
 abbrev pub IsReadNoMore : LogState → Type 0

@@ -1,11 +1,11 @@
 //! The answers of a session, and their way to its writer.
 
-ghost use Rattle.std.specs.Prelude.{◌≡◌, ℕ, true, false, List, [], Option, length, OnOk, OnErr, IfOk, IfErr};
+ghost use Rattle.std.specs.Prelude.{◌≡◌, ◌≤◌, ℕ, true, false, List, [], Option, length, OnOk, OnErr, IfOk, IfErr};
 ghost use Rattle.session_core.specs.declared.told.Told.TheVariants as told;
-ghost use Rattle.session_core.specs.Output.{fresh_output, Puts, Flushes, SendsAll, FailsToSend};
+ghost use Rattle.session_core.specs.Output.{fresh_output, Passes, Puts, Flushes, SendsAll, FailsToSend};
 ghost use Rattle.session_core.specs.Closing.{IsTaken};
 
-use crate::gate::{Asked, Gate};
+use crate::gate::Gate;
 use crate::stream::{Sink, StreamLog, WriterFailed};
 use crate::told::Told;
 use call_types::refusal::Refusal;
@@ -19,7 +19,13 @@ use std::marker::Model;
 #[derive(Drop)]
 pub(crate) struct Output<W: Write, G: Gate> {
     sink: Sink<W>,
-    gate: Asked<G>,
+    gate: G,
+    /// The number of the session.
+    session: u64,
+    /// How many answers were let through.
+    let_through: usize,
+    /// How many records the session's process has seen by these.
+    seen: u64,
     unsent: Vec<u8>,
     /// How many bytes were written.
     sent: u64,
@@ -27,14 +33,53 @@ pub(crate) struct Output<W: Write, G: Gate> {
 }
 
 impl<W: Write, G: Gate> Model for Output<W, G> {
-    ghost use Rattle.std.specs.Prelude.{◌≡◌, ◌<◌, true, false, vec_len, vec_capacity};
+    ghost use Rattle.std.specs.Prelude.{◌≡◌, ◌<◌, ◌≤◌, true, vec_len, vec_capacity};
     ghost use Rattle.session_core.specs.Output.{OutputState};
 
     ghost Value = { OutputState };
 
     ghost view = { λ o. record { sink = o.sink; unsent = o.unsent.items; sent = o.sent; answers = o.answers.items } };
 
-    ghost invariant = { λ o. (vec_len o.answers < vec_capacity o.answers) × (G.is_open ≡ true → o.sink.log.held_back ≡ false) };
+    ghost invariant = { λ o. (vec_len o.answers < vec_capacity o.answers) × (o.let_through ≤ vec_len o.answers) × (G.is_open ≡ true → o.sink.log.refusals ≡ 0) };
+}
+
+/// The place by which a gate is asked for an answer, of a process that has seen so many records.
+fn place_of(answer: &Told, seen: u64) -> u64 {
+    match answer {
+        Told::Recorded(receipt) => receipt.place(),
+        Told::Refused(_) => seen,
+    }
+}
+
+/// How many records a process has seen with an answer, which had seen so many before.
+fn seen_with(answer: &Told, seen: u64) -> u64 {
+    match answer {
+        Told::Recorded(receipt) => receipt.place().saturating_add(1),
+        Told::Refused(_) => seen,
+    }
+}
+
+/// Asks a gate for answers, one after another, as long as they are let through; and how many records the session's process has seen by
+/// then.
+fn let_all<W: Write, G: Gate>(
+    sink: &mut Sink<W>,
+    gate: &G,
+    session: u64,
+    seen: u64,
+    answers: &[Told],
+) -> (bool, u64)
+    ensures contents { sink.new.contents ≡ sink.old.contents }
+    ensures refused { result.0 ≡ false → 1000 ≤ sink.new.log.refusals }
+    ensures always { G.is_open ≡ true → sink.old.log.refusals ≡ 0 → sink.new.log.refusals ≡ 0 }
+{
+    let mut seen = seen;
+    for answer in answers {
+        if !sink.ask_often(gate, session, place_of(answer, seen)) {
+            return (false, seen);
+        }
+        seen = seen_with(answer, seen);
+    }
+    (true, seen)
 }
 
 /// How many bytes of answers are gathered at most before they are written.
@@ -42,7 +87,7 @@ const GATHERED: usize = 65_536;
 
 impl<W: Write, G: Gate> Output<W, G> {
     /// No answers yet of this session, for this writer, which is given back where memory runs out.
-    pub(crate) fn new(alloc: Global, writer: W, gate: Asked<G>) -> Result<Self, W>
+    pub(crate) fn new(alloc: Global, writer: W, session: u64, gate: G) -> Result<Self, W>
         ensures ok { IfOk result (λ output. output ≡ fresh_output (W.contents writer)) }
         ensures err { IfErr result (λ back. back ≡ writer) }
     {
@@ -50,6 +95,9 @@ impl<W: Write, G: Gate> Output<W, G> {
             Ok(answers) => Ok(Output {
                 sink: Sink::new(writer),
                 gate,
+                session,
+                let_through: 0,
+                seen: 0,
                 unsent: Vec::new(alloc),
                 sent: 0,
                 answers,
@@ -65,16 +113,22 @@ impl<W: Write, G: Gate> Output<W, G> {
         self.sent
     }
 
-    /// Asks the gate for what is not written yet. After an error nothing more is to be written.
+    /// Asks the gate for each answer that was not let through yet. After an error nothing more is to be written.
     fn pass(&mut self) -> Result<(), WriterFailed>
-        ensures ok { OnOk result (self.new ≡ self.old) }
-        ensures err { OnErr result (FailsToSend self.old self.new) }
+        ensures passes { Passes self.old self.new }
+        ensures err { OnErr result (1000 ≤ self.new.sink.log.refusals) }
     {
-        if self.gate.lets_all(self.answers.as_slice()) {
+        if self.gate.is_always_open() {
             return Ok(());
         }
-        self.sink.hold_back();
-        Err(WriterFailed)
+        let (_, left) = self.answers.as_slice().split_at(self.let_through);
+        let (are_let, seen) = let_all(&mut self.sink, &self.gate, self.session, self.seen, left);
+        if !are_let {
+            return Err(WriterFailed);
+        }
+        self.let_through = self.answers.len();
+        self.seen = seen;
+        Ok(())
     }
 
     /// Writes what is not written yet, once the gate lets it through. After an error the writer has failed, or the gate held an answer
@@ -148,7 +202,7 @@ impl<W: Write, G: Gate> Output<W, G> {
     /// The answers, with the last one, which is not written, if there is one; the writer, and what became of its calls.
     pub(crate) fn into_parts(self, last: Option<Receipt>) -> (Vec<Told>, W, StreamLog)
         ensures taken { IsTaken self last result.0.items (W.contents result.1) result.2 }
-        ensures gate { G.is_open ≡ true → result.2.held_back ≡ false }
+        ensures gate { G.is_open ≡ true → result.2.refusals ≡ 0 }
     {
         let mut answers = self.answers;
         if let Some(receipt) = last {

@@ -5,7 +5,7 @@ ghost use Rattle.session_core.specs.Served.{Serves};
 
 use crate::closing::leave_all;
 use crate::end::End;
-use crate::gate::{Asked, Gate};
+use crate::gate::Gate;
 use crate::output::Output;
 use crate::reading::read_all;
 use crate::stream::{Source, StreamLog};
@@ -48,7 +48,7 @@ pub fn serve<Rt: Wait, R: Read, W: Write, G: Gate, L: Ledgers, K: Kernel<Seat<L>
 ) -> Served<R, W, L>
     ensures { Serves G.is_open (R.remaining reader) (W.contents writer) (record { left = R.remaining result.reader; reads = result.reads; held = W.contents result.writer; writes = result.writes; seat = result.seat; answers = result.answers.items; end_is = result.end }) }
 {
-    let mut output = match Output::new(alloc, writer, Asked::new(gate, session)) {
+    let mut output = match Output::new(alloc, writer, session, gate) {
         Ok(output) => output,
         Err(writer) => return unserved(alloc, reader, writer),
     };

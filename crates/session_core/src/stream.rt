@@ -1,17 +1,21 @@
 //! The streams of a session. What became of the calls on them is noted beside.
 
-ghost use Rattle.std.specs.Prelude.{◌≡◌, ◌+◌, ◌<◌, ◌≤◌, ◌⊎◌, ◌↔◌, ◌==◌, if◌then◌else◌, length, IfOk, IfErr, OnOk, OnErr};
+ghost use Rattle.std.specs.Prelude.{◌≡◌, true, false, ◌+◌, ◌<◌, ◌≤◌, ◌⊎◌, ◌↔◌, ◌==◌, if◌then◌else◌, length, IfOk, IfErr, OnOk, OnErr};
 ghost use Rattle.std.specs.IoError.{error_kind};
 ghost use Rattle.session_core.specs.declared.stream.Gave.TheVariants as gave;
 ghost use Rattle.std.specs.Io.KnownBytes.{Keeps};
-ghost use Rattle.session_core.specs.Streams.{fresh_log, noted, held_back, ReadsOnce, WritesOnce, WritesFront, WritesNone, SomeWritten, IsBroken};
+ghost use Rattle.session_core.specs.Streams.{fresh_log, noted, asked, ReadsOnce, WritesOnce, WritesFront, WritesNone, SomeWritten, IsBroken};
 
-use std::io;
+use crate::gate::Gate;
 use std::io::{ErrorKind, Read, Write};
 use std::marker::Model;
+use std::{io, thread};
 
 /// How many interruptions in a row are a fault.
 pub const INTERRUPTIONS_MAX: u32 = 16;
+
+/// How often a gate is asked at most for one answer.
+pub const TURNS_MAX: u32 = 1_000;
 
 /// How many reads a session has.
 pub const READS_MAX: u32 = 1_048_576;
@@ -35,7 +39,7 @@ pub struct StreamLog {
     calls: u64,
     interruptions: u32,
     failed: bool,
-    held_back: bool,
+    refusals: u32,
 }
 
 impl Model for StreamLog {
@@ -43,11 +47,11 @@ impl Model for StreamLog {
 
     ghost Value = { LogState };
 
-    ghost view = { λ log. record { calls = log.calls; interruptions = log.interruptions; failed = log.failed; held_back = log.held_back } };
+    ghost view = { λ log. record { calls = log.calls; interruptions = log.interruptions; failed = log.failed; refusals = log.refusals } };
 
     ghost use Rattle.std.specs.Prelude.{◌≤◌};
 
-    ghost invariant = { λ log. log.interruptions ≤ 16 };
+    ghost invariant = { λ log. (log.interruptions ≤ 16) × (log.refusals ≤ 1000) };
 }
 
 impl StreamLog {
@@ -59,7 +63,7 @@ impl StreamLog {
             calls: 0,
             interruptions: 0,
             failed: false,
-            held_back: false,
+            refusals: 0,
         }
     }
 
@@ -85,11 +89,12 @@ impl StreamLog {
         self.failed
     }
 
-    /// Whether a gate said a thousand times in a row that an answer may not be written.
-    pub fn was_held_back(&self) -> bool
-        ensures { result ≡ self.now.held_back }
+    /// How many times a gate said, one after another and up to now, that an answer may not be written. Of a reader there are none.
+    pub fn refusals(&self) -> u32
+        ensures value { result ≡ self.now.refusals }
+        ensures few { result ≤ 1000 }
     {
-        self.held_back
+        self.refusals
     }
 
     /// Notes what one call gave.
@@ -219,11 +224,34 @@ impl<W: Write> Sink<W> {
         (self.writer, self.log)
     }
 
-    /// Notes that a gate does not let an answer through.
-    pub(crate) fn hold_back(&mut self)
-        ensures { self.new ≡ record { contents = self.old.contents; log = held_back self.old.log } }
+    /// Asks a gate once for an answer of a session, and notes what it says.
+    fn ask<G: Gate>(&mut self, gate: &G, session: u64, place: u64) -> bool
+        requires { self.old.log.refusals < 1000 }
+        ensures asks { self.new ≡ record { contents = self.old.contents; log = asked self.old.log result } }
+        ensures always { G.is_open ≡ true → result ≡ true }
     {
-        self.log.held_back = true;
+        let is_let = gate.may_write(session, place);
+        if is_let {
+            self.log.refusals = 0;
+        } else {
+            self.log.refusals += 1;
+        }
+        is_let
+    }
+
+    /// Asks a gate for an answer until that may be written, but not for ever. Between two questions other threads may run.
+    pub(crate) fn ask_often<G: Gate>(&mut self, gate: &G, session: u64, place: u64) -> bool
+        ensures contents { self.new.contents ≡ self.old.contents }
+        ensures refused { result ≡ false → 1000 ≤ self.new.log.refusals }
+        ensures always { G.is_open ≡ true → self.old.log.refusals ≡ 0 → (result ≡ true) × (self.new.log.refusals ≡ 0) }
+    {
+        while self.log.refusals() < TURNS_MAX {
+            if self.ask(gate, session, place) {
+                return true;
+            }
+            thread::yield_now();
+        }
+        false
     }
 
     /// Writes once, of bytes that are not empty.
@@ -242,7 +270,7 @@ impl<W: Write> Sink<W> {
     fn write_some(&mut self, bytes: &[u8]) -> Result<usize, WriterFailed>
         ensures ok { IfOk result (λ count. SomeWritten self.old.contents self.new.contents bytes.now count) }
         ensures err { OnErr result (WritesNone self.old self.new) }
-        ensures gate { self.new.log.held_back ≡ self.old.log.held_back }
+        ensures gate { self.new.log.refusals ≡ self.old.log.refusals }
     {
         while self.log.interruptions() < INTERRUPTIONS_MAX {
             match self.write(bytes) {
@@ -259,7 +287,7 @@ impl<W: Write> Sink<W> {
         ensures keeps { Keeps self.old.contents self.new.contents }
         ensures ok { OnOk result (self.new.log ≡ self.old.log) }
         ensures err { OnErr result (IsBroken self.new.log) }
-        ensures gate { self.new.log.held_back ≡ self.old.log.held_back }
+        ensures gate { self.new.log.refusals ≡ self.old.log.refusals }
     {
         match self.writer.flush() {
             Ok(()) => Ok(()),
@@ -275,7 +303,7 @@ impl<W: Write> Sink<W> {
         ensures front { WritesFront self.old.contents self.new.contents bytes.now result.0 }
         ensures whole { OnOk result.1 (result.0 ≡ length bytes.now) }
         ensures broken { OnErr result.1 (IsBroken self.new.log) }
-        ensures gate { self.new.log.held_back ≡ self.old.log.held_back }
+        ensures gate { self.new.log.refusals ≡ self.old.log.refusals }
     {
         let mut written: usize = 0;
         while written < bytes.len() {

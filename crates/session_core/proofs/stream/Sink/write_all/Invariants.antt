@@ -6,7 +6,7 @@ use Rattle.session_core.proofs.stream.Sink.write_all.Given as goal
 abbrev pub invariant-loop-written : goal.invariant-loop-written
 invariant-loop-written g l = record {
   front : WritesFront l.fn.self.contents l.self.contents l.bytes l.written;
-  gate : l.self.log.held_back ≡ l.fn.self.log.held_back;
+  gate : l.self.log.refusals ≡ l.fn.self.log.refusals;
 }
 
 abbrev pub decreases-loop-written : goal.decreases-loop-written

@@ -6,7 +6,7 @@ use Rattle.session_core.proofs.stream.Sink.write_some.Given as goal
 abbrev pub invariant-loop-self : goal.invariant-loop-self
 invariant-loop-self g l = record {
   keeps : Keeps l.fn.self.contents l.self.contents;
-  gate : l.self.log.held_back ≡ l.fn.self.log.held_back;
+  gate : l.self.log.refusals ≡ l.fn.self.log.refusals;
 }
 
 abbrev pub decreases-loop-self : goal.decreases-loop-self
