@@ -1,11 +1,13 @@
 -- A report that is written whole says how the run ended.
-use Rattle.std.proofs.Common.{◌≡◌, ◌≤◌, ◌+◌, ℕ, List, Option, None, Some, length, refl, ◌∙◌}
+use Rattle.std.proofs.Common.{◌≡◌, ◌≤◌, ◌+◌, ℕ, List, Option, None, Some, length, refl, sym, subst, ◌∙◌}
 use Rattle.std.specs.Io.KnownBytes.{Appends}
 use Rattle.run_core.specs.Receipts.{Held}
 use Rattle.run_core.specs.Run.{IsRunOf, failures_after}
 use Rattle.run_core.specs.declared.report.Shortage.{Shortage}
 use Rattle.run_core.specs.declared.report.Shortage.TheVariants as shortage
+use Rattle.fdref.specs.Output.{AppendsFront}
 use Rattle.fdref.specs.Serve.{IsReport, Reports, end_of, report_line}
+use Rattle.fdref.specs.declared.ended.Ended.{Ended}
 use Rattle.fdref.specs.declared.ended.Ended.TheVariants as ended
 
 -- the sessions of a report are those that hold its receipts
@@ -33,6 +35,14 @@ reports_by most old new (Some shortage.NoConnection) sessions records taken give
     (line, report_of most sessions records taken given held line all few run is, written)
 reports_by most old new (Some shortage.NoThread) sessions records taken given held line all few full run is written =
     (line, report_of most sessions records taken given held line all few run is, written)
+
+-- or only a front of it was written
+pub reports_front : (most : ℕ) (old new : Option (List ℕ)) (sessions records taken given : ℕ) (held : List Held) (line : List ℕ) (found : Ended)
+    → length held ≡ sessions → sessions ≤ most → IsRunOf records taken given held → line ≡ report_line sessions records taken given → AppendsFront old new line → found ≡ ended.CannotWrite
+    → Reports most old new found
+unfolding report_of
+reports_front most old new sessions records taken given held line found all few run is front fault =
+    subst (Reports most old new) (sym fault) (line, report_of most sessions records taken given held line all few run is, front)
 
 -- it says that the source cannot listen only where a connection was wanting
 pub lost_connection : (before after : ℕ) (short : Option Shortage) → after ≡ failures_after before short → end_of short ≡ ended.CannotListen → after ≡ before + 1

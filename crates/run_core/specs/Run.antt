@@ -1,5 +1,5 @@
 -- What a run of sessions comes to (own).
-use Rattle.std.specs.Prelude.{◌≡◌, ℕ, ◌+◌, ◌<◌, Bool, true, map, List, [], ◌∷◌, ◌++◌, Option, Some, length}
+use Rattle.std.specs.Prelude.{◌≡◌, ℕ, ◌+◌, ◌<◌, Bool, true, map, List, [], ◌∷◌, ◌++◌, Option, Some, length, sum}
 use Rattle.std.specs.Option.{option_map}
 use Rattle.posix_model.specs.History.{legal}
 use Rattle.posix_model.specs.Turns.{bytes_in, bytes_out}
@@ -9,6 +9,7 @@ use Rattle.call_types.specs.declared.act.TheConstants.{HOUSE}
 use Rattle.run_core.specs.Receipts.{Held, IsSound}
 use Rattle.record_book.specs.Book.{BookState, world_now}
 use Rattle.record_book.specs.Counting.{seats_given}
+use Rattle.byte_ledger.specs.Counted.{Counted}
 use Rattle.byte_ledger.specs.declared.tallies.GatherFault.{GatherFault}
 use Rattle.byte_ledger.specs.declared.tallies.GatherFault.TheVariants as gathered
 use Rattle.run_core.specs.declared.closing.CloseFault.{CloseFault}
@@ -47,13 +48,23 @@ pub record IsClosedRun (records taken given : ℕ) : Type 0 where
   pub taken_is : taken ≡ bytes_in book.limits.bounds book.history
   pub given_is : given ≡ bytes_out book.limits.bounds book.history
 
+-- so much is counted by these shares, of which as many are there as the book has given out
+pub record IsGathered (b : BookState) (shares : List Counted) (records taken given : ℕ) : Type 0 where
+  pub whole : length shares ≡ seats_given b
+  pub records_are : records ≡ sum (map (λ s. s.records) shares)
+  pub taken_is : taken ≡ sum (map (λ s. s.bytes_in) shares)
+  pub given_is : given ≡ sum (map (λ s. s.bytes_out) shares)
+
 -- the receipts of all holders are the records, each of them once
 abbrev pub AreAll : List Record → List Held → Type 0
 AreAll h held = (p : ℕ) → IsSound h held p
 
--- the sums of a legal run that is closed, of which each record stands in one receipt of these holders or of the house
+-- the sums of a legal run that is closed, gathered from all shares, of which each record stands in one receipt of these holders or of
+-- the house
 pub record IsRunOf (records taken given : ℕ) (held : List Held) : Type 0 where
   pub run : IsClosedRun records taken given
+  pub shares : List Counted
+  pub gathered : IsGathered run.book shares records taken given
   pub house : List Receipted
   pub all : AreAll run.book.history (held ++ record { pid = HOUSE; receipts = house } ∷ [])
 

@@ -5,7 +5,7 @@ ghost use Rattle.std.specs.Arc.{arc_value};
 ghost use Rattle.posix_model.specs.History.{legal};
 ghost use Rattle.posix_model.specs.Turns.{bytes_in, bytes_out};
 ghost use Rattle.record_book.specs.Book.{world_now};
-ghost use Rattle.run_core.specs.Run.{AreAll, IsClosedRun, IsRunOf, ClosesFor, held_in};
+ghost use Rattle.run_core.specs.Run.{AreAll, IsClosedRun, IsGathered, IsRunOf, ClosesFor, held_in};
 
 use crate::comparison::{HasReceipts, compare};
 use crate::report::RunFault;
@@ -92,6 +92,7 @@ struct Parted<L: Ledgers> {
 fn part<L: Ledgers>(alloc: Global, seats: Vec<SpentSeat<L>>) -> Result<Parted<L>, AllocError>
     ensures receipts { IfOk result (λ parts. map (λ r. r.items) parts.receipts.items ≡ map (λ s. s.receipts) seats.items) }
     ensures all { IfOk result (λ parts. vec_len parts.shares ≡ length seats.items) }
+    ensures counted { IfOk result (λ parts. parts.shares.items ≡ map (λ s. s.counted) seats.items) }
 {
     let mut receipts = Vec::with_capacity(alloc, seats.len())?;
     let mut shares = Vec::with_capacity(alloc, seats.len())?;
@@ -104,8 +105,8 @@ fn part<L: Ledgers>(alloc: Global, seats: Vec<SpentSeat<L>>) -> Result<Parted<L>
 }
 
 /// Brings the seats of a run together, that of the house among them, which closed it: the sums of what they counted, and their receipts.
-/// These are the records of the book, each of them once and in its seat's own; else the least place that differs is told. That
-/// seats are missing is told before. It takes time in proportion to the records and the receipts.
+/// These are the records of the book, each of them once, in a seat of its process; else the least place that differs is told. Missing
+/// seats are told first. It takes time in proportion to the records and the receipts.
 pub fn close_run<L: Ledgers>(
     alloc: Global,
     book: Book<L>,
@@ -114,6 +115,7 @@ pub fn close_run<L: Ledgers>(
     ensures records { IfOk result (λ totals. totals.records ≡ length book.history) }
     ensures bytes_in { IfOk result (λ totals. totals.bytes_in ≡ bytes_in book.limits.bounds book.history) }
     ensures bytes_out { IfOk result (λ totals. totals.bytes_out ≡ bytes_out book.limits.bounds book.history) }
+    ensures gathered { IfOk result (λ totals. IsGathered book (map (λ s. s.counted) seats.items) totals.records totals.bytes_in totals.bytes_out) }
     ensures receipts { IfOk result (λ totals. map (λ r. r.items) totals.receipts.items ≡ map (λ s. s.receipts) seats.items) }
     ensures all { OnOk result (AreAll book.history (map held_in seats.items)) }
     ensures fault { IfErr result (ClosesFor book seats.items) }
@@ -154,7 +156,6 @@ pub(crate) fn end_run<L: Ledgers, T: HasReceipts>(
     if shares.push(counted).is_err() {
         return Err(RunFault::NoMemory);
     }
-    let _counts = book.counts();
     let sums = book.gather(alloc, shares)?;
     match least {
         Some(place) => Err(RunFault::Disagree { place }),

@@ -2,6 +2,7 @@
 
 ghost use Rattle.std.specs.Prelude.{◌≡◌, ◌↔◌, ◌<◌, ◌≤◌, ◌+◌, ◌==◌, ◌⊎◌, ◌++◌, ℕ, map, None, Some, true, false, length, if◌then◌else◌, IfOk, IfSome};
 ghost use Rattle.std.specs.List.{slice_index};
+ghost use Rattle.posix_model.specs.History.{legal};
 ghost use Rattle.run_core.specs.Receipts.{Held, IsGood, IsOwn, IsAbove, GoodFrom, GoodAt, IsBefore, names, named, wanted, IsSound};
 
 use byte_ledger::ledgers::Ledgers;
@@ -142,7 +143,8 @@ fn mark_one(marks: &mut [u8], place: u64) -> bool
     false
 }
 
-/// Marks the places that receipts name. The least place that was marked before, or is no place of a record, or the least before.
+/// Marks the places that receipts name. It tells the least of those that were marked already or have no record, and of the one that was
+/// told so far.
 fn mark(marks: &mut [u8], least: Option<u64>, receipts: &[Receipt]) -> Option<u64>
     ensures len { length marks.new ≡ length marks.old }
     ensures ones { ((p : ℕ) → slice_index marks.old p ≤ 1) → (p : ℕ) → slice_index marks.new p ≤ 1 }
@@ -162,8 +164,8 @@ fn mark(marks: &mut [u8], least: Option<u64>, receipts: &[Receipt]) -> Option<u6
     least
 }
 
-/// Marks the places that receipts of theirs name. The least place that was marked before, or is no place of a record, or the least
-/// before.
+/// Marks the places that receipts of theirs name. It tells the least of those that were marked already or have no record, and of the one
+/// that was told so far.
 fn mark_all<T: HasReceipts>(marks: &mut [u8], least: Option<u64>, holders: &[T]) -> Option<u64>
     ensures len { length marks.new ≡ length marks.old }
     ensures ones { ((p : ℕ) → slice_index marks.old p ≤ 1) → (p : ℕ) → slice_index marks.new p ≤ 1 }
@@ -209,13 +211,14 @@ fn uncovered<T: HasReceipts, U: HasReceipts>(
 }
 
 /// The least place that is not sound: where the record does not stand, the same, in exactly one receipt of all holders, or where a
-/// receipt that names it is no good one. It takes time in proportion to the receipts and the records, and a byte of memory for each record.
+/// receipt that names it is no good one. The records are a legal run, as those of a book are. It takes time in proportion to the receipts and the records, and a byte of memory for each record.
 pub fn compare<L: Ledgers, T: HasReceipts, U: HasReceipts>(
     alloc: Global,
     book: &Book<L>,
     holders: &[T],
     others: &[U],
 ) -> Result<Option<u64>, AllocError>
+    ensures legal { legal book.now.limits.bounds book.now.history }
     ensures sound { IfOk result (λ least. (p : ℕ) → IsBefore p least → IsSound book.now.history (map T.held holders.now ++ map U.held others.now) p) }
     ensures broken { IfOk result (λ least. IfSome least (λ q. IsSound book.now.history (map T.held holders.now ++ map U.held others.now) q → ⊥)) }
 {

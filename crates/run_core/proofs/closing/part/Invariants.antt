@@ -7,6 +7,7 @@ abbrev pub invariant-loop-seat : goal.invariant-loop-seat
 invariant-loop-seat g l = record {
   receipts : map (λ r. r.items) l.receipts.items ≡ map (λ s. s.receipts) l.yielded;
   shares : vec_len l.shares ≡ length l.yielded;
+  counted : l.shares.items ≡ map (λ s. s.counted) l.yielded;
   receipts_room : vec_len l.receipts + into_iter_len l.seat-iterator ≤ vec_capacity l.receipts;
   shares_room : vec_len l.shares + into_iter_len l.seat-iterator ≤ vec_capacity l.shares;
 }
