@@ -72,38 +72,46 @@ fn are_totals(totals: &Totals) -> bool {
         }
 }
 
-/// All seats have the totals; without the first of them a share is missing.
+/// All seats have the totals of that run.
 fn seats_have_the_totals<L: Ledgers>(
     rt: &impl Abort,
     alloc: Global,
     blanks: Blanks,
-    all: bool,
 ) -> Result<(), Fail>
     requires { blanks ≡ L.names }
 {
     let mut book = Book::<L>::new(alloc, Limits::new(10)?, blanks)?;
-    let mut seats = closed(alloc, &mut book)?;
-    if !all {
-        seats.pop();
-    }
+    let seats = closed(alloc, &mut book)?;
     match close_run(alloc, book, seats) {
-        Ok(totals) => assert!(rt; all && are_totals(&totals)),
-        Err(fault) => {
-            let missing = Missing { held: 2, opened: 3 };
-            assert!(rt; !all && fault == CloseFault::Missing(missing));
-        }
+        Ok(totals) => assert!(rt; are_totals(&totals)),
+        Err(_) => return Err("all seats are there")?,
     }
     Ok(())
 }
 
 #[test]
 fn all_seats_have_the_totals_of_a_run(rt: HostRuntime) -> Result<(), Fail> {
-    seats_have_the_totals::<Brand>(&rt, rt.alloc(), Blanks::new(), true)
+    seats_have_the_totals::<Brand>(&rt, rt.alloc(), Blanks::new())
+}
+
+/// Two seats of three are told apart from all.
+fn seat_is_missed<L: Ledgers>(rt: &impl Abort, alloc: Global, blanks: Blanks) -> Result<(), Fail>
+    requires { blanks ≡ L.names }
+{
+    let mut book = Book::<L>::new(alloc, Limits::new(10)?, blanks)?;
+    let mut seats = closed(alloc, &mut book)?;
+    seats.pop();
+    let missing = CloseFault::Missing(Missing { held: 2, opened: 3 });
+    match close_run(alloc, book, seats) {
+        Ok(_) => return Err("the house is missing")?,
+        Err(fault) => assert!(rt; fault == missing),
+    }
+    Ok(())
 }
 
 #[test]
 fn seat_that_is_left_out_is_missed(rt: HostRuntime) -> Result<(), Fail> {
-    seats_have_the_totals::<Brand>(&rt, rt.alloc(), Blanks::new(), false)
+    seat_is_missed::<Brand>(&rt, rt.alloc(), Blanks::new())
 }
 
 /// Receipts that somebody holds for a process.
@@ -184,7 +192,7 @@ fn least_place_is_told<L: Ledgers>(
         (&[0, 3, 2, 5], &[1, 4], &[6], Some(2)),
         // another process holds that of place 2
         (&[0, 3, 5], &[1, 2, 4], &[6], Some(2)),
-        // the house may hold an exit, and nobody the closing but the house
+        // the house may hold exits, and none but the house the closing
         (&[0, 2, 3], &[1, 4, 6], &[5], Some(6)),
     ];
     for (first, second, house, place) in told {

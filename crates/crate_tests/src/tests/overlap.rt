@@ -1,6 +1,6 @@
-//! Sessions of one run go on side by side: no one waits for the end of another, and no lock is held while an answer is written.
+//! Sessions of one run go on side by side, each answer is written once its gate lets it through, and no lock is held meanwhile.
 
-ghost use Rattle.std.specs.Prelude.{◌≡◌, ◌+◌, ◌<◌, ◌^◌};
+ghost use Rattle.std.specs.Prelude.{◌≡◌, ◌≤◌, ◌+◌, ◌<◌, ◌^◌, length};
 
 use byte_ledger::ledgers::{Blanks, Ledgers};
 use call_types::call::Call;
@@ -16,17 +16,25 @@ use session_core::memory::{Manner, MemoryReader, MemoryWriter};
 use std::alloc::{AllocError, Global};
 use std::io::{Error, ErrorKind, Read, Write};
 use std::marker::Brand;
-use std::sync::atomic::{AtomicBool, Ordering};
+use std::sync::atomic::{AtomicBool, AtomicU64, Ordering};
 use std::sync::{Arc, Wait};
 use std::test::Fail;
 use std::thread::Threads;
 use std::{io, thread};
 
-/// How often each run is repeated.
+/// How often a run is repeated whose threads wait for one another.
 const REPEATED: u32 = 100;
 
 /// How often a reader waits for the other session.
 const WAITS: u32 = 1_000;
+
+/// A stream over memory that neither fails nor is interrupted.
+const WELL: Manner = Manner {
+    most: 65_536,
+    fails_at: None,
+    interruptions: 0,
+    flush_fails_at: None,
+};
 
 /// Lets other threads run.
 fn stand_aside() {
@@ -35,7 +43,7 @@ fn stand_aside() {
     }
 }
 
-/// Connections that are there from the start.
+/// Connections that are there from the start, of which the last is accepted first.
 #[derive(Drop)]
 struct Waiting<R: Drop, W: Drop> {
     connections: Vec<(R, W)>,
@@ -66,11 +74,38 @@ impl<R: Read + Send + Drop + 'static, W: Write + Send + Drop + 'static> Source f
     fn hang_up(_reader: &R, _writer: &W) {}
 }
 
-/// The frames of a request.
-fn frame_of(alloc: Global, request: &Request) -> Result<Vec<u8>, AllocError> {
-    let mut frame = Vec::new(alloc);
-    encode_request(&mut frame, request)?;
-    Ok(frame)
+/// The report of a run over all these connections, under this gate, if there is one.
+fn report_of<
+    Rt: Threads + Wait + Copy + Send + 'static,
+    R: Read + Send + Drop + 'static,
+    W: Write + Send + Drop + 'static,
+    G: Gate + Send + Sync + 'static,
+    L: Ledgers + Send + Sync + 'static,
+>(
+    rt: Rt,
+    alloc: Global,
+    connections: Vec<(R, W)>,
+    gate: G,
+    limits: Limits,
+    blanks: Blanks,
+) -> Option<Report<R, W>>
+    requires { blanks ≡ L.names }
+{
+    let sessions = connections.len();
+    let mut source = Waiting {
+        connections,
+        failures: 0,
+    };
+    let ran = run_sessions::<Rt, Waiting<R, W>, G, L>(
+        rt,
+        alloc,
+        &mut source,
+        sessions,
+        limits,
+        blanks,
+        gate,
+    );
+    ran.ok()
 }
 
 /// Whether a session has ended well, with two answers.
@@ -86,46 +121,104 @@ fn are_whole<R, W>(report: &Report<R, W>) -> bool {
     }
 }
 
-/// Runs two sessions over these connections, under this gate.
-fn both_end<
-    Rt: Threads + Wait + Copy + Send + 'static,
-    R: Read + Send + Drop + 'static,
-    W: Write + Send + Drop + 'static,
-    G: Gate + Send + Sync + 'static,
-    L: Ledgers + Send + Sync + 'static,
->(rt: Rt, alloc: Global, connections: Vec<(R, W)>, gate: G, limits: Limits, blanks: Blanks) -> bool
-    requires { blanks ≡ L.names }
-{
-    let mut source = Waiting {
-        connections,
-        failures: 0,
-    };
-    match run_sessions::<Rt, Waiting<R, W>, G, L>(rt, alloc, &mut source, 2, limits, blanks, gate) {
-        Ok(report) => are_whole(&report),
-        Err(_) => false,
+/// When a gate lets an answer through.
+#[derive(Clone, Copy, PartialEq, Eq)]
+enum Says {
+    /// At once.
+    Yes,
+    /// Never.
+    No,
+    /// That of place 0 once an answer of the other session was let through; all others at once.
+    OthersFirst,
+}
+
+/// What a gate was asked, and what it let through.
+#[derive(Drop)]
+struct Said {
+    questions: AtomicU64,
+    /// A bit for each place that was let through once; it is another one where that was twice.
+    places: AtomicU64,
+    /// How many answers of session 0, and of all others.
+    first: AtomicU64,
+    others: AtomicU64,
+}
+
+impl Said {
+    fn new() -> Self {
+        Said {
+            questions: AtomicU64::new(0),
+            places: AtomicU64::new(0),
+            first: AtomicU64::new(0),
+            others: AtomicU64::new(0),
+        }
+    }
+
+    /// How many questions there were, the bits of the places, and the answers of session 0 and of all others.
+    fn numbers(&self) -> (u64, u64, u64, u64) {
+        (
+            self.questions.load(Ordering::SeqCst),
+            self.places.load(Ordering::SeqCst),
+            self.first.load(Ordering::SeqCst),
+            self.others.load(Ordering::SeqCst),
+        )
     }
 }
 
-/// A gate that keeps the answer at place 0 until an answer of another session was let through.
-#[derive(Drop)]
-struct OthersFirst {
-    has_let: AtomicBool,
+/// The bit of a place, of which a run of these tests has few.
+fn bit_of(place: u64) -> u64 {
+    match place {
+        0 => 0x1,
+        1 => 0x10,
+        2 => 0x100,
+        3 => 0x1000,
+        4 => 0x1_0000,
+        _ => 0x10_0000,
+    }
 }
 
-impl Gate for OthersFirst {
+/// A gate whose questions are noted.
+#[derive(Drop)]
+struct NotedGate {
+    says: Says,
+    said: Arc<Said>,
+}
+
+impl NotedGate {
+    /// Whether it lets an answer through.
+    fn lets(&self, session: u64, place: u64) -> bool {
+        let others = if session == 0 {
+            &self.said.others
+        } else {
+            &self.said.first
+        };
+        match self.says {
+            Says::Yes => true,
+            Says::No => false,
+            Says::OthersFirst => place != 0 || others.load(Ordering::SeqCst) > 0,
+        }
+    }
+}
+
+impl Gate for NotedGate {
     ghost use Rattle.std.specs.Prelude.{false};
 
     ghost is_open = { false };
 
-    fn may_write(&self, _session: u64, place: u64) -> bool {
-        if place != 0 {
-            self.has_let.store(true, Ordering::SeqCst);
-            return true;
+    fn may_write(&self, session: u64, place: u64) -> bool {
+        self.said.questions.fetch_add(1, Ordering::SeqCst);
+        if !self.lets(session, place) {
+            if self.says == Says::OthersFirst {
+                stand_aside();
+            }
+            return false;
         }
-        if !self.has_let.load(Ordering::SeqCst) {
-            stand_aside();
+        self.said.places.fetch_add(bit_of(place), Ordering::SeqCst);
+        if session == 0 {
+            self.said.first.fetch_add(1, Ordering::SeqCst);
+        } else {
+            self.said.others.fetch_add(1, Ordering::SeqCst);
         }
-        self.has_let.load(Ordering::SeqCst)
+        true
     }
 
     fn is_always_open(&self) -> bool {
@@ -133,45 +226,167 @@ impl Gate for OthersFirst {
     }
 }
 
-/// A stream over memory that neither fails nor is interrupted.
-const WELL: Manner = Manner {
-    most: 65_536,
-    fails_at: None,
-    interruptions: 0,
-    flush_fails_at: None,
-};
+/// A writer that fails where it is given another thing than one answer whose place was let through, just once.
+#[derive(Drop)]
+struct GuardedWriter {
+    said: Arc<Said>,
+}
 
-/// A connection that joins and asks about descriptor 0, which is not open.
-fn at_once(alloc: Global) -> Result<(MemoryReader, MemoryWriter), AllocError> {
-    let mut bytes = frame_of(alloc, &Request::Join)?;
+impl Write for GuardedWriter {
+    ghost use Rattle.std.specs.Prelude.{None};
+
+    ghost contents = { λ w. None };
+
+    fn write(&mut self, buffer: &[u8]) -> io::Result<usize> {
+        // a frame's length, a byte for a record, and its place
+        let bit = match buffer.get(12) {
+            Some(place) => bit_of(u64::from(*place)),
+            None => return Err(Error::from(ErrorKind::InvalidData)),
+        };
+        if self.said.places.load(Ordering::SeqCst) & bit == 0 {
+            return Err(Error::from(ErrorKind::InvalidData));
+        }
+        Ok(buffer.len())
+    }
+
+    fn flush(&mut self) -> io::Result<()> {
+        Ok(())
+    }
+}
+
+/// The frames of a join, and of a question about descriptor 0, which is not open.
+fn two_requests(alloc: Global) -> Result<Vec<u8>, AllocError> {
+    let mut bytes = Vec::new(alloc);
+    encode_request(&mut bytes, &Request::Join)?;
     encode_request(&mut bytes, &Request::Call(Call::Fstat { fd: 0 }))?;
-    Ok((
-        MemoryReader::new(bytes, WELL),
-        MemoryWriter::new(alloc, WELL),
-    ))
+    Ok(bytes)
+}
+
+/// A connection that sends two requests at once, and whose writer knows what its gate lets through.
+fn guarded(alloc: Global, said: &Arc<Said>) -> Result<(MemoryReader, GuardedWriter), AllocError> {
+    let writer = GuardedWriter {
+        said: Arc::try_clone(said)?,
+    };
+    Ok((MemoryReader::new(two_requests(alloc)?, WELL), writer))
 }
 
 #[test]
 fn answer_waits_at_its_gate_for_another_session(rt: HostRuntime) -> Result<(), Fail> {
     for _ in 0..REPEATED {
+        let said = Arc::new(rt.alloc(), Said::new())?;
         let mut connections = Vec::with_capacity(rt.alloc(), 2)?;
-        connections.push(at_once(rt.alloc())?)?;
-        connections.push(at_once(rt.alloc())?)?;
-        let gate = OthersFirst {
-            has_let: AtomicBool::new(false),
+        connections.push(guarded(rt.alloc(), &said)?)?;
+        connections.push(guarded(rt.alloc(), &said)?)?;
+        let gate = NotedGate {
+            says: Says::OthersFirst,
+            said: Arc::try_clone(&said)?,
         };
         let limits = Limits::new(100)?;
-        assert!(rt;
-            both_end::<HostRuntime, MemoryReader, MemoryWriter, OthersFirst, Brand>(
-                rt,
-                rt.alloc(),
-                connections,
-                gate,
-                limits,
-                Blanks::new()
-            )
-        );
+        match report_of::<HostRuntime, MemoryReader, GuardedWriter, NotedGate, Brand>(
+            rt,
+            rt.alloc(),
+            connections,
+            gate,
+            limits,
+            Blanks::new(),
+        ) {
+            Some(report) => assert!(rt; are_whole(&report)),
+            None => return Err("there is memory for a report")?,
+        }
+        let (_, _, first, others) = said.numbers();
+        assert_eq!(rt; (first, others), (2, 2));
     }
+    Ok(())
+}
+
+/// A connection that sends two requests at once, over memory.
+fn plain(alloc: Global) -> Result<(MemoryReader, MemoryWriter), AllocError> {
+    let reader = MemoryReader::new(two_requests(alloc)?, WELL);
+    Ok((reader, MemoryWriter::new(alloc, WELL)))
+}
+
+/// What came of one session over memory under a gate: its end, how many answers there were, how often the last was refused, the bytes
+/// written, and how many records the run has.
+fn came_of(report: &Report<MemoryReader, MemoryWriter>) -> Option<(End, usize, u32, usize, u64)> {
+    match report.ends.as_slice() {
+        [only] => {
+            let answers = only.answers.len();
+            let written = only.writer.bytes().len();
+            Some((
+                only.end,
+                answers,
+                only.writes.refusals(),
+                written,
+                report.records,
+            ))
+        }
+        _ => None,
+    }
+}
+
+/// What comes of one session over memory, in a run of so many records, under a gate that says this.
+fn under_a_gate<Rt: Threads + Wait + Copy + Send + 'static, L: Ledgers + Send + Sync + 'static>(
+    rt: Rt,
+    alloc: Global,
+    says: Says,
+    said: &Arc<Said>,
+    limits: Limits,
+    blanks: Blanks,
+) -> Result<Option<(End, usize, u32, usize, u64)>, AllocError>
+    requires { blanks ≡ L.names }
+{
+    let mut connections = Vec::with_capacity(alloc, 1)?;
+    connections.push(plain(alloc)?)?;
+    let gate = NotedGate {
+        says,
+        said: Arc::try_clone(said)?,
+    };
+    match report_of::<Rt, MemoryReader, MemoryWriter, NotedGate, L>(
+        rt,
+        alloc,
+        connections,
+        gate,
+        limits,
+        blanks,
+    ) {
+        Some(report) => Ok(came_of(&report)),
+        None => Ok(None),
+    }
+}
+
+#[test]
+fn answer_is_refused_a_thousand_times(rt: HostRuntime) -> Result<(), Fail> {
+    let said = Arc::new(rt.alloc(), Said::new())?;
+    let limits = Limits::new(100)?;
+    let came = under_a_gate::<HostRuntime, Brand>(
+        rt,
+        rt.alloc(),
+        Says::No,
+        &said,
+        limits,
+        Blanks::new(),
+    )?;
+    // the join, its process's exit and the closing
+    assert!(rt; came == Some((End::WriteFault { sent: 0 }, 1, 1_000, 0, 3)));
+    assert_eq!(rt; said.numbers(), (1_000, 0, 0, 0));
+    Ok(())
+}
+
+#[test]
+fn refusal_is_asked_for_by_the_records_seen(rt: HostRuntime) -> Result<(), Fail> {
+    let said = Arc::new(rt.alloc(), Said::new())?;
+    let limits = Limits::new(3)?;
+    let came = under_a_gate::<HostRuntime, Brand>(
+        rt,
+        rt.alloc(),
+        Says::Yes,
+        &said,
+        limits,
+        Blanks::new(),
+    )?;
+    // the join at place 0, in a frame of 22 bytes, and a refusal in one of 6, since the run is full
+    assert!(rt; came == Some((End::Closed, 2, 0, 28, 3)));
+    assert_eq!(rt; said.numbers(), (2, 0x11, 2, 0));
     Ok(())
 }
 
@@ -198,9 +413,13 @@ impl ShyReader {
 }
 
 /// Copies bytes, as many as fit, and tells how many.
-fn copied(bytes: &[u8], buffer: &mut [u8]) -> usize {
+fn copied(bytes: &[u8], buffer: &mut [u8]) -> usize
+    ensures few { result ≤ length buffer.old }
+    ensures long { length buffer.new ≡ length buffer.old }
+{
     let count = bytes.len().min(buffer.len());
-    buffer[..count].copy_from_slice(&bytes[..count]);
+    let (front, _) = bytes.split_at(count);
+    buffer[..count].copy_from_slice(front);
     count
 }
 
@@ -249,9 +468,13 @@ fn one_by_one(
     own: &Arc<AtomicBool>,
     other: &Arc<AtomicBool>,
 ) -> Result<(ShyReader, TellingWriter), AllocError> {
+    let mut first = Vec::new(alloc);
+    encode_request(&mut first, &Request::Join)?;
+    let mut second = Vec::new(alloc);
+    encode_request(&mut second, &Request::Call(Call::Fstat { fd: 0 }))?;
     let reader = ShyReader {
-        first: frame_of(alloc, &Request::Join)?,
-        second: frame_of(alloc, &Request::Call(Call::Fstat { fd: 0 }))?,
+        first,
+        second,
         reads: 0,
         has_other_written: Arc::try_clone(other)?,
     };
@@ -270,16 +493,17 @@ fn reader_waits_for_the_answer_of_another_session(rt: HostRuntime) -> Result<(),
         connections.push(one_by_one(rt.alloc(), &one, &other)?)?;
         connections.push(one_by_one(rt.alloc(), &other, &one)?)?;
         let limits = Limits::new(100)?;
-        assert!(rt;
-            both_end::<HostRuntime, ShyReader, TellingWriter, OpenGate, Brand>(
-                rt,
-                rt.alloc(),
-                connections,
-                OpenGate,
-                limits,
-                Blanks::new()
-            )
-        );
+        match report_of::<HostRuntime, ShyReader, TellingWriter, OpenGate, Brand>(
+            rt,
+            rt.alloc(),
+            connections,
+            OpenGate,
+            limits,
+            Blanks::new(),
+        ) {
+            Some(report) => assert!(rt; are_whole(&report)),
+            None => return Err("there is memory for a report")?,
+        }
     }
     Ok(())
 }
