@@ -1,4 +1,4 @@
-use Rattle.std.proofs.Common.{◌≡◌, ◌∙◌, ◌++◌, List, map, subst, sym}
+use Rattle.std.proofs.Common.{◌∙◌, ◌++◌, List, map, subst, sym}
 use Rattle.byte_ledger.specs.Counted.{Counted}
 use Rattle.run_core.specs.Run.{IsGathered, held_in}
 use Rattle.run_core.proofs.ReceiptLemmas.{all_sound, seats_alone, told_place}

@@ -1,4 +1,4 @@
-use Rattle.std.proofs.Common.{None, ap, length, map, ◌∙◌}
+use Rattle.std.proofs.Common.{None, ap, map, ◌∙◌}
 use Rattle.std.proofs.lemmas.List.{length-map}
 use Rattle.run_core.specs.Receipts.{GoodAt, GoodFrom, IsBefore}
 use Rattle.run_core.proofs.ReceiptLemmas.{none_left, good_before, first_good, neither_holds}

@@ -1,6 +1,6 @@
-use Rattle.std.proofs.Common.{◌+◌, ◌∙◌, ap, length, map, arith}
+use Rattle.std.proofs.Common.{◌+◌, ◌∙◌, ap, map, arith}
 use Rattle.std.specs.List.{slice_index}
-use Rattle.run_core.specs.Receipts.{names, named, wanted}
+use Rattle.run_core.specs.Receipts.{names, named}
 use Rattle.run_core.proofs.ReceiptLemmas.{seat_names, too_often}
 use Rattle.run_core.proofs.comparison.mark_all.Goals as goal
 

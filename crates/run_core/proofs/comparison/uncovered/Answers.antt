@@ -1,4 +1,4 @@
-use Rattle.std.proofs.Common.{◌≡◌, ◌+◌, ◌++◌, ◌∙◌, ℕ, length, map, arith}
+use Rattle.std.proofs.Common.{◌≡◌, ◌++◌, ◌∙◌, length, map, arith}
 use Rattle.std.specs.List.{slice_index}
 use Rattle.run_core.specs.Receipts.{named, wanted}
 use Rattle.run_core.proofs.ReceiptLemmas.{named_as_wanted, named_joined, named_too_often, named_wrongly, none_names}

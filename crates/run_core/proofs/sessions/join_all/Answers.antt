@@ -1,4 +1,4 @@
-use Rattle.std.proofs.Common.{◌≡◌, ◌+◌, ◌≤◌, All, vec_len, vec_capacity, arith, rules}
+use Rattle.std.proofs.Common.{arith, rules}
 use Rattle.std.proofs.lemmas.List.Elements.{All-push}
 use Rattle.run_core.specs.Run.{IsServedBy}
 use Rattle.run_core.proofs.sessions.join_all.Goals as goal
