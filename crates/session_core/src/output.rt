@@ -82,7 +82,7 @@ fn let_all<W: Write, G: Gate>(
     (true, seen)
 }
 
-/// How many bytes of answers are gathered at most before they are written.
+/// Answers are written before the next request once so many bytes of them are gathered.
 const GATHERED: usize = 65_536;
 
 impl<W: Write, G: Gate> Output<W, G> {

@@ -184,7 +184,8 @@ impl<R: Read> Source<R> {
     }
 }
 
-/// The writer of a session has failed, or was interrupted sixteen times in a row.
+/// Nothing more is to be written: the writer of a session has failed, or was interrupted sixteen times in a row, or its gate held an
+/// answer back.
 #[derive(Drop)]
 pub(crate) struct WriterFailed;
 
@@ -298,7 +299,7 @@ impl<W: Write> Sink<W> {
         }
     }
 
-    /// Writes bytes and flushes them, and tells how many were written, and whether that is all of them.
+    /// Writes bytes and flushes them, and tells how many were written, and whether all of that went well.
     pub(crate) fn write_all(&mut self, bytes: &[u8]) -> (usize, Result<(), WriterFailed>)
         ensures front { WritesFront self.old.contents self.new.contents bytes.now result.0 }
         ensures whole { OnOk result.1 (result.0 ≡ length bytes.now) }
