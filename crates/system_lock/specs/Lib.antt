@@ -1,3 +1,4 @@
 pub mod Kernel
 pub mod Acts
 pub mod System
+pub mod Events

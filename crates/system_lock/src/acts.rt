@@ -2,6 +2,7 @@
 
 ghost use Rattle.system_lock.specs.Kernel.{IsOpening, OpensBy, CallsBy, IsReason, EndsFor};
 ghost use Rattle.system_lock.specs.Acts.{TriesBy, KeepsAsleep};
+ghost use Rattle.system_lock.specs.Events.{OpensIn, CallsIn, ExitsIn, TriesIn};
 
 use crate::kernel::{Ended, EndedIn, Why};
 use byte_ledger::ledgers::Ledgers;
@@ -22,7 +23,8 @@ pub(crate) fn open<L: Ledgers>(
     request: Request,
 ) -> Result<OpenedIn<L>, Refusal>
     requires { IsOpening request }
-    ensures { OpensBy request result }
+    ensures opens { OpensBy request result }
+    ensures event { OpensIn book.old book.new request result }
 {
     match request {
         Request::Join => book.join(alloc),
@@ -38,7 +40,8 @@ pub(crate) fn call<L: Ledgers>(
     seat: &mut Seat<L>,
     call: Call,
 ) -> Result<Receipt, Refusal>
-    ensures { CallsBy seat.old seat.new call result }
+    ensures calls { CallsBy seat.old seat.new call result }
+    ensures event { CallsIn book.old book.new seat.old seat.new call result }
 {
     calls_end_or_wait();
     book.start(alloc, seat, call)
@@ -47,7 +50,8 @@ pub(crate) fn call<L: Ledgers>(
 /// Records an exit, for a reason that is not `Foreign`; that is told where the book knows no such seat.
 pub(crate) fn exit<L: Ledgers>(book: &mut Book<L>, seat: Seat<L>, reason: Why) -> EndedIn<L>
     requires { IsReason reason }
-    ensures { EndsFor seat reason result }
+    ensures ends { EndsFor seat reason result }
+    ensures event { ExitsIn book.old book.new seat result.seat result.why }
 {
     match book.exit(seat) {
         Ok(seat) => Ended { seat, why: reason },
@@ -74,6 +78,7 @@ pub(crate) type TriedIn<L> = Tried<Seat<L>, SpentSeat<L>>;
 pub(crate) fn resume<L: Ledgers>(book: &mut Book<L>, alloc: Global, seat: Seat<L>) -> TriedIn<L>
     ensures tries { TriesBy seat result }
     ensures still { KeepsAsleep book.new seat result }
+    ensures event { TriesIn book.old book.new seat result }
 {
     calls_end_or_wait();
     let mut seat = seat;
@@ -82,7 +87,7 @@ pub(crate) fn resume<L: Ledgers>(book: &mut Book<L>, alloc: Global, seat: Seat<L
         Ok(Resumed::Still) => Tried::Still(seat),
         Err(Refusal::NoMemory) => Tried::Ended(exit(book, seat, Why::NoMemory)),
         Err(Refusal::RunFull) => Tried::Ended(exit(book, seat, Why::RunFull)),
-        Err(_) => Tried::Ended(Ended {
+        Err(Refusal::Foreign { .. } | Refusal::NotHere | Refusal::Waiting) => Tried::Ended(Ended {
             seat: SpentSeat::of(seat),
             why: Why::Foreign,
         }),

@@ -1,9 +1,11 @@
 //! A book, and the processes that sleep: what stands under the lock of a run.
 
-ghost use Rattle.std.specs.Prelude.{◌≡◌, false, All};
+ghost use Rattle.std.specs.Prelude.{◌≡◌, [], false, not, All, IfOk};
 ghost use Rattle.system_lock.specs.Kernel.{IsOpening, OpensBy, CallsBy, HangsUpBy};
 ghost use Rattle.system_lock.specs.Acts.{TriesBy};
 ghost use Rattle.system_lock.specs.System.{SleepsSound, is_ready_in};
+ghost use Rattle.system_lock.specs.Events.{OpensIn, CallsIn, ExitsIn, TriesIn, still_asleep, with_sleeper};
+ghost use Rattle.record_book.specs.Book.{new_book};
 
 use crate::acts;
 use crate::acts::{Tried, TriedIn};
@@ -37,23 +39,30 @@ impl<L: Ledgers> Model for System<L> {
     ghost invariant = { λ s. SleepsSound s.book s.asleep.items };
 }
 
+/// Whether a process that sleeps is to sleep on, since its call is not ready; else it is woken.
+fn sleeps_on<L: Ledgers>(book: &Book<L>, bells: &Bells, process: u32) -> bool
+    ensures { result ≡ not (is_ready_in book.now process) }
+{
+    let ready = book.is_ready(process);
+    if ready {
+        bells.of(process).notify_all();
+    }
+    !ready
+}
+
 /// Takes the processes that wait in a call that is ready out of those that sleep, and wakes them.
 fn wake_ready<L: Ledgers>(asleep: &mut Vec<u32>, book: &Book<L>, bells: &Bells)
-    ensures { SleepsSound book.now asleep.new.items }
+    ensures none_ready { SleepsSound book.now asleep.new.items }
+    ensures others { asleep.new.items ≡ still_asleep book.now asleep.old.items }
 {
-    asleep.retain(|process| {
-        let ready = book.is_ready(*process);
-        if ready {
-            bells.of(*process).notify_all();
-        }
-        !ready
-    });
+    asleep.retain(|process| sleeps_on(book, bells, *process));
 }
 
 impl<L: Ledgers> System<L> {
     /// A new book, in which no process sleeps.
     pub(crate) fn new(alloc: Global, limits: Limits, blanks: Blanks) -> Result<Self, AllocError>
         requires { blanks ≡ L.names }
+        ensures { IfOk result (λ system. system ≡ record { book_is = new_book limits; asleep_are = [] }) }
     {
         Ok(System {
             book: Book::new(alloc, limits, blanks)?,
@@ -89,7 +98,9 @@ impl<L: Ledgers> System<L> {
         request: Request,
     ) -> Result<OpenedIn<L>, Refusal>
         requires { IsOpening request }
-        ensures { OpensBy request result }
+        ensures opens { OpensBy request result }
+        ensures event { OpensIn self.old.book_is self.new.book_is request result }
+        ensures asleep { self.new.asleep_are ≡ still_asleep self.new.book_is self.old.asleep_are }
     {
         let opened = acts::open(&mut self.book, alloc, request);
         wake_ready(&mut self.asleep, &self.book, bells);
@@ -104,7 +115,9 @@ impl<L: Ledgers> System<L> {
         seat: &mut Seat<L>,
         call: Call,
     ) -> Result<Receipt, Refusal>
-        ensures { CallsBy seat.old seat.new call result }
+        ensures calls { CallsBy seat.old seat.new call result }
+        ensures event { CallsIn self.old.book_is self.new.book_is seat.old seat.new call result }
+        ensures asleep { self.new.asleep_are ≡ still_asleep self.new.book_is self.old.asleep_are }
     {
         let told = acts::call(&mut self.book, alloc, seat, call);
         wake_ready(&mut self.asleep, &self.book, bells);
@@ -113,7 +126,9 @@ impl<L: Ledgers> System<L> {
 
     /// Takes up the call that a process waits in. Where it is not ready, the process sleeps from now on.
     pub(crate) fn take_up(&mut self, alloc: Global, bells: &Bells, seat: Seat<L>) -> TriedIn<L>
-        ensures { TriesBy seat result }
+        ensures tries { TriesBy seat result }
+        ensures event { TriesIn self.old.book_is self.new.book_is seat result }
+        ensures asleep { self.new.asleep_are ≡ still_asleep self.new.book_is (with_sleeper self.old.asleep_are result) }
     {
         let process = seat.pid();
         let tried = match acts::resume(&mut self.book, alloc, seat) {
@@ -129,7 +144,9 @@ impl<L: Ledgers> System<L> {
 
     /// Records the exit of a process, and wakes whom it concerns.
     pub(crate) fn hang_up(&mut self, bells: &Bells, seat: Seat<L>) -> EndedIn<L>
-        ensures { HangsUpBy seat result }
+        ensures hangs_up { HangsUpBy seat result }
+        ensures event { ExitsIn self.old.book_is self.new.book_is seat result.seat result.why }
+        ensures asleep { self.new.asleep_are ≡ still_asleep self.new.book_is self.old.asleep_are }
     {
         let ended = acts::exit(&mut self.book, seat, Why::HungUp);
         wake_ready(&mut self.asleep, &self.book, bells);

@@ -1,0 +1,62 @@
+-- What one holding of the lock does to the book, and to those that sleep (own).
+use Rattle.std.specs.Prelude.{◌≡◌, ℕ, true, not, is_some, List, [], ◌∷◌, ◌++◌, Some, Result, Ok, Err}
+use Rattle.std.specs.List.{filter}
+use Rattle.call_types.specs.declared.act.Act.TheVariants as act
+use Rattle.call_types.specs.declared.call.Call.{Call}
+use Rattle.call_types.specs.declared.request.Request.{Request}
+use Rattle.call_types.specs.declared.request.Request.TheVariants as request
+use Rattle.call_types.specs.declared.refusal.Refusal.{Refusal}
+use Rattle.call_types.specs.declared.refusal.Refusal.TheVariants as refusal
+use Rattle.record_book.specs.Seat.{Receipted, SeatState}
+use Rattle.record_book.specs.Book.{BookState, Records}
+use Rattle.record_book.specs.Openings.{Opened, Joins, Attaches}
+use Rattle.record_book.specs.Resumes.{Resumes}
+use Rattle.record_book.specs.declared.resume.Resumed.TheVariants as resumed
+use Rattle.record_book.specs.Refusals.{IsDue, join_refusal, attach_refusal, start_refusal, exit_refusal, resume_refusal}
+use Rattle.record_book.specs.Ends.{Exits}
+use Rattle.system_lock.specs.System.{is_ready_in}
+use Rattle.system_lock.specs.Acts.{Tried}
+use Rattle.system_lock.specs.declared.acts.Tried.TheVariants as tried
+use Rattle.system_lock.specs.declared.kernel.Why.{Why}
+use Rattle.system_lock.specs.declared.kernel.Why.TheVariants as why
+
+-- an opening is recorded; or it is refused as is due, and the book is as it was
+abbrev pub OpensIn : BookState → BookState → Request → Result Opened Refusal → Type 0
+OpensIn old new request.Join (Ok opened) = Joins old new opened
+OpensIn old new request.Join (Err refusal) = (new ≡ old) × IsDue (join_refusal old) refusal
+OpensIn old new (request.Attach process) (Ok opened) = Attaches old new process opened
+OpensIn old new (request.Attach process) (Err refusal) = (new ≡ old) × IsDue (attach_refusal old process) refusal
+OpensIn old new (request.Call call) told = ⊥
+
+-- a call is recorded; or it is refused as is due, and book and seat are as they were
+abbrev pub CallsIn : BookState → BookState → SeatState → SeatState → Call → Result Receipted Refusal → Type 0
+CallsIn old new s t call (Ok receipt) = Records old new s t (act.Call call) receipt
+CallsIn old new s t call (Err refusal) = (new ≡ old) × (t ≡ s) × IsDue (start_refusal old s call) refusal
+
+-- an exit is recorded; or the book knows no such seat, and is as it was
+abbrev pub ExitsIn : BookState → BookState → SeatState → SeatState → Why → Type 0
+ExitsIn old new s t why.Foreign = (new ≡ old) × (t ≡ s) × (is_some (exit_refusal old s) ≡ true)
+ExitsIn old new s t other = Exits old new s t
+
+-- why a call that waits and can go on may end its process: the run is full, memory is wanting, or the book knows no such seat
+abbrev pub IsDueEnd : BookState → SeatState → Why → Type 0
+IsDueEnd b s why.NoMemory = Unit {0}
+IsDueEnd b s why.RunFull = resume_refusal b s ≡ Some refusal.RunFull
+IsDueEnd b s why.Foreign = Unit {0}
+IsDueEnd b s why.HungUp = ⊥
+IsDueEnd b s why.Lost = ⊥
+
+-- one try of a resume: it is recorded; or the call is not ready, and book and seat are as they were; or the process ends
+abbrev pub TriesIn : BookState → BookState → SeatState → Tried → Type 0
+TriesIn old new s (tried.Resumed t receipt) = Resumes old new s t (resumed.Recorded receipt)
+TriesIn old new s (tried.Still t) = Resumes old new s t resumed.Still
+TriesIn old new s (tried.Ended ended) = ExitsIn old new s ended.seat ended.why × IsDueEnd old s ended.why
+
+-- those that sleep on: of them, whose call is not ready
+abbrev pub still_asleep : BookState → List ℕ → List ℕ
+still_asleep b asleep = filter (λ process. not (is_ready_in b process)) asleep
+
+-- those that sleep once a try has told a process to wait on
+abbrev pub with_sleeper : List ℕ → Tried → List ℕ
+with_sleeper asleep (tried.Still s) = asleep ++ s.pid ∷ []
+with_sleeper asleep other = asleep
