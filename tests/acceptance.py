@@ -212,6 +212,15 @@ def default_is_ten_thousand(program):
     expect(replay(program, script), stdout=b"".join(lines))
 
 
+@case("20000 records")
+def more_than_the_default(program):
+    count = 12_000
+    lines = [b"0 p0 join = 0\n"]
+    lines += [b"%d p0 close 0 = error EBADF\n" % place for place in range(1, count + 1)]
+    lines += [b"records %d in 0 out 0\n" % (count + 1)]
+    expect(replay(program, small(count), ("--records", "20000")), stdout=b"".join(lines))
+
+
 @case("a process that is quiet for thousands of records")
 def process_is_quiet(program):
     count = 2_000
@@ -292,6 +301,14 @@ def small(count=1):
 def output_is_full(program, script):
     with open("/dev/full", "wb", buffering=0) as full:
         expect(run(program, ["replay"], script, full), status=4, stderr=told("cannot write"))
+
+
+@case("a full device for help", "--help")
+@case("a full device for the help of serve", "serve", "--help")
+@case("a full device for the version", "--version")
+def text_is_not_taken(program, *words):
+    with open("/dev/full", "wb", buffering=0) as full:
+        expect(run(program, words, b"", full), status=4, stderr=told("cannot write"))
 
 
 @case("nobody reads the output", small())

@@ -58,8 +58,14 @@ fn code_of_fault(fault: &JobFault) -> ExitCode
     ExitCode::from(fault.status())
 }
 
+/// Says on standard error how a job ended, and ends the program.
+fn end(rt: &HostRuntime, ended: Ended) -> ExitCode {
+    let _ = eprint!(rt; "{ended}");
+    code_of(ended)
+}
+
 fn main(rt: HostRuntime) -> ExitCode {
-    match asked(&rt) {
+    let fault = match asked(&rt) {
         Ok(job) => {
             let ended = perform(
                 rt,
@@ -69,12 +75,12 @@ fn main(rt: HostRuntime) -> ExitCode {
                 &mut io::writer(&rt),
                 job,
             );
-            let _ = eprint!(rt; "{ended}");
-            code_of(ended)
+            return end(&rt, ended);
         }
-        Err(fault) => {
-            let _ = tell(&rt, &fault);
-            code_of_fault(&fault)
-        }
+        Err(fault) => fault,
+    };
+    match (tell(&rt, &fault), &fault) {
+        (Err(_), JobFault::Shown(_)) => end(&rt, Ended::CannotWrite),
+        _ => code_of_fault(&fault),
     }
 }
