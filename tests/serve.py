@@ -189,8 +189,8 @@ PLAYS = [
     ),
     ("a run that is full", 4, "a join | 0 0; a fstat 0 | 1 error EBADF; a fstat 0 | - refused RunFull; a pipe | - refused RunFull", (4, 0, 0)),
     ("a run that is full before its end", 5, "a join | 0 0; b join | 1 1; a fstat 0 | - refused RunFull; b goes; a fork | - refused RunFull", (5, 0, 0)),
-    ("a run without room for a process", 2, "a join | - refused RunFull", (1, 0, 0)),
-    ("a run of one record", 1, "a join | - refused RunFull; b join | - refused RunFull", (1, 0, 0)),
+    ("a run without room for a process", 2, "a join | - refused RunFull; a is hung up", (1, 0, 0)),
+    ("a run of one record", 1, "a join | - refused RunFull; a is hung up; b join | - refused RunFull; b is hung up", (1, 0, 0)),
     (
         "every call",
         100,
@@ -225,6 +225,8 @@ def take_step(client, request, wanted):
         client.vanish()
     elif request == "waits":
         require(not client.has_answer(0.02), "it does not wait")
+    elif request == "is hung up":
+        require(client.is_hung_up(1), "it is not hung up")
     else:
         if request:
             client.ask(request)
