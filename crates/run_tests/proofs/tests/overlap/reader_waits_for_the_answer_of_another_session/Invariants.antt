@@ -1,5 +1,5 @@
 -- The ledgers of the run are those that the call makes.
-use Rattle.crate_tests.proofs.tests.overlap.reader_waits_for_the_answer_of_another_session.Given as goal
+use Rattle.run_tests.proofs.tests.overlap.reader_waits_for_the_answer_of_another_session.Given as goal
 
 abbrev pub ghosts-report_of : goal.ghosts-report_of
 ghosts-report_of g a = record { names = a.blanks }

@@ -1,5 +1,5 @@
 -- The ledgers of the run are those that the call makes.
-use Rattle.crate_tests.proofs.tests.overlap.refusal_is_asked_for_by_the_records_seen.Given as goal
+use Rattle.run_tests.proofs.tests.overlap.answer_is_refused_a_thousand_times.Given as goal
 
 abbrev pub ghosts-under_a_gate : goal.ghosts-under_a_gate
 ghosts-under_a_gate g a = record { names = a.blanks }
