@@ -15,17 +15,8 @@ use Rattle.script_text.specs.Spellings.{SpellsScript}
 use Rattle.script_text.specs.declared.fault.ScriptFault.TheVariants as faults
 use Rattle.posix_model.specs.History.{legal}
 use Rattle.fdref.specs.Output.{last_line, told_line, told_lines}
-use Rattle.fdref.specs.Replay.{RunsNext, RunsScript, FailsAs, Refuses, Ends}
+use Rattle.fdref.specs.Replay.{RunsNext, RunsOn, RunsScript, FailsAs, Refuses, Ends}
 use Rattle.fdref.specs.declared.ended.Ended.{Ended}
-
--- the acts that were read were run in a new book, and lines are those of what was told; read is what the rest is read as
-pub record RunSoFar (limits : Limits) (text : List ℕ) (read : Result (List ScriptAct) ScriptFault) (book : BookState) (seats : Seats) (lines : List ℕ) : Type 0 where
-  pub acts : List ScriptAct
-  pub told : List Told
-  pub is_read : script text ≡ followed acts read
-  pub runs : RunTells (new_book limits) book [] seats acts told
-  pub lines_are : lines ≡ told_lines told
-  pub limits_are : book.limits ≡ limits
 
 -- nothing goes before
 followed_none : (read : Result (List ScriptAct) ScriptFault) → followed [] read ≡ read
@@ -42,35 +33,34 @@ lines_next : (told : List Told) (one : Told) → told_lines (told ++ one ∷ [])
 lines_next told one = flat_map-append told_line told (one ∷ []) ∙ ap (λ l. told_lines told ++ l) (append-nil (told_line one))
 
 -- at first nothing was read
-pub run_begins : (limits : Limits) (text : List ℕ) (read : Result (List ScriptAct) ScriptFault) (book : BookState) (seats : Seats) (lines : List ℕ)
-    → read ≡ script text → book ≡ new_book limits → seats ≡ [] → lines ≡ [] → RunSoFar limits text read book seats lines
-run_begins limits text read book seats lines is_read new empty none = record {
+pub runs_none : (read : Result (List ScriptAct) ScriptFault) (book : BookState) (seats : Seats) (lines : List ℕ) → RunsOn read read book book seats seats lines lines
+runs_none read book seats lines = record {
   acts = [];
   told = [];
-  is_read = sym is_read ∙ sym (followed_none read);
-  runs = (refl, record { book = new; seats_are = empty });
-  lines_are = none;
-  limits_are = ap (λ b. b.limits) new;
+  is_read = sym (followed_none read);
+  runs = (refl, record { book = refl; seats_are = refl });
+  limits_are = refl;
+  lines_are = sym (append-nil lines);
 }
 
 -- one act more was read and run
-pub run_goes_on : (limits : Limits) (text : List ℕ) (read rest : Result (List ScriptAct) ScriptFault) (book new : BookState) (seats after : Seats) (lines more : List ℕ) (act : ScriptAct)
-    → RunSoFar limits text read book seats lines → read ≡ followed (act ∷ []) rest → RunsNext book new seats after act lines more → RunSoFar limits text rest new after more
-run_goes_on limits text read rest book new seats after lines more act so_far is_next next = record {
+pub runs_one_more : (read rest last : Result (List ScriptAct) ScriptFault) (first book new : BookState) (none seats after : Seats) (before lines more : List ℕ) (act : ScriptAct)
+    → RunsOn read rest first book none seats before lines → rest ≡ followed (act ∷ []) last → RunsNext book new seats after act lines more → RunsOn read last first new none after before more
+runs_one_more read rest last first book new none seats after before lines more act so_far is_next next = record {
   acts = so_far.acts ++ act ∷ [];
   told = so_far.told ++ next.told ∷ [];
-  is_read = so_far.is_read ∙ ap (followed so_far.acts) is_next ∙ followed_on so_far.acts (act ∷ []) rest;
-  runs = next.goes_on (new_book limits) [] so_far.acts so_far.told so_far.runs;
-  lines_are = next.lines_are ∙ ap (λ l. l ++ told_line next.told) so_far.lines_are ∙ sym (lines_next so_far.told next.told);
+  is_read = so_far.is_read ∙ ap (followed so_far.acts) is_next ∙ followed_on so_far.acts (act ∷ []) last;
+  runs = next.goes_on first none so_far.acts so_far.told so_far.runs;
   limits_are = next.limits_are ∙ so_far.limits_are;
+  lines_are = next.lines_are ∙ ap (λ l. l ++ told_line next.told) so_far.lines_are ∙ append_assoc before (told_lines so_far.told) (told_line next.told) ∙ ap (λ l. before ++ l) (sym (lines_next so_far.told next.told));
 }
 
--- a fault of the rest is one of the text
-pub fails_so_far : (limits : Limits) (text : List ℕ) (read : Result (List ScriptAct) ScriptFault) (book : BookState) (seats : Seats) (lines : List ℕ) (fault : ScriptFault)
-    → RunSoFar limits text read book seats lines → ScriptFails fault read → ScriptFails fault (script text)
-fails_so_far limits text read book seats lines faults.NoMemory so_far fails = tt
-fails_so_far limits text read book seats lines (faults.BadLine line column) so_far fails = so_far.is_read ∙ ap (followed so_far.acts) fails
-fails_so_far limits text read book seats lines faults.TooLong so_far fails = so_far.is_read ∙ ap (followed so_far.acts) fails
+-- a fault of the rest is one of all
+pub fails_so_far : (read rest : Result (List ScriptAct) ScriptFault) (first book : BookState) (none seats : Seats) (before lines : List ℕ) (fault : ScriptFault)
+    → RunsOn read rest first book none seats before lines → ScriptFails fault rest → ScriptFails fault read
+fails_so_far read rest first book none seats before lines faults.NoMemory so_far fails = tt
+fails_so_far read rest first book none seats before lines (faults.BadLine line column) so_far fails = so_far.is_read ∙ ap (followed so_far.acts) fails
+fails_so_far read rest first book none seats before lines faults.TooLong so_far fails = so_far.is_read ∙ ap (followed so_far.acts) fails
 
 -- no act was read, so none is left
 pub nothing_left : (read rest : Result (List ScriptAct) ScriptFault) (next : Option ScriptAct) → ((act : ScriptAct) → next ≡ Some act → ⊥) → NextGives read rest (Ok next) → read ≡ Ok []
@@ -78,18 +68,18 @@ nothing_left read rest None none gives = gives.0
 nothing_left read rest (Some act) none gives = absurd (none act refl)
 
 -- at the end all acts were run, and the lines with that of the totals are their output
-pub run_ends : (limits : Limits) (text : List ℕ) (read : Result (List ScriptAct) ScriptFault) (book : BookState) (seats : Seats) (lines output : List ℕ)
-    → RunSoFar limits text read book seats lines → read ≡ Ok [] → legal book.limits.bounds book.history → output ≡ lines ++ last_line book → RunsScript limits text output
-run_ends limits text read book seats lines output so_far done sound is = (
+pub run_ends : (limits : Limits) (text : List ℕ) (read : Result (List ScriptAct) ScriptFault) (first book : BookState) (none seats : Seats) (before lines output : List ℕ)
+    → RunsOn read (Ok []) first book none seats before lines → read ≡ script text → first ≡ new_book limits → none ≡ [] → before ≡ [] → legal book.limits.bounds book.history → output ≡ lines ++ last_line book → RunsScript limits text output
+run_ends limits text read first book none seats before lines output so_far is_text is_new is_none is_before sound is = (
   so_far.acts,
-  so_far.is_read ∙ ap (followed so_far.acts) done ∙ ap (λ l. Ok l) (append-nil so_far.acts),
+  sym is_text ∙ so_far.is_read ∙ ap (λ l. Ok l) (append-nil so_far.acts),
   record {
     told = so_far.told;
     book = book;
     seats = seats;
-    runs = so_far.runs;
-    is_legal = subst (λ l. legal l.bounds book.history) so_far.limits_are sound;
-    output_is = is ∙ ap (λ l. l ++ last_line book) so_far.lines_are;
+    runs = subst (λ b. RunTells b book [] seats so_far.acts so_far.told) is_new (subst (λ s. RunTells first book s seats so_far.acts so_far.told) is_none so_far.runs);
+    is_legal = subst (λ l. legal l.bounds book.history) (so_far.limits_are ∙ ap (λ b. b.limits) is_new) sound;
+    output_is = is ∙ ap (λ l. l ++ last_line book) (so_far.lines_are ∙ ap (λ l. l ++ told_lines so_far.told) is_before);
   },
 )
 

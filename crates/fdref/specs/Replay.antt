@@ -1,11 +1,11 @@
 -- What a replay writes, and what its end says (own).
-use Rattle.std.specs.Prelude.{◌≡◌, ℕ, List, [], ◌++◌, Option, Ok, Err, IfSome, codes, decimal}
+use Rattle.std.specs.Prelude.{◌≡◌, ℕ, List, [], ◌++◌, Option, Result, Ok, Err, IfSome, codes, decimal}
 use Rattle.std.specs.Io.KnownBytes.{Appends}
 use Rattle.call_types.specs.declared.act.ScriptAct.{ScriptAct}
 use Rattle.call_types.specs.declared.limits.Limits.{Limits}
 use Rattle.posix_model.specs.History.{legal}
 use Rattle.script_text.specs.Spellings.{SpellsScript}
-use Rattle.script_text.specs.ReadingScripts.{script}
+use Rattle.script_text.specs.ReadingScripts.{script, followed}
 use Rattle.script_text.specs.ReadingResults.{ScriptFails}
 use Rattle.script_text.specs.declared.fault.ScriptFault.{ScriptFault}
 use Rattle.script_text.specs.declared.fault.ScriptFault.TheVariants as faults
@@ -40,6 +40,15 @@ pub record RunsNext (old new : BookState) (seats after : Seats) (act : ScriptAct
   pub goes_on : GoesOn old new seats after act told
   pub limits_are : new.limits ≡ old.limits
   pub lines_are : more ≡ lines ++ told_line told
+
+-- acts that were read were run one after another, and their lines stand after the others; what is left is read as rest
+pub record RunsOn (read rest : Result (List ScriptAct) ScriptFault) (old new : BookState) (seats after : Seats) (lines more : List ℕ) : Type 0 where
+  pub acts : List ScriptAct
+  pub told : List Told
+  pub is_read : read ≡ followed acts rest
+  pub runs : RunTells old new seats after acts told
+  pub limits_are : new.limits ≡ old.limits
+  pub lines_are : more ≡ lines ++ told_lines told
 
 -- the text is a script, and this is the output of its acts
 abbrev pub RunsScript : Limits → List ℕ → List ℕ → Type 0

@@ -1,8 +1,9 @@
 //! One run of a script: its bytes in, its lines out.
-ghost use Rattle.std.specs.Prelude.{◌≡◌, ◌≤◌, ◌⊎◌, length, IfOk, IfErr, IfSome, OnOk};
+ghost use Rattle.std.specs.Prelude.{◌≡◌, ◌≤◌, ◌⊎◌, [], Ok, length, IfOk, IfErr, IfSome, OnOk};
 ghost use Rattle.script_text.specs.ReadingScripts.{script};
+ghost use Rattle.script_text.specs.ReadingResults.{ScriptFails};
 ghost use Rattle.script_text.specs.declared.script.TheConstants.{SCRIPT_MAX};
-ghost use Rattle.fdref.specs.Replay.{Ends, RunsNext, RunsScript, FailsAs};
+ghost use Rattle.fdref.specs.Replay.{Ends, RunsNext, RunsOn, RunsScript, FailsAs};
 
 use crate::ended::Ended;
 use crate::output::{put_line, write_lines};
@@ -12,6 +13,7 @@ use call_types::limits::Limits;
 use record_book::book::Book;
 use record_book::run::Told;
 use record_book::seats::Seats;
+use script_text::fault::ScriptFault;
 use script_text::lines::write_totals;
 use script_text::round_trip::{read_scripts_are_spelled, spelled_scripts_are_read};
 use script_text::script::{SCRIPT_MAX, Script};
@@ -55,6 +57,26 @@ fn run_next<L: Ledgers>(
     Ok(())
 }
 
+/// Runs the acts that are left of a script, one after another as they are read, and gathers the lines of what is told of each.
+fn run_all<L: Ledgers>(
+    alloc: Global,
+    script: &mut Script<'_>,
+    book: &mut Book<L>,
+    seats: &mut Seats<L>,
+    lines: &mut Vec<u8>,
+) -> Result<(), ScriptFault>
+    ensures ok { OnOk result (RunsOn script.old.read (Ok []) book.old book.new seats.old.0 seats.new.0 lines.old.items lines.new.items) }
+    ensures fault { IfErr result (λ fault. ScriptFails fault script.old.read) }
+{
+    while let Some(act) = script.next_act(alloc)? {
+        match run_next(alloc, book, seats, act, lines) {
+            Ok(()) => {}
+            Err(_) => return Err(ScriptFault::NoMemory),
+        }
+    }
+    Ok(())
+}
+
 /// Runs the acts of a script in a new book as they are read, and gathers the lines of what is told of each, and the line of
 /// totals. Where it succeeds, the book and the seats are leaked, and not dropped one record after another.
 fn run_script<L: Ledgers>(
@@ -71,9 +93,7 @@ fn run_script<L: Ledgers>(
     let mut book = Book::<L>::new(alloc, limits, blanks)?;
     let mut seats = Seats::new(alloc);
     let mut lines = Vec::with_capacity(alloc, 2 * text.len())?;
-    while let Some(act) = script.next_act(alloc)? {
-        run_next(alloc, &mut book, &mut seats, act, &mut lines)?;
-    }
+    run_all(alloc, &mut script, &mut book, &mut seats, &mut lines)?;
     let counts = book.counts();
     write_totals(
         &mut lines,
