@@ -59,7 +59,9 @@ fn code_of_fault(fault: &JobFault) -> ExitCode
 }
 
 /// Says on standard error how a job ended, and ends the program.
-fn end(rt: &HostRuntime, ended: Ended) -> ExitCode {
+fn end(rt: &HostRuntime, ended: Ended) -> ExitCode
+    ensures { exit_status result ≡ ended_status ended }
+{
     let _ = eprint!(rt; "{ended}");
     code_of(ended)
 }

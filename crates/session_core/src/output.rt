@@ -86,7 +86,7 @@ fn let_all<W: Write, G: Gate>(
 const GATHERED: usize = 65_536;
 
 impl<W: Write, G: Gate> Output<W, G> {
-    /// No answers yet of this session, for this writer, which is given back where memory runs out.
+    /// No answers yet, for this writer, which is given back where memory runs out; a gate is asked by this number.
     pub(crate) fn new(alloc: Global, writer: W, session: u64, gate: G) -> Result<Self, W>
         ensures ok { IfOk result (λ output. output ≡ fresh_output (W.contents writer)) }
         ensures err { IfErr result (λ back. back ≡ writer) }

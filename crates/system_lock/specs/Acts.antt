@@ -1,10 +1,8 @@
 -- What one try of a resume gives (own).
-use Rattle.std.specs.Prelude.{◌≡◌, false}
+use Rattle.std.specs.Prelude.{◌≡◌}
 use Rattle.call_types.specs.declared.act.Act.TheVariants as act
 use Rattle.posix_model.specs.WaitLaws.{EndsOrGoesOn}
 use Rattle.record_book.specs.Seat.{SeatState}
-use Rattle.record_book.specs.Book.{BookState}
-use Rattle.system_lock.specs.System.{is_ready_in}
 use Rattle.system_lock.specs.Kernel.{Adds, EndsBy, IsWhyFinished}
 use Rattle.system_lock.specs.declared.acts.Tried.{Tried as TriedOf}
 use Rattle.system_lock.specs.declared.acts.Tried.TheVariants as tried
@@ -18,8 +16,3 @@ abbrev pub TriesBy : SeatState → Tried → Type 0
 TriesBy old (tried.Resumed seat receipt) = Adds old seat act.Resume receipt × EndsOrGoesOn receipt.record_is.outcome
 TriesBy old (tried.Still seat) = seat ≡ old
 TriesBy old (tried.Ended ended) = EndsBy old ended.seat ended.why × IsWhyFinished ended.why
-
--- where a process is told to wait on, its call is not ready
-abbrev pub KeepsAsleep : BookState → SeatState → Tried → Type 0
-KeepsAsleep b old (tried.Still seat) = is_ready_in b old.pid ≡ false
-KeepsAsleep b old other = Unit {0}

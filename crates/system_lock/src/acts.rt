@@ -1,7 +1,7 @@
 //! The acts of a kernel on a book that is at hand.
 
 ghost use Rattle.system_lock.specs.Kernel.{IsOpening, OpensBy, CallsBy, IsReason, EndsFor};
-ghost use Rattle.system_lock.specs.Acts.{TriesBy, KeepsAsleep};
+ghost use Rattle.system_lock.specs.Acts.{TriesBy};
 ghost use Rattle.system_lock.specs.Events.{OpensIn, CallsIn, ExitsIn, TriesIn};
 
 use crate::kernel::{Ended, EndedIn, Why};
@@ -77,7 +77,6 @@ pub(crate) type TriedIn<L> = Tried<Seat<L>, SpentSeat<L>>;
 /// Takes up the call that a process waits in, if it is ready; where that is refused, the process ends.
 pub(crate) fn resume<L: Ledgers>(book: &mut Book<L>, alloc: Global, seat: Seat<L>) -> TriedIn<L>
     ensures tries { TriesBy seat result }
-    ensures still { KeepsAsleep book.new seat result }
     ensures event { TriesIn book.old book.new seat result }
 {
     calls_end_or_wait();
