@@ -17,3 +17,4 @@ pub mod CallLaws
 pub mod WrittenWords
 pub mod RoundTrip
 pub mod ScriptLaws
+pub mod Rooms

@@ -9,3 +9,4 @@ pub mod ReadingScripts
 pub mod Lines
 pub mod Spellings
 pub mod CallRows
+pub mod Room

@@ -1,29 +1,32 @@
 //! Each call, read from a line and written to one. What is not inlined keeps the room of its values, which is cleared at
 //! each entry, out of the way of reads and writes.
-#![tactic(auto, using(crate::proofs::Fronts::keeps_after), unfolding(crate::specs::Lines::call_text))]
+#![tactic(auto, unfolding(crate::specs::Lines::call_text))]
 
-ghost use Rattle.std.specs.Prelude.{◌≡◌};
+ghost use Rattle.std.specs.Prelude.{◌≡◌, ◌++◌, ◌+◌, ◌<◌, ◌^◌, ◌≤◌};
 ghost use Rattle.std.specs.Option.{option_copied};
 ghost use Rattle.call_types.specs.CallTable.{open_entry, close_entry, read_entry, write_entry, pread_entry, pwrite_entry, lseek_entry, ftruncate_entry, dup_entry, dup2_entry, pipe_entry, mkfifo_entry, link_entry, unlink_entry, fstat_entry, fork_entry, later_table, position_table};
 ghost use Rattle.script_text.specs.Reading.{Gives, Word};
 ghost use Rattle.script_text.specs.ReadingCalls.{entry_at, one_of, named_call};
-ghost use Rattle.call_types.specs.Writing.{Appends};
 ghost use Rattle.script_text.specs.Lines.{call_text};
+ghost use Rattle.script_text.specs.Room.{HasRoom, UsesRoom, name_room, data_room, call_room};
 
 use crate::cutting::Left;
 use crate::fault::WordFault;
 use crate::fields;
 use crate::flags::put_flags;
 use crate::name::put_name;
-use crate::payload::put_data;
-use crate::put::{put, put_descriptor, put_number, put_signed};
+use crate::payload::{put_data, room_of_data};
+use crate::put::{put, put_descriptor, put_next_number, put_next_signed};
 use crate::whence::whence_text;
 use crate::words::{Next, line_end};
 use call_types::bounded::{Name, Payload};
 use call_types::call::Call;
 use call_types::flags::OpenFlags;
 use call_types::whence::Whence;
-use std::alloc::{AllocError, Global};
+use std::alloc::Global;
+
+/// Bytes of a call without its names and data, at most.
+pub(crate) const CALL_ROOM: usize = 96;
 
 /// `open NAME FLAGS`, after its first word.
 #[inline(never)]
@@ -37,14 +40,15 @@ fn open_call(alloc: Global, left: Left<'_>) -> Result<Call, WordFault>
 }
 
 /// Appends an open.
-fn put_open(out: &mut Vec<u8>, name: &Name, flags: OpenFlags) -> Result<(), AllocError>
-    ensures { Appends result out.old.items out.new.items (call_text (Call.Open name.now flags)) }
+fn put_open(out: &mut Vec<u8>, name: &Name, flags: OpenFlags)
+    requires { HasRoom out.old (CALL_ROOM + name_room name.now) }
+    ensures text { out.new.items ≡ out.old.items ++ (call_text (Call.Open name.now flags)) }
+    ensures room { UsesRoom out.old out.new (CALL_ROOM + name_room name.now) }
 {
-    put(out, b"open ")?;
-    put_name(out, name.as_slice())?;
-    put(out, b" ")?;
-    put_flags(out, flags)?;
-    Ok(())
+    put(out, b"open ");
+    put_name(out, name.as_slice());
+    put(out, b" ");
+    put_flags(out, flags);
 }
 
 /// `close FD`
@@ -57,12 +61,13 @@ fn close_call(left: Left<'_>) -> Result<Call, WordFault>
 }
 
 /// Appends a close.
-fn put_close(out: &mut Vec<u8>, fd: i32) -> Result<(), AllocError>
-    ensures { Appends result out.old.items out.new.items (call_text (Call.Close fd)) }
+fn put_close(out: &mut Vec<u8>, fd: i32)
+    requires { HasRoom out.old CALL_ROOM }
+    ensures text { out.new.items ≡ out.old.items ++ (call_text (Call.Close fd)) }
+    ensures room { UsesRoom out.old out.new CALL_ROOM }
 {
-    put(out, b"close ")?;
-    put_descriptor(out, fd)?;
-    Ok(())
+    put(out, b"close ");
+    put_descriptor(out, fd);
 }
 
 /// `read FD N`
@@ -76,14 +81,14 @@ fn read_call(left: Left<'_>) -> Result<Call, WordFault>
 }
 
 /// Appends a read.
-fn put_read(out: &mut Vec<u8>, fd: i32, count: u32) -> Result<(), AllocError>
-    ensures { Appends result out.old.items out.new.items (call_text (Call.Read fd count)) }
+fn put_read(out: &mut Vec<u8>, fd: i32, count: u32)
+    requires { HasRoom out.old CALL_ROOM }
+    ensures text { out.new.items ≡ out.old.items ++ (call_text (Call.Read fd count)) }
+    ensures room { UsesRoom out.old out.new CALL_ROOM }
 {
-    put(out, b"read ")?;
-    put_descriptor(out, fd)?;
-    put(out, b" ")?;
-    put_number(out, count as u64)?;
-    Ok(())
+    put(out, b"read ");
+    put_descriptor(out, fd);
+    put_next_number(out, count as u64);
 }
 
 /// `write FD DATA`
@@ -97,14 +102,15 @@ fn write_call(alloc: Global, left: Left<'_>) -> Result<Call, WordFault>
 }
 
 /// Appends a write.
-fn put_write(out: &mut Vec<u8>, fd: i32, bytes: &Payload) -> Result<(), AllocError>
-    ensures { Appends result out.old.items out.new.items (call_text (Call.Write fd bytes.now)) }
+fn put_write(out: &mut Vec<u8>, fd: i32, bytes: &Payload)
+    requires { HasRoom out.old (CALL_ROOM + data_room bytes.now) }
+    ensures text { out.new.items ≡ out.old.items ++ (call_text (Call.Write fd bytes.now)) }
+    ensures room { UsesRoom out.old out.new (CALL_ROOM + data_room bytes.now) }
 {
-    put(out, b"write ")?;
-    put_descriptor(out, fd)?;
-    put(out, b" ")?;
-    put_data(out, bytes.part())?;
-    Ok(())
+    put(out, b"write ");
+    put_descriptor(out, fd);
+    put(out, b" ");
+    put_data(out, bytes.part());
 }
 
 /// `pread FD POS N`
@@ -119,16 +125,15 @@ fn pread_call(left: Left<'_>) -> Result<Call, WordFault>
 }
 
 /// Appends a pread.
-fn put_pread(out: &mut Vec<u8>, fd: i32, start: i64, count: u32) -> Result<(), AllocError>
-    ensures { Appends result out.old.items out.new.items (call_text (Call.Pread fd start count)) }
+fn put_pread(out: &mut Vec<u8>, fd: i32, start: i64, count: u32)
+    requires { HasRoom out.old CALL_ROOM }
+    ensures text { out.new.items ≡ out.old.items ++ (call_text (Call.Pread fd start count)) }
+    ensures room { UsesRoom out.old out.new CALL_ROOM }
 {
-    put(out, b"pread ")?;
-    put_descriptor(out, fd)?;
-    put(out, b" ")?;
-    put_signed(out, start)?;
-    put(out, b" ")?;
-    put_number(out, count as u64)?;
-    Ok(())
+    put(out, b"pread ");
+    put_descriptor(out, fd);
+    put_next_signed(out, start);
+    put_next_number(out, count as u64);
 }
 
 /// `pwrite FD POS DATA`
@@ -143,16 +148,16 @@ fn pwrite_call(alloc: Global, left: Left<'_>) -> Result<Call, WordFault>
 }
 
 /// Appends a pwrite.
-fn put_pwrite(out: &mut Vec<u8>, fd: i32, start: i64, bytes: &Payload) -> Result<(), AllocError>
-    ensures { Appends result out.old.items out.new.items (call_text (Call.Pwrite fd start bytes.now)) }
+fn put_pwrite(out: &mut Vec<u8>, fd: i32, start: i64, bytes: &Payload)
+    requires { HasRoom out.old (CALL_ROOM + data_room bytes.now) }
+    ensures text { out.new.items ≡ out.old.items ++ (call_text (Call.Pwrite fd start bytes.now)) }
+    ensures room { UsesRoom out.old out.new (CALL_ROOM + data_room bytes.now) }
 {
-    put(out, b"pwrite ")?;
-    put_descriptor(out, fd)?;
-    put(out, b" ")?;
-    put_signed(out, start)?;
-    put(out, b" ")?;
-    put_data(out, bytes.part())?;
-    Ok(())
+    put(out, b"pwrite ");
+    put_descriptor(out, fd);
+    put_next_signed(out, start);
+    put(out, b" ");
+    put_data(out, bytes.part());
 }
 
 /// `lseek FD OFF set`, or `cur`, or `end`
@@ -167,16 +172,16 @@ fn lseek_call(left: Left<'_>) -> Result<Call, WordFault>
 }
 
 /// Appends an lseek.
-fn put_lseek(out: &mut Vec<u8>, fd: i32, offset: i64, whence: Whence) -> Result<(), AllocError>
-    ensures { Appends result out.old.items out.new.items (call_text (Call.Lseek fd offset whence)) }
+fn put_lseek(out: &mut Vec<u8>, fd: i32, offset: i64, whence: Whence)
+    requires { HasRoom out.old CALL_ROOM }
+    ensures text { out.new.items ≡ out.old.items ++ (call_text (Call.Lseek fd offset whence)) }
+    ensures room { UsesRoom out.old out.new CALL_ROOM }
 {
-    put(out, b"lseek ")?;
-    put_descriptor(out, fd)?;
-    put(out, b" ")?;
-    put_signed(out, offset)?;
-    put(out, b" ")?;
-    put(out, whence_text(whence))?;
-    Ok(())
+    put(out, b"lseek ");
+    put_descriptor(out, fd);
+    put_next_signed(out, offset);
+    put(out, b" ");
+    put(out, whence_text(whence));
 }
 
 /// `ftruncate FD LEN`
@@ -190,14 +195,14 @@ fn ftruncate_call(left: Left<'_>) -> Result<Call, WordFault>
 }
 
 /// Appends an ftruncate.
-fn put_ftruncate(out: &mut Vec<u8>, fd: i32, len: i64) -> Result<(), AllocError>
-    ensures { Appends result out.old.items out.new.items (call_text (Call.Ftruncate fd len)) }
+fn put_ftruncate(out: &mut Vec<u8>, fd: i32, len: i64)
+    requires { HasRoom out.old CALL_ROOM }
+    ensures text { out.new.items ≡ out.old.items ++ (call_text (Call.Ftruncate fd len)) }
+    ensures room { UsesRoom out.old out.new CALL_ROOM }
 {
-    put(out, b"ftruncate ")?;
-    put_descriptor(out, fd)?;
-    put(out, b" ")?;
-    put_signed(out, len)?;
-    Ok(())
+    put(out, b"ftruncate ");
+    put_descriptor(out, fd);
+    put_next_signed(out, len);
 }
 
 /// `dup FD`
@@ -210,12 +215,13 @@ fn dup_call(left: Left<'_>) -> Result<Call, WordFault>
 }
 
 /// Appends a dup.
-fn put_dup(out: &mut Vec<u8>, fd: i32) -> Result<(), AllocError>
-    ensures { Appends result out.old.items out.new.items (call_text (Call.Dup fd)) }
+fn put_dup(out: &mut Vec<u8>, fd: i32)
+    requires { HasRoom out.old CALL_ROOM }
+    ensures text { out.new.items ≡ out.old.items ++ (call_text (Call.Dup fd)) }
+    ensures room { UsesRoom out.old out.new CALL_ROOM }
 {
-    put(out, b"dup ")?;
-    put_descriptor(out, fd)?;
-    Ok(())
+    put(out, b"dup ");
+    put_descriptor(out, fd);
 }
 
 /// `dup2 FD FD`
@@ -229,14 +235,14 @@ fn dup2_call(left: Left<'_>) -> Result<Call, WordFault>
 }
 
 /// Appends a dup2.
-fn put_dup2(out: &mut Vec<u8>, fd: i32, to: i32) -> Result<(), AllocError>
-    ensures { Appends result out.old.items out.new.items (call_text (Call.Dup2 fd to)) }
+fn put_dup2(out: &mut Vec<u8>, fd: i32, to: i32)
+    requires { HasRoom out.old CALL_ROOM }
+    ensures text { out.new.items ≡ out.old.items ++ (call_text (Call.Dup2 fd to)) }
+    ensures room { UsesRoom out.old out.new CALL_ROOM }
 {
-    put(out, b"dup2 ")?;
-    put_descriptor(out, fd)?;
-    put(out, b" ")?;
-    put_descriptor(out, to)?;
-    Ok(())
+    put(out, b"dup2 ");
+    put_descriptor(out, fd);
+    put_next_signed(out, i64::from(to));
 }
 
 /// `pipe`
@@ -248,11 +254,12 @@ fn pipe_call(left: Left<'_>) -> Result<Call, WordFault>
 }
 
 /// Appends a pipe.
-fn put_pipe(out: &mut Vec<u8>) -> Result<(), AllocError>
-    ensures { Appends result out.old.items out.new.items (call_text Call.Pipe) }
+fn put_pipe(out: &mut Vec<u8>)
+    requires { HasRoom out.old CALL_ROOM }
+    ensures text { out.new.items ≡ out.old.items ++ (call_text Call.Pipe) }
+    ensures room { UsesRoom out.old out.new CALL_ROOM }
 {
-    put(out, b"pipe")?;
-    Ok(())
+    put(out, b"pipe");
 }
 
 /// `mkfifo NAME`
@@ -265,12 +272,13 @@ fn mkfifo_call(alloc: Global, left: Left<'_>) -> Result<Call, WordFault>
 }
 
 /// Appends a mkfifo.
-fn put_mkfifo(out: &mut Vec<u8>, name: &Name) -> Result<(), AllocError>
-    ensures { Appends result out.old.items out.new.items (call_text (Call.Mkfifo name.now)) }
+fn put_mkfifo(out: &mut Vec<u8>, name: &Name)
+    requires { HasRoom out.old (CALL_ROOM + name_room name.now) }
+    ensures text { out.new.items ≡ out.old.items ++ (call_text (Call.Mkfifo name.now)) }
+    ensures room { UsesRoom out.old out.new (CALL_ROOM + name_room name.now) }
 {
-    put(out, b"mkfifo ")?;
-    put_name(out, name.as_slice())?;
-    Ok(())
+    put(out, b"mkfifo ");
+    put_name(out, name.as_slice());
 }
 
 /// `link NAME NAME`
@@ -284,14 +292,15 @@ fn link_call(alloc: Global, left: Left<'_>) -> Result<Call, WordFault>
 }
 
 /// Appends a link.
-fn put_link(out: &mut Vec<u8>, old: &Name, new: &Name) -> Result<(), AllocError>
-    ensures { Appends result out.old.items out.new.items (call_text (Call.Link old.now new.now)) }
+fn put_link(out: &mut Vec<u8>, old: &Name, new: &Name)
+    requires { HasRoom out.old (CALL_ROOM + (name_room old.now + name_room new.now)) }
+    ensures text { out.new.items ≡ out.old.items ++ (call_text (Call.Link old.now new.now)) }
+    ensures room { UsesRoom out.old out.new (CALL_ROOM + (name_room old.now + name_room new.now)) }
 {
-    put(out, b"link ")?;
-    put_name(out, old.as_slice())?;
-    put(out, b" ")?;
-    put_name(out, new.as_slice())?;
-    Ok(())
+    put(out, b"link ");
+    put_name(out, old.as_slice());
+    put(out, b" ");
+    put_name(out, new.as_slice());
 }
 
 /// `unlink NAME`
@@ -304,12 +313,13 @@ fn unlink_call(alloc: Global, left: Left<'_>) -> Result<Call, WordFault>
 }
 
 /// Appends an unlink.
-fn put_unlink(out: &mut Vec<u8>, name: &Name) -> Result<(), AllocError>
-    ensures { Appends result out.old.items out.new.items (call_text (Call.Unlink name.now)) }
+fn put_unlink(out: &mut Vec<u8>, name: &Name)
+    requires { HasRoom out.old (CALL_ROOM + name_room name.now) }
+    ensures text { out.new.items ≡ out.old.items ++ (call_text (Call.Unlink name.now)) }
+    ensures room { UsesRoom out.old out.new (CALL_ROOM + name_room name.now) }
 {
-    put(out, b"unlink ")?;
-    put_name(out, name.as_slice())?;
-    Ok(())
+    put(out, b"unlink ");
+    put_name(out, name.as_slice());
 }
 
 /// `fstat FD`
@@ -322,12 +332,13 @@ fn fstat_call(left: Left<'_>) -> Result<Call, WordFault>
 }
 
 /// Appends an fstat.
-fn put_fstat(out: &mut Vec<u8>, fd: i32) -> Result<(), AllocError>
-    ensures { Appends result out.old.items out.new.items (call_text (Call.Fstat fd)) }
+fn put_fstat(out: &mut Vec<u8>, fd: i32)
+    requires { HasRoom out.old CALL_ROOM }
+    ensures text { out.new.items ≡ out.old.items ++ (call_text (Call.Fstat fd)) }
+    ensures room { UsesRoom out.old out.new CALL_ROOM }
 {
-    put(out, b"fstat ")?;
-    put_descriptor(out, fd)?;
-    Ok(())
+    put(out, b"fstat ");
+    put_descriptor(out, fd);
 }
 
 /// `fork`
@@ -339,11 +350,12 @@ fn fork_call(left: Left<'_>) -> Result<Call, WordFault>
 }
 
 /// Appends a fork.
-fn put_fork(out: &mut Vec<u8>) -> Result<(), AllocError>
-    ensures { Appends result out.old.items out.new.items (call_text Call.Fork) }
+fn put_fork(out: &mut Vec<u8>)
+    requires { HasRoom out.old CALL_ROOM }
+    ensures text { out.new.items ≡ out.old.items ++ (call_text Call.Fork) }
+    ensures room { UsesRoom out.old out.new CALL_ROOM }
 {
-    put(out, b"fork")?;
-    Ok(())
+    put(out, b"fork");
 }
 
 /// The call that a first word names.
@@ -409,10 +421,37 @@ fn position_call(alloc: Global, word: Next<'_>) -> Result<Call, WordFault>
     }
 }
 
+/// Room in which a name can be written.
+fn room_of_name(name: &Name) -> usize
+    ensures enough { name_room name.now ≤ result }
+    ensures small { result < 2 ^ 16 }
+{
+    3 * name.as_slice().len() + 1
+}
+
+/// Room in which a call can be written.
+pub(crate) fn room_of_call(call: &Call) -> usize
+    ensures enough { call_room call.now ≤ result }
+    ensures small { result < 2 ^ 32 }
+{
+    match call {
+        Call::Open { name, .. } | Call::Mkfifo { name } | Call::Unlink { name } => {
+            CALL_ROOM + room_of_name(name)
+        }
+        Call::Link { old, new } => CALL_ROOM + (room_of_name(old) + room_of_name(new)),
+        Call::Write { bytes, .. } | Call::Pwrite { bytes, .. } => {
+            CALL_ROOM + room_of_data(bytes.part())
+        }
+        _ => CALL_ROOM,
+    }
+}
+
 /// Appends a call, after its process.
 #[tactic(auto)]
-pub(crate) fn put_call(out: &mut Vec<u8>, call: &Call) -> Result<(), AllocError>
-    ensures { Appends result out.old.items out.new.items (call_text call.now) }
+pub(crate) fn put_call(out: &mut Vec<u8>, call: &Call)
+    requires { HasRoom out.old (call_room call.now) }
+    ensures text { out.new.items ≡ out.old.items ++ (call_text call.now) }
+    ensures room { UsesRoom out.old out.new (call_room call.now) }
 {
     match call {
         Call::Open { name, flags } => put_open(out, name, *flags),

@@ -1,15 +1,17 @@
 //! Flags of open, read from a word and written as one.
 
-ghost use Rattle.std.specs.Prelude.{◌≡◌, bit_or};
+ghost use Rattle.std.specs.Prelude.{◌≡◌, ◌≤◌, ◌++◌, bit_or, length};
 ghost use Rattle.std.specs.Option.{option_map};
 ghost use Rattle.script_text.specs.Lines.{mode_word, suffix, flags_word};
-ghost use Rattle.call_types.specs.Writing.{Appends};
 ghost use Rattle.script_text.specs.ReadingFlags.{flags_of, after_mode, with_suffix};
+ghost use Rattle.script_text.specs.Room.{HasRoom, UsesRoom};
 
 use crate::put::put;
 use bitflags::Flags;
 use call_types::flags::OpenFlags;
-use std::alloc::AllocError;
+
+/// Bytes of flags, at most.
+const FLAGS_ROOM: usize = 35;
 
 /// The flags with a further one.
 fn with_flag(mut flags: OpenFlags, flag: OpenFlags) -> OpenFlags
@@ -64,7 +66,8 @@ pub(crate) fn flags_value(word: &[u8]) -> Option<OpenFlags>
 
 /// How the mode of flags is written.
 fn mode_text(flags: OpenFlags) -> &'static [u8]
-    ensures { result.now ≡ mode_word flags.0 }
+    ensures text { result.now ≡ mode_word flags.0 }
+    ensures short { length result.now ≤ 2 }
 {
     match (flags.has(OpenFlags::READ), flags.has(OpenFlags::WRITE)) {
         (true, true) => b"rw",
@@ -75,31 +78,26 @@ fn mode_text(flags: OpenFlags) -> &'static [u8]
 }
 
 /// Appends the suffix of a flag, if its bit is set.
-#[tactic(auto, using(crate::proofs::Fronts::keeps_after, crate::proofs::Fronts::keeps))]
-fn put_suffix(
-    out: &mut Vec<u8>,
-    flags: OpenFlags,
-    flag: OpenFlags,
-    text: &[u8],
-) -> Result<(), AllocError>
-    ensures { Appends result out.old.items out.new.items (suffix flags.0 flag.0 text.now) }
+fn put_suffix(out: &mut Vec<u8>, flags: OpenFlags, flag: OpenFlags, text: &[u8])
+    requires { HasRoom out.old (length text.now) }
+    ensures text { out.new.items ≡ out.old.items ++ suffix flags.0 flag.0 text.now }
+    ensures room { UsesRoom out.old out.new (length text.now) }
 {
     if flags.has(flag) {
-        put(out, text)?;
+        put(out, text);
     }
-    Ok(())
 }
 
 /// Appends flags.
-#[tactic(auto, using(crate::proofs::Fronts::keeps_after))]
-pub(crate) fn put_flags(out: &mut Vec<u8>, flags: OpenFlags) -> Result<(), AllocError>
-    ensures { Appends result out.old.items out.new.items (flags_word flags.0) }
+pub(crate) fn put_flags(out: &mut Vec<u8>, flags: OpenFlags)
+    requires { HasRoom out.old FLAGS_ROOM }
+    ensures text { out.new.items ≡ out.old.items ++ flags_word flags.0 }
+    ensures room { UsesRoom out.old out.new FLAGS_ROOM }
 {
-    put(out, mode_text(flags))?;
-    put_suffix(out, flags, OpenFlags::CREAT, b",creat")?;
-    put_suffix(out, flags, OpenFlags::EXCL, b",excl")?;
-    put_suffix(out, flags, OpenFlags::TRUNC, b",trunc")?;
-    put_suffix(out, flags, OpenFlags::APPEND, b",append")?;
-    put_suffix(out, flags, OpenFlags::NONBLOCK, b",nonblock")?;
-    Ok(())
+    put(out, mode_text(flags));
+    put_suffix(out, flags, OpenFlags::CREAT, b",creat");
+    put_suffix(out, flags, OpenFlags::EXCL, b",excl");
+    put_suffix(out, flags, OpenFlags::TRUNC, b",trunc");
+    put_suffix(out, flags, OpenFlags::APPEND, b",append");
+    put_suffix(out, flags, OpenFlags::NONBLOCK, b",nonblock");
 }

@@ -1,11 +1,11 @@
 //! Bytes by two lower case hexadecimal digits each.
 
-ghost use Rattle.std.specs.Prelude.{◌≡◌, ◌<◌};
+ghost use Rattle.std.specs.Prelude.{◌≡◌, ◌<◌, ◌++◌};
 ghost use Rattle.script_text.specs.Lines.{hex_glyph, hex_pair};
 ghost use Rattle.script_text.specs.ReadingNumbers.{hex_digit, hex_byte};
-ghost use Rattle.call_types.specs.Writing.{Appends};
+ghost use Rattle.script_text.specs.Room.{HasRoom, UsesRoom};
 
-use std::alloc::AllocError;
+use crate::put::put;
 
 /// The value of a digit.
 fn digit_value(c: u8) -> Option<u8>
@@ -40,10 +40,10 @@ fn digit(value: u8) -> u8
 }
 
 /// Appends the two digits of a byte.
-#[tactic(auto, using(crate::proofs::Fronts::keeps))]
-pub(crate) fn put_hex(out: &mut Vec<u8>, byte: u8) -> Result<(), AllocError>
-    ensures { Appends result out.old.items out.new.items (hex_pair byte) }
+pub(crate) fn put_hex(out: &mut Vec<u8>, byte: u8)
+    requires { HasRoom out.old 2 }
+    ensures text { out.new.items ≡ out.old.items ++ hex_pair byte }
+    ensures room { UsesRoom out.old out.new 2 }
 {
-    out.extend_from_slice(&[digit(byte / 16), digit(byte % 16)])?;
-    Ok(())
+    put(out, &[digit(byte / 16), digit(byte % 16)]);
 }

@@ -1,20 +1,40 @@
-//! The lines of a run, written.
-#![tactic(auto, using(crate::proofs::Fronts::keeps_after))]
+//! The lines of a run, written. Room for a whole line is made first; then nothing can fail.
 
-ghost use Rattle.std.specs.Prelude.{◌≡◌};
+ghost use Rattle.std.specs.Prelude.{◌≡◌, ◌≤◌, ◌+◌, ◌++◌, length, ◌<◌, ◌^◌};
 ghost use Rattle.call_types.specs.Writing.{Appends};
-ghost use Rattle.script_text.specs.Lines.{act_text, actor_word, record_line, script_act_text, script_actor_word, refusal_word, refused_line, still_line, totals_line};
+ghost use Rattle.script_text.specs.Lines.{actor_word, act_text, record_line, script_act_text, script_actor_word, refused_line, still_line, refusal_word, totals_line};
+ghost use Rattle.script_text.specs.Room.{HasRoom, UsesRoom, act_room, script_act_room, outcome_room};
 
-use crate::calls::put_call;
-use crate::outcomes::put_outcome;
-use crate::put::{put, put_number, put_process};
+use crate::calls::{CALL_ROOM, put_call, room_of_call};
+use crate::outcomes::{OUTCOME_ROOM, put_outcome, room_of_outcome};
+use crate::put::{FIELD_ROOM, put, put_number, put_process};
 use call_types::act::{Act, Record, ScriptAct};
+use call_types::outcome::Outcome;
 use call_types::refusal::Refusal;
 use std::alloc::AllocError;
 
+/// Bytes of a line without its act and outcome, at most: the place, the actor, and what stands between.
+const LINE_ROOM: usize = 64;
+
+/// Bytes of the last line, at most.
+const TOTALS_ROOM: usize = 96;
+
+/// Room in which an act can be written.
+fn room_of_act(act: &Act) -> usize
+    ensures enough { act_room act.now ≤ result }
+    ensures small { result < 2 ^ 32 }
+{
+    match act {
+        Act::Call(call) => room_of_call(call),
+        Act::Join | Act::Attach | Act::Resume | Act::Exit | Act::CloseRun => CALL_ROOM,
+    }
+}
+
 /// Appends an act, after its actor.
-fn put_act(out: &mut Vec<u8>, act: &Act) -> Result<(), AllocError>
-    ensures { Appends result out.old.items out.new.items (act_text act.now) }
+fn put_act(out: &mut Vec<u8>, act: &Act)
+    requires { HasRoom out.old (act_room act.now) }
+    ensures text { out.new.items ≡ out.old.items ++ act_text act.now }
+    ensures room { UsesRoom out.old out.new (act_room act.now) }
 {
     match act {
         Act::Join => put(out, b"join"),
@@ -27,8 +47,10 @@ fn put_act(out: &mut Vec<u8>, act: &Act) -> Result<(), AllocError>
 }
 
 /// Appends the actor of an act.
-fn put_actor(out: &mut Vec<u8>, actor: u32, act: &Act) -> Result<(), AllocError>
-    ensures { Appends result out.old.items out.new.items (actor_word actor act.now) }
+fn put_actor(out: &mut Vec<u8>, actor: u32, act: &Act)
+    requires { HasRoom out.old FIELD_ROOM }
+    ensures text { out.new.items ≡ out.old.items ++ actor_word actor act.now }
+    ensures room { UsesRoom out.old out.new FIELD_ROOM }
 {
     match act {
         Act::CloseRun => put(out, b"house"),
@@ -36,25 +58,51 @@ fn put_actor(out: &mut Vec<u8>, actor: u32, act: &Act) -> Result<(), AllocError>
     }
 }
 
+/// Appends the line of the record at a place, with its LF, for which there is room.
+fn put_record(out: &mut Vec<u8>, place: u64, record: &Record)
+    requires { HasRoom out.old (LINE_ROOM + (act_room «record».now.act + outcome_room «record».now.outcome)) }
+    ensures { out.new.items ≡ out.old.items ++ record_line place «record».now }
+{
+    put_number(out, place);
+    put(out, b" ");
+    put_actor(out, record.actor, &record.act);
+    put(out, b" ");
+    put_act(out, &record.act);
+    put(out, b" = ");
+    put_outcome(out, &record.outcome);
+    put(out, b"\n");
+}
+
 /// Appends the line of the record at a place, with its LF.
 pub fn write_record(out: &mut Vec<u8>, place: u64, record: &Record) -> Result<(), AllocError>
     // The line stands after the old bytes; where memory runs out these are still the front.
     ensures { Appends result out.old.items out.new.items (record_line place «record».now) }
 {
-    put_number(out, place)?;
-    put(out, b" ")?;
-    put_actor(out, record.actor, &record.act)?;
-    put(out, b" ")?;
-    put_act(out, &record.act)?;
-    put(out, b" = ")?;
-    put_outcome(out, &record.outcome)?;
-    put(out, b"\n")?;
+    out.reserve(LINE_ROOM + room_of_act(&record.act) + room_of_outcome(&record.outcome))?;
+    put_record(out, place, record);
     Ok(())
 }
 
+/// Room in which an act of a script can be written.
+fn room_of_script_act(act: &ScriptAct) -> usize
+    ensures enough { script_act_room act.now ≤ result }
+    ensures small { result < 2 ^ 32 }
+{
+    match act {
+        ScriptAct::Call { call, .. } => room_of_call(call),
+        ScriptAct::Join
+        | ScriptAct::Attach { .. }
+        | ScriptAct::Resume { .. }
+        | ScriptAct::Exit { .. }
+        | ScriptAct::CloseRun => CALL_ROOM,
+    }
+}
+
 /// Appends an act of a script, after its actor.
-fn put_script_act(out: &mut Vec<u8>, act: &ScriptAct) -> Result<(), AllocError>
-    ensures { Appends result out.old.items out.new.items (script_act_text act.now) }
+fn put_script_act(out: &mut Vec<u8>, act: &ScriptAct)
+    requires { HasRoom out.old (script_act_room act.now) }
+    ensures text { out.new.items ≡ out.old.items ++ script_act_text act.now }
+    ensures room { UsesRoom out.old out.new (script_act_room act.now) }
 {
     match act {
         ScriptAct::Join => put(out, b"join"),
@@ -67,8 +115,10 @@ fn put_script_act(out: &mut Vec<u8>, act: &ScriptAct) -> Result<(), AllocError>
 }
 
 /// Appends the actor of an act of a script.
-fn put_script_actor(out: &mut Vec<u8>, actor: u32, act: &ScriptAct) -> Result<(), AllocError>
-    ensures { Appends result out.old.items out.new.items (script_actor_word actor act.now) }
+fn put_script_actor(out: &mut Vec<u8>, actor: u32, act: &ScriptAct)
+    requires { HasRoom out.old FIELD_ROOM }
+    ensures text { out.new.items ≡ out.old.items ++ script_actor_word actor act.now }
+    ensures room { UsesRoom out.old out.new FIELD_ROOM }
 {
     match act {
         ScriptAct::CloseRun => put(out, b"house"),
@@ -82,7 +132,8 @@ fn put_script_actor(out: &mut Vec<u8>, actor: u32, act: &ScriptAct) -> Result<()
 
 /// How a refusal is written.
 fn refusal_text(refusal: Refusal) -> &'static [u8]
-    ensures { result.now ≡ refusal_word refusal }
+    ensures text { result.now ≡ refusal_word refusal }
+    ensures short { length result.now ≤ 8 }
 {
     match refusal {
         Refusal::NoMemory => b"NoMemory",
@@ -91,6 +142,20 @@ fn refusal_text(refusal: Refusal) -> &'static [u8]
         Refusal::NotHere => b"NotHere",
         Refusal::Foreign { .. } => b"Foreign",
     }
+}
+
+/// Appends the line of an act that isn't recorded, with its LF, for which there is room.
+fn put_refused(out: &mut Vec<u8>, actor: u32, act: &ScriptAct, refusal: Refusal)
+    requires { HasRoom out.old (LINE_ROOM + script_act_room act.now) }
+    ensures { out.new.items ≡ out.old.items ++ refused_line actor act.now refusal }
+{
+    put(out, b"- ");
+    put_script_actor(out, actor, act);
+    put(out, b" ");
+    put_script_act(out, act);
+    put(out, b" = refused ");
+    put(out, refusal_text(refusal));
+    put(out, b"\n");
 }
 
 /// Appends the line of an act that isn't recorded, with its LF. The actor of a join is the one that it would have had, and
@@ -104,14 +169,21 @@ pub fn write_refused(
     // The line stands after the old bytes; where memory runs out these are still the front.
     ensures { Appends result out.old.items out.new.items (refused_line actor act.now refusal) }
 {
-    put(out, b"- ")?;
-    put_script_actor(out, actor, act)?;
-    put(out, b" ")?;
-    put_script_act(out, act)?;
-    put(out, b" = refused ")?;
-    put(out, refusal_text(refusal))?;
-    put(out, b"\n")?;
+    out.reserve(LINE_ROOM + room_of_script_act(act))?;
+    put_refused(out, actor, act, refusal);
     Ok(())
+}
+
+/// Appends the line of an act that records nothing, with its LF, for which there is room.
+fn put_still(out: &mut Vec<u8>, actor: u32, act: &ScriptAct)
+    requires { HasRoom out.old (LINE_ROOM + script_act_room act.now) }
+    ensures { out.new.items ≡ out.old.items ++ still_line actor act.now }
+{
+    put(out, b"- ");
+    put_script_actor(out, actor, act);
+    put(out, b" ");
+    put_script_act(out, act);
+    put(out, b" = still\n");
 }
 
 /// Appends the line of an act that records nothing, since it has nothing to do, with its LF.
@@ -119,12 +191,23 @@ pub fn write_still(out: &mut Vec<u8>, actor: u32, act: &ScriptAct) -> Result<(),
     // The line stands after the old bytes; where memory runs out these are still the front.
     ensures { Appends result out.old.items out.new.items (still_line actor act.now) }
 {
-    put(out, b"- ")?;
-    put_script_actor(out, actor, act)?;
-    put(out, b" ")?;
-    put_script_act(out, act)?;
-    put(out, b" = still\n")?;
+    out.reserve(LINE_ROOM + room_of_script_act(act))?;
+    put_still(out, actor, act);
     Ok(())
+}
+
+/// Appends the last line, for which there is room.
+fn put_totals(out: &mut Vec<u8>, records: u64, bytes_in: u64, bytes_out: u64)
+    requires { HasRoom out.old TOTALS_ROOM }
+    ensures { out.new.items ≡ out.old.items ++ totals_line records bytes_in bytes_out }
+{
+    put(out, b"records ");
+    put_number(out, records);
+    put(out, b" in ");
+    put_number(out, bytes_in);
+    put(out, b" out ");
+    put_number(out, bytes_out);
+    put(out, b"\n");
 }
 
 /// Appends the last line, of the number of records and of the bytes that went in and out, with its LF.
@@ -137,12 +220,7 @@ pub fn write_totals(
     // The line stands after the old bytes; where memory runs out these are still the front.
     ensures { Appends result out.old.items out.new.items (totals_line records bytes_in bytes_out) }
 {
-    put(out, b"records ")?;
-    put_number(out, records)?;
-    put(out, b" in ")?;
-    put_number(out, bytes_in)?;
-    put(out, b" out ")?;
-    put_number(out, bytes_out)?;
-    put(out, b"\n")?;
+    out.reserve(TOTALS_ROOM)?;
+    put_totals(out, records, bytes_in, bytes_out);
     Ok(())
 }

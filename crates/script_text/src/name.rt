@@ -1,12 +1,12 @@
 //! Names, read from a word and written as one.
 
-ghost use Rattle.std.specs.Prelude.{◌≡◌, ◌<◌, length, IfOk, IfSome, Some};
+ghost use Rattle.std.specs.Prelude.{◌≡◌, ◌<◌, ◌*◌, ◌++◌, length, IfOk, IfSome, Some};
 ghost use Rattle.std.specs.Option.{option_map};
 ghost use Rattle.std.specs.List.{flat_map};
 ghost use Rattle.call_types.specs.declared.limits.TheConstants.{GIVEN_NAME_MAX};
 ghost use Rattle.script_text.specs.Lines.{name_byte, name_word};
-ghost use Rattle.call_types.specs.Writing.{Appends};
 ghost use Rattle.script_text.specs.ReadingNames.{decoded, first_decoded, name_of, is_plain, at_most};
+ghost use Rattle.script_text.specs.Room.{HasRoom, UsesRoom, name_room};
 
 use crate::hexadecimal::{byte_value, put_hex};
 use crate::put::put;
@@ -75,36 +75,39 @@ pub(crate) fn name_value(alloc: Global, word: &[u8]) -> Result<Option<Name>, All
 }
 
 /// Appends a byte of a name.
-#[tactic(auto, using(crate::proofs::Fronts::keeps_after, crate::proofs::Fronts::keeps))]
-fn put_name_byte(out: &mut Vec<u8>, byte: u8) -> Result<(), AllocError>
-    ensures { Appends result out.old.items out.new.items (name_byte byte) }
+fn put_name_byte(out: &mut Vec<u8>, byte: u8)
+    requires { HasRoom out.old 3 }
+    ensures text { out.new.items ≡ out.old.items ++ name_byte byte }
+    ensures room { UsesRoom out.old out.new 3 }
 {
     if is_plain(byte) {
-        out.push(byte)?;
-        return Ok(());
+        out.push_reserved(byte);
+        return;
     }
-    put(out, b"%")?;
-    put_hex(out, byte)?;
-    Ok(())
+    put(out, b"%");
+    put_hex(out, byte);
 }
 
 /// Appends the bytes of a name.
-#[tactic(auto, using(crate::proofs::Fronts::keeps_after))]
-fn put_name_bytes(out: &mut Vec<u8>, name: &[u8]) -> Result<(), AllocError>
-    ensures { Appends result out.old.items out.new.items (flat_map name_byte name.now) }
+fn put_name_bytes(out: &mut Vec<u8>, name: &[u8])
+    requires { HasRoom out.old (3 * length name.now) }
+    ensures text { out.new.items ≡ out.old.items ++ flat_map name_byte name.now }
+    ensures room { UsesRoom out.old out.new (3 * length name.now) }
 {
     for byte in name {
-        put_name_byte(out, *byte)?;
+        put_name_byte(out, *byte);
     }
-    Ok(())
 }
 
 /// Appends a name.
-pub(crate) fn put_name(out: &mut Vec<u8>, name: &[u8]) -> Result<(), AllocError>
-    ensures { Appends result out.old.items out.new.items (name_word name.now) }
+pub(crate) fn put_name(out: &mut Vec<u8>, name: &[u8])
+    requires { HasRoom out.old (name_room name.now) }
+    ensures text { out.new.items ≡ out.old.items ++ name_word name.now }
+    ensures room { UsesRoom out.old out.new (name_room name.now) }
 {
     if name.is_empty() {
-        return put(out, b"%");
+        put(out, b"%");
+        return;
     }
-    put_name_bytes(out, name)
+    put_name_bytes(out, name);
 }

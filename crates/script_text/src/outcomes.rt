@@ -1,19 +1,21 @@
 //! What came of an act, written in a line.
-#![tactic(auto, using(crate::proofs::Fronts::keeps_after))]
 
-ghost use Rattle.std.specs.Prelude.{◌≡◌, ◌++◌, codes, decimal};
-ghost use Rattle.call_types.specs.Writing.{Appends};
+ghost use Rattle.std.specs.Prelude.{◌≡◌, ◌≤◌, ◌++◌, codes, decimal, length, ◌<◌, ◌^◌};
 ghost use Rattle.script_text.specs.Lines.{kind_word, error_word, stat_text, reply_text, outcome_text};
+ghost use Rattle.script_text.specs.Room.{HasRoom, UsesRoom, outcome_room};
 
-use crate::payload::put_data;
+use crate::payload::{put_data, room_of_data};
 use crate::put::{put, put_number};
 use call_types::errno::Errno;
 use call_types::outcome::{Kind, Outcome, Reply, Stat};
-use std::alloc::AllocError;
+
+/// Bytes of an outcome that tells no data, at most.
+pub(crate) const OUTCOME_ROOM: usize = 64;
 
 /// How a kind of file is written.
 fn kind_text(kind: Kind) -> &'static [u8]
-    ensures { result.now ≡ kind_word kind }
+    ensures text { result.now ≡ kind_word kind }
+    ensures short { length result.now ≤ 7 }
 {
     match kind {
         Kind::Regular => b"regular",
@@ -24,7 +26,8 @@ fn kind_text(kind: Kind) -> &'static [u8]
 
 /// How an error is written.
 fn error_text(errno: Errno) -> &'static [u8]
-    ensures { result.now ≡ error_word errno }
+    ensures text { result.now ≡ error_word errno }
+    ensures short { length result.now ≤ 12 }
 {
     match errno {
         Errno::EBADF => b"EBADF",
@@ -47,39 +50,44 @@ fn error_text(errno: Errno) -> &'static [u8]
 }
 
 /// `KIND SIZE LINKS`
-fn put_stat(out: &mut Vec<u8>, stat: Stat) -> Result<(), AllocError>
-    ensures { Appends result out.old.items out.new.items (stat_text stat) }
+fn put_stat(out: &mut Vec<u8>, stat: Stat)
+    requires { HasRoom out.old OUTCOME_ROOM }
+    ensures text { out.new.items ≡ out.old.items ++ (stat_text stat) }
+    ensures room { UsesRoom out.old out.new OUTCOME_ROOM }
 {
-    put(out, kind_text(stat.kind))?;
-    put(out, b" ")?;
-    put_number(out, stat.size)?;
-    put(out, b" ")?;
-    put_number(out, stat.links as u64)?;
-    Ok(())
+    put(out, kind_text(stat.kind));
+    put(out, b" ");
+    put_number(out, stat.size);
+    put(out, b" ");
+    put_number(out, stat.links as u64);
 }
 
 /// Two numbers.
-fn put_pair(out: &mut Vec<u8>, first: u32, second: u32) -> Result<(), AllocError>
-    ensures { Appends result out.old.items out.new.items (decimal first ++ codes " " ++ decimal second) }
+fn put_pair(out: &mut Vec<u8>, first: u32, second: u32)
+    requires { HasRoom out.old OUTCOME_ROOM }
+    ensures text { out.new.items ≡ out.old.items ++ (decimal first ++ codes " " ++ decimal second) }
+    ensures room { UsesRoom out.old out.new OUTCOME_ROOM }
 {
-    put_number(out, first as u64)?;
-    put(out, b" ")?;
-    put_number(out, second as u64)?;
-    Ok(())
+    put_number(out, first as u64);
+    put(out, b" ");
+    put_number(out, second as u64);
 }
 
 /// `error NAME`
-fn put_error(out: &mut Vec<u8>, errno: Errno) -> Result<(), AllocError>
-    ensures { Appends result out.old.items out.new.items (codes "error " ++ error_word errno) }
+fn put_error(out: &mut Vec<u8>, errno: Errno)
+    requires { HasRoom out.old OUTCOME_ROOM }
+    ensures text { out.new.items ≡ out.old.items ++ (codes "error " ++ error_word errno) }
+    ensures room { UsesRoom out.old out.new OUTCOME_ROOM }
 {
-    put(out, b"error ")?;
-    put(out, error_text(errno))?;
-    Ok(())
+    put(out, b"error ");
+    put(out, error_text(errno));
 }
 
 /// Appends a reply.
-fn put_reply(out: &mut Vec<u8>, reply: &Reply) -> Result<(), AllocError>
-    ensures { Appends result out.old.items out.new.items (reply_text reply.now) }
+fn put_reply(out: &mut Vec<u8>, reply: &Reply)
+    requires { HasRoom out.old (outcome_room (Outcome.Reply reply.now)) }
+    ensures text { out.new.items ≡ out.old.items ++ (reply_text reply.now) }
+    ensures room { UsesRoom out.old out.new (outcome_room (Outcome.Reply reply.now)) }
 {
     match reply {
         Reply::Done => put(out, b"ok"),
@@ -92,17 +100,32 @@ fn put_reply(out: &mut Vec<u8>, reply: &Reply) -> Result<(), AllocError>
 }
 
 /// A word and a count of bytes.
-fn put_moved(out: &mut Vec<u8>, word: &[u8], moved: u32) -> Result<(), AllocError>
-    ensures { Appends result out.old.items out.new.items (word.now ++ decimal moved) }
+fn put_moved(out: &mut Vec<u8>, word: &[u8], moved: u32)
+    requires short { length word.now ≤ 7 }
+    requires room { HasRoom out.old OUTCOME_ROOM }
+    ensures text { out.new.items ≡ out.old.items ++ (word.now ++ decimal moved) }
+    ensures room { UsesRoom out.old out.new OUTCOME_ROOM }
 {
-    put(out, word)?;
-    put_number(out, moved as u64)?;
-    Ok(())
+    put(out, word);
+    put_number(out, moved as u64);
+}
+
+/// Room in which an outcome can be written.
+pub(crate) fn room_of_outcome(outcome: &Outcome) -> usize
+    ensures enough { outcome_room outcome.now ≤ result }
+    ensures small { result < 2 ^ 32 }
+{
+    match outcome {
+        Outcome::Reply(Reply::Data(bytes)) => room_of_data(bytes.part()),
+        _ => OUTCOME_ROOM,
+    }
 }
 
 /// Appends an outcome.
-pub(crate) fn put_outcome(out: &mut Vec<u8>, outcome: &Outcome) -> Result<(), AllocError>
-    ensures { Appends result out.old.items out.new.items (outcome_text outcome.now) }
+pub(crate) fn put_outcome(out: &mut Vec<u8>, outcome: &Outcome)
+    requires { HasRoom out.old (outcome_room outcome.now) }
+    ensures text { out.new.items ≡ out.old.items ++ (outcome_text outcome.now) }
+    ensures room { UsesRoom out.old out.new (outcome_room outcome.now) }
 {
     match outcome {
         Outcome::Reply(reply) => put_reply(out, reply),

@@ -1,14 +1,13 @@
 //! Data to write, read from a word and written as one.
-#![tactic(auto, using(crate::proofs::Fronts::keeps_after))]
 
-ghost use Rattle.std.specs.Prelude.{◌≡◌, ◌≤◌, ◌+◌, ◌++◌, ◌==◌, codes, decimal, length, IfOk, IfSome, replicate};
+ghost use Rattle.std.specs.Prelude.{◌≡◌, ◌≤◌, ◌+◌, ◌*◌, ◌++◌, ◌==◌, codes, decimal, length, IfOk, IfSome, replicate, ◌<◌, ◌^◌};
 ghost use Rattle.std.specs.Option.{option_map};
 ghost use Rattle.std.specs.List.{flat_map, list_all};
 ghost use Rattle.call_types.specs.declared.limits.TheConstants.{GIVEN_BYTES_MAX};
 ghost use Rattle.call_types.specs.Stored.{part_bytes};
 ghost use Rattle.script_text.specs.Lines.{hex_pair, one_byte, data_word};
-ghost use Rattle.call_types.specs.Writing.{Appends};
 ghost use Rattle.script_text.specs.ReadingData.{first_paired, hex_bytes, hex_data, repeated_data, data_of};
+ghost use Rattle.script_text.specs.Room.{HasRoom, UsesRoom, data_room};
 
 use crate::hexadecimal::{byte_value, put_hex};
 use crate::number::number_value;
@@ -22,6 +21,12 @@ use std::alloc::{AllocError, Global};
 
 /// Data of so many bytes at most is written out, even where all of them are the same.
 const WRITTEN_OUT_MAX: usize = 16;
+
+/// Bytes of data that is written as a byte and a count, at most.
+const REPEATED_ROOM: usize = 23;
+
+/// Room for the word of data, whichever it is, without the digits of what stands in memory.
+const FEW_DATA_ROOM: usize = 64;
 
 /// The byte of the first pair of digits, and what is left after it.
 fn first_pair(digits: &[u8]) -> Option<(u8, &[u8])>
@@ -85,37 +90,53 @@ pub(crate) fn data_value(alloc: Global, word: &[u8]) -> Result<Option<Payload>, 
     }
 }
 
+/// Appends so many zeros.
+fn put_zeros(out: &mut Vec<u8>, count: usize)
+    requires { HasRoom out.old count }
+    ensures text { out.new.items ≡ out.old.items ++ replicate count 0 }
+    ensures room { UsesRoom out.old out.new count }
+{
+    match out.resize(out.len() + count, 0) {
+        Ok(()) => {}
+        Err(_) => unreachable!(),
+    }
+}
+
 /// Appends the digits of bytes.
-fn put_hex_bytes(out: &mut Vec<u8>, bytes: &[u8]) -> Result<(), AllocError>
+fn put_hex_bytes(out: &mut Vec<u8>, bytes: &[u8])
     requires few { length bytes.now ≤ GIVEN_BYTES_MAX }
-    ensures { Appends result out.old.items out.new.items (flat_map hex_pair bytes.now) }
+    requires room { HasRoom out.old (2 * length bytes.now) }
+    ensures text { out.new.items ≡ out.old.items ++ flat_map hex_pair bytes.now }
+    ensures room { UsesRoom out.old out.new (2 * length bytes.now) }
 {
     let start = out.len();
-    out.resize(start + 2 * bytes.len(), 0)?;
+    put_zeros(out, 2 * bytes.len());
     match encode_to_slice(bytes, &mut out[start..]) {
-        Ok(()) => Ok(()),
+        Ok(()) => {}
         Err(_) => unreachable!(),
     }
 }
 
 /// Appends an `x` and the digits of bytes.
-fn put_digits(out: &mut Vec<u8>, bytes: &[u8]) -> Result<(), AllocError>
+fn put_digits(out: &mut Vec<u8>, bytes: &[u8])
     requires few { length bytes.now ≤ GIVEN_BYTES_MAX }
-    ensures { Appends result out.old.items out.new.items (codes "x" ++ flat_map hex_pair bytes.now) }
+    requires room { HasRoom out.old (2 * length bytes.now + 1) }
+    ensures text { out.new.items ≡ out.old.items ++ (codes "x" ++ flat_map hex_pair bytes.now) }
+    ensures room { UsesRoom out.old out.new (2 * length bytes.now + 1) }
 {
-    put(out, b"x")?;
-    put_hex_bytes(out, bytes)?;
-    Ok(())
+    out.push_reserved(b'x');
+    put_hex_bytes(out, bytes);
 }
 
 /// Appends a byte, a `*` and a count.
-fn put_repeated(out: &mut Vec<u8>, byte: u8, count: u64) -> Result<(), AllocError>
-    ensures { Appends result out.old.items out.new.items (hex_pair byte ++ codes "*" ++ decimal count) }
+fn put_repeated(out: &mut Vec<u8>, byte: u8, count: u64)
+    requires { HasRoom out.old REPEATED_ROOM }
+    ensures text { out.new.items ≡ out.old.items ++ (hex_pair byte ++ codes "*" ++ decimal count) }
+    ensures room { UsesRoom out.old out.new REPEATED_ROOM }
 {
-    put_hex(out, byte)?;
-    put(out, b"*")?;
-    put_number(out, count)?;
-    Ok(())
+    put_hex(out, byte);
+    put(out, b"*");
+    put_number(out, count);
 }
 
 /// Whether each of the bytes is `byte`.
@@ -136,9 +157,11 @@ fn repeated_byte(bytes: &[u8]) -> Option<u8>
 }
 
 /// Appends data that stands in memory.
-fn put_slice(out: &mut Vec<u8>, bytes: &[u8]) -> Result<(), AllocError>
+fn put_slice(out: &mut Vec<u8>, bytes: &[u8])
     requires few { length bytes.now ≤ GIVEN_BYTES_MAX }
-    ensures { Appends result out.old.items out.new.items (data_word bytes.now) }
+    requires room { HasRoom out.old (data_room bytes.now) }
+    ensures text { out.new.items ≡ out.old.items ++ data_word bytes.now }
+    ensures room { UsesRoom out.old out.new (data_room bytes.now) }
 {
     match repeated_byte(bytes) {
         None => put_digits(out, bytes),
@@ -146,42 +169,51 @@ fn put_slice(out: &mut Vec<u8>, bytes: &[u8]) -> Result<(), AllocError>
     }
 }
 
-/// Appends the digits of a byte, so many times.
-fn put_pairs(out: &mut Vec<u8>, byte: u8, count: usize) -> Result<(), AllocError>
-    ensures { Appends result out.old.items out.new.items (flat_map hex_pair (replicate count byte)) }
-{
-    for _written in 0..count {
-        put_hex(out, byte)?;
-    }
-    Ok(())
-}
-
 /// Appends an `x` and the digits of a byte, so many times.
-fn put_few(out: &mut Vec<u8>, byte: u8, count: usize) -> Result<(), AllocError>
-    ensures { Appends result out.old.items out.new.items (codes "x" ++ flat_map hex_pair (replicate count byte)) }
+fn put_few(out: &mut Vec<u8>, byte: u8, count: usize)
+    requires few { count ≤ WRITTEN_OUT_MAX }
+    requires room { HasRoom out.old (2 * count + 1) }
+    ensures text { out.new.items ≡ out.old.items ++ (codes "x" ++ flat_map hex_pair (replicate count byte)) }
+    ensures room { UsesRoom out.old out.new (2 * count + 1) }
 {
-    put(out, b"x")?;
-    put_pairs(out, byte, count)?;
-    Ok(())
+    let bytes = [byte; WRITTEN_OUT_MAX];
+    put_digits(out, &bytes[..count]);
 }
 
 /// Appends data of one byte, which stands so many times.
-fn put_same(out: &mut Vec<u8>, byte: u8, count: usize) -> Result<(), AllocError>
-    ensures { Appends result out.old.items out.new.items (data_word (replicate count byte)) }
+fn put_same(out: &mut Vec<u8>, byte: u8, count: usize)
+    requires { HasRoom out.old (data_room (replicate count byte)) }
+    ensures text { out.new.items ≡ out.old.items ++ data_word (replicate count byte) }
+    ensures room { UsesRoom out.old out.new (data_room (replicate count byte)) }
 {
     if count > WRITTEN_OUT_MAX {
-        return put_repeated(out, byte, count as u64);
+        put_repeated(out, byte, count as u64);
+        return;
     }
-    put_few(out, byte, count)
+    put_few(out, byte, count);
 }
 
 /// Appends data.
-pub(crate) fn put_data(out: &mut Vec<u8>, part: Part<'_>) -> Result<(), AllocError>
+pub(crate) fn put_data(out: &mut Vec<u8>, part: Part<'_>)
     requires few { length (part_bytes part) ≤ GIVEN_BYTES_MAX }
-    ensures { Appends result out.old.items out.new.items (data_word (part_bytes part.entry)) }
+    requires room { HasRoom out.old (data_room (part_bytes part)) }
+    ensures text { out.new.items ≡ out.old.items ++ data_word (part_bytes part.entry) }
+    ensures room { UsesRoom out.old out.new (data_room (part_bytes part.entry)) }
 {
     match part {
         Part::Slice(bytes) => put_slice(out, bytes),
         Part::Same { byte, count } => put_same(out, byte, count),
+    }
+}
+
+/// Room in which data can be written.
+pub(crate) fn room_of_data(part: Part<'_>) -> usize
+    requires { length (part_bytes part) ≤ GIVEN_BYTES_MAX }
+    ensures enough { data_room (part_bytes part.entry) ≤ result }
+    ensures small { result < 2 ^ 24 }
+{
+    match part {
+        Part::Slice(bytes) => 2 * bytes.len() + FEW_DATA_ROOM,
+        Part::Same { .. } => FEW_DATA_ROOM,
     }
 }

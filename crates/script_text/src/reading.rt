@@ -31,8 +31,11 @@ fn process_act(alloc: Global, process: u32, word: Next<'_>) -> Result<ScriptAct,
         line_end(word.after)?;
         return Ok(ScriptAct::Exit { process });
     }
-    let call = call(alloc, word)?;
-    Ok(ScriptAct::Call { process, call })
+    // A match, since `?` would move the call once more.
+    match call(alloc, word) {
+        Ok(call) => Ok(ScriptAct::Call { process, call }),
+        Err(fault) => Err(fault),
+    }
 }
 
 /// The act that has no process in front, by its word.

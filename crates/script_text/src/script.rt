@@ -77,7 +77,11 @@ impl<'a> Script<'a> {
             self.number += 1;
             self.left = after;
             if !line.is_empty() {
-                return Ok(Some(line_act(alloc, self.number, line)?));
+                // A match, since `?` would move the act once more.
+                match line_act(alloc, self.number, line) {
+                    Ok(act) => return Ok(Some(act)),
+                    Err(fault) => return Err(fault),
+                }
             }
         }
         Ok(None)

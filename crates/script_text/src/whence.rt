@@ -1,6 +1,6 @@
 //! The base of an offset, read from a word and written as one.
 
-ghost use Rattle.std.specs.Prelude.{◌≡◌};
+ghost use Rattle.std.specs.Prelude.{◌≡◌, ◌≤◌, length};
 ghost use Rattle.script_text.specs.Lines.{whence_word};
 ghost use Rattle.script_text.specs.ReadingCalls.{whence_of};
 
@@ -20,7 +20,8 @@ pub(crate) fn whence_value(word: &[u8]) -> Option<Whence>
 
 /// How it is written.
 pub(crate) fn whence_text(whence: Whence) -> &'static [u8]
-    ensures { result.now ≡ whence_word whence }
+    ensures text { result.now ≡ whence_word whence }
+    ensures short { length result.now ≤ 3 }
 {
     match whence {
         Whence::Set => b"set",

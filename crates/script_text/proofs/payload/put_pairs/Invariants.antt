@@ -1,7 +1,0 @@
-use Rattle.std.proofs.Common.{◌≡◌, ◌++◌, replicate}
-use Rattle.std.specs.List.{flat_map}
-use Rattle.script_text.specs.Lines.{hex_pair}
-use Rattle.script_text.proofs.payload.put_pairs.Given as goal
-
-abbrev pub invariant-loop-written : goal.invariant-loop-written
-invariant-loop-written l = l.out.items ≡ l.fn.out.items ++ flat_map hex_pair (replicate l._written l.byte)
