@@ -1,5 +1,5 @@
 -- A book with one more record counts it.
-use Rattle.std.proofs.Common.{◌≡◌, ◌∙◌, ℕ, ◌+◌, ◌≤◌, ◌*◌, ◌||◌, Bool, true, false, cond, List, [], ◌∷◌, ◌++◌, Option, None, Some, length, refl, ap, sym, arith, length-append}
+use Rattle.std.proofs.Common.{◌≡◌, ◌∙◌, ℕ, ◌+◌, ◌≤◌, ◌||◌, Bool, true, false, cond, List, [], ◌∷◌, ◌++◌, Option, None, Some, length, refl, ap, sym, arith, length-append}
 use Rattle.std.specs.Prelude.{is_some}
 use Rattle.std.specs.Option.{option_map, option_map_or}
 use Rattle.call_types.specs.declared.limits.Bounds.{Bounds}

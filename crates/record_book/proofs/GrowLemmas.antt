@@ -5,14 +5,12 @@ use Rattle.std.proofs.lemmas.Bool.{leb-true}
 use Rattle.call_types.specs.declared.act.TheConstants.{HOUSE}
 use Rattle.call_types.specs.declared.act.Act.TheVariants as act
 use Rattle.call_types.specs.declared.act.Record.{Record}
-use Rattle.call_types.specs.declared.limits.TheConstants.{GIVEN_BYTES_MAX}
 use Rattle.posix_model.specs.Step.{given, stepped}
 use Rattle.posix_model.specs.Exit.{exit, close_run}
 use Rattle.posix_model.specs.Change.{changed}
 use Rattle.posix_model.specs.Sweep.{sweep}
 use Rattle.posix_model.specs.Sound.{adds}
 use Rattle.posix_model.specs.Laws.{Counts}
-use Rattle.posix_model.specs.Turns.{took, gave}
 use Rattle.posix_model.specs.declared.change.Decided.{Decided}
 use Rattle.posix_model.specs.declared.world.World.{World}
 use Rattle.record_book.specs.Book.{world_now, world_after, exits_left}
@@ -23,7 +21,7 @@ use Rattle.record_book.specs.House.{closing_of, HasRoom, SameHouse}
 use Rattle.record_book.specs.Planned.{IsPlanned}
 use Rattle.record_book.specs.Inside.{records_in, state_of, prepared_closing, IsJournal}
 use Rattle.record_book.specs.declared.journal.Journal.TheInside.{Inside}
-use Rattle.record_book.proofs.HistoryLemmas.{world_from-push, legal_from-push, bytes_in-push, bytes_out-push}
+use Rattle.record_book.proofs.HistoryLemmas.{world_from-push, legal_from-push}
 
 -- a journal with one more record of a planned act
 pub record IsGrown (b b' : Inside) (r : Record) (d : Decided) : Type 0 where

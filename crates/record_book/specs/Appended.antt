@@ -1,5 +1,5 @@
 -- What is told of a record that a journal appended, beside the record (own).
-use Rattle.std.specs.Prelude.{◌≡◌, ℕ, ◌≤◌}
+use Rattle.std.specs.Prelude.{◌≡◌, ◌≤◌}
 use Rattle.call_types.specs.declared.limits.TheConstants.{GIVEN_BYTES_MAX}
 use Rattle.posix_model.specs.Turns.{took, gave}
 use Rattle.record_book.specs.Book.{BookState, world_now}

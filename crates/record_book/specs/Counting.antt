@@ -7,7 +7,6 @@ use Rattle.call_types.specs.declared.act.Record.{Record}
 use Rattle.call_types.specs.declared.limits.TheConstants.{GIVEN_BYTES_MAX}
 use Rattle.posix_model.specs.Turns.{bytes_in, bytes_out}
 use Rattle.byte_ledger.specs.Counted.{Counted, TalliesState}
-use Rattle.record_book.specs.Seat.{Receipted}
 use Rattle.record_book.specs.Book.{BookState, world_now}
 
 -- how many seats an act opens: a join and an attach open one, whatever their outcome

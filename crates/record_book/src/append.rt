@@ -1,18 +1,45 @@
 ghost use Rattle.std.specs.Prelude.{◌≡◌, false, IfOk, OnErr};
+ghost use Rattle.std.specs.Arc.{arc_value};
 ghost use Rattle.posix_model.specs.Sound.{ended, closes};
 ghost use Rattle.record_book.specs.Book.{Appends};
 ghost use Rattle.record_book.specs.Planned.{IsPlanned};
 
 use crate::exits::{keep_exit, prepare_exit};
 use crate::journal::Journal;
-use crate::moved::{gave, took};
+use crate::moved::bytes_moved;
 use crate::seat::Receipt;
 use call_types::act::{Act, Record};
 use posix_model::change::Decided;
 use posix_model::reader::Reader;
 use std::alloc::{AllocError, Global};
 use std::sync::Arc;
-use table_calls::given::{data_of, given};
+use table_calls::given::given;
+
+/// A record that is shared: for the history, and for its receipt, twice.
+#[derive(Drop)]
+struct Shared {
+    item: Arc<Record>,
+    receipt: Receipt,
+    shared: Receipt,
+}
+
+/// Shares a record that will stand at this place. An error says that memory ran out.
+#[inline(always)]
+fn shared_at(alloc: Global, place: u64, entry: Record) -> Result<Shared, AllocError>
+    ensures item { IfOk result (λ s. arc_value s.item ≡ entry) }
+    ensures place { IfOk result (λ s. s.receipt.place ≡ place) }
+    ensures receipt { IfOk result (λ s. s.receipt.record_is ≡ entry) }
+    ensures shared { IfOk result (λ s. s.shared ≡ s.receipt) }
+{
+    let item = Arc::new(alloc, entry)?;
+    let receipt = Receipt::new(place, item.clone()?);
+    let shared = receipt.share()?;
+    Ok(Shared {
+        item,
+        receipt,
+        shared,
+    })
+}
 
 /// A record that was appended: its receipt, twice, and the bytes that it took and gave.
 #[derive(Drop)]
@@ -43,19 +70,14 @@ impl Journal {
         ensures moved { IfOk result (λ appended. TellsMoved self.old appended) }
         ensures err { OnErr result (self.new ≡ self.old) }
     {
-        let Decided { outcome, change } = decided;
         let place = self.history.len() as u64;
-        self.machine.reserve_for(&change)?;
-        let item = Arc::new(
-            alloc,
-            Record {
-                actor,
-                act,
-                outcome,
-            },
-        )?;
-        let receipt = Receipt::new(place, item.clone()?);
-        let shared = receipt.share()?;
+        self.machine.reserve_for(&decided.change)?;
+        let entry = Record {
+            actor,
+            act,
+            outcome: decided.outcome,
+        };
+        let made = shared_at(alloc, place, entry)?;
         let number = self.machine.next_process();
         let live = self.machine.live_processes();
         let prepared = prepare_exit(
@@ -64,21 +86,17 @@ impl Journal {
             &mut self.house,
             number,
             live,
-            &change.process,
+            &decided.change.process,
         )?;
-        let bytes = given(&item.act);
-        // At most so many bytes are taken.
-        let _data = data_of(&self.machine, actor as usize, &item.act);
-        let taken = took(&self.machine, &item);
-        let given = gave(&item);
-        self.machine.apply(bytes, change);
-        self.history.push_reserved(item);
+        let moved = bytes_moved(&self.machine, &made.item);
+        self.machine.apply(given(&made.item.act), decided.change);
+        self.history.push_reserved(made.item);
         keep_exit(&mut self.exits, prepared);
         Ok(Appended {
-            receipt,
-            shared,
-            taken,
-            given,
+            receipt: made.receipt,
+            shared: made.shared,
+            taken: moved.taken,
+            given: moved.given,
         })
     }
 }

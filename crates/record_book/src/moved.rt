@@ -1,10 +1,12 @@
-ghost use Rattle.std.specs.Prelude.{◌≡◌, ◌≤◌};
+ghost use Rattle.std.specs.Prelude.{◌≡◌, ◌≤◌, [], length, unwrap_or};
+ghost use Rattle.call_types.specs.CallTable.{payload_of};
+ghost use Rattle.posix_model.specs.Sound.{data_of};
 ghost use Rattle.posix_model.specs.Turns.{total, took_in, new_turn, next_turn, took, gave};
 ghost use Rattle.posix_model.specs.declared.world.World.{World};
 
 use call_types::act::{Act, Record};
 use call_types::call::Call;
-use call_types::limits::TRANSFER_MAX;
+use call_types::limits::{GIVEN_BYTES_MAX, TRANSFER_MAX};
 use call_types::outcome::{Outcome, Reply};
 use machine_state::machine::Machine;
 use posix_model::reader::Reader;
@@ -43,6 +45,32 @@ fn took_since(now: u64, parked: &Parked) -> u64
     }
 }
 
+/// The data of a call is short. It does nothing.
+#[inline(always)]
+fn payload_is_short(call: &Call)
+    ensures { length (unwrap_or (payload_of call.now) []) ≤ GIVEN_BYTES_MAX }
+{
+    if let Some(bytes) = call.payload() {
+        let _len = bytes.len();
+    }
+}
+
+/// The data that a record's act takes bytes from is short. It does nothing.
+#[inline(always)]
+fn data_is_short(machine: &Machine, item: &Record)
+    ensures { length (data_of machine.now.world item.now.actor item.now.act) ≤ GIVEN_BYTES_MAX }
+{
+    match &item.act {
+        Act::Call(call) => payload_is_short(call),
+        Act::Resume => {
+            if let Some(parked) = machine.parked(item.actor as usize) {
+                payload_is_short(parked.call.get());
+            }
+        }
+        Act::Join | Act::Attach | Act::Exit | Act::CloseRun => {}
+    }
+}
+
 /// The bytes that a record took from its process; the machine is as it was before the record.
 #[inline(always)]
 pub(crate) fn took(machine: &Machine, item: &Record) -> u64
@@ -68,5 +96,28 @@ pub(crate) fn gave(item: &Record) -> u64
     match &item.outcome {
         Outcome::Reply(Reply::Data(content)) => content.len() as u64,
         _ => 0,
+    }
+}
+
+/// How many bytes a record took from its process and gave to it.
+#[derive(Clone, Copy)]
+pub(crate) struct BytesMoved {
+    pub(crate) taken: u64,
+    pub(crate) given: u64,
+}
+
+/// The bytes that a record took and gave; the machine is as it was before the record.
+#[inline(always)]
+pub(crate) fn bytes_moved(machine: &Machine, item: &Record) -> BytesMoved
+    requires { took machine.now.world item.now ≤ length (data_of machine.now.world item.now.actor item.now.act) }
+    ensures taken { result.taken ≡ took machine.now.world item.now }
+    ensures given { (w : World) → result.given ≡ gave w item.now }
+    ensures few_taken { result.taken ≤ GIVEN_BYTES_MAX }
+    ensures few_given { result.given ≤ GIVEN_BYTES_MAX }
+{
+    data_is_short(machine, item);
+    BytesMoved {
+        taken: took(machine, item),
+        given: gave(item),
     }
 }

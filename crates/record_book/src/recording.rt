@@ -36,7 +36,11 @@ impl<L: Ledgers> Book<L> {
         processes_are_counted();
         self.journal.is_run();
         seat.receipts.reserve(2)?;
-        let appended = self.journal.append(alloc, seat.pid, act, decided)?;
+        // A match, since `?` would move the record's receipts once more.
+        let appended = match self.journal.append(alloc, seat.pid, act, decided) {
+            Ok(appended) => appended,
+            Err(error) => return Err(error),
+        };
         let (taken, given) = (appended.taken, appended.given);
         self.tallies.count(&mut seat.shares, taken, given);
         seat.seen = appended.receipt.place() + 1;

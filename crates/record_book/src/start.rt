@@ -24,7 +24,11 @@ impl<L: Ledgers> Book<L> {
         ensures unchanged { OnErr result ((self.new ≡ self.old) × (seat.new ≡ seat.old)) }
     {
         let actor = seat.pid();
-        let decided = self.journal.call_comes_to(alloc, actor, &call)?;
+        // A match, since `?` would move what was decided once more.
+        let decided = match self.journal.call_comes_to(alloc, actor, &call) {
+            Ok(decided) => decided,
+            Err(error) => return Err(error),
+        };
         let act = Act::Call(call);
         self.journal.is_planned(actor, &act, &decided);
         self.append(alloc, seat, act, decided)

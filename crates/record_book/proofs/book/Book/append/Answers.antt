@@ -4,9 +4,9 @@ use Rattle.record_book.proofs.book.Book.append.Goals as goal
 
 pub invariant_of-self-2 : goal.invariant_of-self-2
 invariant_of-self-2 g c =
-    let moved = c.in_ok-appended.ensures.moved in
+    let moved = c.in-Ok.ensures.moved in
     let none = c.requires.opens in
     let same : c.count.new.self.opened ≡ c.self.inside.tallies.opened = ap (λ t. t.opened) c.count.ensures.tallies in
-    counts_appended c.processes_are_counted.ensures.planned c.self.inside.journal c.append.new.self c.self.inside.tallies c.count.new.self c.self.inside.house _ c.args.act c.in_ok-appended.appended.receipt
-    c.in_ok-appended.appended.taken c.in_ok-appended.appended.given c.self.invariant c.in_ok-appended.ensures.appends c.requires.closes (omega (arith, none)) moved.taken moved.given moved.few_taken moved.few_given
+    counts_appended c.processes_are_counted.ensures.planned c.self.inside.journal c.append.new.self c.self.inside.tallies c.count.new.self c.self.inside.house _ c.args.act c.in-Ok.appended.receipt
+    c.in-Ok.appended.taken c.in-Ok.appended.given c.self.invariant c.in-Ok.ensures.appends c.requires.closes (omega (arith, none)) moved.taken moved.given moved.few_taken moved.few_given
     (ap (λ t. t.counted) c.count.ensures.tallies) (omega (arith, same, none))

@@ -1,14 +1,13 @@
-use Rattle.std.proofs.Common.{rules, ◌≡◌, ◌≤◌, ◌+◌, ◌∙◌, cond, None, Some, refl, sym, ap, subst, arith, length}
+use Rattle.std.proofs.Common.{◌≡◌, ◌+◌, ◌∙◌, cond, None, Some, refl, sym, ap, subst, arith, length}
 use Rattle.std.specs.Arc.{arc_value}
 use Rattle.std.proofs.lemmas.List.{map-append}
 use Rattle.call_types.specs.declared.act.Record.{Record}
-use Rattle.call_types.specs.declared.limits.TheConstants.{GIVEN_BYTES_MAX, TRANSFER_MAX}
 use Rattle.call_types.specs.Stored.{part_bytes}
 use Rattle.slots.specs.Slots.{live}
 use Rattle.posix_model.specs.Whole.{EachThere, IsItsFifo}
 use Rattle.posix_model.specs.declared.world.World.{World}
 use Rattle.posix_model.specs.Step.{given, stepped}
-use Rattle.posix_model.specs.Sound.{data_of, ended_by, adds, ended, closes}
+use Rattle.posix_model.specs.Sound.{ended_by, adds, ended, closes}
 use Rattle.posix_model.specs.Turns.{took, gave}
 use Rattle.record_book.specs.Book.{world_now}
 use Rattle.record_book.specs.Inside.{state_of, prepared_closing}
@@ -23,14 +22,21 @@ apply-requires-clause-ends c =
     let P : World → Type 0 = λ w. EachThere (λ d. IsItsFifo w.files d.target) w.descriptions in
     subst P (sym (c.in_ok-reserve_for.ensures.world ∙ c.self.invariant.world)) planned.whole.ends
 
+pub bytes_moved-moved-requires : goal.bytes_moved-moved-requires
+bytes_moved-moved-requires c =
+    let b = c.self.inside in
+    let planned = rw (← c.self.view_is) at c.requires.planned in
+    let w_is : b.machine.world ≡ world_now (state_of b) = c.self.invariant.world in
+    rw (c.deref.ensures, c.in_ok-made.ensures.item, c.in_ok-reserve_for.ensures.world, w_is) planned.few
+
 pub invariant_of-self-2 : goal.invariant_of-self-2
 invariant_of-self-2 c =
     let b = c.self.inside in
     let w = world_now (state_of b) in
     let planned = rw (← c.self.view_is) at c.requires.planned in
     let r : Record = record { actor = c.args.actor; act = c.args.act; outcome = c.args.decided.outcome } in
-    let item_is : arc_value c.in_ok-item.item ≡ r = c.in_ok-item.ensures.ok in
-    let given_is : part_bytes c.given-bytes.result ≡ given c.args.act = rw (c.given-bytes.ensures.bytes, c.deref.ensures, item_is) refl in
+    let item_is : arc_value c.in_ok-made.made.item ≡ r = c.in_ok-made.ensures.item in
+    let given_is : part_bytes c.given.result ≡ given c.args.act = rw (c.given.ensures.bytes, c.deref-2.ensures, item_is) refl in
     let w_is : b.machine.world ≡ w = c.self.invariant.world in
     let next = (stepped w (given r.act) c.args.decided).world in
     let none : ended_by c.args.decided.change.process ≡ 0 = planned.told.ended ∙ c.requires.ends in
@@ -71,21 +77,16 @@ pub returns-clause-moved : goal.returns-clause-moved
 returns-clause-moved c =
     let b = c.self.inside in
     let w = world_now (state_of b) in
-    let planned = rw (← c.self.view_is) at c.requires.planned in
     let r : Record = record { actor = c.args.actor; act = c.args.act; outcome = c.args.decided.outcome } in
-    let item_is : arc_value c.in_ok-item.item ≡ r = c.in_ok-item.ensures.ok in
-    let cloned : arc_value c.in_ok-clone.field-0 ≡ arc_value c.in_ok-item.item = search rules in
-    let told_is : c.new-receipt.result.record_is ≡ r = c.new-receipt.ensures.item ∙ cloned ∙ item_is in
+    let item_is : arc_value c.in_ok-made.made.item ≡ r = c.in_ok-made.ensures.item in
+    let told_is : c.in_ok-made.made.receipt.record_is ≡ r = c.in_ok-made.ensures.receipt in
     let w_is : b.machine.world ≡ w = c.self.invariant.world in
-    let took_is : c.took-taken.result ≡ took w r = rw (c.took-taken.ensures, c.deref-3.ensures, item_is, c.in_ok-reserve_for.ensures.world, w_is) refl in
-    let gave_is : c.gave-given.result ≡ gave w r = rw (c.gave-given.ensures.bytes w, c.deref-4.ensures, item_is) refl in
-    let data_is : part_bytes c.data_of-data.result ≡ data_of w c.args.actor c.args.act = rw (c.data_of-data.ensures.bytes, c.deref-2.ensures, item_is, c.in_ok-reserve_for.ensures.world, w_is) refl in
-    let short : length (data_of w c.args.actor c.args.act) ≤ GIVEN_BYTES_MAX = rw (← data_is) c.data_of-data.ensures.few in
-    let few : c.gave-given.result ≤ TRANSFER_MAX = c.gave-given.ensures.few in
+    let took_is : c.bytes_moved-moved.result.taken ≡ took w r = rw (c.bytes_moved-moved.ensures.taken, c.deref.ensures, item_is, c.in_ok-reserve_for.ensures.world, w_is) refl in
+    let gave_is : c.bytes_moved-moved.result.given ≡ gave w r = rw (c.bytes_moved-moved.ensures.given w, c.deref.ensures, item_is) refl in
     rw (← c.self.view_is) (record {
-      shared = c.in_ok-shared.ensures;
+      shared = c.in_ok-made.ensures.shared;
       taken = rw told_is took_is;
       given = rw told_is gave_is;
-      few_taken = omega (arith, took_is, planned.few, short);
-      few_given = omega (arith, few);
+      few_taken = c.bytes_moved-moved.ensures.few_taken;
+      few_given = c.bytes_moved-moved.ensures.few_given;
     })
