@@ -15,6 +15,8 @@ use Rattle.byte_ledger.specs.declared.tallies.GatherFault.TheVariants as gathere
 use Rattle.run_core.specs.declared.closing.CloseFault.{CloseFault}
 use Rattle.run_core.specs.declared.closing.CloseFault.TheVariants as fault
 use Rattle.session_core.specs.Served.{SessionState, Serves}
+use Rattle.run_core.specs.declared.report.RunFault.{RunFault}
+use Rattle.run_core.specs.declared.report.RunFault.TheVariants as run_fault
 use Rattle.run_core.specs.declared.report.Shortage.{Shortage}
 use Rattle.run_core.specs.declared.report.Shortage.TheVariants as shortage
 
@@ -59,6 +61,15 @@ pub record IsGathered (b : BookState) (shares : List Counted) (records taken giv
 abbrev pub AreAll : List Record → List Held → Type 0
 AreAll h held = (p : ℕ) → IsSound h held p
 
+-- the same of these holders and of the house
+pub record AreAllWithHouse (h : List Record) (held : List Held) : Type 0 where
+  pub house : List Receipted
+  pub all : AreAll h (held ++ record { pid = HOUSE; receipts = house } ∷ [])
+
+-- this is the least place that is not sound
+abbrev pub IsLeast : List Record → List Held → ℕ → Type 0
+IsLeast h held place = (IsSound h held place → ⊥) × ((p : ℕ) → p < place → IsSound h held p)
+
 -- the sums of a legal run that is closed, gathered from all shares, of which each record stands in one receipt of these holders or of
 -- the house
 pub record IsRunOf (records taken given : ℕ) (held : List Held) : Type 0 where
@@ -73,8 +84,13 @@ abbrev pub close_fault_of : GatherFault → CloseFault
 close_fault_of gathered.NoMemory = fault.NoMemory
 close_fault_of (gathered.Missing missing) = fault.Missing missing
 
+-- what it is for a run of sessions
+abbrev pub run_fault_of : GatherFault → RunFault
+run_fault_of gathered.NoMemory = run_fault.NoMemory
+run_fault_of (gathered.Missing missing) = run_fault.Missing
+
 -- why a run comes to no totals: seats are missing, or none is and this is the least place at which records and receipts differ
 abbrev pub ClosesFor : BookState → List SeatState → CloseFault → Type 0
 ClosesFor b seats fault.NoMemory = Unit {0}
 ClosesFor b seats (fault.Missing m) = (m.held ≡ length seats) × (m.opened ≡ seats_given b) × (m.held < m.opened)
-ClosesFor b seats (fault.Disagree place) = (length seats ≡ seats_given b) × (IsSound b.history (map held_in seats) place → ⊥) × ((p : ℕ) → p < place → IsSound b.history (map held_in seats) p)
+ClosesFor b seats (fault.Disagree place) = (length seats ≡ seats_given b) × IsLeast b.history (map held_in seats) place

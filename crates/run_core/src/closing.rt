@@ -1,11 +1,11 @@
 //! The closing of a run whose sessions have ended: their receipts are compared with its records, and what they counted is gathered.
 
-ghost use Rattle.std.specs.Prelude.{◌≡◌, ◌+◌, ◌≤◌, ℕ, map, true, length, vec_len, vec_capacity, OnOk, IfOk, IfErr};
+ghost use Rattle.std.specs.Prelude.{◌≡◌, ◌+◌, ◌≤◌, ℕ, map, true, None, Some, length, vec_len, vec_capacity, OnOk, IfOk, IfErr};
 ghost use Rattle.std.specs.Arc.{arc_value};
 ghost use Rattle.posix_model.specs.History.{legal};
 ghost use Rattle.posix_model.specs.Turns.{bytes_in, bytes_out};
 ghost use Rattle.record_book.specs.Book.{world_now};
-ghost use Rattle.run_core.specs.Run.{AreAll, IsClosedRun, IsGathered, IsRunOf, ClosesFor, held_in};
+ghost use Rattle.run_core.specs.Run.{AreAll, AreAllWithHouse, IsClosedRun, IsGathered, IsLeast, IsRunOf, ClosesFor, held_in};
 
 use crate::comparison::{HasReceipts, compare};
 use crate::report::RunFault;
@@ -104,6 +104,45 @@ fn part<L: Ledgers>(alloc: Global, seats: Vec<SpentSeat<L>>) -> Result<Parted<L>
     Ok(Parted { receipts, shares })
 }
 
+/// Compares the receipts of seats with the records of their book: the least place that is not sound, if there is one.
+fn compare_seats<L: Ledgers>(
+    alloc: Global,
+    book: &Book<L>,
+    seats: &[SpentSeat<L>],
+) -> Result<Option<u64>, AllocError>
+    ensures all { IfOk result (λ least. least ≡ None → AreAll book.now.history (map held_in seats.now)) }
+    ensures least { IfOk result (λ least. (place : ℕ) → least ≡ Some place → IsLeast book.now.history (map held_in seats.now) place) }
+{
+    let others: Vec<SpentSeat<L>> = Vec::new(alloc);
+    let least = compare(alloc, book, seats, others.as_slice())?;
+    Ok(least)
+}
+
+/// Seats that were compared with the records of their book, and parted.
+#[derive(Drop)]
+struct Checked<L: Ledgers> {
+    /// The least place that is not sound, if there is one.
+    least: Option<u64>,
+    parted: Parted<L>,
+}
+
+/// Compares the receipts of seats with the records of their book, and parts them.
+fn compare_and_part<L: Ledgers>(
+    alloc: Global,
+    book: &Book<L>,
+    seats: Vec<SpentSeat<L>>,
+) -> Result<Checked<L>, AllocError>
+    ensures sound { IfOk result (λ told. told.least ≡ None → AreAll book.now.history (map held_in seats.items)) }
+    ensures least { IfOk result (λ told. (place : ℕ) → told.least ≡ Some place → IsLeast book.now.history (map held_in seats.items) place) }
+    ensures receipts { IfOk result (λ told. map (λ r. r.items) told.parted.receipts.items ≡ map (λ s. s.receipts) seats.items) }
+    ensures all { IfOk result (λ told. vec_len told.parted.shares ≡ length seats.items) }
+    ensures counted { IfOk result (λ told. told.parted.shares.items ≡ map (λ s. s.counted) seats.items) }
+{
+    let least = compare_seats(alloc, book, seats.as_slice())?;
+    let parted = part(alloc, seats)?;
+    Ok(Checked { least, parted })
+}
+
 /// Brings the seats of a run together, that of the house among them, which closed it: the sums of what they counted, and their receipts.
 /// These are the records of the book, each of them once, in a seat of its process; else the least place that differs is told. Missing
 /// seats are told first. It takes time in proportion to the records and the receipts.
@@ -120,19 +159,52 @@ pub fn close_run<L: Ledgers>(
     ensures all { OnOk result (AreAll book.history (map held_in seats.items)) }
     ensures fault { IfErr result (ClosesFor book seats.items) }
 {
-    let others: Vec<SpentSeat<L>> = Vec::new(alloc);
-    let least = compare(alloc, &book, seats.as_slice(), others.as_slice())?;
-    let parted = part(alloc, seats)?;
-    let sums = book.gather(alloc, parted.shares)?;
+    let checked = compare_and_part(alloc, &book, seats)?;
+    let Checked { least, parted } = checked;
+    let Parted { receipts, shares } = parted;
+    let sums = book.gather(alloc, shares)?;
     match least {
         Some(place) => Err(CloseFault::Disagree { place }),
         None => Ok(Totals {
             records: sums.records,
             bytes_in: sums.bytes_in,
             bytes_out: sums.bytes_out,
-            receipts: parted.receipts,
+            receipts,
         }),
     }
+}
+
+/// A run that is closed, and whose records were compared with its receipts.
+#[derive(Drop)]
+struct Closed<L: Ledgers> {
+    /// The least place that is not sound, if there is one.
+    least: Option<u64>,
+    /// The shares of all seats, those of the house among them.
+    shares: Vec<Shares<L>>,
+}
+
+/// Closes a run and compares its records with the receipts of these holders and of the house; the shares of the house are put after the others.
+fn close_and_compare<L: Ledgers, T: HasReceipts>(
+    alloc: Global,
+    book: &mut Book<L>,
+    holders: &[T],
+    shares: Vec<Shares<L>>,
+) -> Result<Closed<L>, RunFault>
+    ensures is_legal { OnOk result (legal book.new.limits.bounds book.new.history) }
+    ensures closed { OnOk result ((world_now book.new).closed ≡ true) }
+    ensures all { IfOk result (λ told. told.least ≡ None → AreAllWithHouse book.new.history (map T.held holders.now)) }
+{
+    let mut shares = shares;
+    let house = match book.close_run() {
+        Some(house) => house,
+        None => return Err(RunFault::Missing),
+    };
+    let least = compare(alloc, book, holders, slice::from_ref(&house))?;
+    let (_receipts, counted) = house.into_parts();
+    if shares.push(counted).is_err() {
+        return Err(RunFault::NoMemory);
+    }
+    Ok(Closed { least, shares })
 }
 
 /// Closes a run whose seats are parted into holders of their receipts and shares, compares the receipts with the records, and gathers
@@ -146,18 +218,9 @@ pub(crate) fn end_run<L: Ledgers, T: HasReceipts>(
     ensures { IfOk result (λ sums. IsRunOf sums.records sums.bytes_in sums.bytes_out (map T.held holders.now)) }
 {
     let mut book = book;
-    let mut shares = shares;
-    let house = match book.close_run() {
-        Some(house) => house,
-        None => return Err(RunFault::Missing),
-    };
-    let least = compare(alloc, &book, holders, slice::from_ref(&house))?;
-    let (_receipts, counted) = house.into_parts();
-    if shares.push(counted).is_err() {
-        return Err(RunFault::NoMemory);
-    }
-    let sums = book.gather(alloc, shares)?;
-    match least {
+    let closed = close_and_compare(alloc, &mut book, holders, shares)?;
+    let sums = book.gather(alloc, closed.shares)?;
+    match closed.least {
         Some(place) => Err(RunFault::Disagree { place }),
         None => Ok(sums),
     }

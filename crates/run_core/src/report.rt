@@ -117,12 +117,20 @@ pub enum RunFault {
 }
 
 impl From<AllocError> for RunFault {
+    ghost use Rattle.run_core.specs.declared.report.RunFault.TheVariants.{NoMemory};
+
+    ghost from_gives = { λ _ fault. fault ≡ NoMemory };
+
     fn from(_fault: AllocError) -> RunFault {
         RunFault::NoMemory
     }
 }
 
 impl From<GatherFault> for RunFault {
+    ghost use Rattle.run_core.specs.Run.{run_fault_of};
+
+    ghost from_gives = { λ told fault. fault ≡ run_fault_of told };
+
     fn from(fault: GatherFault) -> RunFault {
         match fault {
             GatherFault::NoMemory => RunFault::NoMemory,

@@ -1,6 +1,6 @@
 //! The sessions of a run, each in a thread of its own.
 
-ghost use Rattle.std.specs.Prelude.{◌≡◌, ◌≤◌, ◌<◌, ◌+◌, ◌^◌, All, None, Some, map, vec_len, vec_capacity, IfOk, IfErr, OnOk};
+ghost use Rattle.std.specs.Prelude.{◌≡◌, ◌≤◌, ◌<◌, ◌+◌, ◌^◌, All, None, Some, map, vec_len, vec_capacity, IfOk, IfErr, IfSome, OnOk};
 ghost use Rattle.session_core.specs.Served.{Serves};
 ghost use Rattle.run_core.specs.Receipts.{held_by};
 ghost use Rattle.run_core.specs.Run.{IsRunOf, IsServed, IsServedBy, failures_after};
@@ -167,6 +167,7 @@ fn start_all<
     ensures failures { S.failures source.new ≡ failures_after (S.failures source.old) result.shortage }
     ensures few { vec_len result.running ≤ sessions }
     ensures all { result.shortage ≡ None → vec_len result.running ≡ sessions }
+    ensures short { IfSome result.shortage (λ _. vec_len result.running < sessions) }
 {
     let mut running = room;
     for session in 0..sessions {
@@ -291,6 +292,7 @@ pub fn run_sessions<
     ensures run { IfOk result (λ report. IsRunOf report.records report.bytes_in report.bytes_out (map (λ s. held_by s.process) report.ends.items)) }
     ensures few { IfOk result (λ report. vec_len report.ends ≤ sessions) }
     ensures all { IfOk result (λ report. report.shortage ≡ None → vec_len report.ends ≡ sessions) }
+    ensures short { IfOk result (λ report. IfSome report.shortage (λ _. vec_len report.ends < sessions)) }
     ensures served { IfOk result (λ report. All (λ s. IsServedBy G.is_open (λ seat. record { left = S.Reader.Read.remaining s.reader; reads = s.reads; held = S.Writer.Write.contents s.writer; writes = s.writes; seat = seat; answers = s.answers.items; end_is = s.end }) s.process) report.ends.items) }
 {
     let shared: Shared<G, L> = shared_by(alloc, limits, blanks, gate)?;
