@@ -15,7 +15,7 @@ use Rattle.script_text.specs.Spellings.{SpellsScript}
 use Rattle.script_text.specs.declared.fault.ScriptFault.TheVariants as faults
 use Rattle.posix_model.specs.History.{legal}
 use Rattle.fdref.specs.Output.{last_line, told_line, told_lines}
-use Rattle.fdref.specs.Replay.{RunsNext, RunsOn, RunsScript, FailsAs, Refuses, Ends}
+use Rattle.fdref.specs.Replay.{RunsNext, RunsOn, Gathers, RunsScript, FailsAs, Refuses, Ends}
 use Rattle.fdref.specs.declared.ended.Ended.{Ended}
 
 -- nothing goes before
@@ -68,18 +68,32 @@ nothing_left read rest None none gives = gives.0
 nothing_left read rest (Some act) none gives = absurd (none act refl)
 
 -- at the end all acts were run, and the lines with that of the totals are their output
-pub run_ends : (limits : Limits) (text : List ℕ) (read : Result (List ScriptAct) ScriptFault) (first book : BookState) (none seats : Seats) (before lines output : List ℕ)
-    → RunsOn read (Ok []) first book none seats before lines → read ≡ script text → first ≡ new_book limits → none ≡ [] → before ≡ [] → legal book.limits.bounds book.history → output ≡ lines ++ last_line book → RunsScript limits text output
-run_ends limits text read first book none seats before lines output so_far is_text is_new is_none is_before sound is = (
-  so_far.acts,
-  sym is_text ∙ so_far.is_read ∙ ap (λ l. Ok l) (append-nil so_far.acts),
+pub run_ends : (read : Result (List ScriptAct) ScriptFault) (first book : BookState) (none seats : Seats) (before lines output : List ℕ)
+    → RunsOn read (Ok []) first book none seats before lines → none ≡ [] → before ≡ [] → legal book.limits.bounds book.history → output ≡ lines ++ last_line book → Gathers read first book output
+run_ends read first book none seats before lines output so_far is_none is_before sound is = record {
+  acts = so_far.acts;
+  told = so_far.told;
+  seats = seats;
+  is_read = so_far.is_read ∙ ap (λ l. Ok l) (append-nil so_far.acts);
+  runs = subst (λ s. RunTells first book s seats so_far.acts so_far.told) is_none so_far.runs;
+  limits_are = so_far.limits_are;
+  is_legal = sound;
+  output_is = is ∙ ap (λ l. l ++ last_line book) (so_far.lines_are ∙ ap (λ l. l ++ told_lines so_far.told) is_before);
+}
+
+-- what was gathered of a script in a new book is its output
+pub output_of : (limits : Limits) (text : List ℕ) (read : Result (List ScriptAct) ScriptFault) (first book : BookState) (output : List ℕ)
+    → Gathers read first book output → read ≡ script text → first ≡ new_book limits → RunsScript limits text output
+output_of limits text read first book output all is_text is_new = (
+  all.acts,
+  sym is_text ∙ all.is_read,
   record {
-    told = so_far.told;
+    told = all.told;
     book = book;
-    seats = seats;
-    runs = subst (λ b. RunTells b book [] seats so_far.acts so_far.told) is_new (subst (λ s. RunTells first book s seats so_far.acts so_far.told) is_none so_far.runs);
-    is_legal = subst (λ l. legal l.bounds book.history) (so_far.limits_are ∙ ap (λ b. b.limits) is_new) sound;
-    output_is = is ∙ ap (λ l. l ++ last_line book) (so_far.lines_are ∙ ap (λ l. l ++ told_lines so_far.told) is_before);
+    seats = all.seats;
+    runs = subst (λ b. RunTells b book [] all.seats all.acts all.told) is_new all.runs;
+    is_legal = subst (λ l. legal l.bounds book.history) (all.limits_are ∙ ap (λ b. b.limits) is_new) all.is_legal;
+    output_is = all.output_is;
   },
 )
 

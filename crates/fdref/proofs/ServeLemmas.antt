@@ -1,5 +1,6 @@
 -- A report that is written whole says how the run ended.
-use Rattle.std.proofs.Common.{◌≡◌, ◌≤◌, ◌+◌, ℕ, List, Option, None, Some, length, refl, sym, subst, ◌∙◌}
+use Rattle.std.proofs.Common.{◌≡◌, ◌≤◌, ◌<◌, ◌+◌, ℕ, List, Option, None, Some, length, refl, sym, subst, ◌∙◌}
+use Rattle.std.specs.Prelude.{IfSome}
 use Rattle.std.specs.Io.KnownBytes.{Appends}
 use Rattle.run_core.specs.Receipts.{Held}
 use Rattle.run_core.specs.Run.{IsRunOf, failures_after}
@@ -26,15 +27,15 @@ report_of most sessions records taken given held line all few run is = record {
 
 -- by what was short
 pub reports_by : (most : ℕ) (old new : Option (List ℕ)) (short : Option Shortage) (sessions records taken given : ℕ) (held : List Held) (line : List ℕ)
-    → length held ≡ sessions → sessions ≤ most → (short ≡ None → sessions ≡ most) → IsRunOf records taken given held → line ≡ report_line sessions records taken given → Appends old new line
+    → length held ≡ sessions → sessions ≤ most → (short ≡ None → sessions ≡ most) → IfSome short (λ _. sessions < most) → IsRunOf records taken given held → line ≡ report_line sessions records taken given → Appends old new line
     → Reports most old new (end_of short)
 unfolding report_of
-reports_by most old new None sessions records taken given held line all few full run is written =
+reports_by most old new None sessions records taken given held line all few full fewer run is written =
     (line, (report_of most sessions records taken given held line all few run is, all ∙ full refl), written)
-reports_by most old new (Some shortage.NoConnection) sessions records taken given held line all few full run is written =
-    (line, report_of most sessions records taken given held line all few run is, written)
-reports_by most old new (Some shortage.NoThread) sessions records taken given held line all few full run is written =
-    (line, report_of most sessions records taken given held line all few run is, written)
+reports_by most old new (Some shortage.NoConnection) sessions records taken given held line all few full fewer run is written =
+    (line, (report_of most sessions records taken given held line all few run is, rw all fewer), written)
+reports_by most old new (Some shortage.NoThread) sessions records taken given held line all few full fewer run is written =
+    (line, (report_of most sessions records taken given held line all few run is, rw all fewer), written)
 
 -- or only a front of it was written
 pub reports_front : (most : ℕ) (old new : Option (List ℕ)) (sessions records taken given : ℕ) (held : List Held) (line : List ℕ) (found : Ended)

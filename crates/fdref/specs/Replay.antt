@@ -50,6 +50,17 @@ pub record RunsOn (read rest : Result (List ScriptAct) ScriptFault) (old new : B
   pub limits_are : new.limits ≡ old.limits
   pub lines_are : more ≡ lines ++ told_lines told
 
+-- acts that were read were run in a book, to their end, and this is their output
+pub record Gathers (read : Result (List ScriptAct) ScriptFault) (old new : BookState) (output : List ℕ) : Type 0 where
+  pub acts : List ScriptAct
+  pub told : List Told
+  pub seats : Seats
+  pub is_read : read ≡ Ok acts
+  pub runs : RunTells old new [] seats acts told
+  pub limits_are : new.limits ≡ old.limits
+  pub is_legal : legal new.limits.bounds new.history
+  pub output_is : output ≡ told_lines told ++ last_line new
+
 -- the text is a script, and this is the output of its acts
 abbrev pub RunsScript : Limits → List ℕ → List ℕ → Type 0
 RunsScript limits text output = (acts : List ScriptAct) × (script text ≡ Ok acts) × IsOutput limits acts output
@@ -60,9 +71,13 @@ ended_by (faults.BadLine line column) = ended.BadLine line column
 ended_by faults.TooLong = ended.TooLong
 ended_by faults.NoMemory = ended.NoMemory
 
--- the end says why the text gave no output: by its fault, or for want of memory
+-- the end says why what was read gave no output: by its fault, or for want of memory
+abbrev pub FailsReading : Result (List ScriptAct) ScriptFault → Ended → Type 0
+FailsReading read end = (fault : ScriptFault) × (end ≡ ended_by fault) × ScriptFails fault read
+
+-- the same of a text
 abbrev pub FailsAs : List ℕ → Ended → Type 0
-FailsAs text end = (fault : ScriptFault) × (end ≡ ended_by fault) × ScriptFails fault (script text)
+FailsAs text end = FailsReading (script text) end
 
 -- the text is a script, and the output of its acts was written, and nothing else
 abbrev pub WritesReplay : Limits → Option (List ℕ) → Option (List ℕ) → List ℕ → Type 0

@@ -1,5 +1,5 @@
 -- What a run of sessions writes, and what its end says (own).
-use Rattle.std.specs.Prelude.{◌≡◌, ◌≤◌, ℕ, List, ◌++◌, Option, None, Some, codes, decimal, length}
+use Rattle.std.specs.Prelude.{◌≡◌, ◌≤◌, ◌<◌, ℕ, List, ◌++◌, Option, None, Some, codes, decimal, length}
 use Rattle.std.specs.Io.KnownBytes.{Appends}
 use Rattle.script_text.specs.Lines.{totals_line}
 use Rattle.run_core.specs.Receipts.{Held}
@@ -30,6 +30,10 @@ pub record IsReport (most : ℕ) (line : List ℕ) : Type 0 where
 abbrev pub IsFullReport : ℕ → List ℕ → Type 0
 IsFullReport sessions line = (report : IsReport sessions line) × (length report.held ≡ sessions)
 
+-- the same, with fewer
+abbrev pub IsShortReport : ℕ → List ℕ → Type 0
+IsShortReport sessions line = (report : IsReport sessions line) × (length report.held < sessions)
+
 -- how a run ended whose report is written
 abbrev pub end_of : Option Shortage → Ended
 end_of None = ended.Done
@@ -45,8 +49,8 @@ ended_by (fault.Disagree place) = ended.Disagree place
 -- what the end says of what was written
 abbrev pub Reports : ℕ → Option (List ℕ) → Option (List ℕ) → Ended → Type 0
 Reports most old new ended.Done = (line : List ℕ) × IsFullReport most line × Appends old new line
-Reports most old new ended.CannotListen = (line : List ℕ) × IsReport most line × Appends old new line
-Reports most old new ended.NoThread = (line : List ℕ) × IsReport most line × Appends old new line
+Reports most old new ended.CannotListen = (line : List ℕ) × IsShortReport most line × Appends old new line
+Reports most old new ended.NoThread = (line : List ℕ) × IsShortReport most line × Appends old new line
 Reports most old new ended.CannotWrite = (line : List ℕ) × IsReport most line × AppendsFront old new line
 Reports most old new ended.NoMemory = new ≡ old
 Reports most old new ended.MissingShare = new ≡ old

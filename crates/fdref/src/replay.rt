@@ -3,7 +3,7 @@ ghost use Rattle.std.specs.Prelude.{◌≡◌, ◌≤◌, ◌⊎◌, [], Ok, len
 ghost use Rattle.script_text.specs.ReadingScripts.{script};
 ghost use Rattle.script_text.specs.ReadingResults.{ScriptFails};
 ghost use Rattle.script_text.specs.declared.script.TheConstants.{SCRIPT_MAX};
-ghost use Rattle.fdref.specs.Replay.{Ends, RunsNext, RunsOn, RunsScript, FailsAs};
+ghost use Rattle.fdref.specs.Replay.{Ends, Gathers, RunsNext, RunsOn, RunsScript, FailsAs, FailsReading};
 
 use crate::ended::Ended;
 use crate::output::{put_line, write_lines};
@@ -77,8 +77,32 @@ fn run_all<L: Ledgers>(
     Ok(())
 }
 
-/// Runs the acts of a script in a new book as they are read, and gathers the lines of what is told of each, and the line of
-/// totals. Where it succeeds, the book and the seats are leaked, and not dropped one record after another.
+/// Runs the acts that are left of a script in a book, and gathers the lines of what is told of each, and the line of totals. Where it
+/// succeeds, the seats are leaked, and not dropped one receipt after another. The lines have so much room from the start, in bytes.
+fn gather_lines<L: Ledgers>(
+    alloc: Global,
+    script: &mut Script<'_>,
+    book: &mut Book<L>,
+    room: usize,
+) -> Result<Vec<u8>, Ended>
+    ensures lines { IfOk result (λ lines. Gathers script.old.read book.old book.new lines.items) }
+    ensures fault { IfErr result (λ ended. FailsReading script.old.read ended) }
+{
+    let mut seats = Seats::new(alloc);
+    let mut lines = Vec::with_capacity(alloc, room)?;
+    run_all(alloc, script, book, &mut seats, &mut lines)?;
+    let counts = book.counts();
+    write_totals(
+        &mut lines,
+        counts.records,
+        counts.bytes_in,
+        counts.bytes_out,
+    )?;
+    forget(seats);
+    Ok(lines)
+}
+
+/// Runs the acts of a script in a new book as they are read, and gathers its output. Where it succeeds, the book is leaked, and not dropped one record after another.
 fn run_script<L: Ledgers>(
     alloc: Global,
     limits: Limits,
@@ -91,17 +115,10 @@ fn run_script<L: Ledgers>(
 {
     let mut script = Script::new(text)?;
     let mut book = Book::<L>::new(alloc, limits, blanks)?;
-    let mut seats = Seats::new(alloc);
-    let mut lines = Vec::with_capacity(alloc, 2 * text.len())?;
-    run_all(alloc, &mut script, &mut book, &mut seats, &mut lines)?;
-    let counts = book.counts();
-    write_totals(
-        &mut lines,
-        counts.records,
-        counts.bytes_in,
-        counts.bytes_out,
-    )?;
-    forget(seats);
+    let lines = match gather_lines(alloc, &mut script, &mut book, 2 * text.len()) {
+        Ok(lines) => lines,
+        Err(ended) => return Err(ended),
+    };
     forget(book);
     Ok(lines)
 }
