@@ -1,6 +1,6 @@
 //! The answers of a session, and their way to its writer.
 
-ghost use Rattle.std.specs.Prelude.{◌≡◌, ◌≤◌, ℕ, true, false, List, [], Option, length, OnOk, OnErr, IfOk, IfErr};
+ghost use Rattle.std.specs.Prelude.{◌≡◌, ◌<◌, ◌≤◌, ℕ, true, false, List, [], Option, length, OnOk, OnErr, IfOk, IfErr};
 ghost use Rattle.session_core.specs.declared.told.Told.TheVariants as told;
 ghost use Rattle.session_core.specs.Output.{fresh_output, Passes, Puts, Flushes, SendsAll, FailsToSend};
 ghost use Rattle.session_core.specs.Closing.{IsTaken};
@@ -158,6 +158,8 @@ impl<W: Write, G: Gate> Output<W, G> {
     /// Writes what is not written yet, if it is much, or if the gate has to be asked for each answer.
     pub(crate) fn flush_much(&mut self) -> Result<(), WriterFailed>
         ensures ok { OnOk result (Flushes self.old self.new) }
+        ensures few { OnOk result (length self.new.unsent < GATHERED) }
+        ensures one { OnOk result (G.is_open ≡ false → self.new.unsent ≡ []) }
         ensures err { OnErr result (FailsToSend self.old self.new) }
     {
         if self.unsent.len() < GATHERED && self.gate.is_always_open() {
