@@ -1,10 +1,11 @@
 //! Each call as the payload of a request, appended to a frame.
 #![tactic(auto, using(crate::proofs::Fronts::keeps_after), unfolding(crate::specs::Requests::call_bytes))]
 
-ghost use Rattle.std.specs.Prelude.{◌≡◌};
+ghost use Rattle.std.specs.Prelude.{◌≡◌, ◌∷◌};
+ghost use Rattle.std.specs.Int.{w32, cast_unsigned};
 ghost use Rattle.call_types.specs.Writing.{Appends};
 ghost use Rattle.call_types.specs.declared.call.Call.TheVariants as calls;
-ghost use Rattle.frame_codec.specs.Fields.{whence_byte};
+ghost use Rattle.frame_codec.specs.Fields.{number_bytes, whence_byte};
 ghost use Rattle.frame_codec.specs.Requests.{call_bytes};
 
 use crate::put::{put_byte, put_counted, put_descriptor, put_name, put_position, put_u32};
@@ -26,6 +27,15 @@ fn base_byte(whence: Whence) -> u8
     }
 }
 
+/// Appends the byte of a call on a descriptor, and the descriptor.
+fn put_start(out: &mut Vec<u8>, byte: u8, fd: i32) -> Result<(), AllocError>
+    ensures { Appends result out.old.items out.new.items (byte ∷ number_bytes w32 (cast_unsigned w32 fd)) }
+{
+    put_byte(out, byte)?;
+    put_descriptor(out, fd)?;
+    Ok(())
+}
+
 /// Appends an open.
 fn put_open(out: &mut Vec<u8>, name: &Name, flags: OpenFlags) -> Result<(), AllocError>
     ensures { Appends result out.old.items out.new.items (call_bytes (calls.Open name.now flags)) }
@@ -40,8 +50,7 @@ fn put_open(out: &mut Vec<u8>, name: &Name, flags: OpenFlags) -> Result<(), Allo
 fn put_close(out: &mut Vec<u8>, fd: i32) -> Result<(), AllocError>
     ensures { Appends result out.old.items out.new.items (call_bytes (calls.Close fd)) }
 {
-    put_byte(out, 17)?;
-    put_descriptor(out, fd)?;
+    put_start(out, 17, fd)?;
     Ok(())
 }
 
@@ -49,8 +58,7 @@ fn put_close(out: &mut Vec<u8>, fd: i32) -> Result<(), AllocError>
 fn put_read(out: &mut Vec<u8>, fd: i32, count: u32) -> Result<(), AllocError>
     ensures { Appends result out.old.items out.new.items (call_bytes (calls.Read fd count)) }
 {
-    put_byte(out, 18)?;
-    put_descriptor(out, fd)?;
+    put_start(out, 18, fd)?;
     put_u32(out, count)?;
     Ok(())
 }
@@ -59,8 +67,7 @@ fn put_read(out: &mut Vec<u8>, fd: i32, count: u32) -> Result<(), AllocError>
 fn put_write(out: &mut Vec<u8>, fd: i32, bytes: &Payload) -> Result<(), AllocError>
     ensures { Appends result out.old.items out.new.items (call_bytes (calls.Write fd bytes.now)) }
 {
-    put_byte(out, 19)?;
-    put_descriptor(out, fd)?;
+    put_start(out, 19, fd)?;
     put_counted(out, bytes.part())?;
     Ok(())
 }
@@ -69,8 +76,7 @@ fn put_write(out: &mut Vec<u8>, fd: i32, bytes: &Payload) -> Result<(), AllocErr
 fn put_pread(out: &mut Vec<u8>, fd: i32, start: i64, count: u32) -> Result<(), AllocError>
     ensures { Appends result out.old.items out.new.items (call_bytes (calls.Pread fd start count)) }
 {
-    put_byte(out, 20)?;
-    put_descriptor(out, fd)?;
+    put_start(out, 20, fd)?;
     put_position(out, start)?;
     put_u32(out, count)?;
     Ok(())
@@ -80,8 +86,7 @@ fn put_pread(out: &mut Vec<u8>, fd: i32, start: i64, count: u32) -> Result<(), A
 fn put_pwrite(out: &mut Vec<u8>, fd: i32, start: i64, bytes: &Payload) -> Result<(), AllocError>
     ensures { Appends result out.old.items out.new.items (call_bytes (calls.Pwrite fd start bytes.now)) }
 {
-    put_byte(out, 21)?;
-    put_descriptor(out, fd)?;
+    put_start(out, 21, fd)?;
     put_position(out, start)?;
     put_counted(out, bytes.part())?;
     Ok(())
@@ -91,8 +96,7 @@ fn put_pwrite(out: &mut Vec<u8>, fd: i32, start: i64, bytes: &Payload) -> Result
 fn put_lseek(out: &mut Vec<u8>, fd: i32, offset: i64, whence: Whence) -> Result<(), AllocError>
     ensures { Appends result out.old.items out.new.items (call_bytes (calls.Lseek fd offset whence)) }
 {
-    put_byte(out, 22)?;
-    put_descriptor(out, fd)?;
+    put_start(out, 22, fd)?;
     put_position(out, offset)?;
     put_byte(out, base_byte(whence))?;
     Ok(())
@@ -102,8 +106,7 @@ fn put_lseek(out: &mut Vec<u8>, fd: i32, offset: i64, whence: Whence) -> Result<
 fn put_ftruncate(out: &mut Vec<u8>, fd: i32, len: i64) -> Result<(), AllocError>
     ensures { Appends result out.old.items out.new.items (call_bytes (calls.Ftruncate fd len)) }
 {
-    put_byte(out, 23)?;
-    put_descriptor(out, fd)?;
+    put_start(out, 23, fd)?;
     put_position(out, len)?;
     Ok(())
 }
@@ -112,8 +115,7 @@ fn put_ftruncate(out: &mut Vec<u8>, fd: i32, len: i64) -> Result<(), AllocError>
 fn put_dup(out: &mut Vec<u8>, fd: i32) -> Result<(), AllocError>
     ensures { Appends result out.old.items out.new.items (call_bytes (calls.Dup fd)) }
 {
-    put_byte(out, 24)?;
-    put_descriptor(out, fd)?;
+    put_start(out, 24, fd)?;
     Ok(())
 }
 
@@ -121,8 +123,7 @@ fn put_dup(out: &mut Vec<u8>, fd: i32) -> Result<(), AllocError>
 fn put_dup2(out: &mut Vec<u8>, fd: i32, to: i32) -> Result<(), AllocError>
     ensures { Appends result out.old.items out.new.items (call_bytes (calls.Dup2 fd to)) }
 {
-    put_byte(out, 25)?;
-    put_descriptor(out, fd)?;
+    put_start(out, 25, fd)?;
     put_descriptor(out, to)?;
     Ok(())
 }
@@ -167,8 +168,7 @@ fn put_unlink(out: &mut Vec<u8>, name: &Name) -> Result<(), AllocError>
 fn put_fstat(out: &mut Vec<u8>, fd: i32) -> Result<(), AllocError>
     ensures { Appends result out.old.items out.new.items (call_bytes (calls.Fstat fd)) }
 {
-    put_byte(out, 30)?;
-    put_descriptor(out, fd)?;
+    put_start(out, 30, fd)?;
     Ok(())
 }
 
