@@ -100,6 +100,18 @@ fn read_text<R: Read + Drop>(alloc: Global, reader: R) -> Result<Vec<u8>, Ended>
     }
 }
 
+/// Gives the acts that are left of a script to the book, one after another.
+fn give_all<L: Ledgers>(
+    alloc: Global,
+    script: &mut Script<'_>,
+    run: &mut Run<L>,
+) -> Result<(), Ended> {
+    while let Some(act) = script.next_act(alloc)? {
+        run.give_next(alloc, act)?;
+    }
+    Ok(())
+}
+
 /// The run of the script that a reader gives, counted by these ledgers.
 pub(crate) fn tried<R: Read + Drop, L: Ledgers>(
     alloc: Global,
@@ -112,9 +124,7 @@ pub(crate) fn tried<R: Read + Drop, L: Ledgers>(
     let text = read_text(alloc, reader)?;
     let mut script = Script::new(text.as_slice())?;
     let mut run = Run::<L>::new(alloc, limits, blanks)?;
-    while let Some(act) = script.next_act(alloc)? {
-        run.give_next(alloc, act)?;
-    }
+    give_all(alloc, &mut script, &mut run)?;
     let counts = run.book.counts();
     write_totals(
         &mut run.lines,

@@ -7,6 +7,7 @@ use crate::job::Job;
 use crate::shown::{put_log, put_number, put_word, put_written};
 use crate::stranger::Stranger;
 use byte_ledger::ledgers::{Blanks, Ledgers};
+use byte_ledger::tallies::Sums;
 use record_book::book::Book;
 use record_book::seat::SpentSeat;
 use script_text::lines::{write_record, write_totals};
@@ -58,6 +59,23 @@ fn put_served<L: Ledgers>(
     put_seat(out, &served.seat)
 }
 
+/// The lines of a session that is over, and of what its book counts.
+fn lines_of<L: Ledgers>(
+    alloc: Global,
+    served: &Served<MemoryReader, MemoryWriter, L>,
+    counts: Sums,
+) -> Result<Vec<u8>, AllocError> {
+    let mut lines = Vec::new(alloc);
+    put_served(&mut lines, served)?;
+    write_totals(
+        &mut lines,
+        counts.records,
+        counts.bytes_in,
+        counts.bytes_out,
+    )?;
+    Ok(lines)
+}
+
 /// The lines of what comes of a session, counted by these ledgers.
 pub(crate) fn tried<Rt: Wait, L: Ledgers>(
     rt: &Rt,
@@ -74,14 +92,5 @@ pub(crate) fn tried<Rt: Wait, L: Ledgers>(
     let reader = MemoryReader::new(input, job.reads);
     let writer = MemoryWriter::new(alloc, job.writes);
     let served = serve(rt, alloc, reader, writer, &kernel, 0, OpenGate);
-    let counts = kernel.counts(rt);
-    let mut lines = Vec::new(alloc);
-    put_served(&mut lines, &served)?;
-    write_totals(
-        &mut lines,
-        counts.records,
-        counts.bytes_in,
-        counts.bytes_out,
-    )?;
-    Ok(lines)
+    Ok(lines_of(alloc, &served, kernel.counts(rt))?)
 }

@@ -44,23 +44,47 @@ fn writes<L: Ledgers>(alloc: Global, book: &mut Book<L>, seat: &mut Seat<L>) -> 
     Ok(())
 }
 
+/// The seats of two processes that exit, one after the other, with room for one more.
+fn exited<L: Ledgers>(
+    alloc: Global,
+    book: &mut Book<L>,
+    seats: [Seat<L>; 2],
+) -> Result<Vec<SpentSeat<L>>, Fail> {
+    let mut spent = Vec::with_capacity(alloc, 3)?;
+    for seat in seats {
+        match book.exit(seat) {
+            Ok(seat) => spent.push(seat)?,
+            Err(_) => return Err("the process is there")?,
+        }
+    }
+    Ok(spent)
+}
+
 /// The seats of a run of two processes that is closed: records 0 to 6.
 fn closed<L: Ledgers>(alloc: Global, book: &mut Book<L>) -> Result<Vec<SpentSeat<L>>, Fail> {
     let mut first = joined(alloc, book)?;
     let second = joined(alloc, book)?;
     writes(alloc, book, &mut first)?;
-    let mut seats = Vec::with_capacity(alloc, 3)?;
-    for seat in [second, first] {
-        match book.exit(seat) {
-            Ok(spent) => seats.push(spent)?,
-            Err(_) => return Err("the process is there")?,
-        }
-    }
+    let mut seats = exited(alloc, book, [second, first])?;
     match book.close_run() {
         Some(house) => seats.push(house)?,
         None => return Err("the run is open")?,
     }
     Ok(seats)
+}
+
+/// The book of that run, with its seats.
+fn closed_run<L: Ledgers>(
+    alloc: Global,
+    blanks: Blanks,
+) -> Result<(Book<L>, Vec<SpentSeat<L>>), Fail>
+    requires { blanks ≡ L.names }
+{
+    let mut book = Book::<L>::new(alloc, Limits::new(10)?, blanks)?;
+    match closed(alloc, &mut book) {
+        Ok(seats) => Ok((book, seats)),
+        Err(fail) => Err(fail),
+    }
 }
 
 /// Whether these are the totals of that run.
@@ -80,8 +104,7 @@ fn seats_have_the_totals<L: Ledgers>(
 ) -> Result<(), Fail>
     requires { blanks ≡ L.names }
 {
-    let mut book = Book::<L>::new(alloc, Limits::new(10)?, blanks)?;
-    let seats = closed(alloc, &mut book)?;
+    let (book, seats) = closed_run::<L>(alloc, blanks)?;
     match close_run(alloc, book, seats) {
         Ok(totals) => assert!(rt; are_totals(&totals)),
         Err(_) => return Err("all seats are there")?,
@@ -98,8 +121,7 @@ fn all_seats_have_the_totals_of_a_run(rt: HostRuntime) -> Result<(), Fail> {
 fn seat_is_missed<L: Ledgers>(rt: &impl Abort, alloc: Global, blanks: Blanks) -> Result<(), Fail>
     requires { blanks ≡ L.names }
 {
-    let mut book = Book::<L>::new(alloc, Limits::new(10)?, blanks)?;
-    let mut seats = closed(alloc, &mut book)?;
+    let (book, mut seats) = closed_run::<L>(alloc, blanks)?;
     seats.pop();
     let missing = CloseFault::Missing(Missing { held: 2, opened: 3 });
     match close_run(alloc, book, seats) {
@@ -178,8 +200,7 @@ fn least_place_is_told<L: Ledgers>(
 ) -> Result<(), Fail>
     requires { blanks ≡ L.names }
 {
-    let mut book = Book::<L>::new(alloc, Limits::new(10)?, blanks)?;
-    let seats = closed(alloc, &mut book)?;
+    let (book, seats) = closed_run::<L>(alloc, blanks)?;
     let told: [(&[u64], &[u64], &[u64], Option<u64>); 7] = [
         (&[0, 2, 3, 5], &[1, 4], &[6], None),
         // none holds the receipt of place 3
