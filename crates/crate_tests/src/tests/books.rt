@@ -105,17 +105,26 @@ fn held<L: Ledgers>(seat: &Seat<L>) -> (u64, usize) {
 }
 
 /// A seat of one book is told of more records than the book has.
+fn is_told_of_more<L: Ledgers>(
+    rt: &impl Abort,
+    alloc: Global,
+    book: &mut Book<L>,
+) -> Result<(), Fail> {
+    let mut seat = joined(alloc, book)?;
+    assert!(rt; opens(alloc, book, &mut seat));
+    assert_eq!(rt; (seat.pid(), held(&seat)), (0, (2, 2)));
+    seat.told(3);
+    assert!(rt; foreign(alloc, book, &mut seat) == Some((3, 2)));
+    assert_eq!(rt; book.counts().records, 2);
+    Ok(())
+}
+
+/// The same, in a new book.
 fn is_of_one_book<L: Ledgers>(rt: &impl Abort, alloc: Global, blanks: Blanks) -> Result<(), Fail>
     requires { blanks ≡ L.names }
 {
     let mut book = Book::<L>::new(alloc, Limits::new(10)?, blanks)?;
-    let mut seat = joined(alloc, &mut book)?;
-    assert!(rt; opens(alloc, &mut book, &mut seat));
-    assert_eq!(rt; (seat.pid(), held(&seat)), (0, (2, 2)));
-    seat.told(3);
-    assert!(rt; foreign(alloc, &mut book, &mut seat) == Some((3, 2)));
-    assert_eq!(rt; book.counts().records, 2);
-    Ok(())
+    is_told_of_more(rt, alloc, &mut book)
 }
 
 #[test]
@@ -136,6 +145,19 @@ fn gives_back<L: Ledgers>(book: &mut Book<L>, seat: Seat<L>) -> bool {
 }
 
 /// An exit of such a seat.
+fn refuses_the_exit<L: Ledgers>(
+    rt: &impl Abort,
+    alloc: Global,
+    book: &mut Book<L>,
+) -> Result<(), Fail> {
+    let mut seat = joined(alloc, book)?;
+    seat.told(3);
+    assert!(rt; gives_back(book, seat));
+    assert_eq!(rt; book.counts().records, 1);
+    Ok(())
+}
+
+/// The same, in a new book.
 fn gives_the_seat_back<L: Ledgers>(
     rt: &impl Abort,
     alloc: Global,
@@ -144,11 +166,7 @@ fn gives_the_seat_back<L: Ledgers>(
     requires { blanks ≡ L.names }
 {
     let mut book = Book::<L>::new(alloc, Limits::new(10)?, blanks)?;
-    let mut seat = joined(alloc, &mut book)?;
-    seat.told(3);
-    assert!(rt; gives_back(&mut book, seat));
-    assert_eq!(rt; book.counts().records, 1);
-    Ok(())
+    refuses_the_exit(rt, alloc, &mut book)
 }
 
 #[test]
@@ -179,17 +197,26 @@ fn ends<L: Ledgers>(book: &mut Book<L>, child: Seat<L>) -> bool {
 }
 
 /// A child that is attached, and ends.
+fn attaches_a_child<L: Ledgers>(
+    rt: &impl Abort,
+    alloc: Global,
+    book: &mut Book<L>,
+) -> Result<(), Fail> {
+    let mut parent = joined(alloc, book)?;
+    assert!(rt; forks(alloc, book, &mut parent, 1));
+    let child = attached(alloc, book, 1)?;
+    assert_eq!(rt; (child.pid(), held(&child)), (1, (3, 1)));
+    assert!(rt; is_attached_once(alloc, book));
+    assert!(rt; ends(book, child));
+    Ok(())
+}
+
+/// The same, in a new book.
 fn attaches_once<L: Ledgers>(rt: &impl Abort, alloc: Global, blanks: Blanks) -> Result<(), Fail>
     requires { blanks ≡ L.names }
 {
     let mut book = Book::<L>::new(alloc, Limits::new(20)?, blanks)?;
-    let mut parent = joined(alloc, &mut book)?;
-    assert!(rt; forks(alloc, &mut book, &mut parent, 1));
-    let child = attached(alloc, &mut book, 1)?;
-    assert_eq!(rt; (child.pid(), held(&child)), (1, (3, 1)));
-    assert!(rt; is_attached_once(alloc, &mut book));
-    assert!(rt; ends(&mut book, child));
-    Ok(())
+    attaches_a_child(rt, alloc, &mut book)
 }
 
 #[test]
@@ -214,17 +241,26 @@ fn ends_one_and_three<L: Ledgers>(book: &mut Book<L>) -> bool {
 }
 
 /// Two children that are never attached.
+fn ends_two_of_three<L: Ledgers>(
+    rt: &impl Abort,
+    alloc: Global,
+    book: &mut Book<L>,
+) -> Result<(), Fail> {
+    let mut parent = joined(alloc, book)?;
+    assert!(rt; forks(alloc, book, &mut parent, 3));
+    let _child = attached(alloc, book, 2)?;
+    assert!(rt; ends_one_and_three(book));
+    assert!(rt; book.close_run().is_none());
+    assert_eq!(rt; book.counts().records, 8);
+    Ok(())
+}
+
+/// The same, in a new book.
 fn ends_orphans<L: Ledgers>(rt: &impl Abort, alloc: Global, blanks: Blanks) -> Result<(), Fail>
     requires { blanks ≡ L.names }
 {
     let mut book = Book::<L>::new(alloc, Limits::new(20)?, blanks)?;
-    let mut parent = joined(alloc, &mut book)?;
-    assert!(rt; forks(alloc, &mut book, &mut parent, 3));
-    let _child = attached(alloc, &mut book, 2)?;
-    assert!(rt; ends_one_and_three(&mut book));
-    assert!(rt; book.close_run().is_none());
-    assert_eq!(rt; book.counts().records, 8);
-    Ok(())
+    ends_two_of_three(rt, alloc, &mut book)
 }
 
 #[test]
