@@ -5,14 +5,17 @@ ghost use Rattle.slots.specs.Entries.{found, EntriesRise, IsAt};
 use std::alloc::{AllocError, Global};
 use std::marker::Model;
 
-/// The index of the entry of a number. As long as no lower entry has gone, it is the number itself.
+/// The index of the entry of a number. As long as none is gone between the lowest entry and it, it is how far it is above that one.
 pub(crate) fn index_of<T>(entries: &[(usize, T)], number: usize) -> Result<usize, usize>
     requires { (next : ℕ) × EntriesRise 0 entries.now next }
     ensures there { IfOk result (IsAt entries.now number) }
     ensures gone { IfErr result (λ _. found entries.now number ≡ None) }
 {
-    if number < entries.len() && entries[number].0 == number {
-        return Ok(number);
+    if let [lowest, ..] = entries {
+        let index = number.saturating_sub(lowest.0);
+        if index < entries.len() && entries[index].0 == number {
+            return Ok(index);
+        }
     }
     entries.binary_search_by_key(&number, |entry| entry.0)
 }
