@@ -13,11 +13,13 @@ use std::alloc::{AllocError, Global};
 impl Reader for Machine {
     ghost world = { λ m. m.world };
 
+    #[inline(always)]
     fn opened(&self, process: usize, fd: i32) -> Option<OpenDescriptor> {
         let fd = usize::try_from(fd).ok()?;
         self.opened_at(process, fd)
     }
 
+    #[inline(always)]
     fn opened_at(&self, process: usize, fd: usize) -> Option<OpenDescriptor> {
         let number = self.processes.descriptor(process, fd)?;
         let description = *self.descriptions.get(number)?;

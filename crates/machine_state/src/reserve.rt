@@ -61,6 +61,7 @@ impl Machine {
     }
 
     /// Makes the room of an edit of descriptors.
+    #[inline(always)]
     fn reserve_table(&mut self, edit: &TableEdit) -> Result<(), AllocError>
         ensures world { self.new.world ≡ self.old.world }
         ensures room { OnOk result (HasTableRoom self.new edit.now) }
@@ -79,6 +80,7 @@ impl Machine {
     }
 
     /// Makes the room of an edit of processes.
+    #[inline(always)]
     fn reserve_process(&mut self, edit: &ProcessEdit) -> Result<(), AllocError>
         ensures world { self.new.world ≡ self.old.world }
         ensures room { OnOk result (HasProcessRoom self.new.room.processes edit.now) }
@@ -98,6 +100,7 @@ impl Machine {
     }
 
     /// Makes the room of an edit of files.
+    #[inline(always)]
     fn reserve_files(&mut self, edit: &FileEdit) -> Result<(), AllocError>
         requires fits { FilesFit self.old.world edit.now }
         requires proper { (bytes : List ℕ) × FilesProper self.old.world bytes edit.now }
@@ -121,6 +124,7 @@ impl Machine {
 
     /// Makes the room of a change; an error says that memory or numbers ran out. On an error as on success the world stays, and no
     /// room is less than it was.
+    #[inline(always)]
     pub fn reserve_for(&mut self, change: &Change) -> Result<(), AllocError>
         requires fits { FilesFit self.old.world change.now.files }
         requires proper { (bytes : List ℕ) × IsProper self.old.world bytes change.now }

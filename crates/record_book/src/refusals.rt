@@ -110,6 +110,7 @@ impl Journal {
     }
 
     /// The first refusal of a call that is not recorded.
+    #[inline(always)]
     pub(crate) fn start_refusal<L: Ledgers>(&self, seat: &Seat<L>, call: &Call) -> Option<Refusal>
         ensures { result ≡ start_refusal self.now seat.now call.now }
     {

@@ -12,7 +12,9 @@ use std::alloc::{AllocError, Global};
 
 impl<L: Ledgers> Book<L> {
     /// Records a call that is not refused. On an error all is as it was.
-    #[inline(always)]
+    // It stands once in a program, for scripts and sessions, so that what decides a call and what changes the machine, which are
+    // called nowhere else, stand in it.
+    #[inline(never)]
     pub(crate) fn record_call(
         &mut self,
         alloc: Global,

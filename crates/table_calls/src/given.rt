@@ -11,6 +11,7 @@ use call_types::part::Part;
 use posix_model::reader::Reader;
 
 /// The data of a call that writes, at most 65,700 bytes; none of any other.
+#[inline(always)]
 fn payload_of(call: &Call) -> Part<'_>
     ensures bytes { part_bytes result ≡ unwrap_or (payload_of call.now) [] }
     ensures few { length (part_bytes result) ≤ GIVEN_BYTES_MAX }
@@ -22,6 +23,7 @@ fn payload_of(call: &Call) -> Part<'_>
 }
 
 /// The bytes that an act gives: the data of a call that writes, at most 65,700.
+#[inline(always)]
 pub fn given(act: &Act) -> Part<'_>
     ensures bytes { part_bytes result ≡ given act.now }
     ensures few { length (part_bytes result) ≤ GIVEN_BYTES_MAX }
