@@ -47,7 +47,7 @@ fn put_open(out: &mut Vec<u8>, name: &Name, flags: OpenFlags)
 {
     put(out, b"open ");
     put_name(out, name.as_slice());
-    put(out, b" ");
+    out.push_reserved(b' ');
     put_flags(out, flags);
 }
 
@@ -109,7 +109,7 @@ fn put_write(out: &mut Vec<u8>, fd: i32, bytes: &Payload)
 {
     put(out, b"write ");
     put_descriptor(out, fd);
-    put(out, b" ");
+    out.push_reserved(b' ');
     put_data(out, bytes.part());
 }
 
@@ -156,7 +156,7 @@ fn put_pwrite(out: &mut Vec<u8>, fd: i32, start: i64, bytes: &Payload)
     put(out, b"pwrite ");
     put_descriptor(out, fd);
     put_next_signed(out, start);
-    put(out, b" ");
+    out.push_reserved(b' ');
     put_data(out, bytes.part());
 }
 
@@ -180,7 +180,7 @@ fn put_lseek(out: &mut Vec<u8>, fd: i32, offset: i64, whence: Whence)
     put(out, b"lseek ");
     put_descriptor(out, fd);
     put_next_signed(out, offset);
-    put(out, b" ");
+    out.push_reserved(b' ');
     put(out, whence_text(whence));
 }
 
@@ -299,7 +299,7 @@ fn put_link(out: &mut Vec<u8>, old: &Name, new: &Name)
 {
     put(out, b"link ");
     put_name(out, old.as_slice());
-    put(out, b" ");
+    out.push_reserved(b' ');
     put_name(out, new.as_slice());
 }
 

@@ -39,11 +39,18 @@ fn digit(value: u8) -> u8
     }
 }
 
+/// The two digits of a byte.
+pub(crate) fn hex_digits(byte: u8) -> [u8; 2]
+    ensures { result ≡ hex_pair byte }
+{
+    [digit(byte / 16), digit(byte % 16)]
+}
+
 /// Appends the two digits of a byte.
 pub(crate) fn put_hex(out: &mut Vec<u8>, byte: u8)
     requires { HasRoom out.old 2 }
     ensures text { out.new.items ≡ out.old.items ++ hex_pair byte }
     ensures room { UsesRoom out.old out.new 2 }
 {
-    put(out, &[digit(byte / 16), digit(byte % 16)]);
+    put(out, &hex_digits(byte));
 }

@@ -64,13 +64,13 @@ fn put_record(out: &mut Vec<u8>, place: u64, record: &Record)
     ensures { out.new.items ≡ out.old.items ++ record_line place «record».now }
 {
     put_number(out, place);
-    put(out, b" ");
+    out.push_reserved(b' ');
     put_actor(out, record.actor, &record.act);
-    put(out, b" ");
+    out.push_reserved(b' ');
     put_act(out, &record.act);
     put(out, b" = ");
     put_outcome(out, &record.outcome);
-    put(out, b"\n");
+    out.push_reserved(b'\n');
 }
 
 /// Appends the line of the record at a place, with its LF.
@@ -151,11 +151,11 @@ fn put_refused(out: &mut Vec<u8>, actor: u32, act: &ScriptAct, refusal: Refusal)
 {
     put(out, b"- ");
     put_script_actor(out, actor, act);
-    put(out, b" ");
+    out.push_reserved(b' ');
     put_script_act(out, act);
     put(out, b" = refused ");
     put(out, refusal_text(refusal));
-    put(out, b"\n");
+    out.push_reserved(b'\n');
 }
 
 /// Appends the line of an act that isn't recorded, with its LF. The actor of a join is the one that it would have had, and
@@ -181,7 +181,7 @@ fn put_still(out: &mut Vec<u8>, actor: u32, act: &ScriptAct)
 {
     put(out, b"- ");
     put_script_actor(out, actor, act);
-    put(out, b" ");
+    out.push_reserved(b' ');
     put_script_act(out, act);
     put(out, b" = still\n");
 }
@@ -207,7 +207,7 @@ fn put_totals(out: &mut Vec<u8>, records: u64, bytes_in: u64, bytes_out: u64)
     put_number(out, bytes_in);
     put(out, b" out ");
     put_number(out, bytes_out);
-    put(out, b"\n");
+    out.push_reserved(b'\n');
 }
 
 /// Appends the last line, of the number of records and of the bytes that went in and out, with its LF.

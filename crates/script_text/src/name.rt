@@ -9,7 +9,6 @@ ghost use Rattle.script_text.specs.ReadingNames.{decoded, first_decoded, name_of
 ghost use Rattle.script_text.specs.Room.{HasRoom, UsesRoom, name_room};
 
 use crate::hexadecimal::{byte_value, put_hex};
-use crate::put::put;
 use call_types::bounded::Name;
 use call_types::gathered::Gathered;
 use call_types::limits::GIVEN_NAME_MAX;
@@ -84,7 +83,7 @@ fn put_name_byte(out: &mut Vec<u8>, byte: u8)
         out.push_reserved(byte);
         return;
     }
-    put(out, b"%");
+    out.push_reserved(b'%');
     put_hex(out, byte);
 }
 
@@ -106,7 +105,7 @@ pub(crate) fn put_name(out: &mut Vec<u8>, name: &[u8])
     ensures room { UsesRoom out.old out.new (name_room name.now) }
 {
     if name.is_empty() {
-        put(out, b"%");
+        out.push_reserved(b'%');
         return;
     }
     put_name_bytes(out, name);

@@ -56,9 +56,9 @@ fn put_stat(out: &mut Vec<u8>, stat: Stat)
     ensures room { UsesRoom out.old out.new OUTCOME_ROOM }
 {
     put(out, kind_text(stat.kind));
-    put(out, b" ");
+    out.push_reserved(b' ');
     put_number(out, stat.size);
-    put(out, b" ");
+    out.push_reserved(b' ');
     put_number(out, stat.links as u64);
 }
 
@@ -69,7 +69,7 @@ fn put_pair(out: &mut Vec<u8>, first: u32, second: u32)
     ensures room { UsesRoom out.old out.new OUTCOME_ROOM }
 {
     put_number(out, first as u64);
-    put(out, b" ");
+    out.push_reserved(b' ');
     put_number(out, second as u64);
 }
 

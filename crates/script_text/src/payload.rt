@@ -9,7 +9,7 @@ ghost use Rattle.script_text.specs.Lines.{hex_pair, one_byte, data_word};
 ghost use Rattle.script_text.specs.ReadingData.{first_paired, hex_bytes, hex_data, repeated_data, data_of};
 ghost use Rattle.script_text.specs.Room.{HasRoom, UsesRoom, data_room};
 
-use crate::hexadecimal::{byte_value, put_hex};
+use crate::hexadecimal::{byte_value, hex_digits, put_hex};
 use crate::number::number_value;
 use crate::put::{put, put_number};
 use call_types::bounded::Payload;
@@ -135,7 +135,7 @@ fn put_repeated(out: &mut Vec<u8>, byte: u8, count: u64)
     ensures room { UsesRoom out.old out.new REPEATED_ROOM }
 {
     put_hex(out, byte);
-    put(out, b"*");
+    out.push_reserved(b'*');
     put_number(out, count);
 }
 
@@ -169,6 +169,18 @@ fn put_slice(out: &mut Vec<u8>, bytes: &[u8])
     }
 }
 
+/// Appends the digits of a byte, so many times.
+fn put_pairs(out: &mut Vec<u8>, byte: u8, count: usize)
+    requires { HasRoom out.old (2 * count) }
+    ensures text { out.new.items ≡ out.old.items ++ flat_map hex_pair (replicate count byte) }
+    ensures room { UsesRoom out.old out.new (2 * count) }
+{
+    let digits = hex_digits(byte);
+    for _pair in 0..count {
+        put(out, &digits);
+    }
+}
+
 /// Appends an `x` and the digits of a byte, so many times.
 fn put_few(out: &mut Vec<u8>, byte: u8, count: usize)
     requires few { count ≤ WRITTEN_OUT_MAX }
@@ -176,8 +188,8 @@ fn put_few(out: &mut Vec<u8>, byte: u8, count: usize)
     ensures text { out.new.items ≡ out.old.items ++ (codes "x" ++ flat_map hex_pair (replicate count byte)) }
     ensures room { UsesRoom out.old out.new (2 * count + 1) }
 {
-    let bytes = [byte; WRITTEN_OUT_MAX];
-    put_digits(out, &bytes[..count]);
+    out.push_reserved(b'x');
+    put_pairs(out, byte, count);
 }
 
 /// Appends data of one byte, which stands so many times.
