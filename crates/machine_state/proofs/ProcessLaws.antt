@@ -1,5 +1,5 @@
 -- Processes that come, change and go.
-use Rattle.std.proofs.Common.{◌≡◌, ℕ, zero, suc, ◌≤◌, ◌<◌, ◌∙◌, Bool, true, List, [], ◌∷◌, ◌++◌, Option, None, Some, length, set, refl, ap, sym, arith}
+use Rattle.std.proofs.Common.{◌≡◌, ℕ, zero, suc, ◌≤◌, ◌<◌, ◌∙◌, Bool, true, false, List, [], ◌∷◌, ◌++◌, Option, None, Some, length, set, refl, ap, sym, arith}
 use Rattle.std.specs.Prelude.{is_some}
 use Rattle.call_types.specs.declared.limits.TheConstants.{OPEN_MAX, PROCESSES_MAX}
 use Rattle.slots.specs.Slots.{slot, live, edited}
@@ -107,3 +107,21 @@ still_there [] p fd entry there = cc
 still_there (None ∷ ps) zero fd entry there = cc
 still_there (Some x ∷ ps) zero fd entry there = refl
 still_there (x ∷ ps) (suc p) fd entry there = still_there ps p fd entry there
+
+-- what is not taken is free
+pub is_free : (entry : Option ℕ) → is_some entry ≡ false → entry ≡ None
+is_free None free = refl
+is_free (Some n) free = cc
+
+-- what is free stays the same where it is freed
+cleared : {X : Type 0} (xs : List (Option X)) (n : ℕ) → slot xs n ≡ None → set xs n None ≡ xs
+cleared [] n free = refl
+cleared (x ∷ xs) zero free = ap (λ y. y ∷ xs) (sym free)
+cleared (x ∷ xs) (suc n) free = ap (λ ys. x ∷ ys) (cleared xs n free)
+
+-- so a descriptor that is not open can be freed, and nothing changes
+pub freed_again : (ps : List (Option Process)) (p fd : ℕ) → slot (table_of (slot ps p)) fd ≡ None → edited p (with_entry fd None) ps ≡ ps
+freed_again [] p fd free = refl
+freed_again (None ∷ ps) zero fd free = refl
+freed_again (Some x ∷ ps) zero fd free = ap (λ table. Some (record x { table = table }) ∷ ps) (cleared x.table fd free)
+freed_again (x ∷ ps) (suc p) fd free = ap (λ qs. x ∷ qs) (freed_again ps p fd free)

@@ -1,8 +1,9 @@
-ghost use Rattle.std.specs.Prelude.{◌≡◌, ℕ, ◌<◌, length};
+ghost use Rattle.std.specs.Prelude.{◌≡◌, ℕ, ◌<◌, None, length};
 ghost use Rattle.call_types.specs.declared.limits.TheConstants.{PROCESSES_MAX};
 ghost use Rattle.slots.specs.Slots.{slot, live};
 ghost use Rattle.posix_model.specs.Counts.{refs_of};
 ghost use Rattle.posix_model.specs.Change.{with_processes};
+ghost use Rattle.posix_model.specs.Descriptors.{with_descriptor};
 ghost use Rattle.posix_model.specs.Whole.{IsThere, EachThere};
 ghost use Rattle.posix_model.specs.Released.{IsSettled};
 ghost use Rattle.posix_model.specs.Fits.{CanAdd};
@@ -84,6 +85,21 @@ impl Machine {
         let _closed = &self.closed;
     }
 
+    /// Closes a descriptor of a process; one that is not open stays so.
+    fn close_one(&mut self, process: usize, fd: usize)
+        requires there { IsThere self.old.world.processes process }
+        requires below { fd < OPEN_MAX }
+        requires theirs { EndsAreTheirs self.old.world }
+        ensures world { self.new.world ≡ sweep (with_descriptor self.old.world process fd None) }
+        ensures capacity { self.new.room.capacity ≡ self.old.room.capacity }
+    {
+        sweep_releases();
+        self.is_settled();
+        if self.processes.descriptor(process, fd).is_some() {
+            self.set_entry(process, fd, None);
+        }
+    }
+
     /// Closes all descriptors of a process, one after another.
     fn close_all(&mut self, process: usize)
         requires there { IsThere self.old.world.processes process }
@@ -93,8 +109,7 @@ impl Machine {
     {
         sweep_leaves_wanted();
         for fd in 0..OPEN_MAX {
-            self.is_settled();
-            self.set_entry(process, fd, None);
+            self.close_one(process, fd);
         }
     }
 

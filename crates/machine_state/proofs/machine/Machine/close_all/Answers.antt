@@ -2,15 +2,12 @@ use Rattle.std.proofs.Common.{◌≡◌, ◌∙◌, ℕ, suc, ◌+◌, None, ap,
 use Rattle.posix_model.specs.Sweep.{sweep}
 use Rattle.posix_model.specs.Drops.{closed_below}
 use Rattle.posix_model.specs.Descriptors.{with_descriptor}
-use Rattle.machine_state.proofs.ProcessLaws.{can_close, still_there}
+use Rattle.machine_state.proofs.ProcessLaws.{still_there}
 use Rattle.machine_state.proofs.DropLaws.{swept_theirs}
 use Rattle.machine_state.proofs.machine.Machine.close_all.Goals as goal
 
 one_more : (n : ℕ) → n + 1 ≡ suc n
 one_more n = omega arith
-
-pub set_entry-requires-clause-fits : goal.set_entry-requires-clause-fits
-set_entry-requires-clause-fits c = can_close c.loop-fd.self.world c.args.process c.loop-fd.fd c.is_settled.ensures.tables c.loop-fd.invariant.there c.loop-fd-test.true
 
 pub loop-fd-preserved : goal.loop-fd-preserved
 loop-fd-preserved c =
@@ -18,9 +15,9 @@ loop-fd-preserved c =
     let v = with_descriptor w c.args.process c.loop-fd.fd None in
     record {
       world =
-          c.set_entry.ensures.world ∙ ap (λ w. sweep (with_descriptor w c.args.process c.loop-fd.fd None)) c.loop-fd.invariant.world ∙
+          c.close_one.ensures.world ∙ ap (λ w. sweep (with_descriptor w c.args.process c.loop-fd.fd None)) c.loop-fd.invariant.world ∙
           sym (ap (λ n. closed_below c.args.process n c.args.self.now.world) (one_more c.loop-fd.fd));
-      there = rw c.set_entry.ensures.world (still_there w.processes c.args.process c.loop-fd.fd None c.loop-fd.invariant.there);
-      theirs = rw c.set_entry.ensures.world (swept_theirs v (sweep v) (c.sweep_leaves_wanted.ensures v) c.loop-fd.invariant.theirs);
-      capacity = c.set_entry.ensures.capacity ∙ c.loop-fd.invariant.capacity;
+      there = rw c.close_one.ensures.world (still_there w.processes c.args.process c.loop-fd.fd None c.loop-fd.invariant.there);
+      theirs = rw c.close_one.ensures.world (swept_theirs v (sweep v) (c.sweep_leaves_wanted.ensures v) c.loop-fd.invariant.theirs);
+      capacity = c.close_one.ensures.capacity ∙ c.loop-fd.invariant.capacity;
     }
