@@ -4,14 +4,23 @@ use crate::tally::PARTS;
 use std::marker::{Brand, Model, PhantomData};
 use std::sync::ledger::{Blank, Ledger};
 
-/// A run, as types name it: what its three ledgers are called. What is of one run does not fit to another.
+/// A run, as types name it: what its three ledgers are called, and what limits it has, where it has any. What is of one run does not
+/// fit to another.
 pub trait Ledgers {
+    ghost use Rattle.std.specs.Prelude.{Option};
     ghost use Rattle.byte_ledger.specs.Counted.{Names};
+    ghost use Rattle.call_types.specs.declared.limits.Limits.{Limits};
 
     ghost names: { Names };
+
+    ghost limits: { Option Limits };
 }
 
 impl Ledgers for Brand {
+    ghost use Rattle.std.specs.Prelude.{None};
+
+    ghost limits = { None };
+
     ghost names = { record { records = 0; bytes_in = 0; bytes_out = 0 } };
 }
 

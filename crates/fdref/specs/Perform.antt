@@ -14,4 +14,4 @@ IsUnheard old new end = (end ≡ ended.CannotListen) × (new ≡ old)
 -- a script is run on the input, or sessions are served and reported
 abbrev pub Performs : Job → Option (List ℕ) → Option (List ℕ) → Option (List ℕ) → Ended → Type 0
 Performs (job.Replay limits) input old new end = Ends limits input old new end
-Performs (job.Serve socket sessions limits) input old new end = Reports sessions old new end ⊎ IsUnheard old new end
+Performs (job.Serve socket sessions limits) input old new end = Reports limits sessions old new end ⊎ IsUnheard old new end

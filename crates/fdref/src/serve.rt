@@ -1,6 +1,6 @@
 //! A run of sessions, and the line that reports it.
 
-ghost use Rattle.std.specs.Prelude.{◌≡◌, ◌++◌, ◌+◌, ◌<◌, ◌^◌, codes, decimal, vec_len, IfOk};
+ghost use Rattle.std.specs.Prelude.{◌≡◌, ◌++◌, ◌+◌, ◌<◌, ◌^◌, Some, codes, decimal, vec_len, IfOk};
 ghost use Rattle.fdref.specs.Serve.{Reports, end_of, ended_by, report_line};
 ghost use Rattle.fdref.specs.declared.ended.Ended.TheVariants as ended;
 
@@ -51,7 +51,7 @@ fn ended_by(fault: RunFault) -> Ended
     }
 }
 
-/// Serves so many sessions, counted by these ledgers, and writes the line of their report.
+/// Serves so many sessions within these limits, counted by these ledgers, and writes the line of their report.
 fn serve_with<
     Rt: Threads + Wait + Copy + Send + 'static,
     S: Source + Send + 'static,
@@ -68,7 +68,8 @@ fn serve_with<
 ) -> Ended
     requires failures { S.failures source.old + 1 < 2 ^ 64 }
     requires ledgers { blanks ≡ L.names }
-    ensures reports { Reports sessions (W.contents writer.old) (W.contents writer.new) result }
+    requires limits { L.limits ≡ Some limits }
+    ensures reports { Reports limits sessions (W.contents writer.old) (W.contents writer.new) result }
     ensures failed { result ≡ ended.CannotListen → S.failures source.new ≡ S.failures source.old + 1 }
 {
     let ran = run_sessions::<Rt, S, OpenGate, L>(
@@ -88,7 +89,7 @@ fn serve_with<
     }
 }
 
-/// Serves so many sessions, and writes the line of their report.
+/// Serves so many sessions within these limits, and writes the line of their report.
 pub fn serve_on<Rt: Threads + Wait + Copy + Send + 'static, S: Source + Send + 'static, W: Write>(
     rt: Rt,
     alloc: Global,
@@ -98,7 +99,7 @@ pub fn serve_on<Rt: Threads + Wait + Copy + Send + 'static, S: Source + Send + '
     writer: &mut W,
 ) -> Ended
     requires failures { S.failures source.old + 1 < 2 ^ 64 }
-    ensures reports { Reports sessions (W.contents writer.old) (W.contents writer.new) result }
+    ensures reports { Reports limits sessions (W.contents writer.old) (W.contents writer.new) result }
     ensures failed { result ≡ ended.CannotListen → S.failures source.new ≡ S.failures source.old + 1 }
 {
     serve_with::<Rt, S, W, Brand>(rt, alloc, source, sessions, limits, Blanks::new(), writer)

@@ -6,6 +6,7 @@ use Rattle.posix_model.specs.Turns.{bytes_in, bytes_out}
 use Rattle.record_book.specs.Seat.{Receipted, SeatState}
 use Rattle.call_types.specs.declared.act.Record.{Record}
 use Rattle.call_types.specs.declared.act.TheConstants.{HOUSE}
+use Rattle.call_types.specs.declared.limits.Limits.{Limits}
 use Rattle.run_core.specs.Receipts.{Held, IsSound}
 use Rattle.record_book.specs.Book.{BookState, world_now}
 use Rattle.record_book.specs.Counting.{seats_given}
@@ -41,9 +42,10 @@ abbrev pub failures_after : ℕ → Option Shortage → ℕ
 failures_after before (Some shortage.NoConnection) = before + 1
 failures_after before other = before
 
--- these are the sums of a legal run that is closed
-pub record IsClosedRun (records taken given : ℕ) : Type 0 where
+-- these are the sums of a legal run within these limits that is closed
+pub record IsClosedRun (limits : Limits) (records taken given : ℕ) : Type 0 where
   pub book : BookState
+  pub limits_are : book.limits ≡ limits
   pub is_legal : legal book.limits.bounds book.history
   pub closed : (world_now book).closed ≡ true
   pub records_are : records ≡ length book.history
@@ -70,10 +72,10 @@ pub record AreAllWithHouse (h : List Record) (held : List Held) : Type 0 where
 abbrev pub IsLeast : List Record → List Held → ℕ → Type 0
 IsLeast h held place = (IsSound h held place → ⊥) × ((p : ℕ) → p < place → IsSound h held p)
 
--- the sums of a legal run that is closed, gathered from all shares, of which each record stands in one receipt of these holders or of
--- the house
-pub record IsRunOf (records taken given : ℕ) (held : List Held) : Type 0 where
-  pub run : IsClosedRun records taken given
+-- the sums of a legal run within these limits that is closed, gathered from all shares, of which each record stands in one receipt of
+-- these holders or of the house
+pub record IsRunOf (limits : Limits) (records taken given : ℕ) (held : List Held) : Type 0 where
+  pub run : IsClosedRun limits records taken given
   pub shares : List Counted
   pub gathered : IsGathered run.book shares records taken given
   pub house : List Receipted

@@ -190,6 +190,7 @@ fn close_and_compare<L: Ledgers, T: HasReceipts>(
     holders: &[T],
     shares: Vec<Shares<L>>,
 ) -> Result<Closed<L>, RunFault>
+    ensures limits { book.new.limits ≡ book.old.limits }
     ensures is_legal { OnOk result (legal book.new.limits.bounds book.new.history) }
     ensures closed { OnOk result ((world_now book.new).closed ≡ true) }
     ensures all { IfOk result (λ told. told.least ≡ None → AreAllWithHouse book.new.history (map T.held holders.now)) }
@@ -215,7 +216,7 @@ pub(crate) fn end_run<L: Ledgers, T: HasReceipts>(
     holders: &[T],
     shares: Vec<Shares<L>>,
 ) -> Result<Sums, RunFault>
-    ensures { IfOk result (λ sums. IsRunOf sums.records sums.bytes_in sums.bytes_out (map T.held holders.now)) }
+    ensures { IfOk result (λ sums. IsRunOf book.limits sums.records sums.bytes_in sums.bytes_out (map T.held holders.now)) }
 {
     let mut book = book;
     let closed = close_and_compare(alloc, &mut book, holders, shares)?;

@@ -262,7 +262,8 @@ fn shared_by<G: Gate, L: Ledgers>(
     blanks: Blanks,
     gate: G,
 ) -> Result<Shared<G, L>, AllocError>
-    requires { blanks ≡ L.names }
+    requires ledgers { blanks ≡ L.names }
+    requires limits { L.limits ≡ Some limits }
 {
     Ok(Shared {
         lock: Arc::new(alloc, SystemLock::new(alloc, limits, blanks)?)?,
@@ -288,8 +289,9 @@ pub fn run_sessions<
 ) -> Result<Report<S::Reader, S::Writer>, RunFault>
     requires failures { S.failures source.old + 1 < 2 ^ 64 }
     requires ledgers { blanks ≡ L.names }
+    requires limits { L.limits ≡ Some limits }
     ensures failures { IfOk result (λ report. S.failures source.new ≡ failures_after (S.failures source.old) report.shortage) }
-    ensures run { IfOk result (λ report. IsRunOf report.records report.bytes_in report.bytes_out (map (λ s. held_by s.process) report.ends.items)) }
+    ensures run { IfOk result (λ report. IsRunOf limits report.records report.bytes_in report.bytes_out (map (λ s. held_by s.process) report.ends.items)) }
     ensures few { IfOk result (λ report. vec_len report.ends ≤ sessions) }
     ensures all { IfOk result (λ report. report.shortage ≡ None → vec_len report.ends ≡ sessions) }
     ensures short { IfOk result (λ report. IfSome report.shortage (λ _. vec_len report.ends < sessions)) }

@@ -1,6 +1,6 @@
 //! The kernel of a run: one lock round a book and the processes that sleep.
 
-ghost use Rattle.std.specs.Prelude.{◌≡◌};
+ghost use Rattle.std.specs.Prelude.{◌≡◌, Some};
 ghost use Rattle.system_lock.specs.Kernel.{FinishesBy, HangsUpBy};
 
 use crate::acts::Tried;
@@ -18,7 +18,7 @@ use std::alloc::{AllocError, Global};
 use std::sync::{Mutex, Wait};
 
 /// A system that any thread may ask: each holding of its lock is one event, of which at most one record comes. A process
-/// whose call is not ready sleeps until an event makes it ready. Its type names the ledgers of its book, so another book does not fit.
+/// whose call is not ready sleeps until an event makes it ready. Its type names the ledgers and the limits of its book, so another book does not fit.
 #[derive(Drop)]
 pub struct SystemLock<L: Ledgers> {
     alloc: Global,
@@ -27,9 +27,10 @@ pub struct SystemLock<L: Ledgers> {
 }
 
 impl<L: Ledgers> SystemLock<L> {
-    /// The kernel of a run that has no records yet.
+    /// The kernel of a run that has no records yet, under the limits that its type names.
     pub fn new(alloc: Global, limits: Limits, blanks: Blanks) -> Result<Self, AllocError>
-        requires { blanks ≡ L.names }
+        requires ledgers { blanks ≡ L.names }
+        requires limits { L.limits ≡ Some limits }
     {
         Ok(SystemLock {
             alloc,

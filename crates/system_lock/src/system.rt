@@ -1,6 +1,6 @@
 //! A book, and the processes that sleep: what stands under the lock of a run.
 
-ghost use Rattle.std.specs.Prelude.{◌≡◌, [], false, not, All, IfOk};
+ghost use Rattle.std.specs.Prelude.{◌≡◌, [], Some, false, not, All, IfOk};
 ghost use Rattle.system_lock.specs.Kernel.{IsOpening, OpensBy, CallsBy, HangsUpBy};
 ghost use Rattle.system_lock.specs.Acts.{TriesBy};
 ghost use Rattle.system_lock.specs.System.{SleepsSound, is_ready_in};
@@ -22,7 +22,8 @@ use record_book::seat::{Receipt, Seat};
 use std::alloc::{AllocError, Global};
 use std::marker::Model;
 
-/// A book, and the numbers of the processes that sleep until the call that they wait in is ready. None of these is ready.
+/// A book, which has the limits that its type names, and the numbers of the processes that sleep until the call that they wait in is
+/// ready. None of these is ready.
 #[derive(Drop)]
 pub struct System<L: Ledgers> {
     book: Book<L>,
@@ -30,13 +31,14 @@ pub struct System<L: Ledgers> {
 }
 
 impl<L: Ledgers> Model for System<L> {
+    ghost use Rattle.std.specs.Prelude.{◌≡◌, Some};
     ghost use Rattle.system_lock.specs.System.{SystemState, SleepsSound};
 
     ghost Value = { SystemState };
 
     ghost view = { λ s. record { book_is = s.book; asleep_are = s.asleep.items } };
 
-    ghost invariant = { λ s. SleepsSound s.book s.asleep.items };
+    ghost invariant = { λ s. SleepsSound s.book s.asleep.items × (L.limits ≡ Some s.book.limits) };
 }
 
 /// Whether a process that sleeps is to sleep on, since its call is not ready; else it is woken.
@@ -61,7 +63,8 @@ fn wake_ready<L: Ledgers>(asleep: &mut Vec<u32>, book: &Book<L>, bells: &Bells)
 impl<L: Ledgers> System<L> {
     /// A new book, in which no process sleeps.
     pub(crate) fn new(alloc: Global, limits: Limits, blanks: Blanks) -> Result<Self, AllocError>
-        requires { blanks ≡ L.names }
+        requires ledgers { blanks ≡ L.names }
+        requires limits { L.limits ≡ Some limits }
         ensures { IfOk result (λ system. system ≡ record { book_is = new_book limits; asleep_are = [] }) }
     {
         Ok(System {
@@ -80,7 +83,8 @@ impl<L: Ledgers> System<L> {
 
     /// The book.
     pub fn into_book(self) -> Book<L>
-        ensures { result ≡ self.book_is }
+        ensures book { result ≡ self.book_is }
+        ensures limits { L.limits ≡ Some result.limits }
     {
         self.book
     }

@@ -1,6 +1,6 @@
 //! Sessions of one run go on side by side, each answer is written once its gate lets it through, and no lock is held meanwhile.
 
-ghost use Rattle.std.specs.Prelude.{◌≡◌, ◌≤◌, ◌+◌, ◌<◌, ◌^◌, length};
+ghost use Rattle.std.specs.Prelude.{◌≡◌, ◌≤◌, ◌+◌, ◌<◌, ◌^◌, Some, length};
 
 use byte_ledger::ledgers::{Blanks, Ledgers};
 use call_types::call::Call;
@@ -89,7 +89,8 @@ fn report_of<
     limits: Limits,
     blanks: Blanks,
 ) -> Option<Report<R, W>>
-    requires { blanks ≡ L.names }
+    requires ledgers { blanks ≡ L.names }
+    requires limits { L.limits ≡ Some limits }
 {
     let sessions = connections.len();
     let mut source = Waiting {
@@ -333,7 +334,8 @@ fn under_a_gate<Rt: Threads + Wait + Copy + Send + 'static, L: Ledgers + Send + 
     limits: Limits,
     blanks: Blanks,
 ) -> Result<Option<(End, usize, u32, usize, u64)>, AllocError>
-    requires { blanks ≡ L.names }
+    requires ledgers { blanks ≡ L.names }
+    requires limits { L.limits ≡ Some limits }
 {
     let mut connections = Vec::with_capacity(alloc, 1)?;
     connections.push(plain(alloc)?)?;

@@ -7,6 +7,7 @@ returns-in-None g c =
     record {
       run = record {
         book = c.close_and_compare.new.book;
+        limits_are = c.close_and_compare.ensures.limits;
         is_legal = c.in_ok-closed.ensures.is_legal;
         closed = c.in_ok-closed.ensures.closed;
         records_are = sums.records;

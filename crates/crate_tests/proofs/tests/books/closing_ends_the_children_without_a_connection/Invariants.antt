@@ -1,5 +1,6 @@
 -- The ledgers of the run are those that the call makes.
+use Rattle.std.specs.Prelude.{None}
 use Rattle.crate_tests.proofs.tests.books.closing_ends_the_children_without_a_connection.Given as goal
 
 abbrev pub ghosts-ends_orphans : goal.ghosts-ends_orphans
-ghosts-ends_orphans g a = record { names = a.blanks }
+ghosts-ends_orphans g a = record { names = a.blanks; limits = None }

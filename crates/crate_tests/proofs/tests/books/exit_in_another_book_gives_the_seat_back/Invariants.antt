@@ -1,5 +1,6 @@
 -- The ledgers of the run are those that the call makes.
+use Rattle.std.specs.Prelude.{None}
 use Rattle.crate_tests.proofs.tests.books.exit_in_another_book_gives_the_seat_back.Given as goal
 
 abbrev pub ghosts-gives_the_seat_back : goal.ghosts-gives_the_seat_back
-ghosts-gives_the_seat_back g a = record { names = a.blanks }
+ghosts-gives_the_seat_back g a = record { names = a.blanks; limits = None }

@@ -1,5 +1,6 @@
 -- The ledgers of the run are those that the call makes.
+use Rattle.std.specs.Prelude.{None}
 use Rattle.crate_tests.proofs.tests.books.seat_has_its_receipts_and_is_of_one_book.Given as goal
 
 abbrev pub ghosts-is_of_one_book : goal.ghosts-is_of_one_book
-ghosts-is_of_one_book g a = record { names = a.blanks }
+ghosts-is_of_one_book g a = record { names = a.blanks; limits = None }

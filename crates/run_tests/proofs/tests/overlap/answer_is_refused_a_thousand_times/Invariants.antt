@@ -1,5 +1,6 @@
--- The ledgers of the run are those that the call makes.
+-- The ledgers of the run are those that the call makes, and its limits those that it is given.
+use Rattle.std.specs.Prelude.{Some}
 use Rattle.run_tests.proofs.tests.overlap.answer_is_refused_a_thousand_times.Given as goal
 
 abbrev pub ghosts-under_a_gate : goal.ghosts-under_a_gate
-ghosts-under_a_gate g a = record { names = a.blanks }
+ghosts-under_a_gate g a = record { names = a.blanks; limits = Some a.limits }
