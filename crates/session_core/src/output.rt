@@ -158,7 +158,7 @@ impl<W: Write, G: Gate> Output<W, G> {
     /// Writes what is not written yet, if it is much, or if the gate has to be asked for each answer.
     pub(crate) fn flush_much(&mut self) -> Result<(), WriterFailed>
         ensures ok { OnOk result (Flushes self.old self.new) }
-        ensures few { OnOk result (length self.new.unsent < GATHERED) }
+        ensures few { OnOk result (length self.new.unsent < 65536) }
         ensures one { OnOk result (G.is_open ≡ false → self.new.unsent ≡ []) }
         ensures err { OnErr result (FailsToSend self.old self.new) }
     {
