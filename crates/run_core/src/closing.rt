@@ -194,6 +194,7 @@ fn close_and_compare<L: Ledgers, T: HasReceipts>(
     ensures is_legal { OnOk result (legal book.new.limits.bounds book.new.history) }
     ensures closed { OnOk result ((world_now book.new).closed ≡ true) }
     ensures all { IfOk result (λ told. told.least ≡ None → AreAllWithHouse book.new.history (map T.held holders.now)) }
+    ensures one_more { IfOk result (λ told. vec_len told.shares ≡ vec_len shares + 1) }
 {
     let mut shares = shares;
     let house = match book.close_run() {
