@@ -1,5 +1,5 @@
 #!/usr/bin/env python3
-"""Prints the table of sizes of docs/MEASUREMENTS.md: lines of code, tests, definitions and proofs of each crate, and its edits.
+"""Prints how many lines of code, tests, definitions and proofs each crate has, and how many edits.
 
 usage: bench/sizes.py
 
