@@ -1,0 +1,315 @@
+"""The bytes of sessions: requests and answers as frames, written and read. It is written from docs/FORMATS.md alone.
+
+Requests and answers are told as lines: a request as `join`, or with `= still` after it, and an answer as that of a fork
+of process 0.
+"""
+
+from collections.abc import Callable, Iterable
+from typing import Any, NamedTuple
+
+from support import plain_model
+
+# The greatest length of a payload.
+MOST = {"requests": 65_792, "answers": 66_048}
+
+FLAG_WORDS = ("creat", "excl", "trunc", "append", "nonblock")
+MODES = ("-", "r", "w", "rw")
+BASES = ("set", "cur", "end")
+TYPES = ("regular", "fifo", "pipe")
+ERRORS = (
+    "EBADF EINVAL ESPIPE EFBIG EOVERFLOW ENOENT EEXIST EMLINK ENAMETOOLONG EMFILE ENFILE ENOSPC EAGAIN EPIPE ENXIO ESRCH"
+).split()
+REFUSALS = {17: "NoMemory", 18: "RunFull", 19: "Waiting", 20: "NotHere", 21: "Foreign"}
+
+
+class Malformed(Exception):
+    """The payload is none of its kind."""
+
+
+# ---- numbers and bytes
+
+
+def framed(*payloads: bytes) -> bytes:
+    """Payloads as frames."""
+    return b"".join(len(payload).to_bytes(4, "big") + payload for payload in payloads)
+
+
+def u32(number: int) -> bytes:
+    """A number of 32 bits, with a sign or without."""
+    return (number % 2**32).to_bytes(4, "big")
+
+
+def u64(number: int) -> bytes:
+    """A number of 64 bits, with a sign or without."""
+    return (number % 2**64).to_bytes(8, "big")
+
+
+def counted(some: bytes) -> bytes:
+    """Bytes after their number, which has 32 bits."""
+    return u32(len(some)) + some
+
+
+def named(some: bytes) -> bytes:
+    """Bytes after their number, which is one byte."""
+    return bytes([len(some)]) + some
+
+
+class Payload:
+    """A payload, read from left to right."""
+
+    def __init__(self, payload: bytes) -> None:
+        self.rest = payload
+
+    def take(self, count: int) -> bytes:
+        """So many bytes."""
+        if len(self.rest) < count:
+            raise Malformed
+        front, self.rest = self.rest[:count], self.rest[count:]
+        return front
+
+    def number(self, count: int, signed: bool = False) -> int:
+        """A number of so many bytes."""
+        return int.from_bytes(self.take(count), "big", signed=signed)
+
+    def data(self, most: int) -> str:
+        """Bytes after their number, as a line has them."""
+        count = self.number(4)
+        if count > most:
+            raise Malformed
+        return plain_model.data_text(self.take(count))
+
+    def one_of(self, words: dict[int, str]) -> str:
+        """The word of a byte."""
+        byte = self.number(1)
+        if byte not in words:
+            raise Malformed
+        return words[byte]
+
+
+# ---- the fields of calls
+
+
+class Field(NamedTuple):
+    """A kind of field: how it is read, as a line has it, and how a value is written."""
+
+    read: Callable[[Payload], str]
+    write: Callable[[Any], bytes]
+
+
+def flags_text(bits: int) -> str:
+    """Flags, as a line has them."""
+    words = [word for place, word in enumerate(FLAG_WORDS) if bits >> (place + 2) & 1]
+    return ",".join([MODES[bits & 3], *words])
+
+
+def read_flags(payload: Payload) -> str:
+    """Flags, of which a byte has seven."""
+    bits = payload.number(1)
+    if bits > 127:
+        raise Malformed
+    return flags_text(bits)
+
+
+def flags_byte(text: str) -> bytes:
+    """Flags, as a frame has them."""
+    mode, *others = text.split(",")
+    return bytes([MODES.index(mode) + sum(4 << FLAG_WORDS.index(word) for word in others)])
+
+
+FLAGS = Field(read_flags, flags_byte)
+NAME = Field(lambda payload: plain_model.name_text(payload.take(payload.number(1))), named)
+FD = Field(lambda payload: str(payload.number(4, signed=True)), u32)
+COUNT = Field(lambda payload: str(payload.number(4)), u32)
+PLACE = Field(lambda payload: str(payload.number(8, signed=True)), u64)
+DATA = Field(lambda payload: payload.data(plain_model.DATA_MOST), counted)
+WHENCE = Field(lambda payload: payload.one_of(dict(enumerate(BASES))), lambda base: bytes([BASES.index(base)]))
+
+
+class Form(NamedTuple):
+    """The form of a call: its word, and its fields in the order of frames."""
+
+    word: str
+    fields: tuple[Field, ...] = ()
+
+
+# The byte of each call, and its form.
+CALLS = {
+    16: Form("open", (FLAGS, NAME)),
+    17: Form("close", (FD,)),
+    18: Form("read", (FD, COUNT)),
+    19: Form("write", (FD, DATA)),
+    20: Form("pread", (FD, PLACE, COUNT)),
+    21: Form("pwrite", (FD, PLACE, DATA)),
+    22: Form("lseek", (FD, PLACE, WHENCE)),
+    23: Form("ftruncate", (FD, PLACE)),
+    24: Form("dup", (FD,)),
+    25: Form("dup2", (FD, FD)),
+    26: Form("pipe"),
+    27: Form("mkfifo", (NAME,)),
+    28: Form("link", (NAME, NAME)),
+    29: Form("unlink", (NAME,)),
+    30: Form("fstat", (FD,)),
+    31: Form("fork"),
+}
+
+
+# ---- requests and answers, written
+
+JOIN = framed(b"\x01")
+
+
+def attach_frame(number: int) -> bytes:
+    """The frame of the request that attaches a child."""
+    return framed(b"\x02" + u32(number))
+
+
+def call_frame(line: str) -> bytes:
+    """The frame of a call that a line of a script spells."""
+    act = plain_model.read_act(line.encode())
+    byte = next(byte for byte, form in CALLS.items() if form.word == act.word)
+    # an open has its flags first
+    values = act.fields[::-1] if act.word == "open" else act.fields
+    fields = zip(CALLS[byte].fields, values, strict=True)
+    return framed(bytes([byte]) + b"".join(field.write(value) for field, value in fields))
+
+
+def request_frame(request: str) -> bytes:
+    """The frame of a request: `join`, `attach N`, or a call as in a script, without its actor."""
+    word, *others = request.split(" ")
+    if word == "join":
+        return JOIN
+    return attach_frame(int(others[0])) if word == "attach" else call_frame(f"p0 {request}")
+
+
+def session_frames(lines: Iterable[str]) -> bytes:
+    """The requests of a session that joins and makes these calls."""
+    return JOIN + b"".join(call_frame(line) for line in lines)
+
+
+def outcome_bytes(text: str) -> bytes:
+    """An outcome that a line has, as an answer has it."""
+    word, *others = text.split(" ")
+    if word == "ok":
+        return b"\x01"
+    if word == "error":
+        return bytes([6, ERRORS.index(others[0]) + 1])
+    if word in ("parked", "part"):
+        return bytes([7 if word == "parked" else 8]) + u32(int(others[0]))
+    if word in TYPES:
+        return bytes([5, TYPES.index(word)]) + u64(int(others[0])) + u32(int(others[1]))
+    if others:
+        return b"\x04" + u32(int(word)) + u32(int(others[0]))
+    if word.isdigit():
+        return b"\x02" + u64(int(word))
+    data = plain_model.read_data(word.encode())
+    if data is None:
+        raise ValueError(f"{text} is no outcome")
+    return b"\x03" + counted(data)
+
+
+def recorded(place: int, outcome: str) -> bytes:
+    """The payload of an answer that has a place."""
+    return b"\x01" + u64(place) + outcome_bytes(outcome)
+
+
+def refused(reason: str) -> bytes:
+    """The payload of an answer that has none, for each reason but Foreign, which has two numbers more."""
+    return bytes([2, next(byte for byte, word in REFUSALS.items() if word == reason)])
+
+
+# ---- requests and answers, read
+
+
+def read_request(payload: Payload) -> str:
+    """The line of a request."""
+    byte = payload.number(1)
+    if byte == 1:
+        return "join"
+    if byte == 2:
+        process = payload.number(4)
+        return f"- p{process} attach = still"
+    if byte not in CALLS:
+        raise Malformed
+    word, kinds = CALLS[byte]
+    fields = [field.read(payload) for field in kinds]
+    if word == "open":
+        fields.reverse()
+    return " ".join(["- p0", word, *fields, "= still"])
+
+
+def read_outcome(payload: Payload) -> str:
+    """An outcome, as a line has it."""
+    byte = payload.number(1)
+    if byte == 1:
+        return "ok"
+    if byte == 2:
+        return str(payload.number(8))
+    if byte == 3:
+        return payload.data(plain_model.TRANSFER_MAX)
+    if byte == 4:
+        return f"{payload.number(4)} {payload.number(4)}"
+    if byte == 5:
+        kind = payload.one_of(dict(enumerate(TYPES)))
+        return f"{kind} {payload.number(8)} {payload.number(4)}"
+    if byte == 6:
+        return "error " + payload.one_of(dict(enumerate(ERRORS, 1)))
+    if byte in (7, 8):
+        return f"{'parked' if byte == 7 else 'part'} {payload.number(4)}"
+    raise Malformed
+
+
+def read_answer(payload: Payload) -> str:
+    """The line of an answer, for an act that is a fork of process 0."""
+    if payload.one_of({1: "recorded", 2: "refused"}) == "recorded":
+        at = payload.number(8)
+        return f"{at} p0 fork = {read_outcome(payload)}"
+    reason = payload.one_of(REFUSALS)
+    if reason == "Foreign":
+        payload.take(16)
+    return f"- p0 fork = refused {reason}"
+
+
+READERS = {"requests": read_request, "answers": read_answer}
+
+
+def line_of(kind: str, some: bytes) -> str:
+    """The line of a payload's value."""
+    payload = Payload(some)
+    line = READERS[kind](payload)
+    if payload.rest:
+        raise Malformed
+    return line
+
+
+# ---- streams
+
+
+class Stream:
+    """The frames of a stream: where each ends and its line, and the stream's fault with where it is known, if any."""
+
+    def __init__(self, kind: str, stream: bytes) -> None:
+        self.kind = kind
+        self.stream = stream
+        self.frames: list[tuple[int, str]] = []
+        self.fault: str | None = None
+        self.known: int | None = None
+        at = 0
+        while len(stream) - at >= 4:
+            length = int.from_bytes(stream[at : at + 4], "big")
+            if length > MOST[kind]:
+                self.fault, self.known = f"too long {at}", at + 4
+                break
+            end = at + 4 + length
+            if end > len(stream):
+                break
+            try:
+                self.frames.append((end, line_of(kind, stream[at + 4 : end])))
+            except Malformed:
+                self.fault, self.known = f"malformed {at}", end
+                break
+            at = end
+        self.whole = at
+
+    def told(self, end: int) -> str:
+        """What is known of the stream at an end: its fault, or that it goes on."""
+        return self.fault if self.fault and self.known is not None and self.known <= end else "more"

@@ -1,0 +1,23 @@
+"""Where things are: the top folder of the tree, and the programs that are built in it."""
+
+from pathlib import Path
+
+TOP = Path(__file__).resolve().parents[2]
+TESTS = TOP / "tests"
+ROWS = TESTS / "rows"
+STAND_INS = TESTS / "stand_ins"
+CRATES = TOP / "crates"
+EXAMPLES = TOP / "examples"
+CLIENT = TOP / "clients" / "python"
+TOOLS = TOP / "tools"
+
+
+def built(crate: str) -> Path:
+    """Where the program of a crate is, once it is built."""
+    return CRATES / crate / "out" / crate
+
+
+FDREF = built("fdref")
+MEMORY_TRIAL = built("memory_trial")
+FRAME_TRIAL = built("frame_trial")
+SESSION_TRIAL = built("session_trial")

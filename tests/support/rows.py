@@ -1,0 +1,46 @@
+"""The rows: each folder of tests/rows is a run of `fdref replay`, with what it has to give.
+
+`script` is its standard input, `args` (if there) its words after `replay`, one a line, `stdout` what it must write on
+standard output, `stderr` (if there) the text that it must write on standard error, without the end of its last line,
+and `status` (0 where it is missing) its exit status.
+"""
+
+from pathlib import Path
+
+from support.places import ROWS
+from support.running import Ran
+
+
+class Row:
+    """One row. Its files are read when they are asked for."""
+
+    def __init__(self, folder: Path) -> None:
+        self.folder = folder
+        self.name = folder.name
+
+    def has(self, name: str) -> bool:
+        """Whether a file is there."""
+        return (self.folder / name).exists()
+
+    def read(self, name: str, default: bytes) -> bytes:
+        """A file, or what stands for it where it is not there."""
+        return (self.folder / name).read_bytes() if self.has(name) else default
+
+    def script(self) -> bytes:
+        """The standard input of the run."""
+        return (self.folder / "script").read_bytes()
+
+    def words(self) -> list[str]:
+        """The words after `replay`."""
+        return self.read("args", b"").decode().splitlines()
+
+    def wanted(self) -> Ran:
+        """What the run has to give."""
+        error = self.read("stderr", b"").removesuffix(b"\n")
+        stdout = (self.folder / "stdout").read_bytes()
+        return Ran(int(self.read("status", b"0")), stdout, error + b"\n" if error else b"")
+
+
+def rows() -> list[Row]:
+    """All rows, in the order of their names."""
+    return [Row(folder) for folder in sorted(ROWS.iterdir()) if folder.is_dir()]

@@ -1,0 +1,194 @@
+"""A server as the tests run it, and clients of it, whose waits are all bounded."""
+
+import os
+import select
+import signal
+import socket
+import subprocess
+import tempfile
+import time
+from collections.abc import Mapping, Sequence
+from types import TracebackType
+from typing import IO, Self
+
+from support import frames
+from support.counting import Failure, require
+from support.running import Ran, StillRunning
+
+SECONDS = 10
+A_WHILE = 0.3
+ALL_RECORDS = 1_000_000
+
+Process = subprocess.Popen[bytes]
+
+
+# ---- the server
+
+
+class Server:
+    """The program as it serves, at a socket in a folder of its own."""
+
+    def __init__(
+        self,
+        program: str,
+        count: int,
+        records: int = 10_000,
+        stdout: int | IO[bytes] = subprocess.PIPE,
+        env: Mapping[str, str] | None = None,
+    ) -> None:
+        self.folder = tempfile.TemporaryDirectory(prefix="fdref-")
+        self.path = os.path.join(self.folder.name, "socket")
+        self.clients: list[Client] = []
+        self.process = started(serve_words(program, self.path, count, records), stdout, env)
+
+    def __enter__(self) -> Self:
+        return self
+
+    def __exit__(
+        self, kind: type[BaseException] | None, raised: BaseException | None, trace: TracebackType | None
+    ) -> None:
+        for client in self.clients:
+            client.vanish()
+        if self.is_running():
+            os.killpg(self.process.pid, signal.SIGKILL)
+        self.process.communicate()
+        self.folder.cleanup()
+
+    def client(self) -> "Client":
+        """A client that has connected."""
+        client = Client(self.path, self.process)
+        self.clients.append(client)
+        return client
+
+    def is_running(self) -> bool:
+        """Whether it has not ended."""
+        return self.process.poll() is None
+
+    def ended(self, line: bytes, status: int = 0, stderr: bytes = b"") -> None:
+        """The server ends by itself, prints the line, leaves no process, and the socket is where it was."""
+        given = outcome_of(self.process)
+        require(given == (status, line, stderr), f"wanted {(status, line, stderr)}, given {tuple(given)}")
+        require(os.path.exists(self.path), "the socket is gone")
+
+
+def started(
+    words: Sequence[str], stdout: int | IO[bytes] = subprocess.PIPE, env: Mapping[str, str] | None = None
+) -> Process:
+    """A process in a group of its own, so that what it leaves can be seen."""
+    return subprocess.Popen(
+        words,
+        stdin=subprocess.DEVNULL,
+        stdout=stdout,
+        stderr=subprocess.PIPE,
+        cwd="/",
+        env=env,
+        start_new_session=True,
+    )
+
+
+def serve_words(program: str, path: str, count: int, records: int) -> list[str]:
+    """The command that serves so many sessions at a path."""
+    return [program, "serve", "--socket", path, "--sessions", str(count), "--records", str(records)]
+
+
+def outcome_of(process: Process) -> Ran:
+    """How a process ends by itself, and what it wrote. No process that it started is left."""
+    try:
+        stdout, stderr = process.communicate(timeout=SECONDS)
+    except subprocess.TimeoutExpired:
+        os.killpg(process.pid, signal.SIGKILL)
+        process.communicate()
+        raise StillRunning(SECONDS) from None
+    try:
+        os.killpg(process.pid, signal.SIGKILL)
+    except ProcessLookupError:
+        return Ran(process.returncode, stdout or b"", stderr)
+    raise Failure("a process is left")
+
+
+def is_listening(path: str) -> bool:
+    """Whether a socket listens at a path, as the kernel lists it: no connection is made."""
+    with open("/proc/net/unix", encoding="utf-8", errors="replace") as listed:
+        # the fourth word has the flag of a socket that listens
+        return any(line.endswith(f" {path}\n") and int(line.split()[3], 16) & 0x10000 for line in listed)
+
+
+def report(count: int, records: int, bytes_in: int = 0, bytes_out: int = 0) -> bytes:
+    """The line that the server prints."""
+    return f"sessions {count} records {records} in {bytes_in} out {bytes_out}\n".encode()
+
+
+# ---- clients
+
+
+class Client:
+    """A connection, whose waits are all bounded."""
+
+    def __init__(self, path: str, process: Process) -> None:
+        until = time.monotonic() + SECONDS
+        while True:
+            self.socket = socket.socket(socket.AF_UNIX, socket.SOCK_STREAM)
+            self.socket.settimeout(SECONDS)
+            try:
+                self.socket.connect(path)
+                return
+            except (FileNotFoundError, ConnectionRefusedError, BlockingIOError):
+                self.socket.close()
+            require(process.poll() is None, f"the server ended with status {process.returncode} before it was reached")
+            require(time.monotonic() < until, "nobody listens")
+            time.sleep(0.002)
+
+    def send(self, some: bytes) -> None:
+        """Sends bytes."""
+        self.socket.sendall(some)
+
+    def receive(self, count: int) -> bytes:
+        """So many bytes."""
+        some = b""
+        while len(some) < count:
+            try:
+                piece = self.socket.recv(count - len(some))
+            except TimeoutError:
+                raise Failure(f"no answer in {SECONDS} seconds") from None
+            require(piece, f"hung up after {some.hex() or 'nothing'}")
+            some += piece
+        return some
+
+    def answer(self) -> str:
+        """The next answer, as lines have it: `PLACE OUTCOME`, or `- refused WHY`."""
+        payload = self.receive(int.from_bytes(self.receive(4), "big"))
+        place, _, outcome = frames.line_of("answers", payload).partition(" p0 fork = ")
+        return f"{place} {outcome}"
+
+    def gets(self, wanted: str) -> None:
+        """The next answer is this one."""
+        given = self.answer()
+        require(given == wanted, f"wanted {wanted}, given {given}")
+
+    def ask(self, request: str) -> None:
+        """Sends a request: `join`, `attach N`, or a call as in a script."""
+        self.send(frames.request_frame(request))
+
+    def has_answer(self, seconds: float) -> bool:
+        """Whether an answer, or the end, comes within a time."""
+        return bool(select.select([self.socket], [], [], seconds)[0])
+
+    def is_hung_up(self, seconds: float) -> bool:
+        """Whether the server hangs up within a time, after all that it sent."""
+        self.socket.settimeout(seconds)
+        try:
+            while self.socket.recv(65_536):
+                pass
+        except TimeoutError:
+            return False
+        except ConnectionResetError:
+            pass
+        return True
+
+    def stop(self) -> None:
+        """Says that nothing more will be sent, and reads on."""
+        self.socket.shutdown(socket.SHUT_WR)
+
+    def vanish(self) -> None:
+        """Hangs up."""
+        self.socket.close()

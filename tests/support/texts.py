@@ -1,0 +1,21 @@
+"""Telling of outputs: short forms of long ones, and where two differ."""
+
+import io
+
+
+def shown(text: bytes, most: int = 60) -> str:
+    """A piece of output, short and on one line."""
+    return repr(text[:most])[1:] + ("..." if len(text) > most else "")
+
+
+def difference(wanted: bytes, given: bytes) -> str:
+    """The first line in which two outputs differ."""
+    for number, (one, other) in enumerate(zip(_lines(wanted), _lines(given), strict=False), 1):
+        if one != other:
+            return f"line {number}: wanted {shown(one, 100)}, given {shown(other, 100)}"
+    return "no line differs"
+
+
+def _lines(text: bytes) -> list[bytes]:
+    """The lines of a text, each with its LF, and nothing after them."""
+    return [*io.BytesIO(text), b""]
