@@ -18,38 +18,37 @@ long over its cost in the short one: 1.00 where it does not depend on the length
 """
 
 import argparse
-import os
 import subprocess
 import sys
 import time
+from collections.abc import Iterator, Sequence
+from pathlib import Path
 
-TOP = os.path.dirname(os.path.dirname(os.path.abspath(__file__)))
+sys.path.insert(0, str(Path(__file__).resolve().parents[1] / "tests"))
+
+from support.frames import framed, u32, u64
+from support.options import absolute, is_missing
+from support.places import FRAME_TRIAL
+
 PIECE = 65_536
 VALUES = 20_000_000
 BYTES = 20_000_000_000
 
 
-def framed(payloads):
-    """Payloads as frames."""
-    return b"".join(len(payload).to_bytes(4, "big") + payload for payload in payloads)
-
-
-def u32(number):
-    return number.to_bytes(4, "big")
-
-
-def u64(number):
-    return number.to_bytes(8, "big")
-
-
-def small_requests():
+def small_requests() -> Iterator[bytes]:
     """Payloads of small requests."""
     eight = u32(8) + b"fdref 01"
     yield from [b"\x10\x07\x04name", *[b"\x13" + u32(0) + eight, b"\x12" + u32(0) + u32(8)] * 20]
-    yield from [b"\x16" + u32(0) + u64(0) + b"\x00", b"\x15" + u32(0) + u64(64) + eight, b"\x14" + u32(0) + u64(64) + u32(8), b"\x1e" + u32(0), b"\x11" + u32(0)]
+    yield from [
+        b"\x16" + u32(0) + u64(0) + b"\x00",
+        b"\x15" + u32(0) + u64(64) + eight,
+        b"\x14" + u32(0) + u64(64) + u32(8),
+        b"\x1e" + u32(0),
+        b"\x11" + u32(0),
+    ]
 
 
-def small_answers():
+def small_answers() -> Iterator[bytes]:
     """Payloads of small answers."""
     for number in range(12):
         yield from [
@@ -74,47 +73,52 @@ STREAMS = {
 class Bench:
     """Runs the trial, and times it."""
 
-    def __init__(self, trial, runs):
+    def __init__(self, trial: str, runs: int) -> None:
         self.trial = trial
         self.runs = runs
 
-    def seconds(self, job, kind, stream, size, times, wanted):
+    def seconds(self, job: str, kind: str, stream: bytes, size: int, times: int, wanted: int) -> float:
         """The seconds of a job that is done so many times."""
-        best = None
+        best = float("inf")
+        words = [self.trial, job, kind, str(size), str(times)]
         for _ in range(self.runs):
             began = time.monotonic()
-            done = subprocess.run([self.trial, job, kind, str(size), str(times)], input=stream, stdout=subprocess.PIPE, check=True)
+            done = subprocess.run(words, input=stream, stdout=subprocess.PIPE, check=True)
             took = time.monotonic() - began
             if int(done.stdout) != wanted * times:
                 raise SystemExit(f"{job} {kind}: {done.stdout!r}, wanted {wanted * times}")
-            best = took if best is None else min(best, took)
+            best = min(best, took)
         return best
 
-    def per_stream(self, job, kind, payloads, size, times):
+    def per_stream(self, job: str, kind: str, payloads: list[bytes], size: int, times: int) -> float:
         """The seconds for a stream."""
-        stream = framed(payloads)
+        stream = framed(*payloads)
         wanted = len(payloads) if job == "decode" else len(stream)
         whole = self.seconds(job, kind, stream, size, times + 1, wanted)
         return (whole - self.seconds(job, kind, stream, size, 1, wanted)) / times
 
 
-def main(words):
+def main(words: Sequence[str]) -> int:
+    """Times all streams: the exit status."""
     parser = argparse.ArgumentParser(description="Times the decoder and the encoder of frames.")
-    parser.add_argument("trial", nargs="?", default=os.path.join(TOP, "crates", "frame_trial", "out", "frame_trial"))
+    parser.add_argument("trial", nargs="?", type=absolute, default=str(FRAME_TRIAL), metavar="TRIAL")
     parser.add_argument("--runs", type=int, default=3, help="how many; the best counts")
     args = parser.parse_args(words)
-    if not os.path.exists(args.trial):
-        print(f"no trial at {args.trial}")
+    if is_missing(args.trial, "trial"):
         return 1
-    bench = Bench(os.path.abspath(args.trial), args.runs)
+    bench = Bench(args.trial, args.runs)
     for name, (kind, payloads) in STREAMS.items():
-        stream = framed(payloads)
+        stream = framed(*payloads)
         times = max(1, min(VALUES // len(payloads), BYTES // len(stream)) // 10)
         for job in ("decode", "encode"):
             short = bench.per_stream(job, kind, payloads, PIECE, times)
             long = bench.per_stream(job, kind, payloads * 10, PIECE, max(1, times // 10))
             rate = len(payloads) / short
-            print(f"{job} {name}: {1e9 / rate:.0f} ns a value, {rate / 1e6:.2f} million a second, {len(stream) / short / 1e9:.2f} GB/s, growth {long / short / 10:.2f}", flush=True)
+            print(
+                f"{job} {name}: {1e9 / rate:.0f} ns a value, {rate / 1e6:.2f} million a second, "
+                f"{len(stream) / short / 1e9:.2f} GB/s, growth {long / short / 10:.2f}",
+                flush=True,
+            )
     kind, payloads = STREAMS["small"]
     for size in (16, 256, 4_096, 1_048_576):
         short = bench.per_stream("decode", kind, payloads, size, 200)

@@ -394,7 +394,15 @@ def measure(program, script, target, runs):
 
 def instructions(program, script, target):
     """The instructions of one run of the program on a script, as valgrind counts them."""
-    words = ["valgrind", "--tool=callgrind", "--callgrind-out-file=/dev/null", program, "replay", "--records", str(script.limit())]
+    words = [
+        "valgrind",
+        "--tool=callgrind",
+        "--callgrind-out-file=/dev/null",
+        program,
+        "replay",
+        "--records",
+        str(script.limit()),
+    ]
     with open(script.path, "rb") as reading, open(target, "wb") as writing:
         child = subprocess.run(words, stdin=reading, stdout=writing, stderr=subprocess.PIPE, check=True)
     return int(re.search(rb"Collected : (\d+)", child.stderr).group(1))
@@ -416,7 +424,9 @@ def table(program, runs, folder):
     path, target = os.path.join(folder, "script"), os.path.join(folder, "out")
     floor = once(program, ["--version"], os.devnull, target).memory
     print(f"best of {runs} runs; a peak of {floor / 2**20:.1f} MiB or less is this script's own")
-    print(f"{'script':<18} {'acts':>9} {'seconds':>9} {'acts/s':>11} {'us/act':>10} {'growth':>7} {'peak MiB':>9} {'bytes/act':>10}")
+    print(
+        f"{'script':<18} {'acts':>9} {'seconds':>9} {'acts/s':>11} {'us/act':>10} {'growth':>7} {'peak MiB':>9} {'bytes/act':>10}"
+    )
 
     def line(script, before=None, most=None):
         measured = measure(program, script, target, runs)
@@ -451,7 +461,9 @@ def table(program, runs, folder):
     all_of_it = whole(path, 2_000, BIG, "64 KiB preads")
     line(all_of_it)
     each = (measure(program, all_of_it, target, runs).seconds - none) / 2_000 * 1e6
-    print(f"a pread of 64 KiB costs {each:.1f} us more than one of nothing, its line included; two copies of its bytes here: {2 * copy_cost():.1f} us")
+    print(
+        f"a pread of 64 KiB costs {each:.1f} us more than one of nothing, its line included; two copies of its bytes here: {2 * copy_cost():.1f} us"
+    )
     if shutil.which("valgrind"):
         count_instructions(program, path, target)
 

@@ -10,17 +10,17 @@ hexadecimal, which is some 60 ns of it.
 """
 
 import argparse
-import os
 import subprocess
 import sys
 import time
+from collections.abc import Sequence
+from pathlib import Path
 
-sys.dont_write_bytecode = True
+sys.path.insert(0, str(Path(__file__).resolve().parents[1] / "tests"))
 
-TOP = os.path.dirname(os.path.dirname(os.path.abspath(__file__)))
-sys.path.insert(0, os.path.join(TOP, "tests"))
-
-import sessions
+from support.frames import call_frame, session_frames
+from support.options import add_count, add_path, is_missing
+from support.places import SESSION_TRIAL
 
 MIXES = {
     "fstat": ("p0 pipe", "p0 fstat 0"),
@@ -28,27 +28,31 @@ MIXES = {
 }
 
 
-def seconds(trial, text, most):
+def seconds(trial: str, text: bytes, most: int) -> float:
     """The best time of three runs."""
     words = [trial, "1000000", "knows", f"{most},0,0,0", "1048576,0,0,0"]
-    best = None
+    best = float("inf")
     for _ in range(3):
         begin = time.perf_counter()
         subprocess.run(words, input=text, stdout=subprocess.DEVNULL, check=True)
         took = time.perf_counter() - begin
-        best = took if best is None else min(best, took)
+        best = min(best, took)
     return best
 
 
-def main(words):
+def main(words: Sequence[str]) -> int:
+    """Times both sessions: the exit status."""
     parser = argparse.ArgumentParser(description="Times sessions over memory.")
-    parser.add_argument("--trial", default=sessions.TRIAL, help="the trial [default: crates/session_trial/out/session_trial]")
-    parser.add_argument("--requests", type=int, default=400_000, help="how many; 400000 where no number is given")
+    add_path(parser, "--trial", "the trial", SESSION_TRIAL)
+    add_count(parser, "--requests", 400_000, "how many")
     args = parser.parse_args(words)
+    if is_missing(args.trial, "trial"):
+        return 1
     for what, (first, each) in MIXES.items():
-        one = sessions.call_text(each)
+        one = call_frame(each)
         for pieces, most in (("64 KiB", 65_536), ("one request", len(one))):
-            few, many = (sessions.session_text([first]) + one * count for count in (args.requests // 10, args.requests))
+            counts = (args.requests // 10, args.requests)
+            few, many = (session_frames([first]) + one * count for count in counts)
             short, long = (seconds(args.trial, text, most) for text in (few, many))
             each_ns = (long - short) / (args.requests - args.requests // 10) * 1e9
             print(f"{what}, in pieces of {pieces}: {each_ns:.0f} ns a request, growth {long / short / 10:.2f}")

@@ -6,60 +6,72 @@ usage: bench/sizes.py
 Lines are those of the files, with comments and empty ones. Tests are tests.rt and what stands below a folder tests.
 """
 
-import os
+import sys
+from collections.abc import Callable
+from pathlib import Path
+from typing import NamedTuple
 
-TOP = os.path.dirname(os.path.dirname(os.path.abspath(__file__)))
+sys.path.insert(0, str(Path(__file__).resolve().parents[1] / "tests"))
+
+from support.places import CRATES, TOP
 
 
-def lines(folder, wanted):
+class Sizes(NamedTuple):
+    """Lines of code, tests, definitions and proofs, and how many edits there are."""
+
+    code: int
+    tests: int
+    definitions: int
+    proofs: int
+    edits: int
+
+
+def lines(folder: Path, suffix: str, wanted: Callable[[Path], bool] = lambda path: True) -> int:
     """The lines of the files below a folder whose paths in it are wanted."""
     count = 0
-    for path, _, names in os.walk(folder):
-        for name in names:
-            if wanted(os.path.relpath(os.path.join(path, name), folder)):
-                with open(os.path.join(path, name), encoding="utf-8") as file:
-                    count += sum(1 for _ in file)
+    for path in folder.rglob("*" + suffix):
+        if path.is_file() and wanted(path.relative_to(folder)):
+            count += len(path.read_text(encoding="utf-8").splitlines())
     return count
 
 
-def crates():
+def crates() -> list[str]:
     """The names in crates.txt, in their order."""
-    with open(os.path.join(TOP, "crates.txt"), encoding="utf-8") as file:
-        return [line.split(":")[0].strip() for line in file if ":" in line and not line.startswith("#")]
+    text = (TOP / "crates.txt").read_text(encoding="utf-8")
+    return [line.split(":")[0].strip() for line in text.splitlines() if ":" in line and not line.startswith("#")]
 
 
-def is_test(path):
+def is_test(path: Path) -> bool:
     """Whether a source file holds tests."""
-    return path.endswith(".rt") and (path.endswith("tests.rt") or path.startswith("tests" + os.sep))
+    return path.name.endswith("tests.rt") or path.parts[0] == "tests"
 
 
-def sizes(crate):
-    """Code, tests, definitions, proofs and edits of a crate."""
-    folder = os.path.join(TOP, "crates", crate)
-    edits = os.path.join(folder, "must-fail")
-    return (
-        lines(os.path.join(folder, "src"), lambda path: path.endswith(".rt") and not is_test(path)),
-        lines(os.path.join(folder, "src"), is_test),
-        lines(os.path.join(folder, "specs"), lambda path: path.endswith(".antt")),
-        lines(os.path.join(folder, "proofs"), lambda path: path.endswith(".antt")),
-        len([name for name in os.listdir(edits) if name.endswith(".edit")]) if os.path.isdir(edits) else 0,
+def sizes(crate: str) -> Sizes:
+    """The sizes of a crate."""
+    folder = CRATES / crate
+    return Sizes(
+        lines(folder / "src", ".rt", lambda path: not is_test(path)),
+        lines(folder / "src", ".rt", is_test),
+        lines(folder / "specs", ".antt"),
+        lines(folder / "proofs", ".antt"),
+        len(list((folder / "must-fail").glob("*.edit"))),
     )
 
 
-def row(name, values):
+def row(name: str, values: Sizes) -> None:
+    """Prints a line of the table."""
     code, tests, definitions, proofs, edits = values
     print(f"| {name} | {code:,} ({tests:,}) | {definitions:,} | {proofs:,} | {edits} |")
 
 
-def main():
+def main() -> None:
+    """Prints the table."""
     print("| Crate | Code (tests) | Definitions | Proofs | Edits |")
     print("|---|---|---|---|---|")
-    whole = [0] * 5
-    for crate in crates():
-        values = sizes(crate)
-        whole = [a + b for a, b in zip(whole, values)]
+    all_sizes = {crate: sizes(crate) for crate in crates()}
+    for crate, values in all_sizes.items():
         row(f"`{crate}`", values)
-    row("all", whole)
+    row("all", Sizes(*map(sum, zip(*all_sizes.values(), strict=True))))
 
 
 if __name__ == "__main__":

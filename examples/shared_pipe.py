@@ -93,7 +93,9 @@ def main(words):
         return 0
     with tempfile.TemporaryDirectory() as folder:
         path = os.path.join(folder, "socket")
-        with subprocess.Popen([args.program, "serve", "--socket", path, "--sessions", "2", "--records", "100"]) as server:
+        with subprocess.Popen(
+            [args.program, "serve", "--socket", path, "--sessions", "2", "--records", "100"]
+        ) as server:
             try:
                 with join_when_ready(path, server) as parent:
                     ask(path, parent)

@@ -1,5 +1,5 @@
 #!/usr/bin/env python3
-"""Runs the built program against its rows and its other cases.
+"""Does the built program give what the rows and the other cases written out here say? (a minute)
 
 usage: tests/acceptance.py [PROGRAM]
 
@@ -19,23 +19,29 @@ import subprocess
 import sys
 import tempfile
 import threading
+from collections.abc import Callable, Iterator, Sequence
+from functools import partial
+from typing import IO, Any
 
-TOP = os.path.dirname(os.path.dirname(os.path.abspath(__file__)))
-ROWS = os.path.join(TOP, "tests", "rows")
-SECONDS = 60
+from support.counting import Case, Count, Failure
+from support.options import absolute, end_without
+from support.places import FDREF, ROWS
+from support.rows import Row, rows
+from support.running import SECONDS, Ran, Word
+from support.running import run as run_program
+from support.texts import difference, shown
+
 SCRIPT_MOST = 16_777_216
 
-CASES = []
+Check = Callable[..., None]
+
+CASES: list[tuple[str, Callable[[str], None]]] = []
 
 
-class Failure(Exception):
-    """What a run gave in place of what it had to give."""
-
-
-def case(name, *values):
+def case(name: str, *values: Any) -> Callable[[Check], Check]:
     """Marks a function as a case, with the values that it is called with beside the program."""
 
-    def keep(function):
+    def keep(function: Check) -> Check:
         CASES.append((name, lambda program: function(program, *values)))
         return function
 
@@ -45,101 +51,46 @@ def case(name, *values):
 # ---- running and comparing
 
 
-class Run:
-    """What one run of the program wrote, and its exit status."""
-
-    def __init__(self, status, stdout, stderr):
-        self.status = status
-        self.stdout = stdout
-        self.stderr = stderr
-
-
-def run(program, words, stdin=b"", stdout=None):
-    """Runs the program on words and an input, which is bytes or an open file."""
-    is_bytes = isinstance(stdin, bytes)
+def run(program: str, words: Sequence[Word], stdin: bytes | int = b"", stdout: int | IO[bytes] | None = None) -> Ran:
+    """Runs the program on words and an input, which is a file where it is given as bytes."""
+    to = subprocess.PIPE if stdout is None else stdout
+    if not isinstance(stdin, bytes):
+        return run_program([program, *words], stdin, to, folder="/")
     with tempfile.TemporaryFile() as held:
-        if is_bytes:
-            held.write(stdin)
-            held.seek(0)
-        try:
-            done = subprocess.run(
-                [program, *words],
-                stdin=held if is_bytes else stdin,
-                stdout=subprocess.PIPE if stdout is None else stdout,
-                stderr=subprocess.PIPE,
-                timeout=SECONDS,
-                cwd="/",
-            )
-        except subprocess.TimeoutExpired:
-            raise Failure(f"still running after {SECONDS} seconds")
-    return Run(done.returncode, done.stdout or b"", done.stderr)
+        held.write(stdin)
+        held.seek(0)
+        return run_program([program, *words], held, to, folder="/")
 
 
-def shown(text):
-    """A piece of output, short and on one line."""
-    return repr(text[:60])[1:] + ("..." if len(text) > 60 else "")
-
-
-def difference(what, wanted, given):
-    """Where two texts differ first, in one line."""
-    at = next((i for i, (a, b) in enumerate(zip(wanted, given)) if a != b), min(len(wanted), len(given)))
-    line = wanted.count(b"\n", 0, at) + 1
-    start = wanted.rfind(b"\n", 0, at) + 1
-    return f"{what} differs in line {line}: wanted {shown(wanted[start:])}, given {shown(given[start:])}"
-
-
-def expect(ran, status=0, stdout=b"", stderr=b""):
+def expect(ran: Ran, status: int = 0, stdout: bytes = b"", stderr: bytes = b"") -> None:
     """Compares a run with what is wanted, byte for byte."""
     faults = []
     if ran.status != status:
         faults.append(f"status {ran.status}, wanted {status}")
     if ran.stdout != stdout:
-        faults.append(difference("standard output", stdout, ran.stdout))
+        faults.append(f"standard output differs in {difference(stdout, ran.stdout)}")
     if ran.stderr != stderr:
-        faults.append(difference("standard error", stderr, ran.stderr))
+        faults.append(f"standard error differs in {difference(stderr, ran.stderr)}")
     if faults:
         raise Failure("; ".join(faults))
 
 
-def told(text):
+def told(text: str) -> bytes:
     """The line that a text is."""
     return text.encode() + b"\n"
 
 
-def replay(program, script, words=()):
+def replay(program: str, script: bytes, words: Sequence[str] = ()) -> Ran:
+    """Runs the program on a script."""
     return run(program, ["replay", *words], script)
 
 
 # ---- the rows that are files
 
 
-def read(folder, name, default=None):
-    path = os.path.join(folder, name)
-    if default is not None and not os.path.exists(path):
-        return default
-    with open(path, "rb") as it:
-        return it.read()
-
-
-def row(folder):
-    """The case that a folder is."""
-
-    def check(program):
-        words = read(folder, "args", b"").decode().splitlines()
-        error = read(folder, "stderr", b"")
-        error = error[:-1] if error.endswith(b"\n") else error
-        expect(
-            replay(program, read(folder, "script"), words),
-            status=int(read(folder, "status", b"0")),
-            stdout=read(folder, "stdout"),
-            stderr=error + b"\n" if error else b"",
-        )
-
-    return check
-
-
-def rows():
-    return [(name, row(os.path.join(ROWS, name))) for name in sorted(os.listdir(ROWS)) if os.path.isdir(os.path.join(ROWS, name))]
+def is_row(program: str, row: Row) -> None:
+    """The run that a folder is gives what its files say."""
+    expect(replay(program, row.script(), row.words()), *row.wanted())
 
 
 # ---- the command line
@@ -165,7 +116,8 @@ def rows():
 @case("records past 64 bits", "replay", "--records", "99999999999999999999")
 @case("records past 64 bits by one", "replay", "--records", "18446744073709551616")
 @case("records that wrap to 1", "replay", "--records", "18446744073709551617")
-def is_mistake(program, *words):
+def is_mistake(program: str, *words: Word) -> None:
+    """A command line that is refused."""
     ran = run(program, words, b"join\n")
     if ran.status != 2 or ran.stdout:
         raise Failure(f"status {ran.status}, wanted 2; standard output {shown(ran.stdout)}, wanted none")
@@ -174,20 +126,24 @@ def is_mistake(program, *words):
 
 
 @case("text of a mistake", "replay", "--records", "0")
-def mistake_is_told(program, *words):
-    text = "error: invalid value '0' for '--records <N>': not a number from 1 to 1000000\n\nUsage: fdref replay [OPTIONS]\n\nFor more information, try '--help'."
+def mistake_is_told(program: str, *words: str) -> None:
+    """A command line that is refused with this text."""
+    fault = "error: invalid value '0' for '--records <N>': not a number from 1 to 1000000"
+    text = f"{fault}\n\nUsage: fdref replay [OPTIONS]\n\nFor more information, try '--help'."
     expect(run(program, words), status=2, stderr=told(text))
 
 
 @case("version", "fdref 0.1.0", "--version")
 @case("version of replay", "fdref-replay 0.1.0", "replay", "-V")
-def is_version(program, text, *words):
+def is_version(program: str, text: str, *words: str) -> None:
+    """A text alone."""
     expect(run(program, words), stdout=told(text))
 
 
 @case("help", "Usage: fdref <COMMAND>", "--help")
 @case("help of replay", "--records <N>", "replay", "--help")
-def is_shown(program, part, *words):
+def is_shown(program: str, part: str, *words: str) -> None:
+    """A text with a part."""
     ran = run(program, words)
     if ran.status != 0 or ran.stderr:
         raise Failure(f"status {ran.status}, wanted 0; standard error {shown(ran.stderr)}, wanted none")
@@ -198,13 +154,14 @@ def is_shown(program, part, *words):
 @case("records 1000000", "--records", "1000000")
 @case("records joined", "--records=3")
 @case("records by default")
-def is_taken(program, *words):
+def is_taken(program: str, *words: str) -> None:
+    """Options that are taken."""
     expect(replay(program, b"join\n", words), stdout=b"0 p0 join = 0\nrecords 1 in 0 out 0\n")
 
 
 @case("default is 10000 records")
-def default_is_ten_thousand(program):
-    # one process leaves two free records: 9,998 records fit
+def default_is_ten_thousand(program: str) -> None:
+    """One process leaves two free records: 9,998 records fit."""
     script = b"join\n" + b"p0 close 0\n" * 9_998
     lines = [b"0 p0 join = 0\n"]
     lines += [b"%d p0 close 0 = error EBADF\n" % place for place in range(1, 9_998)]
@@ -213,7 +170,8 @@ def default_is_ten_thousand(program):
 
 
 @case("20000 records")
-def more_than_the_default(program):
+def more_than_the_default(program: str) -> None:
+    """A run may have more records where it is told so."""
     count = 12_000
     lines = [b"0 p0 join = 0\n"]
     lines += [b"%d p0 close 0 = error EBADF\n" % place for place in range(1, count + 1)]
@@ -222,7 +180,8 @@ def more_than_the_default(program):
 
 
 @case("a process that is quiet for thousands of records")
-def process_is_quiet(program):
+def process_is_quiet(program: str) -> None:
+    """Nothing is lost of a process that makes no calls."""
     count = 2_000
     script = b"join\n" * 2 + b"p0 open a w,creat\np0 close 0\n" * count + b"p1 open a r\np1 close 0\n"
     lines = [b"%d p%d join = %d\n" % (n, n, n) for n in (0, 1)]
@@ -241,30 +200,34 @@ def process_is_quiet(program):
 @case("bytes past ASCII", b"\xff\xfe\n", 1)
 @case("one long word", b"j" * 1_000_000, 1)
 @case("fault in the last of many lines", b"\n" * 1_000_000 + b"p0", 1_000_001, 3)
-def is_bad_line(program, script, line, column=1):
+def is_bad_line(program: str, script: bytes, line: int, column: int = 1) -> None:
+    """A script that is refused for a line."""
     expect(replay(program, script), status=3, stderr=told(f"line {line} column {column}: not an act"))
 
 
 @case("a million empty lines", b"\n" * 1_000_000)
 @case("empty lines of the greatest length", b"\n" * SCRIPT_MOST)
-def is_empty(program, script):
+def is_empty(program: str, script: bytes) -> None:
+    """A script without acts."""
     expect(replay(program, script), stdout=b"records 0 in 0 out 0\n")
 
 
 @case("one byte too long", b"\n" * (SCRIPT_MOST + 1))
 @case("too long and bad", b"x" * (SCRIPT_MOST + 1))
 @case("far too long", b"\n" * (2 * SCRIPT_MOST))
-def is_too_long(program, script):
+def is_too_long(program: str, script: bytes) -> None:
+    """A script that is refused for its length."""
     expect(replay(program, script), status=3, stderr=told("script too long"))
 
 
 @case("input in pieces")
-def input_in_pieces(program):
-    folder = os.path.join(ROWS, "first-path")
-    script, wanted = read(folder, "script"), read(folder, "stdout")
+def input_in_pieces(program: str) -> None:
+    """The input comes byte by byte."""
+    row = Row(ROWS / "first-path")
+    script, wanted = row.script(), row.wanted().stdout
     reading, writing = os.pipe()
 
-    def feed():
+    def feed() -> None:
         with os.fdopen(writing, "wb", buffering=0) as to:
             for byte in script:
                 to.write(bytes([byte]))
@@ -283,7 +246,8 @@ def input_in_pieces(program):
 
 
 @case("a directory as input")
-def input_is_a_directory(program):
+def input_is_a_directory(program: str) -> None:
+    """An input that cannot be read."""
     at = os.open("/", os.O_RDONLY)
     try:
         expect(run(program, ["replay"], at), status=4, stderr=told("cannot read"))
@@ -291,14 +255,16 @@ def input_is_a_directory(program):
         os.close(at)
 
 
-def small(count=1):
+def small(count: int = 1) -> bytes:
+    """A script of small acts."""
     return b"join\n" + b"p0 close 0\n" * count
 
 
 @case("a full device as output", small())
 @case("a full device as output of many lines", small(9_000))
 @case("a full device as output of no act", b"")
-def output_is_full(program, script):
+def output_is_full(program: str, script: bytes) -> None:
+    """An output that takes nothing."""
     with open("/dev/full", "wb", buffering=0) as full:
         expect(run(program, ["replay"], script, full), status=4, stderr=told("cannot write"))
 
@@ -306,14 +272,16 @@ def output_is_full(program, script):
 @case("a full device for help", "--help")
 @case("a full device for the help of serve", "serve", "--help")
 @case("a full device for the version", "--version")
-def text_is_not_taken(program, *words):
+def text_is_not_taken(program: str, *words: str) -> None:
+    """An output that takes no help."""
     with open("/dev/full", "wb", buffering=0) as full:
         expect(run(program, words, b"", full), status=4, stderr=told("cannot write"))
 
 
 @case("nobody reads the output", small())
 @case("nobody reads many lines", small(9_000))
-def output_is_closed(program, script):
+def output_is_closed(program: str, script: bytes) -> None:
+    """An output that nobody reads."""
     reading, writing = os.pipe()
     os.close(reading)
     try:
@@ -323,12 +291,12 @@ def output_is_closed(program, script):
 
 
 @case("the reader leaves early")
-def reader_leaves(program):
-    # more than a pipe holds, so the program is still writing when the reader leaves
+def reader_leaves(program: str) -> None:
+    """The output is more than a pipe holds, so the program is still writing when the reader leaves."""
     script = small(500_000)
     reading, writing = os.pipe()
 
-    def look():
+    def look() -> None:
         os.read(reading, 10)
         os.close(reading)
 
@@ -345,24 +313,23 @@ def reader_leaves(program):
 # ---- the whole
 
 
-def main(words):
+def cases(program: str) -> Iterator[Case]:
+    """The rows, and the cases that are written out here."""
+    yield from ((row.name, partial(is_row, program, row)) for row in rows())
+    yield from ((name, partial(check, program)) for name, check in CASES)
+
+
+def main(words: Sequence[str]) -> int:
+    """Makes all checks: the exit status."""
     parser = argparse.ArgumentParser(description="Runs the built program against its rows and its other cases.")
-    parser.add_argument("program", nargs="?", default=os.path.join(TOP, "crates", "fdref", "out", "fdref"))
-    program = os.path.abspath(parser.parse_args(words).program)
-    if not os.path.exists(program):
-        print(f"no program at {program}: ./fdref --version builds it")
-        print("0 passed, 1 failed")
-        return 1
-    passed, failed = 0, 0
-    for name, check in rows() + CASES:
-        try:
-            check(program)
-            passed += 1
-        except (Failure, OSError, ValueError) as fault:
-            failed += 1
-            print(f"FAILED {name}: {fault}")
-    print(f"{passed} passed, {failed} failed")
-    return 1 if failed else 0
+    parser.add_argument("program", nargs="?", type=absolute, default=str(FDREF), metavar="PROGRAM")
+    program = parser.parse_args(words).program
+    missing = end_without(program)
+    if missing is not None:
+        return missing
+    count = Count()
+    count.check_all(cases(program))
+    return count.end()
 
 
 if __name__ == "__main__":

@@ -1,5 +1,5 @@
 #!/usr/bin/env python3
-"""Refuses built programs their allocations in turn: fdref, and a trial of the calls beneath it.
+"""Does the program stay right where any of its allocations is refused? (10 minutes)
 
 usage: tests/allocations.py [--program PATH] [--trial PATH] [--stride N]
 
@@ -49,192 +49,49 @@ import functools
 import io
 import os
 import re
-import signal
-import struct
-import subprocess
 import sys
 import tempfile
 import time
+from collections.abc import Callable, Iterable, Sequence
+from typing import NamedTuple
 
-# the model is imported from this folder, which is to stay as it is
-sys.dont_write_bytecode = True
+from support import plain_model
+from support.counting import Count, Failure
+from support.places import FDREF, MEMORY_TRIAL
+from support.refusing import GIVEN_AGAIN, NEVER, NO_MEMORY, Refuser, build
+from support.rows import Row as Files
+from support.rows import rows
+from support.running import Ran
+from support.texts import difference, shown
 
-import plain_model
-
-TOP = os.path.dirname(os.path.dirname(os.path.abspath(__file__)))
-ROWS = os.path.join(TOP, "tests", "rows")
-PROGRAM = os.path.join(TOP, "crates", "fdref", "out", "fdref")
-TRIAL = os.path.join(TOP, "crates", "memory_trial", "out", "memory_trial")
-SECONDS = 60
 LONG = 1_000
 STRIDE = 41
-NEVER = 2**63
 
-NO_MEMORY = (5, b"", b"no memory\n")
-GIVEN_AGAIN = b"given again: 1\n"
 AS_WANTED = "as with nothing refused"
 REFUSED = b" = refused NoMemory\n"
 MAKES_PROCESS = re.compile(rb"\d+ p\d+ (join|fork) = \d+\n")
 
-# Counts allocations in a file, and refuses those from REFUSE_FIRST to REFUSE_LAST. The kit's clang
-# has no headers.
-REFUSES = """
-typedef unsigned long size_t;
-extern void *__libc_malloc(size_t);
-extern void *__libc_realloc(void *, size_t);
-extern char *getenv(const char *);
-extern unsigned long strtoul(const char *, char **, int);
-extern void *mmap(void *, size_t, int, int, int, long);
-enum { READ_AND_WRITE = 3, SHARED = 1 };
 
-static unsigned long *count, first, last;
+class End(NamedTuple):
+    """How a run ended.
 
-__attribute__((constructor)) static void begin(void) {
-    first = strtoul(getenv("REFUSE_FIRST"), 0, 10);
-    last = strtoul(getenv("REFUSE_LAST"), 0, 10);
-    int told = (int)strtoul(getenv("REFUSE_TOLD"), 0, 10);
-    count = mmap(0, sizeof *count, READ_AND_WRITE, SHARED, told, 0);
-}
+    With how many of its acts refused for want of memory, and how many exits and closings recorded after the first.
+    """
 
-static int refused(void) {
-    if (!count)
-        return 0;
-    ++*count;
-    return first <= *count && *count <= last;
-}
-
-void *malloc(size_t size) { return refused() ? 0 : __libc_malloc(size); }
-
-void *realloc(void *old, size_t size) { return refused() ? 0 : __libc_realloc(old, size); }
-"""
-
-
-class Failure(Exception):
-    """What a run gave in place of what it had to give."""
-
-
-def added(counts):
-    """Sums of pairs of how many runs passed and how many failed."""
-    passed, failed = zip((0, 0), *counts)
-    return sum(passed), sum(failed)
-
-
-# ---- running with refusals
-
-
-def kit():
-    """The folder of the kit whose `rt` stands on the path."""
-    page = subprocess.run(["rt", "doc"], stdout=subprocess.PIPE, text=True, check=True)
-    return os.path.dirname(page.stdout.strip())
-
-
-def build(folder, text=REFUSES):
-    """Builds the library that refuses, or another one from its text, and gives its path."""
-    source = os.path.join(folder, "refuses.c")
-    library = os.path.join(folder, "refuses.so")
-    toolchain = os.path.join(kit(), "toolchain")
-    with open(source, "w", encoding="utf-8") as file:
-        file.write(text)
-    words = [os.path.join(toolchain, "bin", "clang"), f"--sysroot={toolchain}"]
-    words += ["--target=x86_64-unknown-linux-gnu", "-shared", "-fPIC", "-O1", "-fno-builtin"]
-    words += ["-nostdlib", "-fuse-ld=lld", source, "-o", library]
-    subprocess.run(words, check=True)
-    return library
-
-
-# How a run ended, how many of its acts were refused for want of memory, and how many exits and closings
-# were recorded after the first of them.
-End = collections.namedtuple("End", "how refused ends")
-
-
-class Ran(collections.namedtuple("Ran", "status stdout stderr count")):
-    """What a run wrote, its exit status, and how many allocations it asked for."""
-
-    def said(self):
-        """All that it wrote and how it ended, in one line."""
-        text = (self.stdout + self.stderr).decode("utf-8", "replace")
-        lines = [line.strip() for line in text.split("\n") if line.strip()]
-        how = f"signal {-self.status}" if self.status < 0 else f"status {self.status}"
-        return f"{how}: {'; '.join(lines)[:400]}"
-
-
-def write_anew(file, content):
-    """Makes a file hold just these bytes, to be read or written from its start."""
-    file.seek(0)
-    file.truncate()
-    file.write(content)
-    file.seek(0)
-
-
-def read_all(file):
-    """What a file holds."""
-    return os.pread(file.fileno(), os.fstat(file.fileno()).st_size, 0)
-
-
-def raise_late(_number, _frame):
-    """Ends the waiting for a run; Popen.wait looks again and again where it is given a time."""
-    raise TimeoutError
-
-
-class Refuser:
-    """Runs programs, counts their allocations, and refuses some of them."""
-
-    def __init__(self, library):
-        self.library = library
-        self.files = [tempfile.TemporaryFile(buffering=0) for _ in range(4)]
-        self.told, self.stdin, self.stdout, self.stderr = self.files
-        self.refusing = 0
-        self.plain = 0
-        signal.signal(signal.SIGALRM, raise_late)
-
-    def run(self, words, stdin=b"", first=NEVER, last=NEVER):
-        """Runs a command with its allocations from `first` to `last` refused."""
-        if first == NEVER:
-            self.plain += 1
-        else:
-            self.refusing += 1
-        for file, content in zip(self.files, (bytes(8), stdin, b"", b"")):
-            write_anew(file, content)
-        status = self.wait(words, first, last)
-        count = struct.unpack("L", read_all(self.told))[0]
-        return Ran(status, read_all(self.stdout), read_all(self.stderr), count)
-
-    def wait(self, words, first, last):
-        """The exit status of a command."""
-        environment = {
-            "LD_PRELOAD": self.library,
-            "REFUSE_FIRST": str(first),
-            "REFUSE_LAST": str(last),
-            "REFUSE_TOLD": str(self.told.fileno()),
-        }
-        process = subprocess.Popen(
-            words,
-            stdin=self.stdin,
-            stdout=self.stdout,
-            stderr=self.stderr,
-            env=environment,
-            pass_fds=[self.told.fileno()],
-        )
-        signal.alarm(SECONDS)
-        try:
-            return process.wait()
-        except TimeoutError:
-            process.kill()
-            process.wait()
-            raise Failure(f"it had not ended after {SECONDS} seconds") from None
-        finally:
-            signal.alarm(0)
+    how: str
+    refused: int
+    ends: int
 
 
 # ---- the lines of a run
 
 
-def lines_of(text):
+def lines_of(text: bytes) -> list[bytes]:
     """The lines of a text, each with its LF."""
     return io.BytesIO(text).readlines()
 
 
-def lines_by_act(acts, lines):
+def lines_by_act(acts: list[bytes], lines: list[bytes]) -> tuple[list[list[bytes]], list[bytes]]:
     """The lines that tell of each act, of a closing several, none where they end too early; and those after them."""
     told = []
     at = 0
@@ -247,34 +104,19 @@ def lines_by_act(acts, lines):
     return told, lines[at:]
 
 
-def is_end(act):
+def is_end(act: bytes) -> bool:
     """Whether an act is an exit or a closing, which never want memory."""
     return act == b"close-run" or act.split(b" ")[1:] == [b"exit"]
 
 
-def is_refused(lines):
+def is_refused(lines: list[bytes]) -> bool:
     """Whether the lines of an act say that memory was wanting."""
     return bool(lines) and lines[-1].endswith(REFUSED)
 
 
-def is_recorded(lines):
+def is_recorded(lines: list[bytes]) -> bool:
     """Whether the lines of an act are those of a record, which begin with its place."""
     return bool(lines) and lines[-1][:1].isdigit()
-
-
-def shown(line):
-    """A line of output, short."""
-    return repr(line[:100])[1:] + ("..." if len(line) > 100 else "")
-
-
-def difference(wanted, given):
-    """Where the given lines are first not those that are wanted."""
-    for number in range(max(len(wanted), len(given))):
-        one = wanted[number] if number < len(wanted) else b""
-        other = given[number] if number < len(given) else b""
-        if one != other:
-            return f"line {number + 1}: wanted {shown(one)}, given {shown(other)}"
-    return "no line differs"
 
 
 # ---- what a run has to give
@@ -283,31 +125,35 @@ def difference(wanted, given):
 class Row:
     """A run of a program, of a script or of a command line alone, and what it has to give."""
 
-    def __init__(self, refuser, words, script, wanted=None):
+    is_refused_more = False
+
+    def __init__(self, refuser: Refuser, words: Sequence[str], script: bytes, wanted: Ran | None = None) -> None:
         self.refuser = refuser
         self.words = words
         self.script = script
-        whole = refuser.run(words, script)
-        self.count = whole.count
-        self.status, self.stdout, self.stderr = wanted or whole[:3]
+        whole, self.count = refuser.run(words, script)
+        self.wanted = wanted or whole
         if self.count == 0:
             raise Failure("no allocation is seen: it does not take its memory by the C library's malloc")
-        if not self.is_as_wanted(whole):
+        if whole != self.wanted:
             raise Failure(f"nothing refused: {self.first_difference(whole)}")
-        self.acts = [line for line in script.split(b"\n") if line] if self.status == 0 else []
-        self.lines = lines_of(self.stdout)
+        self.acts = [line for line in script.split(b"\n") if line] if self.wanted.status == 0 else []
+        self.lines = lines_of(self.wanted.stdout)
 
-    def is_as_wanted(self, ran):
-        """Whether a run gave what the row has to give."""
-        return (ran.status, ran.stdout, ran.stderr) == (self.status, self.stdout, self.stderr)
-
-    def first_difference(self, ran):
+    def first_difference(self, ran: Ran) -> str:
         """What of a run is not as the row has it."""
-        if ran.status != self.status:
+        if ran.status != self.wanted.status:
             return ran.said()
-        if ran.stdout != self.stdout:
-            return difference(self.lines, lines_of(ran.stdout))
-        return f"standard error is {shown(ran.stderr)}, wanted {shown(self.stderr)}"
+        if ran.stdout != self.wanted.stdout:
+            return difference(self.wanted.stdout, ran.stdout)
+        return f"standard error is {shown(ran.stderr, 100)}, wanted {shown(self.wanted.stderr, 100)}"
+
+    def judge(self, ran: Ran, is_alone: bool, chosen: int) -> End:
+        """How a run ended in which one allocation was refused, or several."""
+        raise NotImplementedError
+
+    def check_ways(self, ways: collections.Counter[str]) -> None:
+        """Looks at all the runs of a row together."""
 
 
 class ProgramRow(Row):
@@ -315,34 +161,34 @@ class ProgramRow(Row):
 
     is_refused_more = True
 
-    def __init__(self, *given):
-        super().__init__(*given)
-        self.printed = {}
+    def __init__(self, refuser: Refuser, words: Sequence[str], script: bytes, wanted: Ran | None = None) -> None:
+        super().__init__(refuser, words, script, wanted)
+        self.printed: dict[bytes, list[bytes]] = {}
         self.told = lines_by_act(self.acts, self.lines)[0]
 
-    def lines_of_acts(self, acts):
+    def lines_of_acts(self, acts: list[bytes]) -> list[bytes]:
         """The lines that the program prints on some of the acts, with nothing refused."""
         script = b"".join(act + b"\n" for act in acts)
         if script not in self.printed:
-            ran = self.refuser.run(self.words, script)
+            ran = self.refuser.run(self.words, script).ran
             if ran.status != 0 or ran.stderr:
                 raise Failure(f"nothing refused and acts left out: {ran.said()}")
             self.printed[script] = lines_of(ran.stdout)
         return self.printed[script]
 
-    def refused_line(self, index, processes):
+    def refused_line(self, index: int, processes: int) -> bytes:
         """The line that says that memory was wanting for an act, before which so many processes were made."""
         text = self.told[index][0].split(b" ", 1)[1].rsplit(b" = ", 1)[0]
         if self.acts[index] == b"join":
             text = b"p%d join" % processes
         return b"- " + text + REFUSED
 
-    def right_lines(self, refused):
+    def right_lines(self, refused: set[int]) -> list[bytes]:
         """All lines where memory was wanting for just these acts."""
         kept = [act for index, act in enumerate(self.acts) if index not in refused]
         told, totals = lines_by_act(kept, self.lines_of_acts(kept))
         left = iter(told)
-        lines = []
+        lines: list[bytes] = []
         processes = 0
         for index in range(len(self.acts)):
             if index in refused:
@@ -353,35 +199,35 @@ class ProgramRow(Row):
                 lines += of_act
         return lines + totals
 
-    def would_be_told(self, refused, index):
+    def would_be_told(self, refused: set[int], index: int) -> list[bytes]:
         """The lines of an act where memory was wanting for these before it and not for itself."""
         if index == min(refused):
             return self.told[index]
         acts = [act for at, act in enumerate(self.acts[:index]) if at not in refused]
-        return self.lines_of_acts(acts + [self.acts[index]])[-2:-1]
+        return self.lines_of_acts([*acts, self.acts[index]])[-2:-1]
 
-    def check_refused(self, refused, chosen):
+    def check_refused(self, refused: set[int], chosen: int) -> None:
         """Looks whether memory may be wanting for these acts, of which one is chosen to be looked at closely."""
         for index in refused:
             if is_end(self.acts[index]):
-                raise Failure(f"act {index + 1} is refused, {shown(self.acts[index])}, which wants no memory")
+                raise Failure(f"act {index + 1} is refused, {shown(self.acts[index], 100)}, which wants no memory")
         index = sorted(refused)[chosen % len(refused)]
         told = self.would_be_told(refused, index)
         if not is_recorded(told):
-            raise Failure(f"act {index + 1} is refused, which else is told as {shown(b''.join(told))}")
+            raise Failure(f"act {index + 1} is refused, which else is told as {shown(b''.join(told), 100)}")
 
-    def ends_after(self, index, told):
+    def ends_after(self, index: int, told: list[list[bytes]]) -> int:
         """How many exits and closings after an act are told as recorded."""
-        after = zip(self.acts[index:], told[index:])
+        after = zip(self.acts[index:], told[index:], strict=True)
         return sum(is_end(act) and is_recorded(lines) for act, lines in after)
 
-    def judge(self, ran, is_alone, chosen):
+    def judge(self, ran: Ran, is_alone: bool, chosen: int) -> End:
         """How a run ended in which one allocation was refused, or several."""
-        if self.is_as_wanted(ran):
+        if ran == self.wanted:
             return End(AS_WANTED, 0, 0)
-        if ran[:3] == NO_MEMORY:
+        if ran == NO_MEMORY:
             return End("no memory", 0, 0)
-        if (ran.status, ran.stderr) != (0, b"") or self.status != 0:
+        if (ran.status, ran.stderr) != (0, b"") or self.wanted.status != 0:
             raise Failure(ran.said())
         given = lines_of(ran.stdout)
         told = lines_by_act(self.acts, given)[0]
@@ -391,34 +237,29 @@ class ProgramRow(Row):
         self.check_refused(refused, chosen)
         wanted = self.right_lines(refused)
         if given != wanted:
-            raise Failure(difference(wanted, given))
+            raise Failure(difference(b"".join(wanted), ran.stdout))
         if is_alone and len(refused) != 1:
             raise Failure(f"one refusal, and {len(refused)} acts are refused")
         return End("acts refused", len(refused), self.ends_after(min(refused), told))
-
-    def check_ways(self, ways):
-        """Nothing is asked of all the runs of a row together."""
 
 
 class TrialRow(Row):
     """A run of the trial, which gives an act again for which memory was wanting."""
 
-    is_refused_more = False
-
-    def judge(self, ran, _is_alone, _chosen):
+    def judge(self, ran: Ran, is_alone: bool, chosen: int) -> End:
         """How a run ended in which one allocation was refused."""
-        if self.is_as_wanted(ran):
+        if ran == self.wanted:
             return End(AS_WANTED, 0, 0)
-        if ran[:3] == (self.status, self.stdout, GIVEN_AGAIN):
+        if ran == self.wanted._replace(stderr=GIVEN_AGAIN):
             return End("an act given again", 0, 0)
-        if ran[:3] == NO_MEMORY:
+        if ran == NO_MEMORY:
             return End("no memory", 0, 0)
         raise Failure(self.first_difference(ran))
 
-    def check_ways(self, ways):
+    def check_ways(self, ways: collections.Counter[str]) -> None:
         """Looks whether some run of a row, in which an act that may want memory is recorded, gave an act again."""
         acts = [line for line in self.script.split(b"\n") if line]
-        told = zip(acts, lines_by_act(acts, self.lines)[0])
+        told = zip(acts, lines_by_act(acts, self.lines)[0], strict=True)
         if any(is_recorded(lines) and not is_end(act) for act, lines in told) and not ways["an act given again"]:
             raise Failure("no run gave an act again")
 
@@ -426,44 +267,38 @@ class TrialRow(Row):
 # ---- the rows and what is run beside them
 
 
-def read(folder, name, default=b""):
-    """A file of a row."""
-    path = os.path.join(folder, name)
-    if not os.path.exists(path):
-        return default
-    with open(path, "rb") as file:
-        return file.read()
+class Script(NamedTuple):
+    """The script of a row, the words that its run has beside it, and what it has to give."""
+
+    name: str
+    text: bytes
+    words: list[str]
+    wanted: Ran
 
 
-# The script of a row, the words that its run has beside it, and what it has to give.
-Script = collections.namedtuple("Script", "name text words wanted")
-
-
-def script_of_folder(name):
+def script_of_row(row: Files) -> Script:
     """A row of tests/rows."""
-    folder = os.path.join(ROWS, name)
-    words = read(folder, "args").decode().splitlines()
-    error = read(folder, "stderr").rstrip(b"\n")
-    wanted = int(read(folder, "status", b"0")), read(folder, "stdout"), error + b"\n" if error else b""
-    return Script(name, read(folder, "script"), words, wanted)
+    return Script(row.name, row.script(), row.words(), row.wanted())
 
 
-def long_data():
+def long_data() -> Script:
     """A script with long data, whose lines are more than twice as long as it is."""
     many = bytes(range(256)) * 256
     calls = ["open a rw,creat", f"write 0 x{many[:40_000].hex()}", f"write 0 x{many.hex()}"]
     calls += ["pread 0 0 40000", "pread 0 40000 65536", "pread 0 100 65536", "exit"]
     text = "".join(["join\n", *[f"p0 {call}\n" for call in calls], "close-run\n"]).encode()
-    return Script("long data", text, [], plain_model.replay(text)[:3])
+    return Script("long data", text, [], plain_model.replay(text))
 
 
-def scripts():
+def scripts() -> list[Script]:
     """All scripts."""
-    names = [name for name in sorted(os.listdir(ROWS)) if os.path.isdir(os.path.join(ROWS, name))]
-    return [*map(script_of_folder, names), long_data()]
+    return [*map(script_of_row, rows()), long_data()]
 
 
-def program_rows(refuser, program):
+Makers = Iterable[tuple[str, Callable[[], Row]]]
+
+
+def program_rows(refuser: Refuser, program: str) -> Makers:
     """All rows of the program, each with its name and what makes it."""
     for script in scripts():
         words = [program, "replay", *script.words]
@@ -473,15 +308,15 @@ def program_rows(refuser, program):
         yield f"fdref {line}", functools.partial(ProgramRow, refuser, words, b"")
 
 
-def trial_rows(refuser, trial):
+def trial_rows(refuser: Refuser, trial: str) -> Makers:
     """All rows of the trial: the scripts that end with status 0."""
     for script in scripts():
-        if script.wanted[0] == 0:
+        if script.wanted.status == 0:
             words = [trial, *records_of(script.words)]
             yield f"trial of {script.name}", functools.partial(TrialRow, refuser, words, script.text, script.wanted)
 
 
-def records_of(words):
+def records_of(words: list[str]) -> list[str]:
     """The number in `--records N` or `--records=N`, which the trial has as its one word."""
     return [word.removeprefix("--records=") for word in words if word != "--records"]
 
@@ -497,49 +332,48 @@ BUT_THE_LAST = "with all later ones but the last"
 class Sweep:
     """The runs of one row with refusals, counted by what was refused and by how they ended."""
 
-    def __init__(self, name, row):
+    def __init__(self, count: Count, name: str, row: Row) -> None:
+        self.count = count
         self.name = name
         self.row = row
-        self.ways = {kind: collections.Counter() for kind in (ALONE, LATER, BUT_THE_LAST)}
-        self.refused = collections.Counter()
-        self.ends = collections.Counter()
-        self.passed = self.failed = 0
+        self.ways: dict[str, collections.Counter[str]] = {
+            kind: collections.Counter() for kind in (ALONE, LATER, BUT_THE_LAST)
+        }
+        self.refused: collections.Counter[str] = collections.Counter()
+        self.ends: collections.Counter[str] = collections.Counter()
 
-    def run(self, kind, number, last):
+    def run(self, kind: str, number: int, last: int) -> int:
         """Runs the row with its allocations from a number to the last one refused; how many it asked for."""
         count = 0
         try:
-            ran = self.row.refuser.run(self.row.words, self.row.script, number, last)
-            count = ran.count
+            ran, count = self.row.refuser.run(self.row.words, self.row.script, number, last)
             if count < number:
                 raise Failure(f"it asked for {count} allocations")
             end = self.row.judge(ran, kind == ALONE, number)
             self.ways[kind][end.how] += 1
             self.refused[kind] += end.refused
             self.ends[kind] += end.ends
-            self.passed += 1
+            self.count.add(1, 0)
         except Failure as fault:
-            print(f"FAILED {self.name}: allocation {number} refused {kind}: {fault}")
+            self.count.fail(f"{self.name}: allocation {number} refused {kind}", fault)
             self.ways[kind]["failed"] += 1
-            self.failed += 1
         return count
 
-    def refuse(self, number):
+    def refuse(self, number: int) -> None:
         """All runs in which this allocation is the first to be refused."""
         if self.run(ALONE, number, number) > number and self.row.is_refused_more:
             count = self.run(LATER, number, NEVER)
             if count > number:
                 self.run(BUT_THE_LAST, number, count - 1)
 
-    def check(self):
+    def check(self) -> None:
         """Looks at all runs in which one allocation was refused."""
         try:
             self.row.check_ways(self.ways[ALONE])
         except Failure as fault:
-            print(f"FAILED {self.name}: {fault}")
-            self.failed += 1
+            self.count.fail(self.name, fault)
 
-    def told(self, which):
+    def told(self, which: str) -> str:
         """What was run, in one line."""
         parts = [f"{self.name}: {which} of {self.row.count} allocations refused"]
         for kind, ways in self.ways.items():
@@ -551,33 +385,35 @@ class Sweep:
         return "; ".join(parts)
 
 
-def sweep_row(name, make, stride):
-    """Refuses the allocations of a row; how many runs passed and how many failed."""
+def sweep_row(count: Count, name: str, make: Callable[[], Row], stride: int) -> None:
+    """Refuses the allocations of a row, and counts the runs."""
     try:
         row = make()
     except Failure as fault:
-        print(f"FAILED {name}: {fault}")
-        return 0, 1
+        count.fail(name, fault)
+        return
     step = 1 if row.count <= LONG else stride
-    sweep = Sweep(name, row)
+    sweep = Sweep(count, name, row)
     for number in range(1, row.count + 1, step):
         sweep.refuse(number)
     sweep.check()
     print(sweep.told("each" if step == 1 else f"one in {step}"), flush=True)
-    return sweep.passed, sweep.failed
 
 
-def sweep_rows(rows, stride):
-    """Refuses all rows their allocations; how many runs passed and how many failed."""
-    return added(sweep_row(name, make, stride) for name, make in rows)
+def sweep_rows(count: Count, makers: Makers, stride: int) -> None:
+    """Refuses all rows their allocations, and counts the runs."""
+    for name, make in makers:
+        sweep_row(count, name, make, stride)
 
 
 # ---- the whole
 
 
-def options():
+def options() -> argparse.Namespace:
     """What the command line asks for."""
-    parser = argparse.ArgumentParser(description="Refuses the built program and the built trial their allocations in turn.")
+    parser = argparse.ArgumentParser(
+        description="Refuses the built program and the built trial their allocations in turn."
+    )
     parser.add_argument("--program", metavar="PATH", help="the program [default: crates/fdref/out/fdref]")
     parser.add_argument("--trial", metavar="PATH", help="the trial [default: crates/memory_trial/out/memory_trial]")
     text = "of a run with more than 1,000 allocations, refuse one in N [default: 41]"
@@ -585,36 +421,46 @@ def options():
     return parser.parse_args()
 
 
-def sweep_part(given, default, sweep):
-    """Runs a sweep of what is built; how many runs passed and failed, and what is to be told as skipped."""
+def sweep_part(count: Count, given: str | None, default: str, sweep: Callable[[str], None]) -> list[str]:
+    """Runs a sweep of what is built; what is to be told as skipped."""
     path = os.path.abspath(given or default)
     if os.path.isfile(path):
-        return sweep(path), []
+        sweep(path)
+        return []
     if given:
-        print(f"FAILED {path}: it is not there")
-        return (0, 1), []
-    return (0, 0), [f"skipped: {path} is not built"]
+        count.fail(path, "it is not there")
+        return []
+    return [f"skipped: {path} is not built"]
 
 
-def main():
-    """Runs all sweeps."""
+def main() -> int:
+    """Runs all sweeps: the exit status."""
     asked = options()
     began = time.monotonic()
+    count = Count()
     with tempfile.TemporaryDirectory() as folder:
         refuser = Refuser(build(folder))
-        parts = [
-            sweep_part(asked.program, PROGRAM, lambda path: sweep_rows(program_rows(refuser, path), asked.stride)),
-            sweep_part(asked.trial, TRIAL, lambda path: sweep_rows(trial_rows(refuser, path), asked.stride)),
+        skipped = [
+            *sweep_part(
+                count,
+                asked.program,
+                str(FDREF),
+                lambda path: sweep_rows(count, program_rows(refuser, path), asked.stride),
+            ),
+            *sweep_part(
+                count,
+                asked.trial,
+                str(MEMORY_TRIAL),
+                lambda path: sweep_rows(count, trial_rows(refuser, path), asked.stride),
+            ),
         ]
-    passed, failed = added(counts for counts, _ in parts)
     seconds = time.monotonic() - began
     print(f"{refuser.refusing} runs with refusals and {refuser.plain} without, in {seconds:.0f} seconds")
-    for _, skipped in parts:
-        print("".join(f"{word}\n" for word in skipped), end="")
-    if passed + failed == 0:
-        failed = 1
-    print(f"{passed} passed, {failed} failed")
-    return 1 if failed else 0
+    for word in skipped:
+        print(word)
+    if count.passed + count.failed == 0:
+        count.add(0, 1)
+    return count.end()
 
 
 if __name__ == "__main__":

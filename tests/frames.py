@@ -1,5 +1,5 @@
 #!/usr/bin/env python3
-"""Decodes streams of frames by the built trial and by a decoder of its own, and compares them.
+"""Are streams of frames decoded and encoded as docs/FORMATS.md says, wherever they are cut? (2 minutes)
 
 usage: tests/frames.py [--trial PATH] [--seed WORD] [--streams N]
 
@@ -23,300 +23,111 @@ M is above 0.
 """
 
 import argparse
-import os
 import random
-import subprocess
 import sys
 import tempfile
+from collections.abc import Callable, Iterator, Sequence
+from functools import partial
 
-# the modules are imported from this folder, which is to stay as it is
-sys.dont_write_bytecode = True
+from support.counting import Case, Count, Failure
+from support.frames import (
+    CALLS,
+    COUNT,
+    DATA,
+    FD,
+    FLAGS,
+    JOIN,
+    NAME,
+    PLACE,
+    REFUSALS,
+    WHENCE,
+    Field,
+    Stream,
+    attach_frame,
+    counted,
+    framed,
+    named,
+    u32,
+    u64,
+)
+from support.options import add_count, add_path, add_seed, end_without
+from support.places import FRAME_TRIAL
+from support.refusing import GIVEN_AGAIN, NO_MEMORY, Refuser, build
+from support.running import Ran, run
+from support.sources import changed, numbered, source
+from support.texts import difference
 
-import allocations
-import plain_model
-
-TOP = os.path.dirname(os.path.dirname(os.path.abspath(__file__)))
-TRIAL = os.path.join(TOP, "crates", "frame_trial", "out", "frame_trial")
-SECONDS = 60
 TELL_MOST = 10
 ALL = 2**40
 
-MOST = {"requests": 65_792, "answers": 66_048}
+
+# ---- comparing
 
 
-class Failure(Exception):
-    """What a run gave in place of what it had to give."""
+def wanted_of(stream: Stream, first: int, size: int) -> bytes:
+    """What the trial must print for a first piece and then pieces of a size."""
+    begin, lines, frames = 0, [], iter(stream.frames)
+    frame = next(frames, None)
+    whole = len(stream.stream)
+    ends = [min(first, whole)]
+    ends += [min(end + size, whole) for end in range(ends[0], whole, size)]
+    for end in ends:
+        while frame and begin <= end and frame[0] <= end:
+            lines.append(frame[1])
+            frame = next(frames, None)
+        lines.append(stream.told(end))
+    return lines_text([*lines, stream.stream[: stream.whole].hex()])
 
 
-class Malformed(Exception):
-    """The payload is none of its kind."""
+def lines_text(lines: Sequence[str]) -> bytes:
+    """Lines as a text."""
+    return "".join(f"{line}\n" for line in lines).encode()
 
 
-# ---- reading payloads
+def words_of(stream: Stream, first: int, size: int) -> list[str]:
+    """The words of the trial for a stream that is cut so."""
+    return ["show", stream.kind, str(first), str(size)]
 
 
-class Reading:
-    """A payload, read from left to right."""
-
-    def __init__(self, payload):
-        self.rest = payload
-
-    def take(self, count):
-        """So many bytes."""
-        if len(self.rest) < count:
-            raise Malformed
-        front, self.rest = self.rest[:count], self.rest[count:]
-        return front
-
-    def number(self, count, signed=False):
-        """A number of so many bytes."""
-        return int.from_bytes(self.take(count), "big", signed=signed)
-
-    def data(self, most):
-        """Bytes after their number."""
-        count = self.number(4)
-        if count > most:
-            raise Malformed
-        return plain_model.data_text(self.take(count))
-
-    def one_of(self, words):
-        """The word of a byte."""
-        byte = self.number(1)
-        if byte not in words:
-            raise Malformed
-        return words[byte]
-
-
-def flags_text(bits):
-    """Flags, as a line has them."""
-    mode = {0: "-", 1: "r", 2: "w", 3: "rw"}[bits & 3]
-    names = ["creat", "excl", "trunc", "append", "nonblock"]
-    return ",".join([mode] + [name for place, name in enumerate(names) if bits >> (place + 2) & 1])
-
-
-def flags(reading):
-    bits = reading.number(1)
-    if bits > 127:
-        raise Malformed
-    return flags_text(bits)
-
-
-def fd(reading):
-    return str(reading.number(4, signed=True))
-
-
-def count(reading):
-    return str(reading.number(4))
-
-
-def place(reading):
-    return str(reading.number(8, signed=True))
-
-
-def name(reading):
-    return plain_model.name_text(reading.take(reading.number(1)))
-
-
-def data(reading):
-    return reading.data(65_700)
-
-
-def whence(reading):
-    return reading.one_of({0: "set", 1: "cur", 2: "end"})
-
-
-# the byte of each call, its word, and its fields in the order of frames
-CALLS = {
-    16: ("open", flags, name),
-    17: ("close", fd),
-    18: ("read", fd, count),
-    19: ("write", fd, data),
-    20: ("pread", fd, place, count),
-    21: ("pwrite", fd, place, data),
-    22: ("lseek", fd, place, whence),
-    23: ("ftruncate", fd, place),
-    24: ("dup", fd),
-    25: ("dup2", fd, fd),
-    26: ("pipe",),
-    27: ("mkfifo", name),
-    28: ("link", name, name),
-    29: ("unlink", name),
-    30: ("fstat", fd),
-    31: ("fork",),
-}
-
-ERRORS = "EBADF EINVAL ESPIPE EFBIG EOVERFLOW ENOENT EEXIST EMLINK ENAMETOOLONG EMFILE ENFILE ENOSPC EAGAIN EPIPE ENXIO ESRCH".split()
-REFUSALS = {17: "NoMemory", 18: "RunFull", 19: "Waiting", 20: "NotHere", 21: "Foreign"}
-
-
-def request(reading):
-    """The line of a request."""
-    byte = reading.number(1)
-    if byte == 1:
-        return "join"
-    if byte == 2:
-        process = reading.number(4)
-        return f"- p{process} attach = still"
-    if byte not in CALLS:
-        raise Malformed
-    word, *readers = CALLS[byte]
-    fields = [reader(reading) for reader in readers]
-    if word == "open":
-        fields.reverse()
-    return " ".join(["- p0", word, *fields, "= still"])
-
-
-def outcome(reading):
-    """An outcome, as a line has it."""
-    byte = reading.number(1)
-    if byte == 1:
-        return "ok"
-    if byte == 2:
-        return str(reading.number(8))
-    if byte == 3:
-        return reading.data(65_536)
-    if byte == 4:
-        return f"{reading.number(4)} {reading.number(4)}"
-    if byte == 5:
-        kind = reading.one_of({0: "regular", 1: "fifo", 2: "pipe"})
-        return f"{kind} {reading.number(8)} {reading.number(4)}"
-    if byte == 6:
-        return "error " + reading.one_of(dict(enumerate(ERRORS, 1)))
-    if byte in (7, 8):
-        return f"{'parked' if byte == 7 else 'part'} {reading.number(4)}"
-    raise Malformed
-
-
-def answer(reading):
-    """The line of an answer, for an act that is a fork of process 0."""
-    if reading.one_of({1: True, 2: False}):
-        at = reading.number(8)
-        return f"{at} p0 fork = {outcome(reading)}"
-    refusal = reading.one_of(REFUSALS)
-    if refusal == "Foreign":
-        reading.take(16)
-    return f"- p0 fork = refused {refusal}"
-
-
-READERS = {"requests": request, "answers": answer}
-
-
-def line_of(kind, payload):
-    """The line of a payload's value."""
-    reading = Reading(payload)
-    line = READERS[kind](reading)
-    if reading.rest:
-        raise Malformed
-    return line
-
-
-# ---- streams
-
-
-class Stream:
-    """The frames of a stream: where each ends and its line, and the stream's fault with where it is known."""
-
-    def __init__(self, kind, stream):
-        self.kind = kind
-        self.stream = stream
-        self.frames = []
-        self.fault, self.known = None, ALL
-        at = 0
-        while len(stream) - at >= 4:
-            length = int.from_bytes(stream[at : at + 4], "big")
-            if length > MOST[kind]:
-                self.fault, self.known = f"too long {at}", at + 4
-                break
-            end = at + 4 + length
-            if end > len(stream):
-                break
-            try:
-                self.frames.append((end, line_of(kind, stream[at + 4 : end])))
-            except Malformed:
-                self.fault, self.known = f"malformed {at}", end
-                break
-            at = end
-        self.whole = at
-
-    def wanted(self, first, size):
-        """What the trial must print for a first piece and then pieces of a size."""
-        begin, lines, frames = 0, [], iter(self.frames)
-        frame = next(frames, None)
-        ends = [min(first, len(self.stream))]
-        ends += [min(end + size, len(self.stream)) for end in range(ends[0], len(self.stream), size)]
-        for end in ends:
-            while frame and begin <= end and frame[0] <= end:
-                lines.append(frame[1])
-                frame = next(frames, None)
-            lines.append(self.fault if self.known <= end else "more")
-        lines.append(self.stream[: self.whole].hex())
-        return "".join(f"{line}\n" for line in lines).encode()
-
-
-def ran(trial, stream, first, size):
-    """What the trial prints."""
-    words = [trial, "show", stream.kind, str(first), str(size)]
-    done = subprocess.run(words, input=stream.stream, stdout=subprocess.PIPE, stderr=subprocess.PIPE, timeout=SECONDS, check=False)
-    return done.returncode, done.stdout, done.stderr
-
-
-def check(trial, stream, first, size):
+def check(trial: str, stream: Stream, first: int, size: int) -> None:
     """Runs the trial on a stream that is cut so."""
-    status, stdout, stderr = ran(trial, stream, first, size)
-    if (status, stderr) != (0, b""):
-        raise Failure(f"status {status}, {stderr[:200]!r}")
-    wanted = stream.wanted(first, size)
-    if stdout != wanted:
-        raise Failure(allocations.difference(wanted.split(b"\n"), stdout.split(b"\n")))
+    ran = run([trial, *words_of(stream, first, size)], stream.stream)
+    if (ran.status, ran.stderr) != (0, b""):
+        raise Failure(f"status {ran.status}, {ran.stderr[:200]!r}")
+    same_text(wanted_of(stream, first, size), ran.stdout)
+
+
+def same_text(wanted: bytes, given: bytes) -> None:
+    """Two outputs are the same."""
+    if wanted != given:
+        raise Failure(difference(wanted, given))
 
 
 # ---- writing payloads
-
-
-def framed(*payloads):
-    """Payloads as frames."""
-    return b"".join(len(payload).to_bytes(4, "big") + payload for payload in payloads)
-
-
-def u32(number):
-    return (number % 2**32).to_bytes(4, "big")
-
-
-def u64(number):
-    return (number % 2**64).to_bytes(8, "big")
-
-
-def counted(some):
-    return u32(len(some)) + some
-
-
-def named(some):
-    return bytes([len(some)]) + some
-
 
 FDS = [0, 1, -1, 2**31 - 1, -(2**31), 3]
 PLACES = [0, 1, -1, 2**63 - 1, -(2**63), 10]
 COUNTS = [0, 1, 2**32 - 1, 65_536]
 NAMES = [b"", b"a", b"a%b", b"n" * 64, b"/" * 255, bytes(range(256))[:255]]
-DATA = [b"", b"hi", b"x" * 16, b"x" * 17, bytes(range(256)), b"ab" * 300]
+DATAS = [b"", b"hi", b"x" * 16, b"x" * 17, bytes(range(256)), b"ab" * 300]
 
-MAKERS = {
-    flags: lambda pick: bytes([pick.randrange(128)]),
-    name: lambda pick: named(pick.choice(NAMES)),
-    fd: lambda pick: u32(pick.choice(FDS)),
-    count: lambda pick: u32(pick.choice(COUNTS)),
-    place: lambda pick: u64(pick.choice(PLACES)),
-    data: lambda pick: counted(pick.choice(DATA)),
-    whence: lambda pick: bytes([pick.randrange(3)]),
+MAKERS: dict[Field, Callable[[random.Random], bytes]] = {
+    FLAGS: lambda pick: bytes([pick.randrange(128)]),
+    NAME: lambda pick: named(pick.choice(NAMES)),
+    FD: lambda pick: u32(pick.choice(FDS)),
+    COUNT: lambda pick: u32(pick.choice(COUNTS)),
+    PLACE: lambda pick: u64(pick.choice(PLACES)),
+    DATA: lambda pick: counted(pick.choice(DATAS)),
+    WHENCE: lambda pick: bytes([pick.randrange(3)]),
 }
 
 
-def call_payload(pick, byte):
+def call_payload(pick: random.Random, byte: int) -> bytes:
     """The payload of a call."""
-    return bytes([byte]) + b"".join(MAKERS[reader](pick) for reader in CALLS[byte][1:])
+    return bytes([byte]) + b"".join(MAKERS[field](pick) for field in CALLS[byte].fields)
 
 
-def request_payload(pick):
+def request_payload(pick: random.Random) -> bytes:
     """The payload of a request."""
     byte = pick.choice([1, 2, *CALLS])
     if byte == 1:
@@ -326,14 +137,16 @@ def request_payload(pick):
     return call_payload(pick, byte)
 
 
-def outcome_payload(pick, byte):
+def outcome_payload(pick: random.Random, byte: int) -> bytes:
     """The bytes of an outcome."""
-    fields = {
+    fields: dict[int, Callable[[], bytes]] = {
         1: lambda: b"",
         2: lambda: u64(pick.choice([0, 5, 2**64 - 1])),
-        3: lambda: counted(pick.choice(DATA)),
+        3: lambda: counted(pick.choice(DATAS)),
         4: lambda: u32(pick.choice(COUNTS)) + u32(pick.choice(COUNTS)),
-        5: lambda: bytes([pick.randrange(3)]) + u64(pick.choice([0, 1_048_576, 2**64 - 1])) + u32(pick.choice(COUNTS)),
+        5: lambda: (
+            bytes([pick.randrange(3)]) + u64(pick.choice([0, 1_048_576, 2**64 - 1])) + u32(pick.choice(COUNTS))
+        ),
         6: lambda: bytes([pick.randint(1, 16)]),
         7: lambda: u32(pick.choice(COUNTS)),
         8: lambda: u32(pick.choice(COUNTS)),
@@ -341,7 +154,7 @@ def outcome_payload(pick, byte):
     return bytes([byte]) + fields[byte]()
 
 
-def answer_payload(pick):
+def answer_payload(pick: random.Random) -> bytes:
     """The payload of an answer."""
     byte = pick.choice([*range(1, 9), *REFUSALS])
     if byte in REFUSALS:
@@ -352,12 +165,12 @@ def answer_payload(pick):
 PAYLOADS = {"requests": request_payload, "answers": answer_payload}
 
 
-def every_request(pick):
+def every_request(pick: random.Random) -> bytes:
     """A request of each kind."""
-    return framed(b"\x01", b"\x02" + u32(7), *(call_payload(pick, byte) for byte in CALLS))
+    return JOIN + attach_frame(7) + framed(*(call_payload(pick, byte) for byte in CALLS))
 
 
-def every_answer(pick):
+def every_answer(pick: random.Random) -> bytes:
     """An answer of each kind."""
     outcomes = [outcome_payload(pick, byte) for byte in range(1, 9)] + [bytes([6, number]) for number in range(1, 17)]
     refusals = [bytes([2, byte]) + (u64(3) + u64(2) if byte == 21 else b"") for byte in REFUSALS]
@@ -384,7 +197,12 @@ WRITTEN_OUT = [
     ("an error that is none", "answers", "0000000b0100000000000000000611", ["malformed 0"]),
     ("error 0", "answers", "0000000b0100000000000000000600", ["malformed 0"]),
     ("a refusal that is none", "answers", "000000020216", ["malformed 0"]),
-    ("what fstat tells", "answers", "000000170100000000000000000501000000000000000300000001", ["0 p0 fork = fifo 3 1", "more"]),
+    (
+        "what fstat tells",
+        "answers",
+        "000000170100000000000000000501000000000000000300000001",
+        ["0 p0 fork = fifo 3 1", "more"],
+    ),
     ("nothing", "requests", "", ["more"]),
     (
         "the exchange of docs/FORMATS.md, what the client sends",
@@ -402,44 +220,38 @@ WRITTEN_OUT = [
 ]
 
 
-def written_out(trial):
+def written_out(trial: str) -> Iterator[Case]:
     """Runs the streams that are written out."""
     for what, kind, text, lines in WRITTEN_OUT:
         stream = Stream(kind, bytes.fromhex(text))
-        wanted = "".join(f"{line}\n" for line in [*lines, stream.stream[: stream.whole].hex()]).encode()
-        yield what, lambda stream=stream, wanted=wanted: same(wanted, stream.wanted(ALL, 1))
+        wanted = lines_text([*lines, stream.stream[: stream.whole].hex()])
+        yield what, partial(same_text, wanted, wanted_of(stream, ALL, 1))
         for first in range(len(stream.stream) + 1):
-            yield f"{what}, cut at {first}", lambda stream=stream, first=first: check(trial, stream, first, ALL)
-        yield f"{what}, byte by byte", lambda stream=stream: check(trial, stream, 0, 1)
-
-
-def same(wanted, given):
-    """Two outputs are the same."""
-    if wanted != given:
-        raise Failure(allocations.difference(wanted.split(b"\n"), given.split(b"\n")))
+            yield f"{what}, cut at {first}", partial(check, trial, stream, first, ALL)
+        yield f"{what}, byte by byte", partial(check, trial, stream, 0, 1)
 
 
 # ---- longer streams
 
 
-def conversations():
+def conversations() -> Iterator[tuple[str, Stream]]:
     """Streams with everything that there is in them."""
     yield "every request", Stream("requests", every_request(random.Random("requests")))
     yield "every answer", Stream("answers", every_answer(random.Random("answers")))
 
 
-def cut_everywhere(trial):
+def cut_everywhere(trial: str) -> Iterator[Case]:
     """Runs conversations, cut at every byte."""
     for what, stream in conversations():
         if len(stream.frames) < 18 or stream.fault:
             raise SystemExit(f"{what} is not what it should be: {stream.fault}")
         for first in range(len(stream.stream) + 1):
-            yield f"{what}, cut at {first}", lambda stream=stream, first=first: check(trial, stream, first, ALL)
+            yield f"{what}, cut at {first}", partial(check, trial, stream, first, ALL)
         for size in (1, 2, 3, 5, 7, 64):
-            yield f"{what}, in pieces of {size}", lambda stream=stream, size=size: check(trial, stream, 0, size)
+            yield f"{what}, in pieces of {size}", partial(check, trial, stream, 0, size)
 
 
-def lengths(trial):
+def lengths(trial: str) -> Iterator[Case]:
     """Runs frames of the greatest lengths."""
     long_write = b"\x13" + u32(1) + counted(bytes(65_700))
     long_pwrite = b"\x15" + u32(1) + u64(0) + counted(b"ab" * 32_850)
@@ -459,32 +271,32 @@ def lengths(trial):
     for what, kind, text in streams:
         stream = Stream(kind, text)
         for first, size in ((ALL, 1), (0, 1), (3, 4_096), (65_536, 7), (65_700, 65_536)):
-            yield f"{what}, cut {first} {size}", lambda stream=stream, first=first, size=size: check(trial, stream, first, size)
+            yield f"{what}, cut {first} {size}", partial(check, trial, stream, first, size)
 
 
 # ---- want of memory
 
 
-def refusals(refuser, trial):
+def refusals(refuser: Refuser, trial: str) -> Iterator[Case]:
     """Runs conversations with each allocation refused in turn."""
     for what, stream in conversations():
         for first, size in ((ALL, 1), (0, 11)):
-            words = [trial, "show", stream.kind, str(first), str(size)]
-            yield f"{what}, cut {first} {size}", lambda stream=stream, words=words, first=first, size=size: sweep(refuser, words, stream, first, size)
+            yield f"{what}, cut {first} {size}", partial(sweep, refuser, trial, stream, first, size)
 
 
-def sweep(refuser, words, stream, first, size):
+def sweep(refuser: Refuser, trial: str, stream: Stream, first: int, size: int) -> None:
     """Refuses each allocation of a run in turn."""
-    whole = refuser.run(words, stream.stream)
-    wanted = stream.wanted(first, size)
-    if whole[:3] != (0, wanted, b"") or whole.count == 0:
+    words = [trial, *words_of(stream, first, size)]
+    whole, count = refuser.run(words, stream.stream)
+    wanted = Ran(0, wanted_of(stream, first, size), b"")
+    if whole != wanted or count == 0:
         raise Failure(f"nothing refused: {whole.said()}")
     again = 0
-    for number in range(1, whole.count + 1):
-        end = refuser.run(words, stream.stream, number, number)
-        if end[:3] == (0, wanted, b"given again: 1\n"):
+    for number in range(1, count + 1):
+        end = refuser.run(words, stream.stream, number, number).ran
+        if end == wanted._replace(stderr=GIVEN_AGAIN):
             again += 1
-        elif end[:3] not in (allocations.NO_MEMORY, (0, wanted, b"")):
+        elif end not in (NO_MEMORY, wanted):
             raise Failure(f"allocation {number} refused: {end.said()}")
     if again == 0:
         raise Failure("no piece was given again")
@@ -493,86 +305,51 @@ def sweep(refuser, words, stream, first, size):
 # ---- random streams
 
 
-def changed(pick, text):
-    """A text with a few bytes changed, left out or put in."""
-    text = bytearray(text)
-    for _ in range(pick.choice([1, 1, 1, 2, 3])):
-        at = pick.randrange(len(text) + 1)
-        how = pick.choice(["change", "change", "nudge", "drop", "insert", "end"])
-        if how == "insert":
-            text[at:at] = bytes([pick.randrange(256)])
-        elif at < len(text):
-            if how == "change":
-                text[at] = pick.randrange(256)
-            elif how == "nudge":
-                text[at] = (text[at] + pick.choice([-1, 1])) % 256
-            elif how == "drop":
-                del text[at]
-            elif pick.random() < 0.3:
-                del text[at:]
-    return bytes(text)
-
-
-def random_stream(pick):
+def random_stream(pick: random.Random) -> Stream:
     """A stream of either kind."""
     kind = pick.choice(["requests", "answers"])
     if pick.random() < 0.15:
-        return Stream(kind, framed(*(pick.randbytes(pick.choice([0, 1, 2, 5, 9, 17])) for _ in range(pick.randrange(4)))) + pick.randbytes(pick.randrange(6)))
+        payloads = [pick.randbytes(pick.choice([0, 1, 2, 5, 9, 17])) for _ in range(pick.randrange(4))]
+        return Stream(kind, framed(*payloads) + pick.randbytes(pick.randrange(6)))
     text = framed(*(PAYLOADS[kind](pick) for _ in range(pick.choice([1, 1, 2, 3, 8]))))
     return Stream(kind, text if pick.random() < 0.1 else changed(pick, text))
 
 
-def random_streams(trial, seed, streams):
+def random_streams(trial: str, seed: str, streams: int) -> Iterator[Case]:
     """Runs random streams."""
     for number in range(streams):
-        pick = random.Random(f"{seed} {number}")
+        pick = source(seed, number)
         stream = random_stream(pick)
         first = pick.randrange(len(stream.stream) + 2)
         size = pick.choice([1, 2, 3, 4, 8, 33, ALL])
-        yield f"stream {number} of seed {seed}", lambda stream=stream, first=first, size=size: check(trial, stream, first, size)
+        yield numbered("stream", seed, number), partial(check, trial, stream, first, size)
 
 
 # ---- the whole
 
 
-def counted_cases(what, cases):
-    """Runs cases; how many passed and how many failed."""
-    passed = failed = 0
-    for case, run in cases:
-        try:
-            run()
-            passed += 1
-        except (Failure, allocations.Failure, subprocess.TimeoutExpired) as failure:
-            failed += 1
-            if failed <= TELL_MOST:
-                print(f"FAILED {case}: {failure}", flush=True)
-    print(f"{what}: {passed} passed, {failed} failed", flush=True)
-    return passed, failed
-
-
-def main(words):
-    parser = argparse.ArgumentParser(description="Decodes streams of frames by the built trial and by a decoder of its own.")
-    parser.add_argument("--trial", default=TRIAL, help="the trial [default: crates/frame_trial/out/frame_trial]")
-    parser.add_argument("--seed", default="1", help="any word; 1 where none is given")
-    parser.add_argument("--streams", type=int, default=10_000, help="how many are random; 10000 where no number is given")
+def main(words: Sequence[str]) -> int:
+    """Makes all checks: the exit status."""
+    parser = argparse.ArgumentParser(
+        description="Decodes streams of frames by the built trial and by a decoder of its own."
+    )
+    add_path(parser, "--trial", "the trial", FRAME_TRIAL)
+    add_seed(parser)
+    add_count(parser, "--streams", 10_000, "how many are random")
     args = parser.parse_args(words)
-    trial = os.path.abspath(args.trial)
-    if not os.path.exists(trial):
-        print(f"no trial at {trial}")
-        print("0 passed, 1 failed")
-        return 1
+    trial = args.trial
+    missing = end_without(trial, "trial")
+    if missing is not None:
+        return missing
+    count = Count(TELL_MOST)
     with tempfile.TemporaryDirectory() as folder:
-        refuser = allocations.Refuser(allocations.build(folder))
-        counts = [
-            counted_cases("streams that are written out", written_out(trial)),
-            counted_cases("conversations cut everywhere", cut_everywhere(trial)),
-            counted_cases("the greatest lengths", lengths(trial)),
-            counted_cases("each allocation refused", refusals(refuser, trial)),
-            counted_cases("random streams", random_streams(trial, args.seed, args.streams)),
-        ]
-    passed, failed = (sum(column) for column in zip(*counts))
-    print(f"{passed} passed, {failed} failed")
-    return 1 if failed else 0
+        refuser = Refuser(build(folder))
+        count.part("streams that are written out", written_out(trial))
+        count.part("conversations cut everywhere", cut_everywhere(trial))
+        count.part("the greatest lengths", lengths(trial))
+        count.part("each allocation refused", refusals(refuser, trial))
+        count.part("random streams", random_streams(trial, args.seed, args.streams))
+    return count.end()
 
 
 if __name__ == "__main__":

@@ -1,5 +1,5 @@
 #!/usr/bin/env python3
-"""Plays clients of the built server over real sockets.
+"""Does the live server answer its clients rightly, many at once and hostile ones? (2 minutes)
 
 usage: tests/serve.py [--program PATH] [--seed WORD] [--runs N] [--crowds N] [--calls N] [--only WORD]
 
@@ -14,7 +14,7 @@ socket in a fresh folder, and plays its clients:
     number is given),
   - 64 clients at once, with N random calls each (40 where no number is given), in N runs (3). What
     each client has counted must sum to the line. The places that they were told must be all that there
-    are, and in the order of the places each answer must be that of the model in `plain_model`. Run K
+    are, and in the order of the places each answer must be that of the plain model. Run K
     of a seed makes the same choices each time, but the server may order the calls otherwise,
   - the client in clients/python and the example that uses it,
   - command lines, sockets that cannot be made, connections that cannot be taken, threads that cannot
@@ -29,6 +29,7 @@ M is above 0.
 
 import argparse
 import concurrent.futures
+import contextlib
 import os
 import random
 import re
@@ -38,26 +39,35 @@ import sys
 import tempfile
 import threading
 import time
+from collections.abc import Callable, Iterator, Sequence
+from functools import partial
 
-# the modules are imported from this folder, which is to stay as it is
-sys.dont_write_bytecode = True
+from parts import crowds, python_client
+from support.counting import Case, Count, Failure, require
+from support.frames import JOIN, attach_frame, call_frame, framed, recorded, u32
+from support.options import add_count, add_path, add_seed, end_without
+from support.places import FDREF
+from support.refusing import build
+from support.serving import (
+    A_WHILE,
+    ALL_RECORDS,
+    SECONDS,
+    Client,
+    Server,
+    outcome_of,
+    report,
+    serve_words,
+    started,
+)
 
-import allocations
-import crowds
-import frames
-import python_client
-import sessions
-from serving import ALL_RECORDS, A_WHILE, JOIN, SECONDS, Client, Server, outcome_of, report, require, serve_words, started
-
-TOP = os.path.dirname(os.path.dirname(os.path.abspath(__file__)))
-PROGRAM = os.path.join(TOP, "crates", "fdref", "out", "fdref")
+TELL_MOST = 10
 PATH_MOST = 107
 
 
 # ---- conversations that are written out
 
 # The exchange to the byte: which client, what it sends, and what it is sent.
-WORKED = [
+WORKED: list[tuple[int, str, str]] = [
     (0, "00000001 01", "00000012 01 0000000000000000 02 0000000000000000"),
     (0, "00000001 1a", "00000012 01 0000000000000001 04 00000000 00000001"),
     (0, "00000001 1f", "00000012 01 0000000000000002 02 0000000000000001"),
@@ -68,12 +78,12 @@ WORKED = [
 ]
 
 
-def worked(program, size):
+def worked(program: str, size: int) -> None:
     """The worked example, sent in pieces of a size."""
     with Server(program, 2, 100) as server:
         clients = [server.client(), server.client()]
-        for which, sent, given in WORKED:
-            sent = bytes.fromhex(sent)
+        for which, text, given in WORKED:
+            sent = bytes.fromhex(text)
             for at in range(0, len(sent), size):
                 clients[which].send(sent[at : at + size])
             answer = clients[which].receive(len(bytes.fromhex(given)))
@@ -83,101 +93,110 @@ def worked(program, size):
         server.ended(report(2, 10, 5, 5))
 
 
-def worked_at_once(program):
+def worked_at_once(program: str) -> None:
     """The worked example, where each client sends all its requests at once."""
     with Server(program, 2, 100) as server:
         clients = [server.client(), server.client()]
-        texts = [[b"".join(bytes.fromhex(row[at]) for row in WORKED if row[0] == which) for at in (1, 2)] for which in (0, 1)]
+        sent, wanted = (
+            [b"".join(bytes.fromhex(row[1:][at]) for row in WORKED if row[0] == which) for which in (0, 1)]
+            for at in (0, 1)
+        )
         first, second = clients
-        first.send(texts[0][0])
+        first.send(sent[0])
         first.stop()
         waiting = first.receive(22 * 3 + 18)
-        second.send(texts[1][0])
+        second.send(sent[1])
         answers = [waiting + first.receive(23), second.receive(14 + 22)]
         # not before: its exit might be recorded before the first client's resume
         second.stop()
-        require(answers == [text for _, text in texts], f"given {[answer.hex() for answer in answers]}")
+        require(answers == wanted, f"given {[answer.hex() for answer in answers]}")
         server.ended(report(2, 10, 5, 5))
 
 
-# What it is, the records of the run, the play, and the numbers of the line: records, bytes in, bytes out. In a play a line is a client, its
-# request and, after a bar, the answer that it gets: the place and the outcome. A client without a request gets one more answer. `goes` is to
-# vanish; the place of its exit is told to nobody, so somebody must wait for it before the next place is known. `waits` is to get no answer.
+# What it is, the records of the run, the play, and the numbers of the line: records, bytes in, bytes out. In a play a
+# line is a client, its request and, after a bar, the answer that it gets: the place and the outcome. A client without a
+# request gets one more answer. `goes` is to vanish; the place of its exit is told to nobody, so somebody must wait for
+# it before the next place is known. `waits` is to get no answer.
 PLAYS = [
     (
         "a read that another's write wakes",
         100,
-        """a join | 0 0; a pipe | 1 0 1; a fork | 2 1; b attach 1 | 3 ok; a read 0 5 | 4 parked 0; a waits; b write 1 x68656c6c6f21 | 5 6
-        a | 6 x68656c6c6f; b read 0 5 | 7 x21""",
+        """a join | 0 0; a pipe | 1 0 1; a fork | 2 1; b attach 1 | 3 ok; a read 0 5 | 4 parked 0; a waits
+        b write 1 x68656c6c6f21 | 5 6; a | 6 x68656c6c6f; b read 0 5 | 7 x21""",
         (11, 6, 6),
     ),
     (
         "a read that another's close of the last writer wakes",
         100,
-        """a join | 0 0; a pipe | 1 0 1; a fork | 2 1; a close 1 | 3 ok; b attach 1 | 4 ok; b dup 1 | 5 2; a read 0 5 | 6 parked 0; b close 1 | 7 ok
-        a waits; b close 2 | 8 ok; a | 9 x; b fstat 0 | 10 pipe 0 0""",
+        """a join | 0 0; a pipe | 1 0 1; a fork | 2 1; a close 1 | 3 ok; b attach 1 | 4 ok; b dup 1 | 5 2
+        a read 0 5 | 6 parked 0; b close 1 | 7 ok; a waits; b close 2 | 8 ok; a | 9 x; b fstat 0 | 10 pipe 0 0""",
         (14, 0, 0),
     ),
     (
         "a read that the vanishing of the last writer wakes",
         100,
-        """a join | 0 0; a pipe | 1 0 1; a fork | 2 1; a close 1 | 3 ok; b attach 1 | 4 ok; a read 0 5 | 5 parked 0; a waits; b goes; a | 7 x
-        a fstat 0 | 8 pipe 0 0""",
+        """a join | 0 0; a pipe | 1 0 1; a fork | 2 1; a close 1 | 3 ok; b attach 1 | 4 ok; a read 0 5 | 5 parked 0
+        a waits; b goes; a | 7 x; a fstat 0 | 8 pipe 0 0""",
         (11, 0, 0),
     ),
     (
         "a read that a dup2 over the last writer wakes",
         100,
-        """a join | 0 0; a pipe | 1 0 1; a fork | 2 1; a close 1 | 3 ok; b attach 1 | 4 ok; a read 0 5 | 5 parked 0; b dup2 0 1 | 6 1; a | 7 x""",
+        """a join | 0 0; a pipe | 1 0 1; a fork | 2 1; a close 1 | 3 ok; b attach 1 | 4 ok; a read 0 5 | 5 parked 0
+        b dup2 0 1 | 6 1; a | 7 x""",
         (11, 0, 0),
     ),
     (
         "a short write that a read wakes",
         100,
-        """a join | 0 0; a pipe | 1 0 1; a fork | 2 1; b attach 1 | 3 ok; a write 1 61*1024 | 4 1024; a write 1 62*512 | 5 parked 0; b read 0 511 | 6 61*511
-        a waits; b read 0 1 | 7 x61; a | 8 512; b read 0 512 | 9 61*512""",
+        """a join | 0 0; a pipe | 1 0 1; a fork | 2 1; b attach 1 | 3 ok; a write 1 61*1024 | 4 1024
+        a write 1 62*512 | 5 parked 0; b read 0 511 | 6 61*511; a waits; b read 0 1 | 7 x61; a | 8 512
+        b read 0 512 | 9 61*512""",
         (13, 1536, 1024),
     ),
     (
         "a long write that goes on in parts",
         100,
-        """a join | 0 0; a pipe | 1 0 1; a fork | 2 1; b attach 1 | 3 ok; a write 1 61*2000 | 4 parked 1024; b read 0 500 | 5 61*500; a | 6 part 1524
-        a waits; b read 0 1024 | 7 61*1024; a | 8 2000; b read 0 9999 | 9 61*476""",
+        """a join | 0 0; a pipe | 1 0 1; a fork | 2 1; b attach 1 | 3 ok; a write 1 61*2000 | 4 parked 1024
+        b read 0 500 | 5 61*500; a | 6 part 1524; a waits; b read 0 1024 | 7 61*1024; a | 8 2000
+        b read 0 9999 | 9 61*476""",
         (13, 2000, 2000),
     ),
     (
         "a long write whose reader vanishes",
         100,
-        """a join | 0 0; a pipe | 1 0 1; a fork | 2 1; a close 0 | 3 ok; b attach 1 | 4 ok; a write 1 61*2000 | 5 parked 1024; a waits; b goes; a | 7 1024
-        a write 1 x61 | 8 error EPIPE""",
+        """a join | 0 0; a pipe | 1 0 1; a fork | 2 1; a close 0 | 3 ok; b attach 1 | 4 ok
+        a write 1 61*2000 | 5 parked 1024; a waits; b goes; a | 7 1024; a write 1 x61 | 8 error EPIPE""",
         (11, 1024, 0),
     ),
     (
         "a short write whose reader vanishes",
         100,
-        """a join | 0 0; a pipe | 1 0 1; a fork | 2 1; a close 0 | 3 ok; b attach 1 | 4 ok; a write 1 61*1000 | 5 1000; a write 1 61*25 | 6 parked 0; a waits
-        b goes; a | 8 error EPIPE""",
+        """a join | 0 0; a pipe | 1 0 1; a fork | 2 1; a close 0 | 3 ok; b attach 1 | 4 ok
+        a write 1 61*1000 | 5 1000; a write 1 61*25 | 6 parked 0; a waits; b goes; a | 8 error EPIPE""",
         (11, 1000, 0),
     ),
     (
         "two opens of a FIFO that meet",
         100,
-        """a join | 0 0; b join | 1 1; a mkfifo f | 2 ok; a open f r | 3 parked 0; a waits; b open f w | 4 0; a | 5 0; b write 0 x6869 | 6 2
-        a read 0 5 | 7 x6869; a read 0 5 | 8 parked 0; b goes; a | 10 x""",
+        """a join | 0 0; b join | 1 1; a mkfifo f | 2 ok; a open f r | 3 parked 0; a waits; b open f w | 4 0
+        a | 5 0; b write 0 x6869 | 6 2; a read 0 5 | 7 x6869; a read 0 5 | 8 parked 0; b goes; a | 10 x""",
         (13, 2, 2),
     ),
     (
         "an open of a FIFO for writing that waits",
         100,
-        """a join | 0 0; b join | 1 1; a mkfifo f | 2 ok; a open f w | 3 parked 0; a waits; b open f r,nonblock | 4 0; a | 5 0; a write 0 x6869 | 6 2
-        b read 0 5 | 7 x6869; b read 0 5 | 8 error EAGAIN""",
+        """a join | 0 0; b join | 1 1; a mkfifo f | 2 ok; a open f w | 3 parked 0; a waits
+        b open f r,nonblock | 4 0; a | 5 0; a write 0 x6869 | 6 2; b read 0 5 | 7 x6869
+        b read 0 5 | 8 error EAGAIN""",
         (12, 2, 2),
     ),
     (
         "an offset that parent and child share, and a name",
         100,
-        """a join | 0 0; a open s rw,creat | 1 0; a write 0 x61626364 | 2 4; a lseek 0 0 set | 3 0; a fork | 4 1; b attach 1 | 5 ok; b read 0 2 | 6 x6162
-        a read 0 2 | 7 x6364; c join | 8 2; c open s r | 9 0; c read 0 9 | 10 x61626364; c fstat 0 | 11 regular 4 1""",
+        """a join | 0 0; a open s rw,creat | 1 0; a write 0 x61626364 | 2 4; a lseek 0 0 set | 3 0; a fork | 4 1
+        b attach 1 | 5 ok; b read 0 2 | 6 x6162; a read 0 2 | 7 x6364; c join | 8 2; c open s r | 9 0
+        c read 0 9 | 10 x61626364; c fstat 0 | 11 regular 4 1""",
         (16, 4, 8),
     ),
     ("an attach of nobody", 100, "a attach 9 | 0 error ESRCH; a goes; b join | 1 0; b attach 0", (4, 0, 0)),
@@ -187,22 +206,39 @@ PLAYS = [
         "a join | 0 0; a fork | 1 1; b attach 1 | 2 ok; c attach 1 | 3 error ESRCH; b fork | 4 2; a fork | 5 3",
         (11, 0, 0),
     ),
-    ("a run that is full", 4, "a join | 0 0; a fstat 0 | 1 error EBADF; a fstat 0 | - refused RunFull; a pipe | - refused RunFull", (4, 0, 0)),
-    ("a run that is full before its end", 5, "a join | 0 0; b join | 1 1; a fstat 0 | - refused RunFull; b goes; a fork | - refused RunFull", (5, 0, 0)),
+    (
+        "a run that is full",
+        4,
+        "a join | 0 0; a fstat 0 | 1 error EBADF; a fstat 0 | - refused RunFull; a pipe | - refused RunFull",
+        (4, 0, 0),
+    ),
+    (
+        "a run that is full before its end",
+        5,
+        "a join | 0 0; b join | 1 1; a fstat 0 | - refused RunFull; b goes; a fork | - refused RunFull",
+        (5, 0, 0),
+    ),
     ("a run without room for a process", 2, "a join | - refused RunFull; a is hung up", (1, 0, 0)),
-    ("a run of one record", 1, "a join | - refused RunFull; a is hung up; b join | - refused RunFull; b is hung up", (1, 0, 0)),
+    (
+        "a run of one record",
+        1,
+        "a join | - refused RunFull; a is hung up; b join | - refused RunFull; b is hung up",
+        (1, 0, 0),
+    ),
     (
         "every call",
         100,
-        """a join | 0 0; a open a rw,creat | 1 0; a write 0 x68656c6c6f | 2 5; a pread 0 1 3 | 3 x656c6c; a pwrite 0 4 x2121 | 4 2; a lseek 0 0 cur | 5 5
-        a ftruncate 0 3 | 6 ok; a dup 0 | 7 1; a dup2 0 5 | 8 5; a close 1 | 9 ok; a pipe | 10 1 2; a mkfifo f | 11 ok; a link a b | 12 ok; a unlink a | 13 ok
-        a fstat 5 | 14 regular 3 1; a fork | 15 1; a read 0 9 | 16 x; a open f - | 17 error EINVAL; a open f r,nonblock | 18 3; a fstat 3 | 19 fifo 0 1""",
+        """a join | 0 0; a open a rw,creat | 1 0; a write 0 x68656c6c6f | 2 5; a pread 0 1 3 | 3 x656c6c
+        a pwrite 0 4 x2121 | 4 2; a lseek 0 0 cur | 5 5; a ftruncate 0 3 | 6 ok; a dup 0 | 7 1; a dup2 0 5 | 8 5
+        a close 1 | 9 ok; a pipe | 10 1 2; a mkfifo f | 11 ok; a link a b | 12 ok; a unlink a | 13 ok
+        a fstat 5 | 14 regular 3 1; a fork | 15 1; a read 0 9 | 16 x; a open f - | 17 error EINVAL
+        a open f r,nonblock | 18 3; a fstat 3 | 19 fifo 0 1""",
         (23, 7, 3),
     ),
 ]
 
 
-def play(program, records, text, totals):
+def play(program: str, records: int, text: str, totals: tuple[int, int, int]) -> None:
     """A play: who gets which answer. The clients connect in the order in which they come in."""
     steps = [step.strip() for line in text.split("\n") for step in line.split(";")]
     names = list(dict.fromkeys(step.split(" ")[0] for step in steps))
@@ -213,14 +249,15 @@ def play(program, records, text, totals):
             name, _, request = request.partition(" ")
             try:
                 take_step(clients[name], request, wanted)
-            except (frames.Failure, OSError) as failure:
-                raise frames.Failure(f"{step}: {failure}") from None
+            except (Failure, OSError) as failure:
+                raise Failure(f"{step}: {failure}") from None
         for client in clients.values():
             client.vanish()
         server.ended(report(len(names), *totals))
 
 
-def take_step(client, request, wanted):
+def take_step(client: Client, request: str, wanted: str) -> None:
+    """One step of a play."""
     if request == "goes":
         client.vanish()
     elif request == "waits":
@@ -234,7 +271,7 @@ def take_step(client, request, wanted):
             client.gets(wanted)
 
 
-def two_readers(program):
+def two_readers(program: str) -> None:
     """Two readers wait, and one write wakes both: whoever goes on first gets what was written first."""
     with Server(program, 3) as server:
         clients = [server.client() for _ in range(3)]
@@ -258,7 +295,7 @@ def two_readers(program):
         server.ended(report(3, 15, 3, 3))
 
 
-def full_of_processes(program):
+def full_of_processes(program: str) -> None:
     """64 processes, of which 63 are never attached: a fork and a join are refused, and the closing ends them."""
     with Server(program, 2) as server:
         first, second = server.client(), server.client()
@@ -275,7 +312,7 @@ def full_of_processes(program):
         server.ended(report(2, 65 + 1 + 1 + 63 + 1))
 
 
-def one_after_the_other(program):
+def one_after_the_other(program: str) -> None:
     """Clients that come when the one before has gone share the names."""
     with Server(program, 4) as server:
         for number in range(4):
@@ -289,7 +326,7 @@ def one_after_the_other(program):
         server.ended(report(4, 13))
 
 
-def one_too_many(program):
+def one_too_many(program: str) -> None:
     """A connection more than the run has sessions is never answered, and hung up at the end."""
     with Server(program, 1) as server:
         first, second = server.client(), server.client()
@@ -302,25 +339,27 @@ def one_too_many(program):
         require(second.is_hung_up(SECONDS), "the second client is not hung up")
 
 
-def written_out(program):
+def written_out(program: str) -> Iterator[Case]:
+    """The conversations of which each answer is written here."""
     for size in (1, 3, 1_000):
-        yield f"the worked example, in pieces of {size}", lambda size=size: worked(program, size)
-    yield "the worked example, all at once", lambda: worked_at_once(program)
+        yield f"the worked example, in pieces of {size}", partial(worked, program, size)
+    yield "the worked example, all at once", partial(worked_at_once, program)
     for what, records, text, totals in PLAYS:
-        yield what, lambda row=(records, text, totals): play(program, *row)
-    yield "two readers of one write", lambda: two_readers(program)
-    yield "64 processes", lambda: full_of_processes(program)
-    yield "one client after the other", lambda: one_after_the_other(program)
-    yield "a client too many", lambda: one_too_many(program)
+        yield what, partial(play, program, records, text, totals)
+    yield "two readers of one write", partial(two_readers, program)
+    yield "64 processes", partial(full_of_processes, program)
+    yield "one client after the other", partial(one_after_the_other, program)
+    yield "a client too many", partial(one_too_many, program)
 
 
 # ---- clients that vanish, and hostile ones
 
-TWO_REQUESTS = JOIN + sessions.call_text("p0 open a w,creat")
+OPEN = call_frame("p0 open a w,creat")
+TWO_REQUESTS = JOIN + OPEN
 
 
-def vanishing(program, sent, how):
-    """A client that sends the first bytes of a conversation and vanishes: its whole requests are recorded, and its exit."""
+def vanishing(program: str, sent: int, how: str) -> None:
+    """A client that sends the first bytes of a conversation and vanishes: whole requests and an exit are recorded."""
     whole = (sent >= len(JOIN)) + (sent == len(TWO_REQUESTS))
     with Server(program, 1) as server:
         client = server.client()
@@ -342,7 +381,7 @@ def vanishing(program, sent, how):
         server.ended(report(1, whole + bool(whole) + 1))
 
 
-def stays(program, text, answers, records):
+def stays(program: str, text: bytes, answers: Sequence[str], records: int) -> None:
     """A client that sends these bytes and stays: the server ends the session, and with it the run, by itself."""
     with Server(program, 1) as server:
         client = server.client()
@@ -353,7 +392,7 @@ def stays(program, text, answers, records):
         require(client.is_hung_up(SECONDS), "not hung up")
 
 
-def leaves(program, text, answers, records, bytes_in=0):
+def leaves(program: str, text: bytes, answers: Sequence[str], records: int, bytes_in: int = 0) -> None:
     """A client that sends these bytes, is answered, stays for a while and leaves."""
     with Server(program, 1) as server:
         client = server.client()
@@ -366,7 +405,7 @@ def leaves(program, text, answers, records, bytes_in=0):
         server.ended(report(1, records, bytes_in))
 
 
-def hung_up_beside_others(program, text, answers):
+def hung_up_beside_others(program: str, text: bytes, answers: Sequence[str]) -> None:
     """A client whose session is over is hung up at once, though another session goes on."""
     with Server(program, 2) as server:
         first, second = server.client(), server.client()
@@ -379,12 +418,12 @@ def hung_up_beside_others(program, text, answers):
         second.ask("fstat 0")
         second.answer()
         second.vanish()
-        require(outcome_of(server.process)[0] == 0, "the status is not 0")
+        require(outcome_of(server.process).status == 0, "the status is not 0")
         require(is_hung_up, "it is not hung up while the other session goes on")
 
 
-def vanishing_while_it_waits(program):
-    """A client that vanishes while its process waits: the process goes on waiting, gets what it waits for, and exits."""
+def vanishing_while_it_waits(program: str) -> None:
+    """A client that vanishes while its process waits: the process gets what it waits for, and then exits."""
     with Server(program, 2) as server:
         reader, writer = server.client(), server.client()
         for request, wanted in (("join", "0 0"), ("pipe", "1 0 1"), ("fork", "2 1"), ("read 0 5", "3 parked 0")):
@@ -399,19 +438,18 @@ def vanishing_while_it_waits(program):
         server.ended(report(2, 11, 5, 5))
 
 
-def one_bad_among_good(program):
+def one_bad_among_good(program: str) -> None:
     """Clients that send garbage or vanish do not disturb those beside them."""
-    bad = [b"GET / HTTP/1.0\r\n\r\n", JOIN * 2, frames.framed(b""), JOIN + b"\0\0", b"\xff" * 100_000, b"", JOIN + frames.framed(b"\x80")]
+    bad = [b"GET / HTTP/1.0\r\n\r\n", JOIN * 2, framed(b""), JOIN + b"\0\0", b"\xff" * 100_000, b""]
+    bad.append(JOIN + framed(b"\x80"))
     with Server(program, len(bad) + 1) as server:
         good = server.client()
         good.ask("join")
         good.answer()
         for text in bad:
             client = server.client()
-            try:
+            with contextlib.suppress(ConnectionError):
                 client.send(text)
-            except ConnectionError:
-                pass
             client.vanish()
             good.ask("fstat 0")
             require(good.answer().endswith(" error EBADF"), "the good client is disturbed")
@@ -420,9 +458,9 @@ def one_bad_among_good(program):
         server.ended(report(len(bad) + 1, 2 * joined + len(bad) + 1))
 
 
-def flood(program, count, records, gone):
-    """A client that sends requests and reads nothing, until the server takes no more or all is sent; then it vanishes."""
-    each = sessions.call_text("p0 fstat 0")
+def flood(program: str, count: int, records: int, gone: Callable[[Client], object]) -> None:
+    """A client that sends requests and reads nothing, until the server takes no more or all is sent, and vanishes."""
+    each = call_frame("p0 fstat 0")
     with Server(program, 1, records) as server:
         client = server.client()
         client.ask("join")
@@ -437,7 +475,8 @@ def flood(program, count, records, gone):
         gone(client)
         status, stdout, stderr = outcome_of(server.process)
         given = re.fullmatch(rb"sessions 1 records (\d+) in 0 out 0\n", stdout)
-        require(status == 0 and given and not stderr, f"status {status}, {stdout!r}, {stderr[:200]!r}")
+        if status != 0 or not given or stderr:
+            raise Failure(f"status {status}, {stdout!r}, {stderr[:200]!r}")
         most = min(records, 2 + count + 2)
         if left:
             require(4 < int(given[1]) <= most, f"{int(given[1])} records, at most {most}")
@@ -445,18 +484,18 @@ def flood(program, count, records, gone):
             require(int(given[1]) == most, f"{int(given[1])} records, wanted {most}")
 
 
-def flood_and_read(program, count):
+def flood_and_read(program: str, count: int) -> None:
     """A client that sends many requests while nobody reads the answers, and then reads them all."""
-    each = sessions.call_text("p0 fstat 0")
+    each = call_frame("p0 fstat 0")
     with Server(program, 1, ALL_RECORDS) as server:
         client = server.client()
-        client.send(JOIN + sessions.call_text("p0 pipe"))
+        client.send(JOIN + call_frame("p0 pipe"))
         sender = threading.Thread(target=lambda: client.send(each * count), daemon=True)
         sender.start()
         time.sleep(A_WHILE)
         client.gets("0 0")
         client.gets("1 0 1")
-        wanted = b"".join(frames.framed(b"\x01" + frames.u64(place) + b"\x05\x02" + bytes(12)) for place in range(2, count + 2))
+        wanted = framed(*(recorded(place, "pipe 0 0") for place in range(2, count + 2)))
         require(client.receive(len(wanted)) == wanted, "wrong answers")
         sender.join(SECONDS)
         client.stop()
@@ -464,53 +503,79 @@ def flood_and_read(program, count):
         server.ended(report(1, count + 4))
 
 
-def hostile(program):
+def hostile(program: str) -> Iterator[Case]:
+    """Clients that vanish, that send what is no request, and that do not read."""
     for sent in range(len(TWO_REQUESTS) + 1):
         for how in ("at once", "byte by byte", "after it was answered", "with an answer unread", "by a half"):
-            yield f"vanishing after {sent} bytes, {how}", lambda sent=sent, how=how: vanishing(program, sent, how)
+            yield f"vanishing after {sent} bytes, {how}", partial(vanishing, program, sent, how)
     pick = random.Random("garbage")
-    call = sessions.call_text("p0 fstat 0")
+    call = call_frame("p0 fstat 0")
+    nothing: list[str] = []
     for what, text, answers, records in [
-        ("a greeting of another kind", b"GET / HTTP/1.0\r\n\r\n", [], 1),
-        ("garbage", b"\xff" + pick.randbytes(1_000), [], 1),
+        ("a greeting of another kind", b"GET / HTTP/1.0\r\n\r\n", nothing, 1),
+        ("garbage", b"\xff" + pick.randbytes(1_000), nothing, 1),
         ("garbage after a join", JOIN + b"\xff" + pick.randbytes(1_000), ["0 0"], 3),
-        ("a frame that is too long", JOIN + frames.u32(65_793), ["0 0"], 3),
-        ("an empty frame", JOIN + frames.u32(0), ["0 0"], 3),
-        ("a request that is none", JOIN + frames.framed(b"\x20"), ["0 0"], 3),
-        ("a call before a join", call, [], 1),
+        ("a frame that is too long", JOIN + u32(65_793), ["0 0"], 3),
+        ("an empty frame", JOIN + u32(0), ["0 0"], 3),
+        ("a request that is none", JOIN + framed(b"\x20"), ["0 0"], 3),
+        ("a call before a join", call, nothing, 1),
         ("a second join", JOIN + call + JOIN, ["0 0", "1 error EBADF"], 4),
-        ("a byte too many", JOIN + frames.framed(call[4:] + b"\0"), ["0 0"], 3),
-        ("an attach of nobody", frames.framed(b"\x02" + bytes(4)), ["0 error ESRCH"], 2),
+        ("a byte too many", JOIN + framed(call[4:] + b"\0"), ["0 0"], 3),
+        ("an attach of nobody", attach_frame(0), ["0 error ESRCH"], 2),
     ]:
-        yield what, lambda row=(text, answers, records): stays(program, *row)
+        yield what, partial(stays, program, text, answers, records)
+    long_write, longest_write = call_frame("p0 write 0 61*65536"), call_frame("p0 write 0 61*65700")
     for what, text, answers, records, bytes_in in [
-        ("nothing at all", b"", [], 1, 0),
-        ("half a length", b"\0\0", [], 1, 0),
-        ("half a frame", JOIN + sessions.call_text("p0 write 0 " + "61*65700")[:30_000], ["0 0"], 3, 0),
-        ("the longest frame, but for a byte", JOIN + (frames.u32(65_792) + bytes(65_791)), ["0 0"], 3, 0),
-        ("the longest write", JOIN + sessions.call_text("p0 open a w,creat") + sessions.call_text("p0 write 0 61*65536"), ["0 0", "1 0", "2 65536"], 5, 65_536),
-        ("a write that is too long for a call", JOIN + sessions.call_text("p0 open a w,creat") + sessions.call_text("p0 write 0 61*65700"), ["0 0", "1 0", "2 error EINVAL"], 5, 0),
+        ("nothing at all", b"", nothing, 1, 0),
+        ("half a length", b"\0\0", nothing, 1, 0),
+        ("half a frame", JOIN + longest_write[:30_000], ["0 0"], 3, 0),
+        ("the longest frame, but for a byte", JOIN + (u32(65_792) + bytes(65_791)), ["0 0"], 3, 0),
+        ("the longest write", TWO_REQUESTS + long_write, ["0 0", "1 0", "2 65536"], 5, 65_536),
+        (
+            "a write that is too long for a call",
+            TWO_REQUESTS + longest_write,
+            ["0 0", "1 0", "2 error EINVAL"],
+            5,
+            0,
+        ),
     ]:
-        yield what, lambda row=(text, answers, records, bytes_in): leaves(program, *row)
+        yield what, partial(leaves, program, text, answers, records, bytes_in)
     for what, text, answers in [
-        ("garbage", b"\xff" * 8, []),
+        ("garbage", b"\xff" * 8, nothing),
         ("garbage after a join", JOIN + b"\xff" * 8, ["1 1"]),
-        ("an attach of nobody", frames.framed(b"\x02" + frames.u32(9)), ["1 error ESRCH"]),
+        ("an attach of nobody", attach_frame(9), ["1 error ESRCH"]),
     ]:
-        yield f"{what}, beside another session", lambda row=(text, answers): hung_up_beside_others(program, *row)
-    yield "vanishing while it waits", lambda: vanishing_while_it_waits(program)
-    yield "bad clients among good ones", lambda: one_bad_among_good(program)
-    for what, gone in (("vanishes", Client.vanish), ("stops and vanishes", lambda client: (client.stop(), client.vanish()))):
-        yield f"a flood that {what}", lambda gone=gone: flood(program, 1_000_000, ALL_RECORDS, gone)
-        yield f"a flood past the last record that {what}", lambda gone=gone: flood(program, 1_000_000, 100, gone)
-    yield "a small flood that is never read", lambda: flood(program, 500, ALL_RECORDS, lambda client: (client.stop(), time.sleep(A_WHILE), client.vanish()))
-    yield "a flood that is read late", lambda: flood_and_read(program, 20_000)
+        yield f"{what}, beside another session", partial(hung_up_beside_others, program, text, answers)
+    yield "vanishing while it waits", partial(vanishing_while_it_waits, program)
+    yield "bad clients among good ones", partial(one_bad_among_good, program)
+    ways: list[tuple[str, Callable[[Client], None]]] = [
+        ("vanishes", Client.vanish),
+        ("stops and vanishes", stops_and_vanishes),
+    ]
+    for what, gone in ways:
+        yield f"a flood that {what}", partial(flood, program, 1_000_000, ALL_RECORDS, gone)
+        yield f"a flood past the last record that {what}", partial(flood, program, 1_000_000, 100, gone)
+    yield "a small flood that is never read", partial(flood, program, 500, ALL_RECORDS, stops_for_a_while)
+    yield "a flood that is read late", partial(flood_and_read, program, 20_000)
+
+
+def stops_and_vanishes(client: Client) -> None:
+    """Sends nothing more, and hangs up."""
+    client.stop()
+    client.vanish()
+
+
+def stops_for_a_while(client: Client) -> None:
+    """Sends nothing more, and hangs up after a while."""
+    client.stop()
+    time.sleep(A_WHILE)
+    client.vanish()
 
 
 # ---- sessions at the same time
 
 
-def in_turns(program, number):
+def in_turns(program: str, number: int) -> None:
     """Two clients that each send their second request only after the other got an answer."""
     with Server(program, 2) as server:
         clients = [server.client(), server.client()]
@@ -535,7 +600,7 @@ def in_turns(program, number):
         server.ended(report(2, 7))
 
 
-def at_the_same_time(program, runs):
+def at_the_same_time(program: str, runs: int) -> Iterator[Case]:
     """All runs of clients in turns, a few of them beside one another."""
     with concurrent.futures.ThreadPoolExecutor(4) as pool:
         tasks = [pool.submit(in_turns, program, number) for number in range(runs)]
@@ -546,55 +611,66 @@ def at_the_same_time(program, runs):
 # ---- command lines, and what the system refuses
 
 
-def refused(program, words, status, stderr):
+def refused(program: str, words: Sequence[str], status: int, stderr: Callable[[bytes], None]) -> None:
     """A run that is over before anybody connects."""
     given = outcome_of(started([program, *words]))
-    require(given[:2] == (status, b""), f"status {given[0]}, wanted {status}; standard output {given[1][:200]!r}, wanted none")
-    stderr(given[2])
+    require(
+        given[:2] == (status, b""),
+        f"status {given.status}, wanted {status}; standard output {given.stdout[:200]!r}, wanted none",
+    )
+    stderr(given.stderr)
 
 
-def is_text(wanted):
+def is_text(wanted: bytes) -> Callable[[bytes], None]:
+    """Just this text."""
     return lambda text: require(text == wanted, f"standard error is {text!r}, wanted {wanted!r}")
 
 
-def names_fault(part):
+def names_fault(part: str) -> Callable[[bytes], None]:
     """A text of usage that names what is wrong, and how `serve` is used."""
 
-    def check(text):
+    def check(text: bytes) -> None:
         require(part.encode() in text, f"standard error is {text!r}, wanted {part!r} in it")
         require(re.search(rb"(?m)^Usage: .*\bserve\b", text), f"standard error is {text!r}, wanted how serve is used")
 
     return check
 
 
-def mistakes(program):
+def mistakes(program: str) -> Iterator[Case]:
+    """Command lines that are refused."""
     with tempfile.TemporaryDirectory(prefix="fdref-") as folder:
         path = os.path.join(folder, "socket")
         right = {"--socket": path, "--sessions": "1", "--records": "100"}
         for option in right:
             words = [word for pair in right.items() if pair[0] != option for word in pair]
-            yield f"no {option}", lambda words=words, option=option: mistake(program, words, option, folder)
+            yield f"no {option}", partial(mistake, program, words, option, folder)
             words = [word for pair in right.items() for word in pair] + [option, right[option]]
-            yield f"{option} twice", lambda words=words, option=option: mistake(program, words, option, folder)
-        for option, values in (("--sessions", ["0", "65", "", "x", "-1", "1.5", "18446744073709551617"]), ("--records", ["0", "1000001", "", "x", "-1"])):
+            yield f"{option} twice", partial(mistake, program, words, option, folder)
+        numbers = {
+            "--sessions": ["0", "65", "", "x", "-1", "1.5", "18446744073709551617"],
+            "--records": ["0", "1000001", "", "x", "-1"],
+        }
+        for option, values in numbers.items():
             for value in values:
                 words = [f"{name}={value if name == option else given}" for name, given in right.items()]
-                yield f"{option}={value}", lambda words=words, option=option: mistake(program, words, f"'{option} <N>'", folder)
+                yield f"{option}={value}", partial(mistake, program, words, f"'{option} <N>'", folder)
         words = [word for pair in right.items() for word in pair]
-        yield "a surplus word", lambda: mistake(program, [*words, "more"], "more", folder)
-        yield "an unknown option", lambda: mistake(program, [*words, "--port", "7"], "--port", folder)
+        yield "a surplus word", partial(mistake, program, [*words, "more"], "more", folder)
+        yield "an unknown option", partial(mistake, program, [*words, "--port", "7"], "--port", folder)
 
 
-def mistake(program, words, part, folder):
+def mistake(program: str, words: Sequence[str], part: str, folder: str) -> None:
+    """A command line that is refused with a text that names a part of it."""
     refused(program, ["serve", *words], 2, names_fault(part))
     require(not os.listdir(folder), "something was made")
 
 
-def cannot_listen(program, path):
+def cannot_listen(program: str, path: str) -> None:
+    """A path at which no socket can be made."""
     refused(program, ["serve", "--socket", path, "--sessions", "1", "--records", "9"], 4, is_text(b"cannot listen\n"))
 
 
-def at_a_file(program):
+def at_a_file(program: str) -> None:
     """A file that is there is left as it is."""
     with tempfile.NamedTemporaryFile(prefix="fdref-") as file:
         file.write(b"mine")
@@ -604,14 +680,15 @@ def at_a_file(program):
             require(again.read() == b"mine", "the file has changed")
 
 
-def at_a_dangling_link(program, folder):
+def at_a_dangling_link(program: str, folder: str) -> None:
+    """A link that leads nowhere is left as it is."""
     path = os.path.join(folder, "link")
     os.symlink(os.path.join(folder, "nowhere"), path)
     cannot_listen(program, path)
     require(os.listdir(folder) == ["link"], "something was made")
 
 
-def at_a_server(program):
+def at_a_server(program: str) -> None:
     """Where a server listens already, and where it has listened; the first server is not disturbed."""
     with Server(program, 1) as server:
         client = server.client()
@@ -623,7 +700,7 @@ def at_a_server(program):
         cannot_listen(program, server.path)
 
 
-def at_a_long_path(program, length, is_fit):
+def at_a_long_path(program: str, length: int, is_fit: bool) -> None:
     """A path of just so many bytes."""
     with tempfile.TemporaryDirectory(prefix="fdref-") as folder:
         path = os.path.join(folder, "").ljust(length, "s")
@@ -637,8 +714,8 @@ def at_a_long_path(program, length, is_fit):
         require(outcome_of(process) == (0, report(1, 1), b""), "a path that fits is refused")
 
 
-def few_descriptors(program, more, served):
-    """The process may open so few files that it cannot take every connection: those that it took are served to their end."""
+def few_descriptors(program: str, more: int, served: int) -> None:
+    """The process may open so few files that it cannot take every connection: it serves those that it took."""
     with Server(program, 5) as server:
         clients = [server.client()]
         clients[0].ask("join")
@@ -651,7 +728,9 @@ def few_descriptors(program, more, served):
                 clients[number].ask("join")
                 clients[number].gets(f"{number} {number}")
         # with an odd number the connection itself is taken, though not its second descriptor
-        require(more % 2 == 0 or clients[served].is_hung_up(SECONDS), "a connection that could not be served is not hung up")
+        require(
+            more % 2 == 0 or clients[served].is_hung_up(SECONDS), "a connection that could not be served is not hung up"
+        )
         clients[0].ask("pipe")
         clients[0].gets(f"{served} 0 1")
         for client in clients:
@@ -659,7 +738,8 @@ def few_descriptors(program, more, served):
         server.ended(report(served, 2 * served + 2), 4, b"cannot listen\n")
 
 
-def output_is_full(program):
+def output_is_full(program: str) -> None:
+    """An output that takes nothing."""
     with open("/dev/full", "wb", buffering=0) as full, Server(program, 1, stdout=full) as server:
         client = server.client()
         client.ask("join")
@@ -668,7 +748,8 @@ def output_is_full(program):
         server.ended(b"", 4, b"cannot write\n")
 
 
-def output_is_closed(program):
+def output_is_closed(program: str) -> None:
+    """An output that nobody reads."""
     reading, writing = os.pipe()
     os.close(reading)
     with os.fdopen(writing, "wb", buffering=0) as closed, Server(program, 1, stdout=closed) as server:
@@ -676,7 +757,7 @@ def output_is_closed(program):
         server.ended(b"", 4, b"cannot write\n")
 
 
-# Refuses the Nth thread that is started. It is built as the library of tests/allocations.py, without headers.
+# Refuses the Nth thread that is started. It is built as the library that refuses allocations, without headers.
 FEW_THREADS = r"""
 extern void *dlsym(void *, const char *);
 extern char *getenv(const char *);
@@ -691,11 +772,12 @@ int pthread_create(void *thread, const void *how, void *(*run)(void *), void *wi
 """
 
 
-def few_threads(program, number):
+def few_threads(program: str, number: int) -> None:
     """Thread N cannot be started: the sessions before it are served to their end."""
     with tempfile.TemporaryDirectory(prefix="fdref-") as folder:
-        library = allocations.build(folder, FEW_THREADS)
-        with Server(program, 5, env={**os.environ, "LD_PRELOAD": library, "REFUSE_THREAD": str(number)}) as server:
+        library = build(folder, FEW_THREADS)
+        env = {**os.environ, "LD_PRELOAD": library, "REFUSE_THREAD": str(number)}
+        with Server(program, 5, env=env) as server:
             clients = []
             for place in range(number - 1):
                 clients.append(server.client())
@@ -707,45 +789,46 @@ def few_threads(program, number):
             server.ended(report(number - 1, 2 * (number - 1) + 1), 5, b"no thread\n")
 
 
-def system_cases(program):
+def system_cases(program: str) -> Iterator[Case]:
+    """Command lines, and what the system refuses."""
     yield from mistakes(program)
-    yield "a file at the path", lambda: at_a_file(program)
-    yield "a server at the path", lambda: at_a_server(program)
+    yield "a file at the path", partial(at_a_file, program)
+    yield "a server at the path", partial(at_a_server, program)
     with tempfile.TemporaryDirectory(prefix="fdref-") as folder:
-        yield "a folder at the path", lambda: cannot_listen(program, folder)
-        yield "a folder that is not there", lambda: cannot_listen(program, os.path.join(folder, "no", "socket"))
-        yield "a file for a folder", lambda: cannot_listen(program, os.path.join(program, "socket"))
-        yield "a link to nowhere at the path", lambda: at_a_dangling_link(program, folder)
-    yield "the empty path", lambda: cannot_listen(program, "")
-    yield "the longest path", lambda: at_a_long_path(program, PATH_MOST, True)
-    yield "a path of a byte too many", lambda: at_a_long_path(program, PATH_MOST + 1, False)
-    yield "a path that is far too long", lambda: at_a_long_path(program, 250, False)
+        yield "a folder at the path", partial(cannot_listen, program, folder)
+        yield "a folder that is not there", partial(cannot_listen, program, os.path.join(folder, "no", "socket"))
+        yield "a file for a folder", partial(cannot_listen, program, os.path.join(program, "socket"))
+        yield "a link to nowhere at the path", partial(at_a_dangling_link, program, folder)
+    yield "the empty path", partial(cannot_listen, program, "")
+    yield "the longest path", partial(at_a_long_path, program, PATH_MOST, True)
+    yield "a path of a byte too many", partial(at_a_long_path, program, PATH_MOST + 1, False)
+    yield "a path that is far too long", partial(at_a_long_path, program, 250, False)
     # a connection takes two, and the next one is there already while the server waits
     for more, served in ((0, 1), (1, 1), (2, 2), (3, 2)):
-        yield f"{more} descriptors more", lambda more=more, served=served: few_descriptors(program, more, served)
-    yield "a full device as output", lambda: output_is_full(program)
-    yield "nobody reads the output", lambda: output_is_closed(program)
+        yield f"{more} descriptors more", partial(few_descriptors, program, more, served)
+    yield "a full device as output", partial(output_is_full, program)
+    yield "nobody reads the output", partial(output_is_closed, program)
     for number in (1, 2, 5):
-        yield f"no thread {number}", lambda number=number: few_threads(program, number)
+        yield f"no thread {number}", partial(few_threads, program, number)
 
 
 # ---- the whole
 
 
-def main(words):
+def main(words: Sequence[str]) -> int:
+    """Makes all checks: the exit status."""
     parser = argparse.ArgumentParser(description="Plays clients of the built server over real sockets.")
-    parser.add_argument("--program", default=PROGRAM, help="the program [default: crates/fdref/out/fdref]")
-    parser.add_argument("--seed", default="1", help="any word; 1 where none is given")
-    parser.add_argument("--runs", type=int, default=200, help="runs of two clients in turns; 200 where no number is given")
-    parser.add_argument("--crowds", type=int, default=3, help="runs of 64 clients; 3 where no number is given")
-    parser.add_argument("--calls", type=int, default=40, help="random calls of each of the 64 clients; 40 where no number is given")
-    parser.add_argument("--only", default="", help="only the parts that have this word in their name")
+    add_path(parser, "--program", "the program", FDREF)
+    add_seed(parser)
+    add_count(parser, "--runs", 200, "runs of two clients in turns")
+    add_count(parser, "--crowds", 3, "runs of 64 clients")
+    add_count(parser, "--calls", 40, "random calls of each of the 64 clients")
+    parser.add_argument("--only", default="", metavar="WORD", help="only the parts that have this word in their name")
     args = parser.parse_args(words)
-    program = os.path.abspath(args.program)
-    if not os.path.exists(program):
-        print(f"no program at {program}: ./fdref --version builds it")
-        print("0 passed, 1 failed")
-        return 1
+    program = args.program
+    missing = end_without(program)
+    if missing is not None:
+        return missing
     parts = [
         ("conversations that are written out", written_out(program)),
         ("clients that vanish and hostile ones", hostile(program)),
@@ -754,23 +837,13 @@ def main(words):
         ("two clients in turns", at_the_same_time(program, args.runs)),
         ("64 clients", crowds.cases(program, args.seed, args.crowds, args.calls)),
     ]
-    counts = [frames.counted_cases(what, guarded(cases)) for what, cases in parts if args.only in what]
-    passed, failed = (sum(column) for column in zip(*counts)) if counts else (0, 1)
-    print(f"{passed} passed, {failed} failed")
-    return 1 if failed else 0
-
-
-def guarded(cases):
-    """The cases, of which a fault of the system is a failure too."""
-
-    def run(case):
-        try:
-            case()
-        except OSError as fault:
-            raise frames.Failure(repr(fault)) from None
-
-    for what, case in cases:
-        yield what, lambda case=case: run(case)
+    count = Count(TELL_MOST)
+    chosen = [(what, cases) for what, cases in parts if args.only in what]
+    for what, cases in chosen:
+        count.part(what, cases)
+    if not chosen:
+        count.add(0, 1)
+    return count.end()
 
 
 if __name__ == "__main__":

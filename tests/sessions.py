@@ -1,5 +1,5 @@
 #!/usr/bin/env python3
-"""Serves sessions by the built trial and by a model of its own, and compares them.
+"""Are sessions served as a plain model serves them, whatever fails on the way? (5 minutes)
 
 usage: tests/sessions.py [--trial PATH] [--seed WORD] [--sessions N]
 
@@ -24,22 +24,35 @@ M is above 0.
 
 import argparse
 import collections
-import os
 import random
-import subprocess
 import sys
 import tempfile
+from collections.abc import Callable, Iterable, Iterator, Sequence
+from functools import partial
+from typing import Any, NamedTuple
 
-# the modules are imported from this folder, which is to stay as it is
-sys.dont_write_bytecode = True
+from support import plain_model
+from support.counting import Case, Count, Failure
+from support.frames import (
+    FLAG_WORDS,
+    JOIN,
+    Stream,
+    attach_frame,
+    call_frame,
+    counted,
+    framed,
+    recorded,
+    refused,
+    session_frames,
+    u32,
+)
+from support.options import add_count, add_path, add_seed, end_without
+from support.places import SESSION_TRIAL
+from support.refusing import NEVER, NO_MEMORY, Refuser, build
+from support.running import Ran, run
+from support.sources import changed, numbered, source
+from support.texts import difference
 
-import allocations
-import frames
-import plain_model
-
-TOP = os.path.dirname(os.path.dirname(os.path.abspath(__file__)))
-TRIAL = os.path.join(TOP, "crates", "session_trial", "out", "session_trial")
-SECONDS = 60
 TELL_MOST = 10
 
 READS_MAX = 1_048_576
@@ -47,9 +60,20 @@ INTERRUPTIONS_MAX = 16
 PIECE_MOST = 65_536
 GATHERED_MOST = 65_536
 
-# how a stream answers: the most bytes of a call, the call that fails (0 for none), how many are interrupted before each other one, and
-# the flush that fails (0 for none)
-Manner = collections.namedtuple("Manner", "most fails_at interruptions flush_fails_at", defaults=(2**32, 0, 0, 0))
+
+class Manner(NamedTuple):
+    """How a stream answers.
+
+    The most bytes of a call, the call that fails (0 for none), how many are interrupted before each other one, and the
+    flush that fails (0 for none).
+    """
+
+    most: int = 2**32
+    fails_at: int = 0
+    interruptions: int = 0
+    flush_fails_at: int = 0
+
+
 PLAIN = Manner()
 
 
@@ -57,17 +81,18 @@ PLAIN = Manner()
 
 
 class Calls:
-    """The calls on a stream: how many there were, how many of the last ones were interrupted, and whether one failed."""
+    """The calls on a stream: how many there were, how many at the end were interrupted, and whether one failed."""
 
-    def __init__(self, manner):
+    def __init__(self, manner: Manner) -> None:
         self.manner = manner
         self.calls = self.interruptions = 0
         self.failed = False
 
-    def is_broken(self):
+    def is_broken(self) -> bool:
+        """Whether nothing more is asked of the stream."""
         return self.failed or self.interruptions >= INTERRUPTIONS_MAX
 
-    def call(self, use):
+    def call(self, use: Callable[[], bytes]) -> bytes | None:
         """One call: what `use` gives, or nothing where the call is interrupted or fails."""
         self.calls += 1
         if self.calls == self.manner.fails_at:
@@ -79,24 +104,26 @@ class Calls:
             return use()
         return None
 
-    def line(self, word):
+    def line(self, word: str) -> str:
+        """The calls, as the trial tells them."""
         return f"{word} {self.calls} {self.interruptions} {'failed' if self.failed else 'whole'}"
 
 
 class Reader(Calls):
     """What a session reads."""
 
-    def __init__(self, text, manner):
+    def __init__(self, text: bytes, manner: Manner) -> None:
         super().__init__(manner)
         self.text = text
         self.at = 0
 
-    def give(self):
+    def give(self) -> bytes:
+        """What one call reads."""
         piece = self.text[self.at : self.at + min(max(self.manner.most, 1), PIECE_MOST)]
         self.at += len(piece)
         return piece
 
-    def piece(self):
+    def piece(self) -> bytes | str:
         """The next piece, none at the end, or why nothing is read any more."""
         while self.calls < READS_MAX and not self.is_broken():
             piece = self.call(self.give)
@@ -108,17 +135,21 @@ class Reader(Calls):
 class Writer(Calls):
     """What a session writes."""
 
-    def __init__(self, manner):
+    def __init__(self, manner: Manner) -> None:
         super().__init__(manner)
         self.text = b""
         self.flushes = 0
 
-    def write(self, some):
+    def front(self, some: bytes) -> bytes:
+        """What one call takes."""
+        return some[: self.manner.most]
+
+    def write(self, some: bytes) -> bool:
         """Writes all bytes and flushes them, if the writer takes them."""
         if not some:
             return True
         while some and not self.is_broken():
-            taken = self.call(lambda: some[: self.manner.most])
+            taken = self.call(partial(self.front, some))
             if taken == b"":
                 self.failed = True
             elif taken:
@@ -136,42 +167,37 @@ class Writer(Calls):
 class Over(Exception):
     """The session is over, and this is its end."""
 
-
-def outcome_bytes(text):
-    """An outcome, as frames have it."""
-    word, *others = text.split(" ")
-    if word == "ok":
-        return b"\x01"
-    if word == "error":
-        return bytes([6, frames.ERRORS.index(others[0]) + 1])
-    if word in ("parked", "part"):
-        return bytes([7 if word == "parked" else 8]) + frames.u32(int(others[0]))
-    if word in ("regular", "fifo", "pipe"):
-        return bytes([5, ("regular", "fifo", "pipe").index(word)]) + frames.u64(int(others[0])) + frames.u32(int(others[1]))
-    if others:
-        return b"\x04" + frames.u32(int(word)) + frames.u32(int(others[0]))
-    if word.isdigit():
-        return b"\x02" + frames.u64(int(word))
-    return b"\x03" + frames.counted(plain_model.read_data(word.encode()))
+    def __init__(self, end: str) -> None:
+        super().__init__(end)
+        self.end = end
 
 
 class Session:
     """One session, served by the model."""
 
-    def __init__(self, text, records=10_000, reads=PLAIN, writes=PLAIN, meanwhile=(), kernel="knows"):
+    def __init__(
+        self,
+        text: bytes,
+        records: int = 10_000,
+        reads: Manner = PLAIN,
+        writes: Manner = PLAIN,
+        meanwhile: Iterable[str] = (),
+        kernel: str = "knows",
+    ) -> None:
         self.text = text
         self.meanwhile = list(meanwhile)
         self.kernel = kernel
-        self.words = [str(records), kernel, *(",".join(map(str, manner)) for manner in (reads, writes)), *meanwhile]
+        manners = [",".join(map(str, manner)) for manner in (reads, writes)]
+        self.words = [str(records), kernel, *manners, *self.meanwhile]
         self.reader, self.writer = Reader(text, reads), Writer(writes)
         self.run = plain_model.Run(records)
-        self.process = None
+        self.process: int | None = None
         self.is_spent = False
         self.pending = b""
         self.answers = 0
-        self.receipts = []
+        self.receipts: list[str] = []
 
-    def wanted(self):
+    def wanted(self) -> bytes:
         """What the trial must print."""
         end = self.end()
         lines = [
@@ -186,12 +212,13 @@ class Session:
         ]
         return "".join(f"{line}\n" for line in lines).encode()
 
-    def end(self):
+    def end(self) -> str:
         """Serves the session to its end."""
+        end = ""
         try:
             self.read()
         except Over as over:
-            end = over.args[0]
+            end = over.end
         if end != "WriteFault" and not self.send():
             end = "WriteFault"
         if self.process is not None and not self.is_spent:
@@ -200,7 +227,7 @@ class Session:
             self.hang_up()
         return f"WriteFault {len(self.writer.text)}" if end == "WriteFault" else end
 
-    def read(self):
+    def read(self) -> None:
         """Takes the requests of each piece, and writes their answers."""
         seen = b""
         while True:
@@ -210,7 +237,7 @@ class Session:
             if not piece:
                 raise Over("Closed")
             seen += piece
-            stream = frames.Stream("requests", seen)
+            stream = Stream("requests", seen)
             for _, line in stream.frames:
                 if len(self.pending) >= GATHERED_MOST:
                     self.flush()
@@ -220,26 +247,29 @@ class Session:
                 raise Over("Malformed")
             seen = seen[stream.whole :]
 
-    def send(self):
+    def send(self) -> bool:
+        """Writes the answers that stand ready: whether the writer takes them."""
         some, self.pending = self.pending, b""
         return self.writer.write(some)
 
-    def flush(self):
+    def flush(self) -> None:
+        """Writes the answers that stand ready, or ends the session."""
         if not self.send():
             raise Over("WriteFault")
 
-    def take(self, line):
+    def take(self, line: str) -> None:
         """Takes up a request, which is told as its line."""
         if (self.process is None) != (line == "join" or line.endswith(" attach = still")):
             raise Over("Malformed")
         if self.process is not None:
             self.call(line)
         elif line == "join":
-            self.open(plain_model.Act(None, "join", ()))
+            self.open(plain_model.Act(None, "join"))
         else:
-            self.open(plain_model.Act(int(line.split(" ")[1][1:]), "attach", ()))
+            self.open(plain_model.Act(int(line.split(" ")[1][1:]), "attach"))
 
-    def open(self, act):
+    def open(self, act: plain_model.Act) -> None:
+        """Takes up the request that opens the session."""
         place, outcome = self.act(act)
         if place is None:
             raise Over("RunFull")
@@ -248,19 +278,20 @@ class Session:
             self.is_spent = True
             raise Over("Closed")
 
-    def call(self, line):
+    def call(self, line: str) -> None:
+        """Takes up a call, and goes on with it until it has ended."""
         act = plain_model.read_act(line[len("- ") : -len(" = still")].encode("latin-1"))
         outcome = self.act(act._replace(actor=self.process))[1]
         while outcome.startswith(("parked ", "part ")):
             self.flush()
             outcome = self.finish()
 
-    def finish(self):
+    def finish(self) -> str:
         """Takes up the call that waits."""
         if self.kernel == "forgets-waiting":
             self.is_spent = True
             raise Over("Foreign")
-        resume = plain_model.Act(self.process, "resume", ())
+        resume = plain_model.Act(self.process, "resume")
         place, outcome = self.act(resume)
         if outcome == "still":
             self.run_others()
@@ -273,7 +304,7 @@ class Session:
             raise Over("RunFull")
         return outcome
 
-    def act(self, act):
+    def act(self, act: plain_model.Act) -> tuple[int | None, str]:
         """Lets an act take place and answers it: its place, if it is recorded, and what came of it."""
         self.run.take(act)
         line = self.run.lines[-1].rstrip("\n")
@@ -281,26 +312,28 @@ class Session:
         if not line.startswith("- "):
             place = int(line.split(" ")[0])
             self.receipts.append(line)
-            self.answer(b"\x01" + frames.u64(place) + outcome_bytes(outcome))
+            self.answer(recorded(place, outcome))
             return place, outcome
         if outcome.startswith("refused "):
-            refused = {word: byte for byte, word in frames.REFUSALS.items()}
-            self.answer(bytes([2, refused[outcome.split(" ")[1]]]))
+            self.answer(refused(outcome.split(" ")[1]))
         return None, outcome
 
-    def answer(self, payload):
-        self.pending += frames.framed(payload)
+    def answer(self, payload: bytes) -> None:
+        """Gives an answer, which is to be written."""
+        self.pending += framed(payload)
         self.answers += 1
 
-    def hang_up(self):
+    def hang_up(self) -> None:
+        """Ends the process."""
         self.is_spent = True
+        assert self.process is not None
         self.run.end(self.run.world.processes[self.process])
         self.receipts.append(self.run.lines[-1].rstrip("\n"))
 
-    def run_others(self):
+    def run_others(self) -> None:
         """Runs the acts that stand ready, each of a process that they have opened themselves."""
         acts, self.meanwhile = self.meanwhile, []
-        own = set()
+        own: set[int | str | None] = set()
         for act in (plain_model.read_act(line.encode()) for line in acts):
             if act.word in ("join", "attach"):
                 number = self.run.world.next_number if act.word == "join" else act.actor
@@ -316,21 +349,22 @@ class Session:
 # ---- comparing
 
 
-def ran(trial, session):
-    done = subprocess.run([trial, *session.words], input=session.text, stdout=subprocess.PIPE, stderr=subprocess.PIPE, timeout=SECONDS, check=False)
-    return done.returncode, done.stdout, done.stderr
+def ran(trial: str, session: Session) -> Ran:
+    """What the trial gives."""
+    return run([trial, *session.words], session.text)
 
 
-def compare(wanted, given):
-    if given != (0, wanted, b""):
-        if given[0] != 0 or given[2]:
-            raise frames.Failure(f"status {given[0]}, {given[2][:200]!r}")
-        raise frames.Failure(allocations.difference(wanted.split(b"\n"), given[1].split(b"\n")))
+def compare(wanted: bytes, given: Ran) -> None:
+    """Fails unless the trial gave just this."""
+    if given.status != 0 or given.stderr:
+        raise Failure(f"status {given.status}, {given.stderr[:200]!r}")
+    if given.stdout != wanted:
+        raise Failure(difference(wanted, given.stdout))
 
 
-def check(trial, *session, **more):
+def check(trial: str, text: bytes, records: int = 10_000, **more: Any) -> None:
     """Serves a session by the trial and by the model."""
-    session = Session(*session, **more)
+    session = Session(text, records, **more)
     compare(session.wanted(), ran(trial, session))
 
 
@@ -348,179 +382,219 @@ JOIN_PIPE_FORK_READ = "00000001 01 00000001 1a 00000001 1f 00000009 12 00000000 
 JOIN_PIPE_READ = "00000001 01 00000001 1a 00000009 12 00000000 00000005"
 WRITER = ("p1 attach", "p1 write 1 x68656c6c6f")
 
-# what it is, what is sent, what takes place meanwhile, and of what comes of it: what is written, the end, how many records, and the last receipt
-WRITTEN_OUT = [
+# What it is, what is sent, what takes place meanwhile, and of what comes of it: what is written, the end, how many
+# records, and the last receipt.
+WRITTEN_OUT: list[tuple[str, str, Sequence[str], list[str], str, int, str]] = [
     ("a pipe, and half a request", JOIN_PIPE, (), [OPENED, PIPED], "Closed", 3, "2 p0 exit = ok"),
-    ("a read that waits for a child's write", JOIN_PIPE_FORK_READ, WRITER, [OPENED, PIPED, FORKED, WAITED, GOT], "Closed", 8, "7 p0 exit = ok"),
-    ("a read that waits for nobody", JOIN_PIPE_READ, (), [OPENED, PIPED, "0000000e 01 0000000000000002 07 00000000"], "Closed", 4, "3 p0 exit = ok"),
+    (
+        "a read that waits for a child's write",
+        JOIN_PIPE_FORK_READ,
+        WRITER,
+        [OPENED, PIPED, FORKED, WAITED, GOT],
+        "Closed",
+        8,
+        "7 p0 exit = ok",
+    ),
+    (
+        "a read that waits for nobody",
+        JOIN_PIPE_READ,
+        (),
+        [OPENED, PIPED, "0000000e 01 0000000000000002 07 00000000"],
+        "Closed",
+        4,
+        "3 p0 exit = ok",
+    ),
     ("nothing", "", (), [], "Closed", 0, "no seat"),
     ("half a length", "0000", (), [], "Closed", 0, "no seat"),
     ("a call before an opening", "00000001 1a", (), [], "Malformed", 0, "no seat"),
     ("a second join", "00000001 01 00000001 01", (), [OPENED], "Malformed", 2, "1 p0 exit = ok"),
-    ("an attach of nobody", "00000005 02 00000009 00000001 1a", (), ["0000000b 01 0000000000000000 06 10"], "Closed", 1, "0 p9 attach = error ESRCH"),
+    (
+        "an attach of nobody",
+        "00000005 02 00000009 00000001 1a",
+        (),
+        ["0000000b 01 0000000000000000 06 10"],
+        "Closed",
+        1,
+        "0 p9 attach = error ESRCH",
+    ),
     ("an empty payload", "00000001 01 00000000", (), [OPENED], "Malformed", 2, "1 p0 exit = ok"),
     ("a length of 65,793", "00000001 01 00010101", (), [OPENED], "Malformed", 2, "1 p0 exit = ok"),
-    ("flags of 127", "00000001 01 00000004 10 7f 01 61", (), [OPENED, "00000012 01 0000000000000001 02 0000000000000000"], "Closed", 3, "2 p0 exit = ok"),
+    (
+        "flags of 127",
+        "00000001 01 00000004 10 7f 01 61",
+        (),
+        [OPENED, "00000012 01 0000000000000001 02 0000000000000000"],
+        "Closed",
+        3,
+        "2 p0 exit = ok",
+    ),
     ("flags of 128", "00000001 01 00000004 10 80 01 61", (), [OPENED], "Malformed", 2, "1 p0 exit = ok"),
 ]
 
 
-def written_as_told(trial, text, meanwhile, written, end, records, last, **more):
+def written_as_told(
+    trial: str,
+    text: str,
+    meanwhile: Sequence[str],
+    written: list[str],
+    end: str,
+    records: int,
+    last: str,
+    **more: Any,
+) -> None:
     """What the trial prints is what is written out, and what the model gives."""
     session = Session(bytes.fromhex(text), meanwhile=meanwhile, **more)
     given = ran(trial, session)
     compare(session.wanted(), given)
-    lines = given[1].decode().splitlines()
+    lines = given.stdout.decode().splitlines()
     told = (lines[0], lines[1], lines[-1].split(" ")[1], lines[-2])
     wanted = (f"written {''.join(written).replace(' ', '')}", f"end {end}", str(records), last)
     if told != wanted:
-        raise frames.Failure(f"wanted {wanted}, given {told}")
+        raise Failure(f"wanted {wanted}, given {told}")
 
 
-def written_out(trial):
-    for what, text, meanwhile, written, end, records, last in WRITTEN_OUT:
-        yield what, lambda row=(text, meanwhile, written, end, records, last): written_as_told(trial, *row)
+def written_out(trial: str) -> Iterator[Case]:
+    """Sessions of which each has to give what is written here."""
+    for what, *row in WRITTEN_OUT:
+        yield what, partial(written_as_told, trial, *row)
     # two answers of 22 bytes each, by one byte a call
     both = "".join([OPENED, PIPED]).replace(" ", "")
     for fails_at in range(1, 14):
         told = 0 if fails_at < 6 else 22 if fails_at < 11 else 44
         records = {0: 0, 22: 2, 44: 3}[told]
         last = f"{records - 1} p0 exit = ok" if records else "no seat"
-        row = (JOIN_PIPE, (), [both[: 2 * told]], "ReadFault", records, last)
-        yield f"a fault at read {fails_at}", lambda row=row, at=fails_at: written_as_told(trial, *row, reads=Manner(1, at))
+        wanted = ([both[: 2 * told]], "ReadFault", records, last)
+        case = partial(written_as_told, trial, JOIN_PIPE, (), *wanted, reads=Manner(1, fails_at))
+        yield f"a fault at read {fails_at}", case
     for fails_at in range(1, 45):
         records = 2 if fails_at <= 22 else 3
-        row = (JOIN_PIPE, (), [both[: 2 * fails_at - 2]], f"WriteFault {fails_at - 1}", records, f"{records - 1} p0 exit = ok")
-        yield f"a fault at write {fails_at}", lambda row=row, at=fails_at: written_as_told(trial, *row, reads=Manner(1), writes=Manner(1, at))
-    row = (JOIN_PIPE, (), [both[:60]], "WriteFault 30", 3, "2 p0 exit = ok")
-    yield "a writer that takes 30 bytes and fails", lambda row=row: written_as_told(trial, *row, writes=Manner(30, 2))
+        wanted = ([both[: 2 * fails_at - 2]], f"WriteFault {fails_at - 1}", records, f"{records - 1} p0 exit = ok")
+        manners = {"reads": Manner(1), "writes": Manner(1, fails_at)}
+        yield f"a fault at write {fails_at}", partial(written_as_told, trial, JOIN_PIPE, (), *wanted, **manners)
+    wanted = ([both[:60]], "WriteFault 30", 3, "2 p0 exit = ok")
+    case = partial(written_as_told, trial, JOIN_PIPE, (), *wanted, writes=Manner(30, 2))
+    yield "a writer that takes 30 bytes and fails", case
 
 
 # ---- streams that are cut, that fail and that are interrupted
 
 
-def every_call():
+def every_call() -> bytes:
     """A session with every call in it, and a few more."""
-    lines = """p0 open a rw,creat|p0 write 0 x68656c6c6f|p0 lseek 0 1 set|p0 read 0 2|p0 pwrite 0 3 x21|p0 pread 0 0 9|p0 ftruncate 0 2
-        |p0 fstat 0|p0 dup 0|p0 dup2 0 5|p0 close 5|p0 link a b|p0 unlink a|p0 mkfifo f|p0 open f rw|p0 open f r,nonblock|p0 pipe|p0 fork|p0 write 4 61*2000
-        |p0 read 3 9|p0 close 9"""
-    return session_text(line.strip() for line in lines.split("|"))
+    lines = """p0 open a rw,creat|p0 write 0 x68656c6c6f|p0 lseek 0 1 set|p0 read 0 2|p0 pwrite 0 3 x21|p0 pread 0 0 9
+        |p0 ftruncate 0 2|p0 fstat 0|p0 dup 0|p0 dup2 0 5|p0 close 5|p0 link a b|p0 unlink a|p0 mkfifo f|p0 open f rw
+        |p0 open f r,nonblock|p0 pipe|p0 fork|p0 write 4 61*2000|p0 read 3 9|p0 close 9"""
+    return session_frames(line.strip() for line in lines.split("|"))
 
 
 EVERY_CALL_MEANWHILE = ("p1 attach", "p1 read 3 700", "p1 read 3 1024", "p1 close 0", "p1 exit")
 
 
-def field_bytes(reader, value):
-    """A field of a call, as frames have it."""
-    if reader is frames.flags:
-        mode, *others = value.split(",")
-        words = ["creat", "excl", "trunc", "append", "nonblock"]
-        return bytes([{"r": 1, "w": 2, "rw": 3, "-": 0}[mode] + sum(4 << words.index(word) for word in others)])
-    if reader is frames.name:
-        return frames.named(value)
-    if reader is frames.data:
-        return frames.counted(value)
-    if reader is frames.whence:
-        return bytes([("set", "cur", "end").index(value)])
-    return frames.u64(value) if reader is frames.place else frames.u32(value)
-
-
-def call_text(line):
-    """The frame of a call that a line of a script spells."""
-    act = plain_model.read_act(line.encode())
-    byte = next(byte for byte, (word, *_) in frames.CALLS.items() if word == act.word)
-    fields = act.fields[::-1] if act.word == "open" else act.fields
-    return frames.framed(bytes([byte]) + b"".join(field_bytes(reader, value) for reader, value in zip(frames.CALLS[byte][1:], fields)))
-
-
-def session_text(lines):
-    """The requests of a session that joins and makes these calls."""
-    return frames.framed(b"\x01") + b"".join(call_text(line) for line in lines)
-
-
-def long_ones():
+def long_ones() -> Iterator[tuple[str, bytes, tuple[str, ...]]]:
     """The sessions that are cut, that fail and that are interrupted."""
     yield "a read that waits", bytes.fromhex(JOIN_PIPE_FORK_READ), WRITER
     yield "every call", every_call(), EVERY_CALL_MEANWHILE
 
 
-def troubled(trial):
+def troubled(trial: str) -> Iterator[Case]:
+    """Sessions in pieces of each size, with each read, write and flush failing, interrupted, or with few records."""
     for what, text, meanwhile in long_ones():
+        case = partial(check, trial, text, meanwhile=meanwhile)
         for most in range(1, len(text) + 1):
-            yield f"{what}, in pieces of {most}", lambda t=text, m=meanwhile, n=most: check(trial, t, meanwhile=m, reads=Manner(n), writes=Manner(n))
+            yield f"{what}, in pieces of {most}", partial(case, reads=Manner(most), writes=Manner(most))
         for most in (1, 7, 2**20):
-            session = Session(text, meanwhile=meanwhile, reads=Manner(most), writes=Manner(most))
-            session.wanted()
-            for at in range(1, session.reader.calls + 2):
-                yield f"{what}, read {at} by {most} fails", lambda t=text, m=meanwhile, n=most, at=at: check(trial, t, meanwhile=m, reads=Manner(n, at))
-            for at in range(1, session.writer.calls + 2):
-                yield f"{what}, write {at} by {most} fails", lambda t=text, m=meanwhile, n=most, at=at: check(trial, t, meanwhile=m, reads=Manner(n), writes=Manner(n, at))
-                yield f"{what}, read at once, write {at} by {most} fails", lambda t=text, m=meanwhile, n=most, at=at: check(trial, t, meanwhile=m, writes=Manner(n, at))
+            yield from failing(what, text, meanwhile, most, case)
         for reads, writes in ((15, 0), (0, 15), (15, 15), (16, 0), (0, 16), (17, 1), (1, 40)):
             manners = {"reads": Manner(9, 0, reads), "writes": Manner(11, 0, writes)}
-            yield f"{what}, {reads} and {writes} interruptions", lambda t=text, m=meanwhile, manners=manners: check(trial, t, meanwhile=m, **manners)
+            yield f"{what}, {reads} and {writes} interruptions", partial(case, **manners)
         session = Session(text, meanwhile=meanwhile, reads=Manner(7))
         session.wanted()
         for at in range(1, session.writer.flushes + 2):
-            yield f"{what}, flush {at} fails", lambda t=text, m=meanwhile, at=at: check(trial, t, meanwhile=m, reads=Manner(7), writes=Manner(flush_fails_at=at))
+            manners = {"reads": Manner(7), "writes": Manner(flush_fails_at=at)}
+            yield f"{what}, flush {at} fails", partial(case, **manners)
         for kernel in ("forgets-waiting", "forgets-all"):
             for most in (1, 7, 2**20):
-                yield f"{what}, by {most}, a kernel that {kernel}", lambda t=text, m=meanwhile, k=kernel, n=most: check(trial, t, meanwhile=m, kernel=k, reads=Manner(n))
-                yield f"{what}, by {most}, a kernel that {kernel}, write 3 fails", lambda t=text, m=meanwhile, k=kernel, n=most: check(trial, t, meanwhile=m, kernel=k, reads=Manner(n), writes=Manner(9, 3))
-        yield f"{what}, a writer that takes no byte", lambda t=text, m=meanwhile: check(trial, t, meanwhile=m, writes=Manner(0))
+                name = f"{what}, by {most}, a kernel that {kernel}"
+                forgets = partial(case, kernel=kernel, reads=Manner(most))
+                yield name, forgets
+                yield f"{name}, write 3 fails", partial(forgets, writes=Manner(9, 3))
+        yield f"{what}, a writer that takes no byte", partial(case, writes=Manner(0))
         for records in range(1, 40):
-            yield f"{what}, in {records} records", lambda t=text, m=meanwhile, n=records: check(trial, t, n, meanwhile=m)
-            yield f"{what}, in {records} records, by one byte", lambda t=text, m=meanwhile, n=records: check(trial, t, n, meanwhile=m, reads=Manner(1), writes=Manner(1))
+            few = partial(case, records=records)
+            yield f"{what}, in {records} records", few
+            yield f"{what}, in {records} records, by one byte", partial(few, reads=Manner(1), writes=Manner(1))
+
+
+def failing(what: str, text: bytes, meanwhile: tuple[str, ...], most: int, case: Callable[..., None]) -> Iterator[Case]:
+    """A session of which each read and each write fails in turn."""
+    session = Session(text, meanwhile=meanwhile, reads=Manner(most), writes=Manner(most))
+    session.wanted()
+    for at in range(1, session.reader.calls + 2):
+        yield f"{what}, read {at} by {most} fails", partial(case, reads=Manner(most, at))
+    for at in range(1, session.writer.calls + 2):
+        fails = partial(case, writes=Manner(most, at))
+        yield f"{what}, write {at} by {most} fails", partial(fails, reads=Manner(most))
+        yield f"{what}, read at once, write {at} by {most} fails", fails
 
 
 # ---- much
 
 
-def much(trial):
+def much(trial: str) -> Iterator[Case]:
+    """Sessions with much data, with many calls, and with many reads."""
     long_write = "p0 write 0 " + plain_model.data_text(bytes(range(250)) * 262)
     read_back = ["p0 open a rw,creat", long_write, "p0 lseek 0 0 set", *["p0 pread 0 0 65536"] * 5]
-    too_much = frames.framed(b"\x13" + frames.u32(1) + frames.counted(bytes(65_701)))
+    too_much = framed(b"\x13" + u32(1) + counted(bytes(65_701)))
     texts = [
-        ("long writes and reads", session_text(read_back)),
-        ("many calls", session_text(["p0 pipe", *["p0 fstat 0"] * 3_000])),
-        ("a payload of 65,792 bytes", frames.framed(b"\x01", bytes([19]) + bytes(65_791), b"\x1a")),
-        ("a payload of 65,793 bytes", frames.framed(b"\x01", bytes([19]) + bytes(65_792), b"\x1a")),
-        ("a write of a byte too many", frames.framed(b"\x01") + too_much),
+        ("long writes and reads", session_frames(read_back)),
+        ("many calls", session_frames(["p0 pipe", *["p0 fstat 0"] * 3_000])),
+        ("a payload of 65,792 bytes", JOIN + framed(bytes([19]) + bytes(65_791), b"\x1a")),
+        ("a payload of 65,793 bytes", JOIN + framed(bytes([19]) + bytes(65_792), b"\x1a")),
+        ("a write of a byte too many", JOIN + too_much),
+    ]
+    manners = [
+        (PLAIN, PLAIN),
+        (Manner(1_000), Manner(999)),
+        (Manner(65_535), Manner(7_777)),
+        (PLAIN, Manner(50_000, 3)),
     ]
     for what, text in texts:
-        for reads, writes in ((PLAIN, PLAIN), (Manner(1_000), Manner(999)), (Manner(65_535), Manner(7_777)), (PLAIN, Manner(50_000, 3))):
-            yield f"{what}, {reads.most} {writes.most}", lambda t=text, r=reads, w=writes: check(trial, t, reads=r, writes=w)
+        for reads, writes in manners:
+            yield f"{what}, {reads.most} {writes.most}", partial(check, trial, text, reads=reads, writes=writes)
     for length in (READS_MAX - 1, READS_MAX):
-        yield f"{length} bytes, one a read", lambda n=length: often_read(trial, n)
+        yield f"{length} bytes, one a read", partial(often_read, trial, length)
 
 
-def often_read(trial, length):
+def often_read(trial: str, length: int) -> None:
     """A join, and the begin of a frame that goes on for ever, by one byte a read."""
-    text = (frames.framed(b"\x01") + session_text(["p0 fstat 9"] * (length // 9))[5:])[:length]
+    text = (JOIN + call_frame("p0 fstat 9") * (length // 9))[:length]
     session = Session(text, records=1_000_000, reads=Manner(1), writes=Manner(2**20))
     given = ran(trial, session)
-    lines = given[1].decode().splitlines()
+    lines = given.stdout.decode().splitlines()
     calls = (length - 5) // 9
     end, reads = ("Closed", length + 1) if length < READS_MAX else ("ReadFault", READS_MAX)
-    wanted = [f"end {end}", f"answers {calls + 1}", f"reads {reads} 0 whole", f"writes {calls + 1} 0 whole", f"flushes {calls + 1}"]
-    if given[0] != 0 or lines[1:6] != wanted or lines[-1] != f"records {calls + 2} in 0 out 0":
-        raise frames.Failure(f"wanted {wanted}, given {lines[1:6]} {lines[-1]}")
+    wanted = [f"end {end}", f"answers {calls + 1}", f"reads {reads} 0 whole"]
+    wanted += [f"writes {calls + 1} 0 whole", f"flushes {calls + 1}"]
+    if given.status != 0 or lines[1:6] != wanted or lines[-1] != f"records {calls + 2} in 0 out 0":
+        raise Failure(f"wanted {wanted}, given {lines[1:6]} {lines[-1]}")
 
 
 # ---- want of memory
 
 
-def refusals(refuser, trial):
+def refusals(refuser: Refuser, trial: str) -> Iterator[Case]:
+    """Sessions with each allocation refused in turn."""
     for what, text, meanwhile in long_ones():
         for most in (2**20, 13):
             for fails_at, met in ((0, ("NoMemory", "Closed")), (3, ("NoMemory", "WriteFault"))):
-                yield f"{what}, by {most}, write {fails_at} fails, each allocation refused", lambda t=text, m=meanwhile, n=most, at=fails_at, met=met: sweep(refuser, trial, t, m, n, at, met)
+                name = f"{what}, by {most}, write {fails_at} fails, each allocation refused"
+                yield name, partial(sweep, refuser, trial, text, meanwhile, most, fails_at, met)
 
 
 class Lines:
     """What the trial printed, by its words."""
 
-    def __init__(self, stdout):
+    def __init__(self, stdout: bytes) -> None:
         lines = stdout.decode().splitlines()
         self.written = bytes.fromhex(lines[0][len("written ") :])
         self.end = lines[1][len("end ") :]
@@ -528,40 +602,51 @@ class Lines:
         self.records = int(lines[-1].split(" ")[1])
 
 
-def sweep(refuser, trial, text, meanwhile, most, fails_at, met):
+def sweep(
+    refuser: Refuser,
+    trial: str,
+    text: bytes,
+    meanwhile: tuple[str, ...],
+    most: int,
+    fails_at: int,
+    met: tuple[str, ...],
+) -> None:
     """Refuses each allocation of a run in turn: its answers begin those of a right session, and these ends are met."""
 
-    def session(acts, fails_at):
+    def session(acts: tuple[str, ...], fails_at: int) -> Session:
         return Session(text, meanwhile=acts, reads=Manner(most), writes=Manner(most, fails_at))
 
     words = [trial, *session(meanwhile, fails_at).words]
-    whole = refuser.run(words, text)
-    if whole[:3] != (0, session(meanwhile, fails_at).wanted(), b"") or whole.count == 0:
-        raise frames.Failure(f"nothing refused: {whole.said()}")
+    whole, count = refuser.run(words, text)
+    if whole != (0, session(meanwhile, fails_at).wanted(), b"") or count == 0:
+        raise Failure(f"nothing refused: {whole.said()}")
     right = Lines(session(meanwhile, 0).wanted())
     # an act of the others may be refused too
     others = [session(meanwhile[:at] + meanwhile[at + 1 :], fails_at).wanted() for at in range(len(meanwhile))]
-    ends = collections.Counter()
-    for number in range(1, whole.count + 1):
-        for last in (number, allocations.NEVER):
-            end = refuser.run(words, text, number, last)
-            if end[:3] == allocations.NO_MEMORY:
+    ends: collections.Counter[str] = collections.Counter()
+    for number in range(1, count + 1):
+        for last in (number, NEVER):
+            end = refuser.run(words, text, number, last).ran
+            if end == NO_MEMORY:
                 ends["none"] += 1
-            elif end[0] != 0 or end[2]:
-                raise frames.Failure(f"allocation {number} refused: {end.said()}")
+            elif end.status != 0 or end.stderr:
+                raise Failure(f"allocation {number} refused: {end.said()}")
             elif end.stdout in others:
                 ends["others"] += 1
             else:
                 ends[judged(right, Lines(end.stdout), number)] += 1
-    for end in met:
-        if not ends[end]:
-            raise frames.Failure(f"no session ended as {end}")
+    for wanted in met:
+        if not ends[wanted]:
+            raise Failure(f"no session ended as {wanted}")
 
 
-def judged(right, given, number):
-    """The end of a session to which an allocation was refused: it is as it would have been, or its end says why, and the exit is recorded."""
+def judged(right: Lines, given: Lines, number: int) -> str:
+    """The end of a session to which an allocation was refused.
+
+    It is as it would have been, or its end says why, and the exit is recorded.
+    """
     if given.receipts and not given.receipts[-1].endswith(" exit = ok"):
-        raise frames.Failure(f"allocation {number} refused: no exit after {given.receipts[-1]}")
+        raise Failure(f"allocation {number} refused: no exit after {given.receipts[-1]}")
     end = given.end.split(" ")[0]
     if given.end == right.end and given.written == right.written and given.receipts == right.receipts:
         return end
@@ -573,32 +658,35 @@ def judged(right, given, number):
             break
         at = next_at
     rest = given.written[at:]
-    no_memory = frames.framed(b"\x02\x11")
+    no_memory = framed(refused("NoMemory"))
     is_refused = rest.startswith(no_memory)
     if not (is_refused or no_memory.startswith(rest) or right.written[at:].startswith(rest)):
-        raise frames.Failure(f"allocation {number} refused: {given.end} after {given.written.hex()}")
+        raise Failure(f"allocation {number} refused: {given.end} after {given.written.hex()}")
     # a session whose call was refused goes on; any other says why it does not
     if end not in ("NoMemory", "WriteFault") and not is_refused:
-        raise frames.Failure(f"allocation {number} refused: {given.end}, and nothing was refused")
+        raise Failure(f"allocation {number} refused: {given.end}, and nothing was refused")
     return end
 
 
 # ---- random sessions
 
 
-CALLS = [
-    "open {n} {f}", "close {d}", "read {d} {c}", "write {d} {x}", "pread {d} {p} {c}", "pwrite {d} {p} {x}", "lseek {d} {p} {w}", "ftruncate {d} {p}",
-    "dup {d}", "dup2 {d} {d}", "pipe", "pipe", "mkfifo {n}", "link {n} {n}", "unlink {n}", "fstat {d}", "fork", "read {d} {c}", "write {d} {x}", "open {n} {f}",
-]  # fmt: skip
+CALLS = (
+    "open {n} {f}|close {d}|read {d} {c}|write {d} {x}|pread {d} {p} {c}|pwrite {d} {p} {x}|lseek {d} {p} {w}"
+    "|ftruncate {d} {p}|dup {d}|dup2 {d} {d}|pipe|pipe|mkfifo {n}|link {n} {n}|unlink {n}|fstat {d}|fork"
+    "|read {d} {c}|write {d} {x}|open {n} {f}"
+).split("|")
 
-OTHERS = ["read {d} {c}", "write {d} {x}", "close {d}", "resume", "open {n} {f}", "exit", "fork", "fstat {d}"]
+OTHERS = "read {d} {c}|write {d} {x}|close {d}|resume|open {n} {f}|exit|fork|fstat {d}".split("|")
 
 
-def filled(pick, call):
+def filled(pick: random.Random, call: str) -> str:
     """A call with its fields."""
     makers = {
         "n": lambda: pick.choice(["a", "b", "f", "g", "%", "a%2f", "n" * 65]),
-        "f": lambda: pick.choice(["r", "w", "rw", "-"]) + "".join(f",{word}" for word in ("creat", "excl", "trunc", "append", "nonblock") if pick.random() < 0.3),
+        "f": lambda: ",".join(
+            [pick.choice(["r", "w", "rw", "-"]), *(word for word in FLAG_WORDS if pick.random() < 0.3)]
+        ),
         "d": lambda: str(pick.choice([0, 0, 1, 1, 2, 3, 4, 5, -1, 31, 32])),
         "c": lambda: str(pick.choice([0, 1, 5, 100, 1_024, 65_536, 65_537])),
         "x": lambda: pick.choice(["x", "x6162", "x68656c6c6f", "61*100", "62*512", "63*600", "64*1024", "65*2000"]),
@@ -608,7 +696,7 @@ def filled(pick, call):
     return " ".join(makers[word[1]]() if word.startswith("{") else word for word in call.split(" "))
 
 
-def random_session(pick):
+def random_session(pick: random.Random) -> tuple[bytes, list[str]]:
     """A session of random requests, and what takes place meanwhile."""
     lines = [f"p0 {filled(pick, pick.choice(CALLS))}" for _ in range(pick.choice([0, 1, 3, 8, 20, 40]))]
     if pick.random() < 0.6:
@@ -616,53 +704,54 @@ def random_session(pick):
     meanwhile = [f"p1 {filled(pick, pick.choice(OTHERS))}" for _ in range(pick.randrange(6))]
     if pick.random() < 0.8:
         meanwhile.insert(0, "p1 attach")
-    text = session_text(lines)
+    text = session_frames(lines)
     if pick.random() < 0.1:
-        text = frames.framed(b"\x02" + frames.u32(pick.choice([0, 1]))) + text[5:]
+        text = attach_frame(pick.choice([0, 1])) + text[len(JOIN) :]
     if pick.random() < 0.3:
-        text = frames.changed(pick, text)
+        text = changed(pick, text)
     return text, meanwhile
 
 
-def random_manner(pick):
-    return Manner(pick.choice([1, 2, 7, 64, 2**20, 2**20]), pick.choice([0, 0, 0, 0, 1, 2, 5, 20]), pick.choice([0, 0, 0, 0, 1, 15, 16]))
+def random_manner(pick: random.Random) -> Manner:
+    """A stream that often does as it should."""
+    most = pick.choice([1, 2, 7, 64, 2**20, 2**20])
+    fails_at = pick.choice([0, 0, 0, 0, 1, 2, 5, 20])
+    return Manner(most, fails_at, pick.choice([0, 0, 0, 0, 1, 15, 16]))
 
 
-def random_sessions(trial, seed, sessions):
+def random_sessions(trial: str, seed: str, sessions: int) -> Iterator[Case]:
+    """Random sessions, each with what takes place meanwhile, and with streams that may fail."""
     for number in range(sessions):
-        pick = random.Random(f"{seed} {number}")
+        pick = source(seed, number)
         text, meanwhile = random_session(pick)
         records = pick.choice([10_000, 10_000, 10_000, pick.randrange(1, 30)])
         manners = {"reads": random_manner(pick), "writes": random_manner(pick)}
-        yield f"session {number} of seed {seed}", lambda t=text, n=records, m=meanwhile, manners=manners: check(trial, t, n, meanwhile=m, **manners)
+        yield numbered("session", seed, number), partial(check, trial, text, records, meanwhile=meanwhile, **manners)
 
 
 # ---- the whole
 
 
-def main(words):
+def main(words: Sequence[str]) -> int:
+    """Makes all checks: the exit status."""
     parser = argparse.ArgumentParser(description="Serves sessions by the built trial and by a model of its own.")
-    parser.add_argument("--trial", default=TRIAL, help="the trial [default: crates/session_trial/out/session_trial]")
-    parser.add_argument("--seed", default="1", help="any word; 1 where none is given")
-    parser.add_argument("--sessions", type=int, default=3_000, help="how many are random; 3000 where no number is given")
+    add_path(parser, "--trial", "the trial", SESSION_TRIAL)
+    add_seed(parser)
+    add_count(parser, "--sessions", 3_000, "how many are random")
     args = parser.parse_args(words)
-    trial = os.path.abspath(args.trial)
-    if not os.path.exists(trial):
-        print(f"no trial at {trial}")
-        print("0 passed, 1 failed")
-        return 1
+    trial = args.trial
+    missing = end_without(trial, "trial")
+    if missing is not None:
+        return missing
+    count = Count(TELL_MOST)
     with tempfile.TemporaryDirectory() as folder:
-        refuser = allocations.Refuser(allocations.build(folder))
-        counts = [
-            frames.counted_cases("sessions that are written out", written_out(trial)),
-            frames.counted_cases("cut, failing and interrupted", troubled(trial)),
-            frames.counted_cases("much", much(trial)),
-            frames.counted_cases("each allocation refused", refusals(refuser, trial)),
-            frames.counted_cases("random sessions", random_sessions(trial, args.seed, args.sessions)),
-        ]
-    passed, failed = (sum(column) for column in zip(*counts))
-    print(f"{passed} passed, {failed} failed")
-    return 1 if failed else 0
+        refuser = Refuser(build(folder))
+        count.part("sessions that are written out", written_out(trial))
+        count.part("cut, failing and interrupted", troubled(trial))
+        count.part("much", much(trial))
+        count.part("each allocation refused", refusals(refuser, trial))
+        count.part("random sessions", random_sessions(trial, args.seed, args.sessions))
+    return count.end()
 
 
 if __name__ == "__main__":

@@ -38,7 +38,8 @@ import os
 import socket
 import stat
 import struct
-from typing import Any, Callable, NamedTuple
+from collections.abc import Callable
+from typing import Any, NamedTuple
 
 # The flags of an open that reads neither nor writes, which is EINVAL. (O_RDONLY is 0, so no flag at
 # all asks to read.)
@@ -48,7 +49,10 @@ DATA_MOST = 65_700
 NAME_MOST = 255
 ANSWER_MOST = 66_048
 
-ERRORS = "EBADF EINVAL ESPIPE EFBIG EOVERFLOW ENOENT EEXIST EMLINK ENAMETOOLONG EMFILE ENFILE ENOSPC EAGAIN EPIPE ENXIO ESRCH".split()
+ERRORS = (
+    "EBADF EINVAL ESPIPE EFBIG EOVERFLOW ENOENT EEXIST EMLINK "
+    "ENAMETOOLONG EMFILE ENFILE ENOSPC EAGAIN EPIPE ENXIO ESRCH"
+).split()
 REFUSALS = {17: "NoMemory", 18: "RunFull", 19: "Waiting", 20: "NotHere", 21: "Foreign"}
 KINDS = ("regular", "fifo", "pipe")
 MODES = {os.O_RDONLY: 1, os.O_WRONLY: 2, os.O_RDWR: 3, O_NEITHER: 0}
@@ -74,7 +78,7 @@ class Refused(Exception):
 
 
 class Stat(NamedTuple):
-    """What fstat tells. A pipe and a FIFO have the same `st_mode`, as they have in `os`; `kind` tells them apart."""
+    """What fstat tells. A pipe and a FIFO have the same `st_mode`, as in `os`; `kind` tells them apart."""
 
     kind: str
     st_mode: int
@@ -96,10 +100,10 @@ class Process:
     """A process, and the connection that it lives as long as. `join` and `attach` make one."""
 
     def __init__(self, path: str | os.PathLike[str], opening: bytes, pid: int | None = None) -> None:
-        self.place: int | None = None
+        self.place: int
         """The place of the last answer; it stays where a call is refused."""
         self.waits: list[tuple[int, int]] = []
-        """The last call's waiting: for each answer that it waits, the place, and how many bytes it had moved by then."""
+        """The last call's waiting: for each answer that it waits, the place, and how many bytes it had moved."""
         self.on_wait: Callable[[int, int], Any] | None = None
         """Called with a place and a number of bytes when an answer tells that the call waits."""
         self._socket = socket.socket(socket.AF_UNIX, socket.SOCK_STREAM)
@@ -120,14 +124,18 @@ class Process:
         self.exit()
 
     def exit(self) -> None:
-        """Ends the process, as `os._exit` does: it closes the connection, and the server then closes its descriptors."""
+        """Ends the process, as `os._exit` does: it closes the connection, and the server closes its descriptors."""
         self._answers.close()
         self._socket.close()
 
     # -- names
 
     def open(self, name: str | bytes, flags: int) -> int:
-        """Opens a name; `flags` are O_RDONLY, O_WRONLY, O_RDWR or O_NEITHER, with any of O_CREAT, O_EXCL, O_TRUNC, O_APPEND and O_NONBLOCK."""
+        """Opens a name.
+
+        `flags` are O_RDONLY, O_WRONLY, O_RDWR or O_NEITHER, with any of O_CREAT, O_EXCL, O_TRUNC, O_APPEND and
+        O_NONBLOCK.
+        """
         return self._ask(b"\x10" + bytes([_flags(flags)]) + _name(name))
 
     def mkfifo(self, name: str | bytes) -> None:

@@ -9,6 +9,7 @@
 - `sources`: sources of random choices, each from a seed and a number that a failure tells
 - `plain_model`: the plain model of the program, with the reader and the writer of scripts
 - `walks` and `shrinking`: random scripts, and short ones that fail as a long one does
+- `runs`: the lines of a run, and a run in which calls go on by themselves
 - `frames`: the bytes of sessions, written and read
 - `serving`: a server, and clients of it whose waits are bounded
 - `refusing`: runs in which allocations are refused

@@ -8,10 +8,15 @@ from support.counting import Count
 from support.places import TOP
 
 
+def absolute(path: str) -> str:
+    """A path from the root on, so that it stays right in another folder."""
+    return os.path.abspath(path)
+
+
 def add_path(parser: argparse.ArgumentParser, option: str, what: str, default: Path) -> None:
     """An option for the path of a built program, such as `--program`."""
     text = f"{what} [default: {default.relative_to(TOP)}]"
-    parser.add_argument(option, metavar="PATH", type=os.path.abspath, default=str(default), help=text)
+    parser.add_argument(option, metavar="PATH", type=absolute, default=str(default), help=text)
 
 
 def add_seed(parser: argparse.ArgumentParser) -> None:

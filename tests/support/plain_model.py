@@ -149,7 +149,8 @@ class WaitingWrite:
             require(self.moved, "EPIPE")
             return self.moved, True
         self.put(world)
-        return (self.moved, True) if self.moved == len(self.data) else (f"part {self.moved}", False)
+        has_ended = self.moved == len(self.data)
+        return self.moved if has_ended else f"part {self.moved}", has_ended
 
     def put(self, world: "World") -> None:
         """Puts in what fits."""
@@ -707,7 +708,7 @@ def act_text(act: Act) -> str:
     """An act as it is written in a line of a run, the actor in front."""
     actor = act.actor if act.actor == "house" else f"p{act.actor}"
     fields = [field_text(reader, value) for reader, value in zip(FIELDS.get(act.word, ()), act.fields, strict=True)]
-    return " ".join([actor, act.word, *fields])
+    return " ".join([str(actor), act.word, *fields])
 
 
 # ---- the whole

@@ -73,7 +73,7 @@ class Counted(NamedTuple):
     """How a run ended, and how many allocations it asked for."""
 
     ran: Ran
-    count: int
+    allocations: int
 
 
 def write_anew(file: IO[bytes], content: bytes) -> None:

@@ -42,10 +42,17 @@ def run(
     folder: str | PathLike[str] | None = None,
 ) -> Ran:
     """Runs a program on an input, which comes by a pipe where it is bytes, in a folder, and at most so many seconds."""
-    given = {"input": stdin} if isinstance(stdin, bytes) else {"stdin": stdin}
+    text, source = (stdin, None) if isinstance(stdin, bytes) else (None, stdin)
     try:
         done = subprocess.run(
-            words, stdout=stdout, stderr=subprocess.PIPE, timeout=seconds, cwd=folder, check=False, **given
+            words,
+            input=text,
+            stdin=source,
+            stdout=stdout,
+            stderr=subprocess.PIPE,
+            timeout=seconds,
+            cwd=folder,
+            check=False,
         )
     except subprocess.TimeoutExpired:
         raise StillRunning(seconds) from None

@@ -1,4 +1,4 @@
-"""Random scripts: each act is chosen beside a run of the plain model, with fields that mostly make sense in its world."""
+"""Random scripts: each act is chosen beside a run of the plain model, with fields that mostly make sense there."""
 
 import random
 from collections.abc import Callable
@@ -116,7 +116,7 @@ class Walk:
     def act(self, mood: str) -> None:
         """One act: the first word chosen for which there are sensible fields."""
         words = mood.split()
-        chosen = self.pick.choices(words[::2], map(int, words[1::2]), k=4)
+        chosen = self.pick.choices(words[::2], [int(weight) for weight in words[1::2]], k=4)
         for word in [*self.first_words(), *chosen, "resume", "attach", "join"]:
             line = self.line(word)
             if line:
@@ -165,7 +165,8 @@ class Walk:
         else:
             fit = self.awake()[: self.pick.choice([3, 3, 3, 70])]
         if self.is_odd() and (fit or self.is_odd()):
-            return self.pick.choice([self.pick.choice(ODD_ACTORS), *range(self.world.next_number + 1)])
+            numbers: list[int] = [self.pick.choice(ODD_ACTORS), *range(self.world.next_number + 1)]
+            return self.pick.choice(numbers)
         return self.pick.choice(fit).number if fit else None
 
     def may_wait(self) -> bool:
@@ -279,7 +280,7 @@ class Walk:
             names = [self.old_name(), self.new_name()]
         else:
             names = [self.new_name() if word == "mkfifo" else self.old_name()]
-        return [None if name is None else name_text(self.pick, name) for name in names] + flags
+        return [*(None if name is None else name_text(self.pick, name) for name in names), *flags]
 
     def old_name(self, wish: Callable[[plain_model.Named], bool] = lambda file: True) -> bytes | None:
         """A name of a file that is as wished, now and then any name; None where there is none."""
@@ -333,7 +334,8 @@ class Walk:
         ends = ["p0 close 0", "p1 close 1"]
         waiting = [f"p0 write 1 61*{self.pick.randrange(400, 1_100)}"]
         waiting += [f"p0 write 1 62*{self.pick.choice([100, 512, 513, 1_500])}"]
-        self.say("p0 pipe", "p0 fork", "p1 attach", *self.pick.choice([[], ends, ends + waiting, ends + waiting]))
+        ways: list[list[str]] = [[], ends, ends + waiting, ends + waiting]
+        self.say("p0 pipe", "p0 fork", "p1 attach", *self.pick.choice(ways))
 
     def begin_with_many_descriptors(self) -> None:
         """A process at the end of its descriptors."""

@@ -1,42 +1,48 @@
 #!/usr/bin/env python3
 """Prints what a wrong fdref would print, so that it can be seen whether random scripts find it out.
 
-usage: tests/wrong_oracle.py RULE replay [--records N] < script
-       tests/wrong_oracle.py --list
+usage: tests/stand_ins/wrong_oracle.py RULE replay [--records N] < script
+       tests/stand_ins/wrong_oracle.py --list
 
-It is tests/plain_model.py, which prints byte for byte what `fdref replay` prints, with one rule of it
+It is the plain model, which prints byte for byte what `fdref replay` prints, with one rule of it
 changed. RULE is one of those that --list prints, or `none`, which changes nothing. tools/compare.py
-takes it in the place of fdref: --program 'tests/wrong_oracle.py RULE'.
+takes it in the place of fdref: --program 'tests/stand_ins/wrong_oracle.py RULE'.
 """
 
 import copy
 import sys
+from collections.abc import Callable
+from pathlib import Path
+from typing import Any
 
-# the model is imported from this folder, which is to stay as it is
-sys.dont_write_bytecode = True
+sys.path.insert(0, str(Path(__file__).resolve().parents[1]))
 
-import plain_model
-from plain_model import World
+from support import plain_model
+from support.plain_model import Description, Pipe, Process, Regular, World
 
-RULES = {}
+RULES: dict[str, tuple[str, Callable[[], None]]] = {}
+
+# A function of the model: where it is replaced, the one that stood there is the first argument of the new one.
+Function = Callable[..., Any]
 
 
-def rule(text):
+def rule(text: str) -> Callable[[Callable[[], None]], Callable[[], None]]:
     """Marks a function that makes the model wrong, in a way that the text tells."""
 
-    def keep(function):
+    def keep(function: Callable[[], None]) -> Callable[[], None]:
         RULES[function.__name__.replace("_", "-")] = (text, function)
         return function
 
     return keep
 
 
-def wraps(owner, name):
+def wraps(owner: object, name: str) -> Callable[[Function], Function]:
     """Puts a function in the place of one of the model's, which it is given as its first argument."""
 
-    def put(function):
+    def put(function: Function) -> Function:
         right = getattr(owner, name)
         setattr(owner, name, lambda *values: function(right, *values))
+        return function
 
     return put
 
@@ -45,9 +51,9 @@ def wraps(owner, name):
 
 
 @rule("a child's descriptors have offsets of their own")
-def offsets_part_after_fork():
+def offsets_part_after_fork() -> None:
     @wraps(World, "fork")
-    def fork(right, world, process):
+    def fork(right: Function, world: World, process: Process) -> Any:
         number = right(world, process)
         table = world.processes[number].table
         table.update({fd: copy.copy(at) for fd, at in table.items()})
@@ -55,26 +61,26 @@ def offsets_part_after_fork():
 
 
 @rule("a duplicate has an offset of its own")
-def dup_parts_offsets():
+def dup_parts_offsets() -> None:
     @wraps(World, "dup")
-    def dup(right, world, process, fd):
+    def dup(right: Function, world: World, process: Process, fd: int) -> Any:
         to = right(world, process, fd)
         process.table[to] = copy.copy(process.table[to])
         return to
 
 
 @rule("open gives the second lowest free descriptor")
-def second_lowest_descriptor():
+def second_lowest_descriptor() -> None:
     @wraps(plain_model, "lowest_free")
-    def lowest_free(right, process, count=1):
+    def lowest_free(right: Function, process: Process, count: int = 1) -> Any:
         free = [fd for fd in range(plain_model.OPEN_MAX) if fd not in process.table]
         return free[1:2] if count == 1 and len(free) > 1 else right(process, count)
 
 
 @rule("dup2 leaves an open descriptor as it was")
-def dup2_keeps_the_old_one():
+def dup2_keeps_the_old_one() -> None:
     @wraps(World, "dup2")
-    def dup2(right, world, process, fd, to):
+    def dup2(right: Function, world: World, process: Process, fd: int, to: int) -> Any:
         before = process.table.get(to)
         right(world, process, fd, to)
         process.table[to] = before or process.table[to]
@@ -82,9 +88,9 @@ def dup2_keeps_the_old_one():
 
 
 @rule("a child gets no descriptors")
-def fork_copies_nothing():
+def fork_copies_nothing() -> None:
     @wraps(World, "fork")
-    def fork(right, world, process):
+    def fork(right: Function, world: World, process: Process) -> Any:
         number = right(world, process)
         world.processes[number].table.clear()
         return number
@@ -94,16 +100,16 @@ def fork_copies_nothing():
 
 
 @rule("a file with several names has one link too few")
-def a_link_too_few():
+def a_link_too_few() -> None:
     @wraps(World, "links")
-    def links(right, world, file):
+    def links(right: Function, world: World, file: plain_model.Named) -> Any:
         return max(right(world, file) - 1, min(right(world, file), 1))
 
 
 @rule("unlink empties a file that is open")
-def unlink_takes_what_is_open():
+def unlink_takes_what_is_open() -> None:
     @wraps(World, "unlink")
-    def unlink(right, world, process, name):
+    def unlink(right: Function, world: World, process: Process, name: bytes) -> Any:
         file = world.names.get(name)
         done = right(world, process, name)
         if isinstance(file, plain_model.Regular) and not world.links(file):
@@ -112,9 +118,9 @@ def unlink_takes_what_is_open():
 
 
 @rule("a write under append begins at the offset")
-def append_is_forgotten():
+def append_is_forgotten() -> None:
     @wraps(World, "write")
-    def write(right, world, process, fd, data):
+    def write(right: Function, world: World, process: Process, fd: int, data: bytes) -> Any:
         at = process.table.get(fd)
         if at and not at.pipe:
             at.append = False
@@ -122,9 +128,9 @@ def append_is_forgotten():
 
 
 @rule("creat empties a file that is there")
-def creat_empties():
+def creat_empties() -> None:
     @wraps(World, "open")
-    def open_file(right, world, process, name, flags):
+    def open_file(right: Function, world: World, process: Process, name: bytes, flags: str) -> Any:
         file = world.names.get(name)
         fd = right(world, process, name, flags)
         if "creat" in flags and isinstance(file, plain_model.Regular):
@@ -133,18 +139,18 @@ def creat_empties():
 
 
 @rule("pread moves the offset")
-def pread_moves():
+def pread_moves() -> None:
     @wraps(World, "pread")
-    def pread(right, world, process, fd, start, count):
+    def pread(right: Function, world: World, process: Process, fd: int, start: int, count: int) -> Any:
         given = right(world, process, fd, start, count)
         process.table[fd].offset = start + len(given)
         return given
 
 
 @rule("a gap reads as ones")
-def gaps_are_ones():
+def gaps_are_ones() -> None:
     @wraps(World, "put_at")
-    def put_at(right, world, file, start, data):
+    def put_at(right: Function, world: World, file: Regular, start: int, data: bytes) -> Any:
         size = len(file.data)
         put = right(world, file, start, data)
         if put and start > size:
@@ -153,9 +159,9 @@ def gaps_are_ones():
 
 
 @rule("an lseek from the end counts from the offset")
-def end_is_the_offset():
+def end_is_the_offset() -> None:
     @wraps(World, "lseek")
-    def lseek(right, world, process, fd, move, whence):
+    def lseek(right: Function, world: World, process: Process, fd: int, move: int, whence: str) -> Any:
         return right(world, process, fd, move, "cur" if whence == "end" else whence)
 
 
@@ -163,54 +169,58 @@ def end_is_the_offset():
 
 
 @rule("a read of an empty pipe with a writer is at the end")
-def end_in_place_of_waiting():
+def end_in_place_of_waiting() -> None:
     @wraps(World, "read_end")
-    def read_end(right, world, process, at, count):
+    def read_end(right: Function, world: World, process: Process, at: Description, count: int) -> Any:
+        assert at.pipe
         return world.get(at.pipe, count)
 
 
 @rule("a pipe gives first what was written last")
-def last_in_first_out():
+def last_in_first_out() -> None:
     @wraps(World, "get")
-    def get(right, world, pipe, count):
+    def get(right: Function, world: World, pipe: Pipe, count: int) -> bytes:
         given = bytes(pipe.data[max(len(pipe.data) - count, 0) :])
         del pipe.data[len(pipe.data) - len(given) :]
         return world.given(given)
 
 
 @rule("a reader is not woken when the last writer goes")
-def last_writer_wakes_nobody():
+def last_writer_wakes_nobody() -> None:
     @wraps(plain_model.WaitingRead, "is_ready")
-    def is_ready(right, call, world):
+    def is_ready(right: Function, call: plain_model.WaitingRead, world: World) -> bool:
         return bool(call.pipe.data)
 
 
 @rule("a write that nobody can read succeeds")
-def no_broken_pipe():
+def no_broken_pipe() -> None:
     @wraps(World, "write_end")
-    def write_end(right, world, process, at, data):
+    def write_end(right: Function, world: World, process: Process, at: Description, data: bytes) -> Any:
+        assert at.pipe
         return right(world, process, at, data) if world.has_end(at.pipe, "r") else len(data)
 
 
 @rule("nonblock is forgotten by a read")
-def nonblock_waits():
+def nonblock_waits() -> None:
     @wraps(World, "read_end")
-    def read_end(right, world, process, at, count):
+    def read_end(right: Function, world: World, process: Process, at: Description, count: int) -> Any:
         at.nonblock = False
         return right(world, process, at, count)
 
 
 @rule("an open of a FIFO does not wait for the other end")
-def open_waits_for_nobody():
+def open_waits_for_nobody() -> None:
     @wraps(World, "open_end")
-    def open_end(right, world, process, fd, fifo, mode, flags):
+    def open_end(
+        right: Function, world: World, process: Process, fd: int, fifo: plain_model.Fifo, mode: str, flags: list[str]
+    ) -> Any:
         return right(world, process, fd, fifo, mode, [*flags, "nonblock"])
 
 
 @rule("an open of a FIFO for writing under nonblock succeeds without a reader")
-def no_enxio():
+def no_enxio() -> None:
     @wraps(World, "open")
-    def open_file(right, world, process, name, flags):
+    def open_file(right: Function, world: World, process: Process, name: bytes, flags: str) -> Any:
         fifo = world.names.get(name)
         if not isinstance(fifo, plain_model.Fifo) or not flags.startswith("w,") or world.has_end(fifo.pipe, "r"):
             return right(world, process, name, flags)
@@ -224,20 +234,23 @@ def no_enxio():
 
 
 @rule("an exit leaves the ends of its process open")
-def exit_closes_nothing():
+def exit_closes_nothing() -> None:
     gone = []
 
     @wraps(plain_model.Run, "end")
-    def end(right, run, process):
+    def end(right: Function, run: plain_model.Run, process: Process) -> None:
         gone.append(process)
         right(run, process)
 
     @wraps(World, "has_end")
-    def has_end(right, world, pipe, end):
-        return right(world, pipe, end) or any(at.pipe is pipe and at.mode == end for process in gone for at in process.table.values())
+    def has_end(right: Function, world: World, pipe: Pipe, end: str) -> bool:
+        return right(world, pipe, end) or any(
+            at.pipe is pipe and at.mode == end for process in gone for at in process.table.values()
+        )
 
 
-def main(words):
+def main(words: list[str]) -> int:
+    """Prints what is asked for: the exit status."""
     if words == ["--list"]:
         print("\n".join(f"{name}: {text}" for name, (text, _) in RULES.items()))
         return 0

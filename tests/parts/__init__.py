@@ -1,0 +1,1 @@
+"""Parts of tests/serve.py that have a file of their own."""

@@ -1,0 +1,331 @@
+"""The client in clients/python and its example, against a server."""
+
+import errno
+import os
+import queue
+import socket
+import stat
+import sys
+import tempfile
+import threading
+import time
+from collections.abc import Callable, Iterator
+from functools import partial
+from typing import Any, NoReturn, TypeVar
+
+from support import frames
+from support.counting import Case, Failure, require, same
+from support.places import CLIENT, EXAMPLES
+from support.serving import SECONDS, Server, is_listening, outcome_of, report, started
+
+sys.path.insert(0, str(CLIENT))
+
+import fdref
+
+
+Kind = TypeVar("Kind", bound=Exception)
+
+
+def joined(server: Server) -> fdref.Process:
+    """A process of the client in Python, as soon as the server listens."""
+    until = time.monotonic() + SECONDS
+    while True:
+        try:
+            return fdref.join(server.path)
+        except (FileNotFoundError, ConnectionRefusedError):
+            require(server.is_running() and time.monotonic() < until, "nobody listens")
+            time.sleep(0.002)
+
+
+def raises(kind: type[Kind], call: Callable[..., object], *values: object) -> Kind:
+    """What a call raises, of just this kind."""
+    raised = raised_by(call, *values)
+    if type(raised) is not kind:
+        raise Failure(f"wanted {kind.__name__}, raised {raised!r}")
+    return raised
+
+
+def raised_by(call: Callable[..., object], *values: object) -> Exception | None:
+    """What a call raises."""
+    try:
+        call(*values)
+    except Exception as raised:
+        return raised
+    return None
+
+
+def calls(program: str) -> None:
+    """Each call once, with the value that it has in `os`."""
+    with Server(program, 2, 60) as server, joined(server) as process:
+        same((0, 0, []), (process.pid, process.place, process.waits))
+        same(0, process.open("a", os.O_RDWR | os.O_CREAT | os.O_EXCL))
+        same(5, process.write(0, b"hello"))
+        same(2, process.lseek(0, -3, os.SEEK_END))
+        same(b"ll", process.read(0, 2))
+        same(4, process.lseek(0, 0, os.SEEK_CUR))
+        same(b"ell", process.pread(0, 3, 1))
+        same(2, process.pwrite(0, bytearray(b"!!"), 4))
+        same(None, process.ftruncate(0, 3))
+        same(("regular", stat.S_IFREG, 3, 1), tuple(process.fstat(0)))
+        same(1, process.dup(0))
+        same(9, process.dup2(0, 9))
+        same(None, process.close(1))
+        same((1, 2), process.pipe())
+        same(("pipe", stat.S_IFIFO, 0, 0), tuple(process.fstat(1)))
+        same(None, process.mkfifo("f"))
+        same(None, process.link("a", b"b"))
+        same(None, process.unlink("a"))
+        same(3, process.open("f", os.O_RDONLY | os.O_NONBLOCK))
+        same(("fifo", stat.S_IFIFO, 0, 1), tuple(process.fstat(3)))
+        same(4, process.open("b", os.O_WRONLY | os.O_TRUNC | os.O_APPEND))
+        same(b"", process.pread(0, 3, 0))
+        child = process.fork()
+        same((1, 22), (child, process.place))
+        with fdref.attach(server.path, child) as other:
+            same((1, 23), (other.pid, other.place))
+            waits: queue.Queue[tuple[int, int]] = queue.Queue()
+            process.on_wait = lambda place, moved: waits.put((place, moved))
+            waited = []
+
+            def read_in_parts() -> None:
+                for count in (500, 1_024):
+                    waited.append(waits.get(timeout=SECONDS))
+                    other.read(1, count)
+
+            reader = threading.Thread(target=read_in_parts, daemon=True)
+            reader.start()
+            same((2_000, 28), (process.write(2, b"x" * 2_000), process.place))
+            reader.join(SECONDS)
+            same([(24, 1_024), (26, 1_524)], waited)
+            same(waited, process.waits)
+            same(b"x" * 476, process.read(1, 9_999))
+            same([], process.waits)
+        process.exit()
+        server.ended(report(2, 33, 2_007, 2_005))
+
+
+def faults(program: str) -> None:
+    """What a call raises: an error number, a refusal, and a connection that is lost."""
+    with Server(program, 4, 60) as server, joined(server) as process:
+        refused: list[tuple[int, Callable[..., object], tuple[object, ...]]] = [
+            (errno.EBADF, process.close, (0,)),
+            (errno.EINVAL, process.open, ("a", fdref.O_NEITHER)),
+            (errno.ENOENT, process.open, ("", os.O_RDONLY)),
+            (errno.ENAMETOOLONG, process.mkfifo, ("n" * 65,)),
+            (errno.EBADF, process.dup2, (-1, 2)),
+        ]
+        for number, call, values in refused:
+            raised = raises(fdref.CallError, call, *values)
+            same((number, process.place), (raised.errno, raised.place))
+        same(5, process.place)
+        same((0, 1), process.pipe())
+        process.close(0)
+        same(errno.EPIPE, raises(fdref.CallError, process.write, 1, b"x").errno)
+        same(8, process.place)
+        raises(ValueError, process.mkfifo, "n" * 256)
+        raises(ValueError, process.write, 1, bytes(65_701))
+        raises(ValueError, process.open, "a", os.O_RDONLY | os.O_SYNC)
+        raises(OverflowError, process.close, 2**31)
+        raises(OverflowError, process.read, 0, -1)
+        raised = raises(fdref.CallError, fdref.attach, server.path, 7)
+        same((errno.ESRCH, 9), (raised.errno, raised.place))
+        for _ in range(48):
+            raises(fdref.CallError, process.close, 7)
+        same("RunFull", raises(fdref.Refused, process.close, 7).reason)
+        same(57, process.place)
+        same("RunFull", raises(fdref.Refused, fdref.join, server.path).reason)
+        server.process.kill()
+        require(isinstance(raised_by(process.close, 7), ConnectionError), "no ConnectionError")
+        raises(ConnectionError, process.close, 7)
+
+
+class BrokenOff(Exception):
+    """What breaks off a call."""
+
+
+def broken_off(program: str) -> None:
+    """A call that is broken off while it waits ends the process."""
+
+    def breaks(place: int, moved: int) -> NoReturn:
+        raise BrokenOff
+
+    with Server(program, 2) as server, joined(server) as process:
+        same((0, 1), process.pipe())
+        with fdref.attach(server.path, process.fork()) as other:
+            process.on_wait = breaks
+            raises(BrokenOff, process.read, 0, 5)
+            same([(4, 0)], process.waits)
+            raises(ConnectionError, process.close, 0)
+            same(5, other.write(1, b"hello"))
+        server.ended(report(2, 10, 5, 5))
+
+
+EXAMPLE = b"""\
+0 the parent is process 0
+1 the parent makes a pipe: it reads from 0 and writes to 1
+2 the parent forks process 1
+3 the child is process 1
+4 the child reads 5 bytes and waits
+5 the parent writes 11 bytes
+6 the child gets b'hello'
+7 the parent gets b' world'
+"""
+
+
+def example(program: str, has_own_server: bool) -> None:
+    """The example gives its lines, with a server that it starts itself or with one that is there."""
+    words = [sys.executable, str(EXAMPLES / "shared_pipe.py")]
+    if has_own_server:
+        same((0, EXAMPLE + report(2, 11, 11, 11), b""), outcome_of(started([*words, "--program", program])))
+        return
+    with Server(program, 2) as server:
+        while not is_listening(server.path):
+            require(server.is_running(), "the server has ended")
+            time.sleep(0.01)
+        same((0, EXAMPLE, b""), outcome_of(started([*words, "--socket", server.path])))
+        server.ended(report(2, 11, 11, 11))
+
+
+# ---- the bytes of the client, and those of the tests
+
+# Each call of the client, and the line of a script that asks the same.
+REQUESTS: list[tuple[str, Callable[[fdref.Process], object]]] = [
+    ("open a rw,creat,excl", lambda it: it.open("a", os.O_RDWR | os.O_CREAT | os.O_EXCL)),
+    ("open % r,nonblock", lambda it: it.open(b"", os.O_RDONLY | os.O_NONBLOCK)),
+    ("open %ff w,trunc,append", lambda it: it.open(b"\xff", os.O_WRONLY | os.O_TRUNC | os.O_APPEND)),
+    ("open a -", lambda it: it.open("a", fdref.O_NEITHER)),
+    ("close -1", lambda it: it.close(-1)),
+    ("read 2147483647 4294967295", lambda it: it.read(2**31 - 1, 2**32 - 1)),
+    ("write 0 x6869", lambda it: it.write(0, b"hi")),
+    ("write 0 61*65700", lambda it: it.write(0, b"a" * 65_700)),
+    ("pread 0 -9223372036854775808 5", lambda it: it.pread(0, 5, -(2**63))),
+    ("pwrite 0 9223372036854775807 x", lambda it: it.pwrite(0, b"", 2**63 - 1)),
+    ("lseek 0 1 set", lambda it: it.lseek(0, 1, os.SEEK_SET)),
+    ("lseek 0 -1 cur", lambda it: it.lseek(0, -1, os.SEEK_CUR)),
+    ("lseek 0 0 end", lambda it: it.lseek(0, 0, os.SEEK_END)),
+    ("ftruncate 0 3", lambda it: it.ftruncate(0, 3)),
+    ("dup 0", lambda it: it.dup(0)),
+    ("dup2 0 9", lambda it: it.dup2(0, 9)),
+    ("pipe", lambda it: it.pipe()),
+    ("mkfifo f", lambda it: it.mkfifo("f")),
+    ("link a b", lambda it: it.link("a", "b")),
+    ("unlink a", lambda it: it.unlink("a")),
+    ("fstat 0", lambda it: it.fstat(0)),
+    ("fork", lambda it: it.fork()),
+]
+
+# Each outcome of a reply, and the value that the client has of it.
+REPLIES: list[tuple[str, object]] = [
+    ("ok", None),
+    ("18446744073709551615", 2**64 - 1),
+    ("x", b""),
+    ("61*65536", b"a" * 65_536),
+    ("3 4", (3, 4)),
+    ("regular 5 1", ("regular", stat.S_IFREG, 5, 1)),
+    ("fifo 0 2", ("fifo", stat.S_IFIFO, 0, 2)),
+    ("pipe 18446744073709551615 0", ("pipe", stat.S_IFIFO, 2**64 - 1, 0)),
+]
+
+
+class Listener:
+    """A socket that answers each request of a client with what it is told, and keeps the request."""
+
+    def __init__(self) -> None:
+        self.folder = tempfile.TemporaryDirectory(prefix="fdref-")
+        self.path = os.path.join(self.folder.name, "socket")
+        self.socket = socket.socket(socket.AF_UNIX, socket.SOCK_STREAM)
+        self.socket.bind(self.path)
+        self.socket.listen()
+        self.socket.settimeout(SECONDS)
+
+    def close(self) -> None:
+        """Ends it."""
+        self.socket.close()
+        self.folder.cleanup()
+
+    def asked(self, *exchanges: tuple[Callable[[Any], Any], bytes]) -> tuple[list[bytes], list[Any]]:
+        """Makes calls, of which each is given what the one before it gave, and answers each with these bytes."""
+        requests: list[bytes] = []
+
+        def answer() -> None:
+            connection, _ = self.socket.accept()
+            connection.settimeout(SECONDS)
+            with connection, connection.makefile("rb") as stream:
+                for _, answers in exchanges:
+                    length = stream.read(4)
+                    requests.append(length + stream.read(int.from_bytes(length, "big")))
+                    connection.sendall(answers)
+
+        thread = threading.Thread(target=answer, daemon=True)
+        thread.start()
+        values: list[Any] = [None]
+        try:
+            for call, _ in exchanges:
+                values.append(call(values[1] if len(values) > 1 else self.path))
+        finally:
+            thread.join(SECONDS)
+            if len(values) > 1:
+                values[1].exit()
+        return requests, values[1:]
+
+
+def answer_of(place: int, outcome: str) -> bytes:
+    """The frame of an answer."""
+    return frames.framed(frames.recorded(place, outcome))
+
+
+def agrees_on_requests() -> None:
+    """The client sends each request as the tests write it."""
+    listener = Listener()
+    try:
+        words = {line.split(" ")[0] for line, _ in REQUESTS}
+        same({form.word for form in frames.CALLS.values()}, words)
+        for line, call in REQUESTS:
+            given, _ = listener.asked((fdref.join, answer_of(0, "0")), (call, answer_of(1, "ok")))
+            same(frames.JOIN + frames.request_frame(line), b"".join(given))
+        given, _ = listener.asked((lambda path: fdref.attach(path, 7), answer_of(0, "ok")))
+        same([frames.attach_frame(7)], given)
+    finally:
+        listener.close()
+
+
+def agrees_on_answers() -> None:
+    """The client reads each answer as the tests write it."""
+    listener = Listener()
+    join = (fdref.join, answer_of(0, "0"))
+
+    def fork(process: fdref.Process) -> object:
+        return process.fork()
+
+    def error(process: fdref.Process) -> object:
+        raised = raises(fdref.CallError, process.fork)
+        return raised.name, raised.errno, raised.place
+
+    def reason(process: fdref.Process) -> object:
+        return raises(fdref.Refused, process.fork).reason
+
+    try:
+        for outcome, value in REPLIES:
+            same(value, listener.asked(join, (fork, answer_of(2**64 - 1, outcome)))[1][1])
+        for name in frames.ERRORS:
+            given = listener.asked(join, (error, answer_of(5, f"error {name}")))[1][1]
+            same((name, getattr(errno, name), 5), given)
+        for byte, name in frames.REFUSALS.items():
+            payload = bytes([2, byte]) + bytes(16 if name == "Foreign" else 0)
+            same(name, listener.asked(join, (reason, frames.framed(payload)))[1][1])
+        waits = answer_of(3, "parked 7") + answer_of(4, "part 8") + answer_of(5, "9")
+        process, value = listener.asked(join, (fork, waits))[1]
+        same(([(3, 7), (4, 8)], 9, 5), (process.waits, value, process.place))
+    finally:
+        listener.close()
+
+
+def cases(program: str) -> Iterator[Case]:
+    """What is asked of the client in Python."""
+    yield "each call of the client", partial(calls, program)
+    yield "what the client raises", partial(faults, program)
+    yield "a call of the client that is broken off", partial(broken_off, program)
+    yield "the example with a server of its own", partial(example, program, True)
+    yield "the example with a server that is there", partial(example, program, False)
+    yield "the requests of the client are those of the tests", agrees_on_requests
+    yield "the answers of the client are those of the tests", agrees_on_answers
