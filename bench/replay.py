@@ -11,15 +11,16 @@ fit into a script. A time is the best of N runs (3), from the start of the progr
 the output going to a file. The growth is the cost of an act over its cost in the script before:
 1.00 where the cost does not depend on the length of the run.
 
-`churn` makes a file, writes 64 bytes, gives it a second name, takes both away, reads the bytes back through the
-descriptor and closes it, among 300 names of a set of 500. `wide` has 60 processes with 15 descriptors each beside
-1,000 names, and writes, seeks, reads, asks, opens and closes among them. `dups` duplicates descriptors, to the
-lowest free number, to one that is free and over one that is open, and closes them. `forks` forks and attaches children,
-which write through the offset that they share with their parent and exit; at most 60 processes are live. `pipes` writes 64 bytes
-into a pipe and reads them. `parks` has writes of 2,000 bytes that wait, and that two resumes take to their end, between reads. `big` has
-writes of 65,536 bytes to a pipe, each resumed 63 times and read by 1,024 bytes: `big 61*65536` of one byte, `big x6162..` of bytes that
-differ. `9,000 files` are made, written one byte at their end, unlinked and closed, one after another: what went must not stay in
-memory, so a peak of 80 MiB fails.
+`churn` makes a file, writes 64 bytes, gives it a second name, takes both away, reads the bytes back through
+the descriptor and closes it, among 300 names of a set of 500. `wide` has 60 processes with 15 descriptors
+each beside 1,000 names, and writes, seeks, reads, asks, opens and closes among them. `dups` duplicates
+descriptors, to the lowest free number, to one that is free and over one that is open, and closes them.
+`forks` forks and attaches children, which write through the offset that they share with their parent and
+exit; at most 60 processes are live. `pipes` writes 64 bytes into a pipe and reads them. `parks` has writes of
+2,000 bytes that wait, and that two resumes take to their end, between reads. `big` has writes of 65,536 bytes
+to a pipe, each resumed 63 times and read by 1,024 bytes: `big 61*65536` of one byte, `big x6162..` of bytes
+that differ. `9,000 files` are made, written one byte at their end, unlinked and closed, one after another:
+what went must not stay in memory, so a peak of 80 MiB fails.
 
 `64 KiB, ..` has writes of 65,536 bytes spread over files of sixteen writes each, since a file holds
 1,048,576 bytes. In the spelling `61*65536` there are 1,000 of them. In the spelling `x6162..` each
@@ -44,14 +45,20 @@ import subprocess
 import sys
 import tempfile
 import time
+from collections.abc import Callable
+from functools import partial
+from pathlib import Path
 
-TOP = os.path.dirname(os.path.dirname(os.path.abspath(__file__)))
-SCRIPT_MOST = 16_777_216
-FILE_MOST = 1_048_576
+sys.path.insert(0, str(Path(__file__).resolve().parents[1] / "tests"))
+
+from support.options import absolute
+from support.places import FDREF
+from support.plain_model import FILE_SIZE_MAX as FILE_MOST
+from support.plain_model import PIPE_CAPACITY, SCRIPT_MOST
+from support.plain_model import TRANSFER_MAX as BIG
+
 GIVEN_BACK_MOST = 80 * 2**20
 RECORDS_MOST = 1_000_000
-BIG = 65_536
-PIPE_CAPACITY = 1_024
 BURST = 40
 BURST_ACTS = 2 * BURST + 6
 
@@ -59,7 +66,7 @@ BURST_ACTS = 2 * BURST + 6
 class Script:
     """A script that is written to a file as it grows, with the line of totals that its run must end in."""
 
-    def __init__(self, name, path):
+    def __init__(self, name: str, path: str) -> None:
         self.name = name
         self.path = path
         self.acts = 0
@@ -69,48 +76,55 @@ class Script:
         self.processes = 1
         self.file = open(path, "w", encoding="ascii")
 
-    def act(self, line):
+    def act(self, line: str) -> None:
+        """Writes a line."""
         self.file.write(f"{line}\n")
         self.acts += 1
         self.size += len(line) + 1
 
-    def write(self, fd, spelling, size):
+    def write(self, fd: int, spelling: str, size: int) -> None:
+        """A write of so many bytes."""
         self.act(f"p0 write {fd} {spelling}")
         self.bytes_in += size
 
-    def read(self, fd, size):
+    def read(self, fd: int, size: int) -> None:
+        """A read that gets so many bytes."""
         self.act(f"p0 read {fd} {size}")
         self.bytes_out += size
 
-    def pwrite(self, fd, start, spelling, size):
+    def pwrite(self, fd: int, start: int, spelling: str, size: int) -> None:
+        """A pwrite of so many bytes."""
         self.act(f"p0 pwrite {fd} {start} {spelling}")
         self.bytes_in += size
 
-    def pread(self, fd, start, size):
+    def pread(self, fd: int, start: int, size: int) -> None:
+        """A pread that gets so many bytes."""
         self.act(f"p0 pread {fd} {start} {size}")
         self.bytes_out += size
 
-    def done(self):
+    def done(self) -> "Script":
+        """The script, which is written whole."""
         self.file.close()
         assert self.size <= SCRIPT_MOST, f"{self.name}: a script of {self.size} bytes is too long"
         assert self.limit() <= RECORDS_MOST, f"{self.name}: {self.acts} acts are too many"
         return self
 
-    def filled(self, acts):
+    def filled(self, acts: int) -> "Script":
         """The script with as many acts as it is named by."""
         while self.acts < acts:
             self.act("p0 close 31")
         return self.done()
 
-    def limit(self):
-        # what the run needs beyond its records: one place for each process, and one more
+    def limit(self) -> int:
+        """The records of the run, and what it needs beyond them: one place for each process, and one more."""
         return self.acts + self.processes + 1
 
-    def closing(self):
+    def closing(self) -> bytes:
+        """The last line of its run."""
         return f"records {self.acts} in {self.bytes_in} out {self.bytes_out}\n".encode()
 
 
-def mix(path, acts):
+def mix(path: str, acts: int) -> Script:
     """One join, and then bursts up to the number of acts. The file is written and read from its start in each burst."""
     script = Script(f"{acts:,} acts", path)
     script.act("join")
@@ -129,7 +143,7 @@ def mix(path, acts):
     return script.filled(acts)
 
 
-def big(path, name, count, spell):
+def big(path: str, name: str, count: int, spell: Callable[[int], str]) -> Script:
     """Writes of 64 KiB over files of sixteen writes each."""
     script = Script(name, path)
     script.act("join")
@@ -143,7 +157,7 @@ def big(path, name, count, spell):
     return script.done()
 
 
-def opened(script, size):
+def opened(script: Script, size: int) -> None:
     """A file of so many bytes, open for both at descriptor 0, and a join before it."""
     script.act("join")
     script.act("p0 open f rw,creat")
@@ -152,7 +166,7 @@ def opened(script, size):
         size -= min(size, BIG)
 
 
-def scattered(path, acts, size):
+def scattered(path: str, acts: int, size: int) -> Script:
     """Reads and writes of 8 bytes at positions spread over a file."""
     script = Script(f"8 bytes in {size >> 10:,} KiB", path)
     opened(script, size)
@@ -167,7 +181,7 @@ def scattered(path, acts, size):
     return script.done()
 
 
-def whole(path, acts, size, name):
+def whole(path: str, acts: int, size: int, name: str) -> Script:
     """Reads of so many bytes at positions of a file of 1 MiB."""
     script = Script(name, path)
     opened(script, FILE_MOST)
@@ -176,7 +190,7 @@ def whole(path, acts, size, name):
     return script.done()
 
 
-def rewritten(path, acts):
+def rewritten(path: str, acts: int) -> Script:
     """Writes of 64 KiB at positions of a file of 1 MiB."""
     script = Script("64 KiB pwrites", path)
     opened(script, FILE_MOST)
@@ -189,8 +203,8 @@ NAMES = 500
 STANDING = 300
 
 
-def churn(path, acts):
-    """Files that are made, named twice, unlinked, read through their descriptor and closed, among 300 names of a set of 500."""
+def churn(path: str, acts: int) -> Script:
+    """Files that are made, named twice, unlinked, read through their descriptor and closed, among 300 names of 500."""
     script = Script(f"churn {acts:,}", path)
     script.act("join")
     # the names that stand are spread over the set, and so are those that come and go
@@ -214,7 +228,7 @@ def churn(path, acts):
     return script.filled(acts)
 
 
-def wide(path, acts):
+def wide(path: str, acts: int) -> Script:
     """Small acts, opens and closes of 60 processes with 15 descriptors each, beside 1,000 names."""
     script = Script(f"wide {acts:,}", path)
     script.processes = 60
@@ -238,8 +252,8 @@ def wide(path, acts):
     return script.filled(acts)
 
 
-def dups(path, acts):
-    """Descriptors that are duplicated, to free numbers and over open ones, and closed, beside two files that are open."""
+def dups(path: str, acts: int) -> Script:
+    """Descriptors that are duplicated, to free numbers and over open ones, and closed, beside two open files."""
     script = Script(f"dups {acts:,}", path)
     script.act("join")
     script.act("p0 open a rw,creat")
@@ -250,9 +264,11 @@ def dups(path, acts):
     return script.filled(acts)
 
 
-def forks(path, acts):
-    """Children that are forked, attached, write through the offset that they share with their parent, which reads on from there,
-    and exit; at most 59 of them are live beside it."""
+def forks(path: str, acts: int) -> Script:
+    """Children that are forked, attached, write through the offset that they share with their parent, and exit.
+
+    The parent reads on from there; at most 59 of them are live beside it.
+    """
     script = Script(f"forks {acts:,}", path)
     script.act("join")
     script.act("p0 open f rw,creat")
@@ -273,7 +289,7 @@ def forks(path, acts):
     return script.filled(acts)
 
 
-def pipes(path, acts):
+def pipes(path: str, acts: int) -> Script:
     """Writes of 64 bytes into a pipe, each read before the next."""
     script = Script(f"pipes {acts:,}", path)
     script.act("join")
@@ -284,14 +300,14 @@ def pipes(path, acts):
     return script.filled(acts)
 
 
-def two_ends(script):
+def two_ends(script: Script) -> None:
     """A pipe that process 0 reads at descriptor 0 and its child, process 1, writes at descriptor 1."""
     script.processes = 2
     for line in ("join", "p0 pipe", "p0 fork", "p1 attach"):
         script.act(line)
 
 
-def parks(path, acts):
+def parks(path: str, acts: int) -> Script:
     """Writes of 2,000 bytes that wait, move a part and end, between reads that make room."""
     script = Script(f"parks {acts:,}", path)
     two_ends(script)
@@ -306,7 +322,7 @@ def parks(path, acts):
     return script.filled(acts)
 
 
-def resumed(path, name, count, spell):
+def resumed(path: str, name: str, count: int, spell: Callable[[int], str]) -> Script:
     """Writes of 65,536 bytes to a pipe, each taken to its end by resumes between reads of 1,024 bytes."""
     script = Script(name, path)
     two_ends(script)
@@ -320,7 +336,7 @@ def resumed(path, name, count, spell):
     return script.done()
 
 
-def ends(path, files):
+def ends(path: str, files: int) -> Script:
     """Files that are made, written one byte at their end and unlinked while they are open, one after another."""
     script = Script(f"{files:,} files", path)
     script.act("join")
@@ -332,7 +348,7 @@ def ends(path, files):
     return script.done()
 
 
-def copy_cost():
+def copy_cost() -> float:
     """The microseconds of one copy of 65,536 bytes into memory of its own, the best of some."""
     source = bytes(range(256)) * (BIG // 256)
     best = float("inf")
@@ -345,23 +361,25 @@ def copy_cost():
     return best
 
 
-def counted(at):
+def counted(at: int) -> str:
+    """64 KiB of one byte."""
     return f"{at % 256:02x}*{BIG}"
 
 
-def spelled(at):
+def spelled(at: int) -> str:
+    """64 KiB of bytes that differ."""
     return "x" + bytes((at + step) % 256 for step in range(256)).hex() * (BIG // 256)
 
 
 class Measure:
     """One run: its seconds, and the most memory that it held, in bytes."""
 
-    def __init__(self, seconds, memory):
+    def __init__(self, seconds: float, memory: int) -> None:
         self.seconds = seconds
         self.memory = memory
 
 
-def once(program, words, source, target):
+def once(program: str, words: list[str], source: str, target: str) -> Measure:
     """Runs the program once, from one file to another."""
     with open(source, "rb") as reading, open(target, "wb") as writing:
         start = time.perf_counter()
@@ -375,7 +393,7 @@ def once(program, words, source, target):
     return Measure(seconds, usage.ru_maxrss * 1024)
 
 
-def run(program, script, target):
+def run(program: str, script: Script, target: str) -> Measure:
     """Runs the program once on a script, and checks how its output ends."""
     measured = once(program, ["replay", "--records", str(script.limit())], script.path, target)
     wanted = b"\n" + script.closing()
@@ -387,12 +405,13 @@ def run(program, script, target):
     return measured
 
 
-def measure(program, script, target, runs):
+def measure(program: str, script: Script, target: str, runs: int) -> Measure:
+    """The best time of so many runs, and the most memory."""
     measures = [run(program, script, target) for _ in range(runs)]
     return Measure(min(it.seconds for it in measures), max(it.memory for it in measures))
 
 
-def instructions(program, script, target):
+def instructions(program: str, script: Script, target: str) -> int:
     """The instructions of one run of the program on a script, as valgrind counts them."""
     words = [
         "valgrind",
@@ -405,13 +424,17 @@ def instructions(program, script, target):
     ]
     with open(script.path, "rb") as reading, open(target, "wb") as writing:
         child = subprocess.run(words, stdin=reading, stdout=writing, stderr=subprocess.PIPE, check=True)
-    return int(re.search(rb"Collected : (\d+)", child.stderr).group(1))
+    counted = re.search(rb"Collected : (\d+)", child.stderr)
+    if not counted:
+        sys.exit(f"valgrind counts nothing: {child.stderr[-300:]!r}")
+    return int(counted[1])
 
 
-def count_instructions(program, path, target):
+def count_instructions(program: str, path: str, target: str) -> None:
     """Prints the instructions of an act of each script of 10,000 acts."""
-    small = None
-    for kind in (mix, lambda path, acts: scattered(path, acts, 1024), churn, wide, dups, forks, pipes, parks):
+    small = 0.0
+    kinds: list[Callable[[str, int], Script]] = [mix, partial(scattered, size=1024), churn, wide]
+    for kind in [*kinds, dups, forks, pipes, parks]:
         script = kind(path, 10_000)
         whole_run, acts = instructions(program, script, target), script.acts
         cost = (whole_run - instructions(program, mix(path, 1), target)) / acts
@@ -419,16 +442,15 @@ def count_instructions(program, path, target):
         print(f"{script.name:<18} {cost:>9,.0f} instructions an act, {cost / small:.2f} small acts", flush=True)
 
 
-def table(program, runs, folder):
+def table(program: str, runs: int, folder: str) -> None:
     """Prints a line for each script as it is done, and the growth over all."""
     path, target = os.path.join(folder, "script"), os.path.join(folder, "out")
     floor = once(program, ["--version"], os.devnull, target).memory
     print(f"best of {runs} runs; a peak of {floor / 2**20:.1f} MiB or less is this script's own")
-    print(
-        f"{'script':<18} {'acts':>9} {'seconds':>9} {'acts/s':>11} {'us/act':>10} {'growth':>7} {'peak MiB':>9} {'bytes/act':>10}"
-    )
+    heads = f"{'acts':>9} {'seconds':>9} {'acts/s':>11} {'us/act':>10} {'growth':>7} {'peak MiB':>9} {'bytes/act':>10}"
+    print(f"{'script':<18} {heads}")
 
-    def line(script, before=None, most=None):
+    def line(script: Script, before: float | None = None, most: int | None = None) -> float:
         measured = measure(program, script, target, runs)
         if most is not None and measured.memory >= most:
             sys.exit(f"{script.name}: a peak of {measured.memory / 2**20:.1f} MiB is {most / 2**20:.0f} MiB or more")
@@ -441,7 +463,7 @@ def table(program, runs, folder):
         )
         return cost
 
-    costs = []
+    costs: list[float] = []
     for acts in (10_000, 100_000, 999_000):
         costs.append(line(mix(path, acts), costs[-1] if costs else None))
     print(f"growth of the cost of an act from 10,000 to 999,000 acts: {costs[-1] / costs[0]:.2f}")
@@ -461,19 +483,19 @@ def table(program, runs, folder):
     all_of_it = whole(path, 2_000, BIG, "64 KiB preads")
     line(all_of_it)
     each = (measure(program, all_of_it, target, runs).seconds - none) / 2_000 * 1e6
-    print(
-        f"a pread of 64 KiB costs {each:.1f} us more than one of nothing, its line included; two copies of its bytes here: {2 * copy_cost():.1f} us"
-    )
+    copies = f"two copies of its bytes here: {2 * copy_cost():.1f} us"
+    print(f"a pread of 64 KiB costs {each:.1f} us more than one of nothing, its line included; {copies}")
     if shutil.which("valgrind"):
         count_instructions(program, path, target)
 
 
-def main():
+def main() -> None:
+    """Times all scripts."""
     parser = argparse.ArgumentParser(description="Times `fdref replay` on scripts of growing length.")
     parser.add_argument("--runs", type=int, default=3, help="runs of each script, of which the best counts")
-    parser.add_argument("program", nargs="?", default=os.path.join(TOP, "crates", "fdref", "out", "fdref"))
+    parser.add_argument("program", nargs="?", type=absolute, default=str(FDREF), metavar="PROGRAM")
     given = parser.parse_args()
-    program = os.path.abspath(given.program)
+    program = given.program
     if not os.access(program, os.X_OK):
         sys.exit(f"{program} is not there: ./fdref --version builds it")
     with tempfile.TemporaryDirectory() as folder:

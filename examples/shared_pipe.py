@@ -18,33 +18,35 @@ import sys
 import tempfile
 import threading
 import time
+from collections.abc import Sequence
+from pathlib import Path
 
-sys.dont_write_bytecode = True
-sys.path.insert(0, os.path.join(os.path.dirname(os.path.dirname(os.path.abspath(__file__))), "clients", "python"))
+sys.path.insert(0, str(Path(__file__).resolve().parents[1] / "clients" / "python"))
 
 import fdref
 
 SECONDS = 10
-TOLD = []
+TOLD: list[tuple[int, str]] = []
 
 
-def tell(place, text):
+def tell(place: int, text: str) -> None:
+    """Keeps a line for the end."""
     TOLD.append((place, text))
 
 
-def read_waiting(child, is_waiting):
+def read_waiting(child: fdref.Process, is_waiting: threading.Event) -> None:
     """The child reads five bytes, and tells when it waits for them."""
 
-    def waits(place, moved):
+    def waits(place: int, moved: int) -> None:
         tell(place, "the child reads 5 bytes and waits")
         is_waiting.set()
 
     child.on_wait = waits
     some = child.read(0, 5)
-    tell(child.place, f"the child gets {some}")
+    tell(child.place, f"the child gets {some!r}")
 
 
-def ask(path, parent):
+def ask(path: str, parent: fdref.Process) -> None:
     """The parent makes a pipe, forks, and writes when the child waits. Both live until all is shown."""
     tell(parent.place, f"the parent is process {parent.pid}")
     reading, writing = parent.pipe()
@@ -62,16 +64,16 @@ def ask(path, parent):
         tell(parent.place, f"the parent writes {count} bytes")
         reader.join()
         some = parent.read(reading, 100)
-        tell(parent.place, f"the parent gets {some}")
+        tell(parent.place, f"the parent gets {some!r}")
         show()
 
 
-def show():
+def show() -> None:
     """Prints the lines in the order of their places."""
     print("\n".join(f"{place} {text}" for place, text in sorted(TOLD)), flush=True)
 
 
-def join_when_ready(path, server):
+def join_when_ready(path: str, server: subprocess.Popen[bytes]) -> fdref.Process:
     """Joins as soon as a server that was just started listens."""
     while server.poll() is None:
         try:
@@ -81,7 +83,8 @@ def join_when_ready(path, server):
     raise SystemExit(f"the server ended with status {server.returncode}")
 
 
-def main(words):
+def main(words: Sequence[str]) -> int:
+    """Asks: the exit status."""
     parser = argparse.ArgumentParser(description="Who gets which bytes of a pipe?")
     which = parser.add_mutually_exclusive_group(required=True)
     which.add_argument("--socket", metavar="PATH", help="where a server listens")
@@ -93,9 +96,8 @@ def main(words):
         return 0
     with tempfile.TemporaryDirectory() as folder:
         path = os.path.join(folder, "socket")
-        with subprocess.Popen(
-            [args.program, "serve", "--socket", path, "--sessions", "2", "--records", "100"]
-        ) as server:
+        serve = [args.program, "serve", "--socket", path, "--sessions", "2", "--records", "100"]
+        with subprocess.Popen(serve) as server:
             try:
                 with join_when_ready(path, server) as parent:
                     ask(path, parent)

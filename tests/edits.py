@@ -9,8 +9,8 @@ not be proved. The gate tries those in `crates/CRATE/must-fail`. This tries thos
 that are named or of all, in a copy of the tree, with what was proved there before; else the crates below are proved
 first, which takes 20 minutes and more. The last line is `N passed, M failed`.
 
-With `--list` nothing is tried. It prints a line for each edit of both folders: the crate, `gate` or `here` for who tries
-it, its name, the file, and the old and the new text, which are cut short where they are long.
+With `--list` nothing is tried. It prints a line for each edit of both folders: the crate, `gate` or `here` for who
+tries it, its name, the file, and the old and the new text, which are cut short where they are long.
 """
 
 import argparse
@@ -31,7 +31,7 @@ TEXT_MOST = 60
 
 
 class Edit(NamedTuple):
-    """An edit: its crate, its name in words, the file, each old text with the new one, and whether the gate tries it."""
+    """An edit: its crate, its name in words, its file, each old text with the new one, and if the gate tries it."""
 
     crate: str
     name: str
@@ -57,9 +57,8 @@ def edit_of(path: Path, is_of_gate: bool) -> Edit:
     if len(texts["file"]) != 1 or not texts["old"]:
         raise ValueError(f"{path} is no edit")
     changes = list(zip(texts["old"], texts["new"], strict=True))
-    return Edit(
-        path.parents[1 if is_of_gate else 0].name, path.stem.replace("_", " "), *texts["file"], changes, is_of_gate
-    )
+    crate = path.parents[1 if is_of_gate else 0].name
+    return Edit(crate, path.stem.replace("_", " "), texts["file"][0], changes, is_of_gate)
 
 
 def edits_of(crate: str) -> list[Edit]:

@@ -48,17 +48,7 @@ from support.frames import JOIN, attach_frame, call_frame, framed, recorded, u32
 from support.options import add_count, add_path, add_seed, end_without
 from support.places import FDREF
 from support.refusing import build
-from support.serving import (
-    A_WHILE,
-    ALL_RECORDS,
-    SECONDS,
-    Client,
-    Server,
-    outcome_of,
-    report,
-    serve_words,
-    started,
-)
+from support.serving import A_WHILE, ALL_RECORDS, SECONDS, Client, Server, outcome_of, report, serve_words, started
 
 TELL_MOST = 10
 PATH_MOST = 107

@@ -22,7 +22,6 @@ sys.path.insert(0, str(CLIENT))
 
 import fdref
 
-
 Kind = TypeVar("Kind", bound=Exception)
 
 
