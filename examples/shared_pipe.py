@@ -17,7 +17,6 @@ import subprocess
 import sys
 import tempfile
 import threading
-import time
 from collections.abc import Sequence
 from pathlib import Path
 
@@ -73,16 +72,6 @@ def show() -> None:
     print("\n".join(f"{place} {text}" for place, text in sorted(TOLD)), flush=True)
 
 
-def join_when_ready(path: str, server: subprocess.Popen[bytes]) -> fdref.Process:
-    """Joins as soon as a server that was just started listens."""
-    while server.poll() is None:
-        try:
-            return fdref.join(path)
-        except (FileNotFoundError, ConnectionRefusedError):
-            time.sleep(0.01)
-    raise SystemExit(f"the server ended with status {server.returncode}")
-
-
 def main(words: Sequence[str]) -> int:
     """Asks: the exit status."""
     parser = argparse.ArgumentParser(description="Who gets which bytes of a pipe?")
@@ -99,7 +88,7 @@ def main(words: Sequence[str]) -> int:
         serve = [args.program, "serve", "--socket", path, "--sessions", "2", "--records", "100"]
         with subprocess.Popen(serve) as server:
             try:
-                with join_when_ready(path, server) as parent:
+                with fdref.join(path, within=SECONDS) as parent:
                     ask(path, parent)
                 return server.wait()
             finally:

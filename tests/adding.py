@@ -1,5 +1,5 @@
 #!/usr/bin/env python3
-"""Holds the lists of docs/ADDING.md against the tree.
+"""Does docs/ADDING.md list the files that an addition edits, and no others? (a few seconds)
 
 usage: tests/adding.py
 
@@ -22,8 +22,6 @@ has to have one. What the page says to check with `--only` has to be a function.
 `N passed, M failed`.
 """
 
-from __future__ import annotations
-
 import argparse
 import re
 import sys
@@ -31,7 +29,9 @@ from collections.abc import Iterator
 from pathlib import Path
 from typing import NamedTuple
 
-TOP = Path(__file__).resolve().parent.parent
+from support.counting import Count
+from support.places import TOP
+
 PAGE = TOP / "docs" / "ADDING.md"
 SEARCHED = ("crates/*/src", "crates/*/specs", "crates/*/proofs", "tests", "tools", "clients", "bench")
 ENDINGS = {".rt", ".antt", ".py", ".c", ".edit", ""}
@@ -71,6 +71,7 @@ def blocks(text: str) -> Iterator[str]:
 
 
 def read_part(text: str) -> Part:
+    """Reads a part, from its title on."""
     title, _, rest = text.partition("\n")
     part = Part(title.strip(), [], [], [], [])
     for block in blocks(rest):
@@ -87,10 +88,12 @@ def read_part(text: str) -> Part:
 
 
 def content(path: Path) -> str:
+    """The text of a file."""
     return path.read_text(encoding="utf-8", errors="replace")
 
 
 def has_word(text: str, word: str) -> bool:
+    """Whether a word stands in a text by itself."""
     return re.search(rf"(?<!\w){re.escape(word)}(?!\w)", text) is not None
 
 
@@ -102,7 +105,8 @@ def sources() -> dict[str, str]:
             if path.is_file() and path.suffix in ENDINGS:
                 comment = COMMENTS.get(path.suffix)
                 text = content(path)
-                found[path.relative_to(TOP).as_posix()] = re.sub(comment, "", text, flags=re.DOTALL) if comment else text
+                text = re.sub(comment, "", text, flags=re.DOTALL) if comment else text
+                found[path.relative_to(TOP).as_posix()] = text
     return found
 
 
@@ -111,30 +115,24 @@ def is_in(path: str, listed: str) -> bool:
     return path == listed or path.startswith(listed.rstrip("/") + "/")
 
 
-class Count:
-    """How many checks passed and failed; those that fail are told."""
-
-    def __init__(self) -> None:
-        self.passed = self.failed = 0
-
-    def check(self, is_so: bool, fault: str) -> None:
-        if is_so:
-            self.passed += 1
-        else:
-            self.failed += 1
-            print(f"FAILED {fault}")
+def check(count: Count, is_so: bool, part: str, fault: str) -> None:
+    """Counts a check, and tells what is wrong where it fails."""
+    if is_so:
+        count.add(1, 0)
+    else:
+        count.fail(part, fault)
 
 
 def check_items(count: Count, part: Part) -> None:
     """What is listed is there."""
     for block in part.unread:
-        count.check(False, f"{part.title}: this is no item: {block}")
+        check(count, False, part.title, f"this is no item: {block}")
     for path, words, _ in part.items:
         place = TOP / path
-        count.check(place.exists(), f"{part.title}: there is no {path}")
+        check(count, place.exists(), part.title, f"there is no {path}")
         text = content(place) if place.is_file() else ""
         for word in words:
-            count.check(has_word(text, word), f"{part.title}: {path} has no {word}")
+            check(count, has_word(text, word), part.title, f"{path} has no {word}")
 
 
 def check_pattern(count: Count, part: Part, texts: dict[str, str]) -> None:
@@ -143,22 +141,23 @@ def check_pattern(count: Count, part: Part, texts: dict[str, str]) -> None:
     listed = {item.path for item in part.items}
     for path in sorted(found):
         is_listed = any(is_in(path, it) for it in [*listed, *part.elsewhere])
-        count.check(is_listed, f"{part.title}: {path} has a word of the pattern, and is not listed")
+        check(count, is_listed, part.title, f"{path} has a word of the pattern, and is not listed")
     numbered = {item.path for item in part.items if item.always}
     for path in sorted(numbered | set(part.elsewhere)):
         if any(is_in(it, path) for it in texts):
-            count.check(any(is_in(it, path) for it in found), f"{part.title}: {path} has no word of the pattern")
+            is_found = any(is_in(it, path) for it in found)
+            check(count, is_found, part.title, f"{path} has no word of the pattern")
 
 
 def check_functions(count: Count, page: str) -> None:
     """What is to be checked alone is a function."""
     for file, function in sorted(set(re.findall(r"--only (\w+)::(\w+)", page))):
         is_there = any(has_word(content(path), f"fn {function}") for path in TOP.glob(f"crates/*/src/{file}.rt"))
-        count.check(is_there, f"no {file}.rt has a function {function}")
+        check(count, is_there, "--only", f"no {file}.rt has a function {function}")
 
 
 def main() -> int:
-    argparse.ArgumentParser(description="Holds the lists of docs/ADDING.md against the tree.").parse_args()
+    argparse.ArgumentParser(description="Holds docs/ADDING.md against the tree.").parse_args()
     count = Count()
     page = content(PAGE)
     texts = sources()
@@ -167,13 +166,13 @@ def main() -> int:
         check_items(count, part)
         if part.pattern:
             check_pattern(count, part, texts)
-    count.check(sum(bool(part.pattern and part.items) for part in parts) >= 6, "fewer than six parts have a pattern and a list")
+    searched = sum(bool(part.pattern and part.items) for part in parts)
+    check(count, searched >= 6, "all", f"{searched} parts have a pattern and a list, and not six or more")
     check_functions(count, page)
     in_items = {item.path for part in parts for item in part.items}
     for path in sorted(set(PATH.findall(page)) - in_items):
-        count.check((TOP / path).exists(), f"the page names {path}, which is not there")
-    print(f"{count.passed} passed, {count.failed} failed")
-    return 1 if count.failed else 0
+        check(count, (TOP / path).exists(), "all", f"the page names {path}, which is not there")
+    return count.end()
 
 
 if __name__ == "__main__":

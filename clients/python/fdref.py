@@ -38,6 +38,7 @@ import os
 import socket
 import stat
 import struct
+import time
 from collections.abc import Callable
 from typing import Any, NamedTuple
 
@@ -86,9 +87,10 @@ class Stat(NamedTuple):
     st_nlink: int
 
 
-def join(path: str | os.PathLike[str]) -> Process:
-    """Connects to the server at a path as a new process, without open descriptors."""
-    return Process(path, b"\x01")
+def join(path: str | os.PathLike[str], within: float = 0) -> Process:
+    """Connects to the server at a path as a new process, without open descriptors. A server that is only starting is
+    waited for, at most `within` seconds."""
+    return Process(path, b"\x01", within=within)
 
 
 def attach(path: str | os.PathLike[str], pid: int) -> Process:
@@ -99,7 +101,9 @@ def attach(path: str | os.PathLike[str], pid: int) -> Process:
 class Process:
     """A process, and the connection that it lives as long as. `join` and `attach` make one."""
 
-    def __init__(self, path: str | os.PathLike[str], opening: bytes, pid: int | None = None) -> None:
+    def __init__(
+        self, path: str | os.PathLike[str], opening: bytes, pid: int | None = None, within: float = 0
+    ) -> None:
         self.place: int
         """The place of the last answer; it stays where a call is refused."""
         self.waits: list[tuple[int, int]] = []
@@ -109,13 +113,23 @@ class Process:
         self._socket = socket.socket(socket.AF_UNIX, socket.SOCK_STREAM)
         self._answers = self._socket.makefile("rb")
         try:
-            self._socket.connect(os.fspath(path))
+            self._connect(os.fspath(path), time.monotonic() + within)
             number = self._ask(opening)
         except BaseException:
             self.exit()
             raise
         self.pid: int = number if pid is None else pid
         """The number of the process."""
+
+    def _connect(self, path: str, until: float) -> None:
+        """Connects to a path; until that time also where nobody listens there yet."""
+        while True:
+            try:
+                return self._socket.connect(path)
+            except (FileNotFoundError, ConnectionRefusedError):
+                if time.monotonic() >= until:
+                    raise
+            time.sleep(0.01)
 
     def __enter__(self) -> Process:
         return self

@@ -27,13 +27,7 @@ Kind = TypeVar("Kind", bound=Exception)
 
 def joined(server: Server) -> fdref.Process:
     """A process of the client in Python, as soon as the server listens."""
-    until = time.monotonic() + SECONDS
-    while True:
-        try:
-            return fdref.join(server.path)
-        except (FileNotFoundError, ConnectionRefusedError):
-            require(server.is_running() and time.monotonic() < until, "nobody listens")
-            time.sleep(0.002)
+    return fdref.join(server.path, within=SECONDS)
 
 
 def raises(kind: type[Kind], call: Callable[..., object], *values: object) -> Kind:
