@@ -634,7 +634,7 @@ def mistakes(program: str) -> Iterator[Case]:
         for option in right:
             words = [word for pair in right.items() if pair[0] != option for word in pair]
             yield f"no {option}", partial(mistake, program, words, option, folder)
-            words = [word for pair in right.items() for word in pair] + [option, right[option]]
+            words = [*(word for pair in right.items() for word in pair), option, right[option]]
             yield f"{option} twice", partial(mistake, program, words, option, folder)
         numbers = {
             "--sessions": ["0", "65", "", "x", "-1", "1.5", "18446744073709551617"],

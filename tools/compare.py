@@ -321,7 +321,7 @@ REASONS = [
 
 def act_of(line: Line) -> str:
     """A line's act, as it stands in a script."""
-    who, _, word = line.act.partition(" ")
+    word = line.act.partition(" ")[2]
     return word if word in ("join", "close-run") else line.act
 
 

@@ -14,12 +14,14 @@
 - `serving`: a server, and clients of it whose waits are bounded
 - `refusing`: runs in which allocations are refused
 
-A test is a file tests/NAME.py whose docstring says in its first line what it asks, and in a line that begins with
-`time: ` how long it takes. Its end is
+A test is a file tests/NAME.py. The first line of its docstring says what it asks and how long it takes, and
+`python3 tests` lists it. Its `main` takes the words of the command line and gives the exit status:
 
     count = Count()
     count.check("what is looked at", lambda: same(wanted, given))
+    count.check_all((name, partial(is_right, it)) for name, it in others)
     return count.end()
 
-where `end` prints `N passed, M failed` and gives the exit status. No test imports another one.
+A check raises `Failure` (by `require` or `same`) where something is wrong, and `end` prints `N passed, M failed`. No
+test imports another one. A tool or a bench puts the folder tests on `sys.path` first.
 """

@@ -12,6 +12,7 @@ parks the process. It is slow where that is plainer, and has no want of memory.
 
 import re
 from collections.abc import Callable, Iterable, Mapping
+from functools import partial
 from typing import Any, NamedTuple
 
 from support.running import Ran
@@ -488,7 +489,7 @@ class Run:
         elif act.word == "join":
             self.record_if_room(act._replace(actor=self.world.next_number), self.world.add_process)
         elif act.word == "attach":
-            self.record_if_room(act, lambda: self.attach(process))
+            self.record_if_room(act, partial(self.attach, process))
         elif process is None or not process.attached:
             self.tell(act, "refused NotHere")
         elif act.word == "exit":
@@ -496,13 +497,11 @@ class Run:
         elif act.word == "resume" and not (process.waits and process.waits.is_ready(self.world)):
             self.tell(act, "still")
         elif act.word == "resume":
-            live = process
-            self.record_if_room(act, lambda: self.resume(live))
+            self.record_if_room(act, partial(self.resume, process))
         elif process.waits:
             self.tell(act, "refused Waiting")
         else:
-            caller = process
-            self.record_if_room(act, lambda: self.call(act, caller))
+            self.record_if_room(act, partial(self.call, act, process))
 
     def attach(self, process: Process | None) -> Reply:
         """Attaches a child."""
