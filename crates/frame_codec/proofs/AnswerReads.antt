@@ -174,7 +174,7 @@ outcome_takes : (bytes : List ℕ) (x : Outcome × List ℕ) → AreBytes bytes 
 unfolding outcome_at
 outcome_takes bytes x h e = tagged_takes outcome_bytes OutcomeFits outcome_rows bytes x outcome_rows_take h e
 
-outcome_reads : Reads outcome_bytes OutcomeFits outcome_at
+pub outcome_reads : Reads outcome_bytes OutcomeFits outcome_at
 outcome_reads = record { again = outcome_again; takes = outcome_takes }
 
 -- ---- refusals

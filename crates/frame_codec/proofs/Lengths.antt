@@ -1,8 +1,9 @@
 -- How many bytes a payload has is what its fields tell one by one.
-use Rattle.std.proofs.Common.{◌≡◌, ℕ, ◌+◌, List, [], ◌∷◌, length, refl, arith}
+use Rattle.std.proofs.Common.{◌≡◌, ℕ, ◌+◌, List, [], ◌∷◌, ◌++◌, length, refl, arith}
 use Rattle.std.proofs.lemmas.List.{length-append}
-use Rattle.std.specs.Int.{w64}
+use Rattle.std.specs.Int.{w32, w64}
 use Rattle.call_types.specs.CallTable.{FieldKind, a_name, a_payload, Value, Values, parts, field_length, fields_length}
+use Rattle.call_types.specs.declared.act.Record.{Record}
 use Rattle.call_types.specs.declared.call.Call.{Call}
 use Rattle.call_types.specs.declared.call.Call.TheVariants as calls
 use Rattle.call_types.specs.declared.request.Request.TheVariants as requests
@@ -11,6 +12,7 @@ use Rattle.frame_codec.specs.declared.answer.Answer.TheVariants as answers
 use Rattle.frame_codec.specs.Fields.{number_bytes, field_bytes, fields_bytes}
 use Rattle.frame_codec.specs.Requests.{frame_parts, call_bytes, request_bytes}
 use Rattle.frame_codec.specs.Answers.{outcome_bytes, answer_bytes}
+use Rattle.frame_codec.specs.Records.{act_bytes, record_bytes}
 
 field_long : (k : FieldKind) (v : Value k) → length (field_bytes k v) ≡ field_length k v
 unfolding number_bytes
@@ -35,6 +37,10 @@ pub attach_length : (process : ℕ) → length (request_bytes (requests.Attach p
 unfolding number_bytes
 attach_length process = refl
 
+short_number : (n : ℕ) → length (number_bytes w32 n) ≡ 4
+unfolding number_bytes
+short_number n = refl
+
 long_number : (n : ℕ) → length (number_bytes w64 n) ≡ 8
 unfolding number_bytes
 long_number n = refl
@@ -42,3 +48,8 @@ long_number n = refl
 pub recorded_length : (place : ℕ) (outcome : Outcome) → length (answer_bytes (answers.Recorded place outcome)) ≡ 9 + length (outcome_bytes outcome)
 unfolding answer_bytes
 recorded_length place outcome = omega (arith, length-append (number_bytes w64 place) (outcome_bytes outcome), long_number place)
+
+pub record_length : (r : Record) → length (record_bytes r) ≡ 4 + length (act_bytes r.act) + length (outcome_bytes r.outcome)
+unfolding record_bytes
+record_length r =
+    omega (arith, length-append (number_bytes w32 r.actor ++ act_bytes r.act) (outcome_bytes r.outcome), length-append (number_bytes w32 r.actor) (act_bytes r.act), short_number r.actor)

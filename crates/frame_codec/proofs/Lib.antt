@@ -4,6 +4,7 @@ pub mod Steps
 pub mod FieldReads
 pub mod RequestReads
 pub mod AnswerReads
+pub mod RecordReads
 pub mod FrameLaws
 pub mod KindLaws
 pub mod Completing
@@ -11,3 +12,4 @@ pub mod Loops
 pub mod ReadingOn
 pub mod StreamLaws
 pub mod KindStreams
+pub mod ShortRecords

@@ -1,5 +1,5 @@
 -- A request is read again from its bytes, and from these alone.
-use Rattle.std.proofs.Common.{◌≡◌, ℕ, cond, eqb, List, [], ◌∷◌, ◌++◌, Option, Some, refl, sym, ap, subst, ◌∙◌, append_assoc, inl, inr, rules}
+use Rattle.std.proofs.Common.{◌≡◌, ℕ, eqb, List, [], ◌∷◌, ◌++◌, Option, Some, refl, sym, ap, subst, ◌∙◌, append_assoc, inl, inr, rules}
 use Rattle.std.specs.List.{AllByRecursion}
 use Rattle.std.specs.Int.{w32}
 use Rattle.std.proofs.lemmas.Bool.{eqb-true}
@@ -11,9 +11,9 @@ use Rattle.call_types.specs.declared.request.Request.{Request}
 use Rattle.call_types.specs.declared.request.Request.TheVariants as requests
 use Rattle.frame_codec.specs.Fields.{number_bytes, field_bytes, fields_bytes}
 use Rattle.frame_codec.specs.Requests.{frame_table, frame_parts, parts_bytes, call_bytes, CallFits, request_bytes, RequestFits}
-use Rattle.frame_codec.specs.Reading.{◌>>=◌, lone, as_at, number_at, one_of}
-use Rattle.frame_codec.specs.ReadingRequests.{field_at, fields_at, entry_at, rows_of, call_at, request_at}
-use Rattle.frame_codec.proofs.Steps.{Taken, Reads, some_is, bind_some, chosen, RowTakes, led, alone}
+use Rattle.frame_codec.specs.Reading.{◌>>=◌, as_at, number_at, one_of}
+use Rattle.frame_codec.specs.ReadingRequests.{field_at, fields_at, entry_at, rows_of, call_at, request_rows, request_at}
+use Rattle.frame_codec.proofs.Steps.{Taken, Reads, some_is, bind_some, chosen, RowTakes, led, alone, remade, tagged_or_takes}
 use Rattle.frame_codec.proofs.FieldReads.{Below32, reads32, field_reads}
 
 -- ---- calls
@@ -126,28 +126,19 @@ request_again requests.Join rest h = refl
 request_again (requests.Attach process) rest h = ap (λ (o : Option (ℕ × List ℕ)). o >>= λ x. Some (requests.Attach x.0, x.1)) (reads32.again process rest h)
 request_again (requests.Call call) rest h = called_again call rest h
 
-called_takes : (bytes : List ℕ) (x : Request × List ℕ) → AreBytes bytes → as_at call_at requests.Call bytes ≡ Some x → Taken request_bytes RequestFits bytes x
-called_takes bytes x h e =
-    let s = bind_some (call_at bytes) (λ (y : Call × List ℕ). Some (requests.Call y.0, y.1)) x e in
-    let t = call_reads.takes bytes s.0 h s.1 in
-    subst (λ (y : Request × List ℕ). Taken request_bytes RequestFits bytes y) (some_is (requests.Call s.0.0, s.0.1) x s.2)
-    (record { parts = t.parts; fits = t.fits; rest = t.rest })
+request_rows_take : AllByRecursion (RowTakes request_bytes RequestFits) request_rows
+request_rows_take = (
+  alone request_bytes RequestFits 1 requests.Join refl tt,
+  (
+    led request_bytes RequestFits (number_bytes w32) Below32 (number_at w32) 2 requests.Attach reads32 (λ v. refl) (λ v h. h),
+    tt,
+  ),
+)
 
 request_takes : (bytes : List ℕ) (x : Request × List ℕ) → AreBytes bytes → request_at bytes ≡ Some x → Taken request_bytes RequestFits bytes x
-request_takes [] x h e = absurd cc
-request_takes (b ∷ bytes) x h e =
-    let joins : RowTakes request_bytes RequestFits (1, lone requests.Join) = alone request_bytes RequestFits 1 requests.Join refl tt in
-    let attaches : RowTakes request_bytes RequestFits (2, as_at (number_at w32) requests.Attach) = led request_bytes RequestFits (number_bytes w32) Below32 (number_at w32) 2 requests.Attach reads32 (λ v. refl) (λ v k. k) in
-    let call_there : Option (Request × List ℕ) = as_at call_at requests.Call (b ∷ bytes) in
-    let attach_there : Option (Request × List ℕ) = as_at (number_at w32) requests.Attach bytes in
-    elim (chosen (eqb b 1) (lone requests.Join bytes) (cond (eqb b 2) attach_there call_there) (Some x) e) [
-      | inl is ↦ subst (λ (n : ℕ). Taken request_bytes RequestFits (n ∷ bytes) x) (sym (eqb-true b 1 is.0)) (joins bytes x h.1 is.1)
-      | inr other ↦
-          elim (chosen (eqb b 2) attach_there call_there (Some x) other.1) [
-            | inl is ↦ subst (λ (n : ℕ). Taken request_bytes RequestFits (n ∷ bytes) x) (sym (eqb-true b 2 is.0)) (attaches bytes x h.1 is.1)
-            | inr last ↦ called_takes (b ∷ bytes) x h last.1
-          ]
-    ]
+request_takes =
+    tagged_or_takes request_bytes RequestFits request_rows (as_at call_at requests.Call) request_rows_take
+    (remade request_bytes RequestFits call_bytes CallFits call_at requests.Call call_reads (λ v. refl) (λ v h. h))
 
 pub request_reads : Reads request_bytes RequestFits request_at
 request_reads = record { again = request_again; takes = request_takes }

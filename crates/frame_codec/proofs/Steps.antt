@@ -3,9 +3,10 @@ use Rattle.std.proofs.Common.{◌≡◌, ℕ, zero, suc, ◌<◌, ◌≤◌, Boo
 use Rattle.std.specs.Prelude.{◌⊎◌}
 use Rattle.std.specs.List.{AllByRecursion}
 use Rattle.std.proofs.lemmas.Bool.{ltb-false, le-ltb, eqb-true}
+use Rattle.std.proofs.lemmas.Option.{cond_some}
 use Rattle.std.proofs.lemmas.List.{append-nil, take-append-drop, length-take, length-append, take_at, drop_at}
 use Rattle.call_types.specs.Ranges.{AreBytes}
-use Rattle.frame_codec.specs.Reading.{◌>>=◌, Reading, lone, as_at, two_at, front_at, Row, one_of, tagged, whole, payload_at}
+use Rattle.frame_codec.specs.Reading.{◌>>=◌, Reading, lone, as_at, two_at, tested, front_at, Row, one_of, tagged, one_or, tagged_or, whole, payload_at}
 
 -- what a reading took is the text of what it gives, and this is in range
 pub record Taken {A : Type 0} (text : A → List ℕ) (Fits : A → Type 0) (bytes : List ℕ) (x : A × List ℕ) : Type 0 where
@@ -118,6 +119,21 @@ converted {A} {B} text fa read there back fb r into from = record {
       (record { parts = k.parts ∙ ap (λ (a : A). text a ++ s.0.1) (sym f.1); fits = f.0; rest = k.rest });
 }
 
+-- a value that passes a test
+pub passed : {A : Type 0} (text : A → List ℕ) (Fits Passes : A → Type 0) (read : Reading A) (test : A → Bool)
+    → Reads text Fits read → ((v : A) → Passes v → test v ≡ true) → ((v : A) → test v ≡ true → Passes v) → Reads text (λ (v : A). Fits v × Passes v) (tested test read)
+passed {A} text Fits Passes read test r into from = record {
+  again = λ v rest h.
+      ap (λ (o : Option (A × List ℕ)). o >>= λ x. cond (test x.0) (Some x) None) (r.again v rest h.0)
+      ∙ ap (λ (b : Bool). cond b (given (v, rest)) None) (into v h.1);
+  takes = λ bytes x h e.
+      let s = bind_some (read bytes) (λ (y : A × List ℕ). cond (test y.0) (Some y) None) x e in
+      let k = r.takes bytes s.0 h s.1 in
+      let g = cond_some (test s.0.0) s.0 x s.2 in
+      subst (λ (y : A × List ℕ). Taken text (λ (v : A). Fits v × Passes v) bytes y) g.1
+      (record { parts = k.parts; fits = (k.fits, from s.0.0 g.0); rest = k.rest });
+}
+
 -- ---- rows, of which a byte picks one
 
 abbrev pub RowTakes : {A : Type 0} → (A → List ℕ) → (A → Type 0) → Row A → Type 0
@@ -151,6 +167,35 @@ pub tagged_takes : {A : Type 0} (text : A → List ℕ) (Fits : A → Type 0) (r
     → AllByRecursion (RowTakes text Fits) rows → AreBytes bytes → tagged rows bytes ≡ Some x → Taken text Fits bytes x
 tagged_takes text Fits rows [] x p h e = absurd cc
 tagged_takes text Fits rows (b ∷ bytes) x p h e = rows_take text Fits rows b bytes x p h.1 e
+
+-- ---- rows, and another reading where no row has the byte
+
+-- what a reading takes is the text of what it gives
+abbrev pub TakesText : {A : Type 0} → (A → List ℕ) → (A → Type 0) → Reading A → Type 0
+TakesText {A} text Fits read = (bytes : List ℕ) (x : A × List ℕ) → AreBytes bytes → read bytes ≡ Some x → Taken text Fits bytes x
+
+-- a reading that gives something else, with the same text
+pub remade : {A B : Type 0} (text : A → List ℕ) (Fits : A → Type 0) (t : B → List ℕ) (f : B → Type 0) (read : Reading B) (make : B → A)
+    → Reads t f read → ((v : B) → text (make v) ≡ t v) → ((v : B) → f v → Fits (make v)) → TakesText text Fits (as_at read make)
+remade {A} {B} text Fits t f read make r is fits = λ bytes x h e.
+    let s = bind_some (read bytes) (λ (y : B × List ℕ). Some (make y.0, y.1)) x e in
+    let k = r.takes bytes s.0 h s.1 in
+    subst (λ (y : A × List ℕ). Taken text Fits bytes y) (some_is (make s.0.0, s.0.1) x s.2)
+    (record { parts = k.parts ∙ ap (λ (bs : List ℕ). bs ++ s.0.1) (sym (is s.0.0)); fits = fits s.0.0 k.fits; rest = k.rest })
+
+rows_or_take : {A : Type 0} (text : A → List ℕ) (Fits : A → Type 0) (rows : List (Row A)) (other : Reading A) (b : ℕ) (bytes : List ℕ) (x : A × List ℕ)
+    → AllByRecursion (RowTakes text Fits) rows → TakesText text Fits other → AreBytes (b ∷ bytes) → one_or rows other b bytes ≡ Some x → Taken text Fits (b ∷ bytes) x
+rows_or_take text Fits [] other b bytes x p q h e = q (b ∷ bytes) x h e
+rows_or_take text Fits (row ∷ rows) other b bytes x p q h e =
+    elim (chosen (eqb b row.0) (row.1 bytes) (one_or rows other b bytes) (Some x) e) [
+      | inl is ↦ subst (λ (n : ℕ). Taken text Fits (n ∷ bytes) x) (sym (eqb-true b row.0 is.0)) (p.0 bytes x h.1 is.1)
+      | inr next ↦ rows_or_take text Fits rows other b bytes x p.1 q h next.1
+    ]
+
+pub tagged_or_takes : {A : Type 0} (text : A → List ℕ) (Fits : A → Type 0) (rows : List (Row A)) (other : Reading A)
+    → AllByRecursion (RowTakes text Fits) rows → TakesText text Fits other → TakesText text Fits (tagged_or rows other)
+tagged_or_takes text Fits rows other p q [] x h e = absurd cc
+tagged_or_takes text Fits rows other p q (b ∷ bytes) x h e = rows_or_take text Fits rows other b bytes x p q h e
 
 -- ---- whole payloads
 

@@ -1,6 +1,9 @@
--- Requests and answers as frames, byte by byte: what the tables say by rules, said once more (own).
+-- Requests, answers and records as frames, byte by byte: what the tables say by rules, said once more (own).
 use Rattle.std.specs.Prelude.{◌≡◌, ℕ, List, [], ◌∷◌, map, codes, bit_or, pos, negsuc}
+use Rattle.std.specs.List.{AllByRecursion}
 use Rattle.call_types.specs.Flags.{writing, creat, nonblocking}
+use Rattle.call_types.specs.declared.act.Act.TheVariants as acts
+use Rattle.call_types.specs.declared.act.Record.{Record}
 use Rattle.call_types.specs.declared.call.Call.TheVariants as calls
 use Rattle.call_types.specs.declared.errno.Errno.TheVariants as errors
 use Rattle.call_types.specs.declared.outcome.Kind.TheVariants as kinds
@@ -14,7 +17,8 @@ use Rattle.frame_codec.specs.declared.answer.Answer.{Answer}
 use Rattle.frame_codec.specs.declared.answer.Answer.TheVariants as answers
 use Rattle.frame_codec.specs.Requests.{request_bytes}
 use Rattle.frame_codec.specs.Answers.{answer_bytes}
-use Rattle.frame_codec.specs.Frames.{frame}
+use Rattle.frame_codec.specs.Records.{record_bytes, SpellsRecord}
+use Rattle.frame_codec.specs.Frames.{frame, IsMalformed, IsTooLong}
 
 -- a value, and its frame
 pub record Row (A : Type 0) : Type 0 where
@@ -60,7 +64,32 @@ answer_frames =
     record { value = answers.Refused refusals.NotHere; bytes = 0 ∷ 0 ∷ 0 ∷ 2 ∷ 2 ∷ 20 ∷ [] } ∷
     record { value = answers.Refused (refusals.Foreign 3 2); bytes = 0 ∷ 0 ∷ 0 ∷ 18 ∷ 2 ∷ 21 ∷ 0 ∷ 0 ∷ 0 ∷ 0 ∷ 0 ∷ 0 ∷ 0 ∷ 3 ∷ 0 ∷ 0 ∷ 0 ∷ 0 ∷ 0 ∷ 0 ∷ 0 ∷ 2 ∷ [] } ∷ []
 
--- each value has its frame
+-- the records of a process that joins, makes a pipe and exits; of a call that waits; and of the closing
+abbrev pub record_frames : List (Row Record)
+record_frames =
+    record { value = record { actor = 0; act = acts.Join; outcome = outcomes.Reply (replies.Number 0) }; bytes = 0 ∷ 0 ∷ 0 ∷ 14 ∷ 0 ∷ 0 ∷ 0 ∷ 0 ∷ 1 ∷ 2 ∷ 0 ∷ 0 ∷ 0 ∷ 0 ∷ 0 ∷ 0 ∷ 0 ∷ 0 ∷ [] } ∷
+    record { value = record { actor = 0; act = acts.Call calls.Pipe; outcome = outcomes.Reply (replies.Pair 0 1) }; bytes = 0 ∷ 0 ∷ 0 ∷ 14 ∷ 0 ∷ 0 ∷ 0 ∷ 0 ∷ 26 ∷ 4 ∷ 0 ∷ 0 ∷ 0 ∷ 0 ∷ 0 ∷ 0 ∷ 0 ∷ 1 ∷ [] } ∷
+    record { value = record { actor = 0; act = acts.Exit; outcome = outcomes.Reply replies.Done }; bytes = 0 ∷ 0 ∷ 0 ∷ 6 ∷ 0 ∷ 0 ∷ 0 ∷ 0 ∷ 4 ∷ 1 ∷ [] } ∷
+    record { value = record { actor = 258; act = acts.Attach; outcome = outcomes.Reply (replies.Error errors.ESRCH) }; bytes = 0 ∷ 0 ∷ 0 ∷ 7 ∷ 0 ∷ 0 ∷ 1 ∷ 2 ∷ 2 ∷ 6 ∷ 16 ∷ [] } ∷
+    record { value = record { actor = 1; act = acts.Resume; outcome = outcomes.Part 513 }; bytes = 0 ∷ 0 ∷ 0 ∷ 10 ∷ 0 ∷ 0 ∷ 0 ∷ 1 ∷ 3 ∷ 8 ∷ 0 ∷ 0 ∷ 2 ∷ 1 ∷ [] } ∷
+    record { value = record { actor = 4294967295; act = acts.CloseRun; outcome = outcomes.Reply replies.Done }; bytes = 0 ∷ 0 ∷ 0 ∷ 6 ∷ 255 ∷ 255 ∷ 255 ∷ 255 ∷ 5 ∷ 1 ∷ [] } ∷ []
+
+-- frames that spell no record: without an act, with an act that is none, with a byte too many, and closed by a process
+abbrev pub no_records : List (List ℕ)
+no_records =
+    (0 ∷ 0 ∷ 0 ∷ 4 ∷ 0 ∷ 0 ∷ 0 ∷ 0 ∷ []) ∷
+    (0 ∷ 0 ∷ 0 ∷ 6 ∷ 0 ∷ 0 ∷ 0 ∷ 0 ∷ 6 ∷ 1 ∷ []) ∷
+    (0 ∷ 0 ∷ 0 ∷ 7 ∷ 0 ∷ 0 ∷ 0 ∷ 0 ∷ 4 ∷ 1 ∷ 0 ∷ []) ∷
+    (0 ∷ 0 ∷ 0 ∷ 6 ∷ 0 ∷ 0 ∷ 0 ∷ 0 ∷ 5 ∷ 1 ∷ []) ∷ []
+
+-- the length of a record of 66,049 bytes
+abbrev pub long_record : List ℕ
+long_record = 0 ∷ 1 ∷ 2 ∷ 1 ∷ []
+
+-- each value has its frame; some frames are malformed, and a length is too great
 pub record FrameRows : Type 0 where
   pub requests : map (λ (row : Row Request). frame (request_bytes row.value)) request_frames ≡ map (λ (row : Row Request). row.bytes) request_frames
   pub answers : map (λ (row : Row Answer). frame (answer_bytes row.value)) answer_frames ≡ map (λ (row : Row Answer). row.bytes) answer_frames
+  pub records : map (λ (row : Row Record). frame (record_bytes row.value)) record_frames ≡ map (λ (row : Row Record). row.bytes) record_frames
+  pub none : AllByRecursion (IsMalformed SpellsRecord 66048) no_records
+  pub long : IsTooLong 66048 long_record

@@ -1,5 +1,5 @@
 -- Reading a payload from left to right (own).
-use Rattle.std.specs.Prelude.{◌≡◌, ℕ, ◌==◌, nat_lt, List, [], ◌∷◌, length, take, drop, Option, Some, None, Result, Ok, Err, if◌then◌else◌}
+use Rattle.std.specs.Prelude.{◌≡◌, ℕ, ◌==◌, nat_lt, Bool, List, [], ◌∷◌, length, take, drop, Option, Some, None, Result, Ok, Err, if◌then◌else◌}
 use Rattle.std.specs.Int.{Width, w32, byte_len, from_be_bytes}
 use Rattle.frame_codec.specs.declared.fault.PayloadFault.{PayloadFault}
 use Rattle.frame_codec.specs.declared.fault.PayloadFault.TheVariants as faults
@@ -36,6 +36,10 @@ as_at read make bytes = read bytes >>= λ x. Some (make x.0, x.1)
 abbrev pub two_at : {A B : Type 0} → Reading A → Reading B → Reading (A × B)
 two_at read other bytes = read bytes >>= λ x. other x.1 >>= λ y. Some ((x.0, y.0), y.1)
 
+-- a value, if it passes a test
+abbrev pub tested : {A : Type 0} → (A → Bool) → Reading A → Reading A
+tested test read bytes = read bytes >>= λ x. if test x.0 then Some x else None
+
 -- so many bytes
 abbrev pub front_at : ℕ → Reading (List ℕ)
 front_at n bytes = if nat_lt (length bytes) n then None else Some (take n bytes, drop n bytes)
@@ -66,6 +70,16 @@ one_of (row ∷ rows) b bytes = if b == row.0 then row.1 bytes else one_of rows 
 abbrev pub tagged : {A : Type 0} → List (Row A) → Reading A
 tagged rows [] = None
 tagged rows (b ∷ bytes) = one_of rows b bytes
+
+-- what the row of a byte reads, or what another reading does where no row has the byte
+abbrev pub one_or : {A : Type 0} → List (Row A) → Reading A → ℕ → Reading A
+one_or [] other b bytes = other (b ∷ bytes)
+one_or (row ∷ rows) other b bytes = if b == row.0 then row.1 bytes else one_or rows other b bytes
+
+-- a byte, and what its row reads, or what another reading does from this byte on
+abbrev pub tagged_or : {A : Type 0} → List (Row A) → Reading A → Reading A
+tagged_or rows other [] = None
+tagged_or rows other (b ∷ bytes) = one_or rows other b bytes
 
 -- a value, if nothing is left
 abbrev pub whole : {A : Type 0} → A → List ℕ → Option A

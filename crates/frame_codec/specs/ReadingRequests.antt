@@ -9,7 +9,7 @@ use Rattle.call_types.specs.declared.whence.Whence.{Whence}
 use Rattle.call_types.specs.declared.whence.Whence.TheVariants as whences
 use Rattle.call_types.specs.declared.request.Request.{Request}
 use Rattle.call_types.specs.declared.request.Request.TheVariants as requests
-use Rattle.frame_codec.specs.Reading.{◌>>=◌, Reading, lone, as_at, front_at, number_at, byte_at, counted_at, Row, tagged}
+use Rattle.frame_codec.specs.Reading.{◌>>=◌, Reading, lone, as_at, front_at, number_at, byte_at, counted_at, Row, tagged, tagged_or}
 use Rattle.frame_codec.specs.Requests.{frame_table}
 
 -- the base of an offset
@@ -57,7 +57,10 @@ rows_of (e ∷ es) = row_of e ∷ rows_of es
 unfoldable pub call_at : Reading Call
 call_at bytes = tagged (rows_of frame_table) bytes
 
--- a request
+-- the requests that are no calls, by their bytes
+abbrev pub request_rows : List (Row Request)
+request_rows = (1, lone requests.Join) ∷ (2, as_at (number_at w32) requests.Attach) ∷ []
+
+-- a request: one of these, or a call
 abbrev pub request_at : Reading Request
-request_at [] = None
-request_at (b ∷ bytes) = if b == 1 then lone requests.Join bytes else if b == 2 then as_at (number_at w32) requests.Attach bytes else as_at call_at requests.Call (b ∷ bytes)
+request_at bytes = tagged_or request_rows (as_at call_at requests.Call) bytes

@@ -1,4 +1,4 @@
-//! Requests and answers as whole frames. A frame's length stands before its payload, so it is counted first.
+//! Requests, answers and records as whole frames. A frame's length stands before its payload, so it is counted first.
 #![tactic(auto, using(crate::proofs::Fronts::keeps_after), unfolding(crate::specs::Fields::number_bytes))]
 
 ghost use Rattle.std.specs.Prelude.{◌≡◌, ◌+◌, ◌≤◌, ◌++◌, ◌∷◌, length};
@@ -10,12 +10,15 @@ ghost use Rattle.frame_codec.specs.declared.answer.Answer.TheVariants as answers
 ghost use Rattle.frame_codec.specs.Fields.{number_bytes};
 ghost use Rattle.frame_codec.specs.Requests.{request_bytes};
 ghost use Rattle.frame_codec.specs.Answers.{reply_bytes, outcome_bytes, refusal_bytes, answer_bytes};
+ghost use Rattle.frame_codec.specs.Records.{act_bytes, record_bytes};
 ghost use Rattle.frame_codec.specs.Frames.{frame};
 
 use crate::answer::Answer;
+use crate::begun::HEAD;
 use crate::put::{put_byte, put_u32, put_u64};
 use crate::written_calls::encode_call;
 use crate::written_outcomes::{put_outcome, put_refusal};
+use call_types::act::{Act, Record};
 use call_types::call::Call;
 use call_types::outcome::{Outcome, Reply};
 use call_types::refusal::Refusal;
@@ -24,7 +27,8 @@ use std::alloc::AllocError;
 
 /// How many bytes a call's payload has: its byte, and its fields.
 fn fields_bytes(call: &Call) -> u32
-    ensures { result ≡ 1 + fields_length (parts call.now).entry.fields (parts call.now).values }
+    ensures exact { result ≡ 1 + fields_length (parts call.now).entry.fields (parts call.now).values }
+    ensures few { result ≤ 65717 }
 {
     match call {
         Call::Open { name, .. } => 3 + name.as_slice().len() as u32,
@@ -196,4 +200,63 @@ pub fn encode_answer(out: &mut Vec<u8>, answer: &Answer) -> Result<(), AllocErro
         Answer::Recorded { place, outcome } => encode_recorded(out, *place, outcome),
         Answer::Refused(refusal) => encode_refused(out, *refusal),
     }
+}
+
+/// How many bytes an act has.
+#[tactic(auto, using(crate::proofs::Lengths::call_length))]
+fn act_length(act: &Act) -> u32
+    ensures exact { result ≡ length (act_bytes act.now) }
+    ensures few { result ≤ 65717 }
+{
+    match act {
+        Act::Call(call) => fields_bytes(call),
+        Act::Join | Act::Attach | Act::Resume | Act::Exit | Act::CloseRun => 1,
+    }
+}
+
+/// How many bytes a record's payload has.
+#[tactic(auto, using(crate::proofs::Lengths::record_length))]
+fn record_length(record: &Record) -> u32
+    ensures { result ≡ length (record_bytes «record».now) }
+{
+    4 + act_length(&record.act) + outcome_length(&record.outcome)
+}
+
+/// Appends an act.
+#[tactic(auto)]
+fn put_act(out: &mut Vec<u8>, act: &Act) -> Result<(), AllocError>
+    ensures { Appends result out.old.items out.new.items (act_bytes act.now) }
+{
+    match act {
+        Act::Join => put_byte(out, 1),
+        Act::Attach => put_byte(out, 2),
+        Act::Call(call) => encode_call(out, call),
+        Act::Resume => put_byte(out, 3),
+        Act::Exit => put_byte(out, 4),
+        Act::CloseRun => put_byte(out, 5),
+    }
+}
+
+/// Appends the payload of a record.
+#[tactic(auto, using(crate::proofs::Fronts::keeps_after), unfolding(crate::specs::Records::record_bytes))]
+fn put_record(out: &mut Vec<u8>, record: &Record) -> Result<(), AllocError>
+    ensures { Appends result out.old.items out.new.items (record_bytes «record».now) }
+{
+    put_u32(out, record.actor)?;
+    put_act(out, &record.act)?;
+    put_outcome(out, &record.outcome)?;
+    Ok(())
+}
+
+/// Appends a record's frame. An error says that memory ran out; the bytes before are still the front. A record that no decoder takes is
+/// written too, as a closing by another actor than `HOUSE`: `records_have_frames` says which are taken.
+#[tactic(auto, using(crate::proofs::Fronts::keeps, crate::proofs::Fronts::keeps_after))]
+pub fn encode_record(out: &mut Vec<u8>, record: &Record) -> Result<(), AllocError>
+    ensures { Appends result out.old.items out.new.items (frame (record_bytes «record».now)) }
+{
+    let length = record_length(record);
+    out.reserve(HEAD + length as usize)?;
+    put_u32(out, length)?;
+    put_record(out, record)?;
+    Ok(())
 }

@@ -1,4 +1,4 @@
-//! What a stream of frames carries: requests, or answers.
+//! What a stream of frames carries: requests, answers or records.
 
 ghost use Rattle.std.specs.Prelude.{◌≡◌};
 ghost use Rattle.frame_codec.specs.Frames.{GivesValue};
@@ -6,7 +6,9 @@ ghost use Rattle.frame_codec.specs.Frames.{GivesValue};
 use crate::answer::Answer;
 use crate::answers::answer_of;
 use crate::fault::PayloadFault;
+use crate::records::record_of;
 use crate::requests::request_of;
+use call_types::act::Record;
 use call_types::limits::RECORD_LENGTH_MAX;
 use call_types::request::Request;
 use std::alloc::Global;
@@ -73,5 +75,26 @@ impl Kind for Answers {
 
     fn value(alloc: Global, payload: &[u8]) -> Result<Answer, PayloadFault> {
         answer_of(alloc, payload)
+    }
+}
+
+/// The records of a run, as a trace has them.
+pub struct Records;
+
+impl Kind for Records {
+    ghost use Rattle.frame_codec.specs.Records.{SpellsRecord};
+
+    type Value = Record;
+
+    ghost most = { 66048 };
+
+    ghost spells = { SpellsRecord };
+
+    fn most() -> usize {
+        RECORD_LENGTH_MAX
+    }
+
+    fn value(alloc: Global, payload: &[u8]) -> Result<Record, PayloadFault> {
+        record_of(alloc, payload)
     }
 }

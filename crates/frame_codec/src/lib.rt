@@ -1,4 +1,4 @@
-//! Requests and answers as frames of bytes, and a decoder that takes them in any pieces.
+//! Requests, answers and records as frames of bytes, and a decoder that takes them in any pieces.
 #![tactic(auto)]
 
 pub mod answer;
@@ -13,6 +13,8 @@ pub mod kind;
 pub mod laws;
 mod outcomes;
 mod put;
+mod records;
 mod requests;
+pub mod trace;
 pub mod written_calls;
 pub mod written_outcomes;

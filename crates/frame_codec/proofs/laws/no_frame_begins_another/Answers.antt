@@ -1,7 +1,8 @@
 use Rattle.frame_codec.specs.Requests.{SpellsRequest}
 use Rattle.frame_codec.specs.Answers.{SpellsAnswer}
+use Rattle.frame_codec.specs.Records.{SpellsRecord}
 use Rattle.frame_codec.proofs.StreamLaws.{one_form}
-use Rattle.frame_codec.proofs.KindStreams.{one_request, one_answer, small_requests, small_answers}
+use Rattle.frame_codec.proofs.KindStreams.{one_request, one_answer, one_record, small_requests, small_answers, small_records}
 use Rattle.frame_codec.proofs.laws.no_frame_begins_another.Goals as goal
 
 pub returns-clause-requests : goal.returns-clause-requests
@@ -9,3 +10,6 @@ returns-clause-requests c = one_form SpellsRequest 65792 small_requests one_requ
 
 pub returns-clause-answers : goal.returns-clause-answers
 returns-clause-answers c = one_form SpellsAnswer 66048 small_answers one_answer
+
+pub returns-clause-records : goal.returns-clause-records
+returns-clause-records c = one_form SpellsRecord 66048 small_records one_record
