@@ -34,7 +34,7 @@ impl fmt::Display for Ended {
         match self {
             Ended::RefusedTwice => f.write_str("a piece was refused twice\n"),
             Ended::Usage => f.write_str(
-                "usage: frame_trial show|decode|encode requests|answers N M\n",
+                "usage: frame_trial show|decode|encode requests|answers|records N M\n",
             ),
             Ended::CannotRead => f.write_str("cannot read\n"),
             Ended::CannotWrite => f.write_str("cannot write\n"),

@@ -1,4 +1,4 @@
-//! The program `frame_trial JOB requests|answers N M`, for the stream on standard input.
+//! The program `frame_trial JOB requests|answers|records N M`, for the stream on standard input.
 //!
 //! `show` decodes it, given to a decoder as one piece of N bytes and then pieces of M. It prints a line for each value, after each piece
 //! whether the stream goes on, and at the end the frames of the values, written anew, in hexadecimal. A piece for which memory is
@@ -14,7 +14,7 @@ mod timed;
 mod trial;
 
 use ended::Ended;
-use frame_codec::kind::{Answers, Requests};
+use frame_codec::kind::{Answers, Records, Requests};
 use itoa::Buffer;
 use shown::Shown;
 use std::alloc::Global;
@@ -71,6 +71,7 @@ fn run_words(rt: &HostRuntime, words: &[String]) -> Result<Ran, Ended> {
             match kind.as_str() {
                 "requests" => run_job::<Requests>(rt.alloc(), job, stream, first, second),
                 "answers" => run_job::<Answers>(rt.alloc(), job, stream, first, second),
+                "records" => run_job::<Records>(rt.alloc(), job, stream, first, second),
                 _ => Err(Ended::Usage),
             }
         }

@@ -1,25 +1,25 @@
-//! What is shown of the values of a stream: the lines that a run has for them, for a process 0 and, where an answer does not tell its
-//! act, for a fork.
+//! What is shown of the values of a stream: the lines that a run has for them. Requests are of process 0, and so is the fork that an
+//! answer, which does not tell its act, answers. The first record of a stream has place 0.
 use call_types::act::{Act, Record, ScriptAct};
 use call_types::call::Call;
 use call_types::request::Request;
 use frame_codec::answer::Answer;
-use frame_codec::encode::{encode_answer, encode_request};
-use frame_codec::kind::{Answers, Kind, Requests};
+use frame_codec::encode::{encode_answer, encode_record, encode_request};
+use frame_codec::kind::{Answers, Kind, Records, Requests};
 use script_text::lines::{write_record, write_refused, write_still};
 use std::alloc::AllocError;
 
 /// A kind of stream whose values can be shown.
 pub(crate) trait Shown: Kind {
-    /// Appends the line of a value.
-    fn put_line(out: &mut Vec<u8>, value: &Self::Value) -> Result<(), AllocError>;
+    /// Appends the line of a value, which comes after so many others.
+    fn put_line(out: &mut Vec<u8>, before: u64, value: &Self::Value) -> Result<(), AllocError>;
 
     /// Appends the frame of a value.
     fn put_frame(out: &mut Vec<u8>, value: &Self::Value) -> Result<(), AllocError>;
 }
 
 impl Shown for Requests {
-    fn put_line(out: &mut Vec<u8>, value: &Request) -> Result<(), AllocError> {
+    fn put_line(out: &mut Vec<u8>, _before: u64, value: &Request) -> Result<(), AllocError> {
         match value {
             Request::Join => {
                 out.extend_from_slice(b"join\n")?;
@@ -44,7 +44,7 @@ impl Shown for Requests {
 }
 
 impl Shown for Answers {
-    fn put_line(out: &mut Vec<u8>, value: &Answer) -> Result<(), AllocError> {
+    fn put_line(out: &mut Vec<u8>, _before: u64, value: &Answer) -> Result<(), AllocError> {
         match value {
             Answer::Recorded { place, outcome } => {
                 let record = Record {
@@ -66,5 +66,15 @@ impl Shown for Answers {
 
     fn put_frame(out: &mut Vec<u8>, value: &Answer) -> Result<(), AllocError> {
         encode_answer(out, value)
+    }
+}
+
+impl Shown for Records {
+    fn put_line(out: &mut Vec<u8>, before: u64, value: &Record) -> Result<(), AllocError> {
+        write_record(out, before, value)
+    }
+
+    fn put_frame(out: &mut Vec<u8>, value: &Record) -> Result<(), AllocError> {
+        encode_record(out, value)
     }
 }

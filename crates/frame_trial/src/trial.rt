@@ -29,6 +29,8 @@ struct Trial<K: Shown> {
     decoder: Decoder<K>,
     lines: Vec<u8>,
     frames: Vec<u8>,
+    /// How many values there were so far.
+    values: u64,
     again: u64,
 }
 
@@ -60,8 +62,9 @@ impl<K: Shown> Trial<K> {
     fn give(&mut self, piece: &[u8]) -> Result<(), Ended> {
         let fed = self.feed(piece)?;
         for value in fed.values.as_slice() {
-            K::put_line(&mut self.lines, value)?;
+            K::put_line(&mut self.lines, self.values, value)?;
             K::put_frame(&mut self.frames, value)?;
+            self.values = self.values.saturating_add(1);
         }
         let line = progress_line(self.alloc, fed.progress)?;
         self.lines.extend_from_slice(line.as_bytes())?;
@@ -86,6 +89,7 @@ pub(crate) fn tried<K: Shown>(alloc: Global, cut: Cut, stream: &[u8]) -> Result<
         decoder: Decoder::new(alloc),
         lines: Vec::new(alloc),
         frames: Vec::new(alloc),
+        values: 0,
         again: 0,
     };
     let (first, rest) = stream.split_at(cut.first.min(stream.len()));
