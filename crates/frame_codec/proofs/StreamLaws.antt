@@ -10,7 +10,7 @@ use Rattle.frame_codec.specs.declared.decoder.Progress.TheVariants as progress
 use Rattle.frame_codec.specs.Fields.{number_bytes}
 use Rattle.frame_codec.specs.Frames.{frame, told_length, told_payload, IsFrame, IsShort, IsTooLong, AreFrames, StopsWith}
 use Rattle.frame_codec.specs.Decoding.{DecoderState, fresh, told_place, told_progress, AreValues, GoesFrom, GoesOn, StaysSo, FeedsFrom, FeedsAll}
-use Rattle.frame_codec.specs.Laws.{OneForm, CutsDoNotMatter, OneReading, LongestReading}
+use Rattle.frame_codec.specs.Laws.{OneForm, CutsDoNotMatter, OneReading, LongestReading, FrontReads}
 use Rattle.frame_codec.proofs.ReadingOn.{stays_malformed, stays_too_long}
 
 -- ---- a frame tells its payload, whatever follows it
@@ -237,3 +237,28 @@ cuts_do_not_matter Spells most = λ pieces new values told h.
       are = record { text = []; rest = []; stop = stops.Short; is = refl; frames = refl; stops = inl (omega arith); tells = refl };
       goes = (refl, refl);
     }) h
+
+-- ---- fronts
+
+-- values are those of their frames, without a fault
+abbrev all_read : {A : Type 0} (Spells : A → List ℕ → Type 0) (most : ℕ) (all : List A) (bytes : List ℕ) → AreFrames Spells most all bytes → AreValues Spells most 0 bytes all progress.More
+all_read Spells most all bytes f =
+    record { text = bytes; rest = []; stop = stops.Short; is = sym (append-nil bytes); frames = f; stops = inl (omega arith); tells = refl }
+
+-- a fault in a front is one of all the bytes
+no_fault : {A : Type 0} (Spells : A → List ℕ → Type 0) (most : ℕ) → most < 2 ^ 32 → OneValue Spells → (all values : List A) (read left : List ℕ) (told : Progress)
+    → AreFrames Spells most all (read ++ left) → AreValues Spells most 0 read values told → (told ≡ progress.More → ⊥) → ⊥
+no_fault Spells most small one all values read left told f h fault =
+    fault (sym (one_reading Spells most small one (read ++ left) all values progress.More told (all_read Spells most all (read ++ left) f) (fault_stays Spells most read left values told fault h)).1)
+
+is_more : (told : Progress) → ((told ≡ progress.More → ⊥) → ⊥) → told ≡ progress.More
+is_more progress.More h = refl
+is_more (progress.Malformed place) h = absurd (h (λ e. cc))
+is_more (progress.TooLong place) h = absurd (h (λ e. cc))
+
+pub front_reads : {A : Type 0} (Spells : A → List ℕ → Type 0) (most : ℕ) → most < 2 ^ 32 → OneValue Spells → FrontReads Spells most
+front_reads Spells most small one = λ all values read left told f h.
+    let more =
+    longest Spells most small one (read ++ left) all values progress.More h.text (h.rest ++ left) (all_read Spells most all (read ++ left) f) h.frames
+    (ap (λ (front : List ℕ). front ++ left) h.is ∙ append_assoc h.text h.rest left) in
+    (is_more told (no_fault Spells most small one all values read left told f h), more.0, more.1)

@@ -2,6 +2,7 @@
 use Rattle.std.specs.Prelude.{◌≡◌, ℕ, List, ◌++◌}
 use Rattle.std.specs.List.{concat}
 use Rattle.frame_codec.specs.declared.decoder.Progress.{Progress}
+use Rattle.frame_codec.specs.declared.decoder.Progress.TheVariants as progress
 use Rattle.frame_codec.specs.Frames.{IsFrame, AreFrames}
 use Rattle.frame_codec.specs.Decoding.{DecoderState, fresh, AreValues, FeedsAll}
 
@@ -23,3 +24,9 @@ abbrev pub LongestReading : {A : Type 0} → (A → List ℕ → Type 0) → ℕ
 LongestReading {A} Spells most =
     (bytes : List ℕ) (values others : List A) (told : Progress) (text rest : List ℕ) → AreValues Spells most 0 bytes values told → AreFrames Spells most others text → bytes ≡ text ++ rest
     → (more : List A) × (values ≡ others ++ more)
+
+-- where bytes are the frames of values, what is read of any front of them has no fault, and is a front of the values
+abbrev pub FrontReads : {A : Type 0} → (A → List ℕ → Type 0) → ℕ → Type 0
+FrontReads {A} Spells most =
+    (all values : List A) (read left : List ℕ) (told : Progress) → AreFrames Spells most all (read ++ left) → AreValues Spells most 0 read values told
+    → (told ≡ progress.More) × (more : List A) × (all ≡ values ++ more)

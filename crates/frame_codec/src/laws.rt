@@ -14,7 +14,7 @@ ghost use Rattle.frame_codec.specs.ReadingRequests.{request_at};
 ghost use Rattle.frame_codec.specs.ReadingAnswers.{answer_at};
 ghost use Rattle.frame_codec.specs.ReadingRecords.{record_at};
 ghost use Rattle.frame_codec.specs.FrameRows.{FrameRows};
-ghost use Rattle.frame_codec.specs.Laws.{OneForm, CutsDoNotMatter, OneReading, LongestReading};
+ghost use Rattle.frame_codec.specs.Laws.{OneForm, CutsDoNotMatter, OneReading, LongestReading, FrontReads};
 
 /// Every request, answer and record in range is read again from its payload.
 pub fn written_values_are_read()
@@ -58,6 +58,13 @@ pub fn bytes_have_one_reading()
     ensures most_requests { LongestReading SpellsRequest 65792 }
     ensures most_answers { LongestReading SpellsAnswer 66048 }
     ensures most_records { LongestReading SpellsRecord 66048 }
+{}
+
+/// If a stream of frames is cut off anywhere, what is read of it has no fault, and gives the first of its values and nothing else.
+pub fn fronts_are_read()
+    ensures requests { FrontReads SpellsRequest 65792 }
+    ensures answers { FrontReads SpellsAnswer 66048 }
+    ensures records { FrontReads SpellsRecord 66048 }
 {}
 
 /// A frame of each request and of each kind of answer, and those of some records, byte by byte: what is read and what is written both
