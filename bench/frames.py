@@ -10,7 +10,8 @@ N runs (3), less that of a run that does it once. The streams are
   - `small`: requests of a session that writes and reads 8 bytes, seeks, asks, opens and closes,
   - `64 KiB writes`: writes of 65,536 bytes that differ,
   - `small answers`: numbers, 8 bytes that were read, what fstat tells, errors,
-  - `64 KiB reads`: answers of 65,536 bytes.
+  - `64 KiB reads`: answers of 65,536 bytes,
+  - `small records`: records of such requests and their answers.
 
 A stream is given in pieces of 65,536 bytes. `growth` is the cost of a value in a stream ten times as
 long over its cost in the short one: 1.00 where it does not depend on the length. The last lines give
@@ -60,6 +61,19 @@ def small_answers() -> Iterator[bytes]:
         ]
 
 
+def small_records() -> Iterator[bytes]:
+    """Payloads of small records of process 3."""
+    eight = u32(8) + b"fdref 01"
+    for act, outcome in [
+        (b"\x13" + u32(0) + eight, b"\x02" + u64(8)),
+        (b"\x12" + u32(0) + u32(8), b"\x03" + eight),
+        (b"\x16" + u32(0) + u64(0) + b"\x00", b"\x02" + u64(0)),
+        (b"\x1e" + u32(0), b"\x05\x00" + u64(64) + u32(1)),
+        (b"\x11" + u32(0), b"\x06\x01"),
+    ]:
+        yield from [u32(3) + act + outcome] * 12
+
+
 LONG = bytes(range(256)) * 256
 
 STREAMS = {
@@ -67,6 +81,7 @@ STREAMS = {
     "64 KiB writes": ("requests", [b"\x13" + u32(0) + u32(PIECE) + LONG] * 16),
     "small answers": ("answers", list(small_answers()) * 20),
     "64 KiB reads": ("answers", [b"\x01" + u64(7) + b"\x03" + u32(PIECE) + LONG] * 16),
+    "small records": ("records", list(small_records()) * 20),
 }
 
 

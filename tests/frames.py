@@ -6,8 +6,8 @@ usage: tests/frames.py [--trial PATH] [--seed WORD] [--streams N]
 The trial is crates/frame_trial/out/frame_trial where no PATH is given. It is run
 
   - on streams that are written out here byte by byte, with what each of them has to give,
-  - on conversations of requests and of answers, with every call, every reply and every refusal in
-    them, cut in two at every byte, and byte by byte,
+  - on conversations of requests, of answers and of records, with every call, every act, every reply
+    and every refusal in them, cut in two at every byte, and byte by byte,
   - on frames of the greatest lengths, and of one byte more,
   - with each of its allocations refused in turn: it gives a piece again that the decoder refused for
     want of memory, and so must print the same lines, and say that one piece was given again, or end
@@ -31,11 +31,13 @@ from functools import partial
 
 from support.counting import Case, Count, Failure
 from support.frames import (
+    ACTS,
     CALLS,
     COUNT,
     DATA,
     FD,
     FLAGS,
+    HOUSE,
     JOIN,
     NAME,
     PLACE,
@@ -162,7 +164,15 @@ def answer_payload(pick: random.Random) -> bytes:
     return b"\x01" + u64(pick.choice([0, 1, 999_999, 2**64 - 1])) + outcome_payload(pick, byte)
 
 
-PAYLOADS = {"requests": request_payload, "answers": answer_payload}
+def record_payload(pick: random.Random) -> bytes:
+    """The payload of a record."""
+    byte = pick.choice([*ACTS, *CALLS])
+    act = bytes([byte]) if byte in ACTS else call_payload(pick, byte)
+    actor = pick.choice([HOUSE, HOUSE, HOUSE, 1] if byte == 5 else [0, 1, 63, HOUSE])
+    return u32(actor) + act + outcome_payload(pick, pick.randint(1, 8))
+
+
+PAYLOADS = {"requests": request_payload, "answers": answer_payload, "records": record_payload}
 
 
 def every_request(pick: random.Random) -> bytes:
@@ -175,6 +185,15 @@ def every_answer(pick: random.Random) -> bytes:
     outcomes = [outcome_payload(pick, byte) for byte in range(1, 9)] + [bytes([6, number]) for number in range(1, 17)]
     refusals = [bytes([2, byte]) + (u64(3) + u64(2) if byte == 21 else b"") for byte in REFUSALS]
     return framed(*(b"\x01" + u64(number) + text for number, text in enumerate(outcomes)), *refusals)
+
+
+def every_record(pick: random.Random) -> bytes:
+    """A record of each act, and of each kind of outcome."""
+    acts = [bytes([byte]) for byte in ACTS] + [call_payload(pick, byte) for byte in CALLS]
+    outcomes = [outcome_payload(pick, byte) for byte in range(1, 9)]
+    actors = [HOUSE if act == b"\x05" else number for number, act in enumerate(acts)]
+    records = zip(actors, acts, strict=True)
+    return framed(*(u32(actor) + act + outcomes[number % 8] for number, (actor, act) in enumerate(records)))
 
 
 # ---- the streams that are written out
@@ -204,6 +223,32 @@ WRITTEN_OUT = [
         ["0 p0 fork = fifo 3 1", "more"],
     ),
     ("nothing", "requests", "", ["more"]),
+    (
+        "the records of a process that makes a pipe and exits",
+        "records",
+        "0000000e 00000000 01 02 0000000000000000 0000000e 00000000 1a 04 00000000 00000001 00000006 00000000 04 01",
+        ["0 p0 join = 0", "1 p0 pipe = 0 1", "2 p0 exit = ok", "more"],
+    ),
+    ("a resume", "records", "0000000a 00000001 03 08 00000201", ["0 p1 resume = part 513", "more"]),
+    ("the closing", "records", "00000006 ffffffff 05 01", ["0 house close-run = ok", "more"]),
+    ("a closing by a process", "records", "00000006 00000000 05 01", ["malformed 0"]),
+    (
+        "an attach of the greatest number",
+        "records",
+        "00000007 ffffffff 02 06 10",
+        ["0 p4294967295 attach = error ESRCH", "more"],
+    ),
+    ("an act that is none", "records", "00000006 00000000 06 01", ["malformed 0"]),
+    ("a record without an outcome", "records", "00000005 00000000 04", ["malformed 0"]),
+    ("a record and a byte more", "records", "00000007 00000000 04 01 00", ["malformed 0"]),
+    ("a length that is too great for a record", "records", "00010201", ["too long 0"]),
+    ("an empty payload of a record", "records", "00000000", ["malformed 0"]),
+    (
+        "a fault after two records",
+        "records",
+        "00000006 00000000 04 01 00000006 00000001 04 01 00000006 00000000 05 01",
+        ["0 p0 exit = ok", "1 p1 exit = ok", "malformed 20"],
+    ),
     (
         "the exchange of docs/FORMATS.md, what the client sends",
         "requests",
@@ -238,6 +283,7 @@ def conversations() -> Iterator[tuple[str, Stream]]:
     """Streams with everything that there is in them."""
     yield "every request", Stream("requests", every_request(random.Random("requests")))
     yield "every answer", Stream("answers", every_answer(random.Random("answers")))
+    yield "every record", Stream("records", every_record(random.Random("records")))
 
 
 def cut_everywhere(trial: str) -> Iterator[Case]:
@@ -258,6 +304,10 @@ def lengths(trial: str) -> Iterator[Case]:
     too_much = b"\x13" + u32(1) + counted(bytes(65_701))
     read = b"\x01" + u64(9) + b"\x03" + counted(b"ab" * 32_768)
     read_too_much = b"\x01" + u64(9) + b"\x03" + counted(bytes(65_537))
+    long_read = u32(1) + b"\x12" + u32(0) + u32(65_536) + read[9:]
+    pwrite_of = u32(1) + long_pwrite + b"\x06\x03"
+    filled = u32(1) + long_write + b"\x03"
+    exit_of = u32(1) + b"\x04\x01"
     streams = [
         ("the longest write and pwrite", "requests", framed(b"\x01", long_write, long_pwrite, b"\x1a")),
         ("a write of a byte too many", "requests", framed(b"\x01", too_much)),
@@ -267,6 +317,9 @@ def lengths(trial: str) -> Iterator[Case]:
         ("a read of a byte too many", "answers", framed(read_too_much)),
         ("a payload of 66,048 bytes", "answers", framed(bytes([1]) + bytes(66_047))),
         ("a payload of 66,049 bytes", "answers", framed(bytes([1]) + bytes(66_048))),
+        ("the records of the longest pwrite and read", "records", framed(pwrite_of, long_read)),
+        ("a record of 66,048 bytes", "records", framed(filled + counted(bytes(330)), exit_of)),
+        ("a record of 66,049 bytes", "records", framed(filled + counted(bytes(331)), exit_of)),
     ]
     for what, kind, text in streams:
         stream = Stream(kind, text)
@@ -306,8 +359,8 @@ def sweep(refuser: Refuser, trial: str, stream: Stream, first: int, size: int) -
 
 
 def random_stream(pick: random.Random) -> Stream:
-    """A stream of either kind."""
-    kind = pick.choice(["requests", "answers"])
+    """A stream of any kind."""
+    kind = pick.choice(list(PAYLOADS))
     if pick.random() < 0.15:
         payloads = [pick.randbytes(pick.choice([0, 1, 2, 5, 9, 17])) for _ in range(pick.randrange(4))]
         return Stream(kind, framed(*payloads) + pick.randbytes(pick.randrange(6)))

@@ -1,7 +1,7 @@
-"""The bytes of sessions: requests and answers as frames, written and read. It is written from docs/FORMATS.md alone.
+"""Requests, answers and records as frames, written and read. It is written from docs/FORMATS.md alone.
 
-Requests and answers are told as lines: a request as `join`, or with `= still` after it, and an answer as that of a fork
-of process 0.
+Each is told as a line: a request as `join`, or with `= still` after it; an answer as that of a fork of process 0; and a
+record with the place that it has among those of its stream.
 """
 
 from collections.abc import Callable, Iterable
@@ -10,7 +10,10 @@ from typing import Any, NamedTuple
 from support import plain_model
 
 # The greatest length of a payload.
-MOST = {"requests": 65_792, "answers": 66_048}
+MOST = {"requests": 65_792, "answers": 66_048, "records": 66_048}
+
+# The actor of the closing.
+HOUSE = 2**32 - 1
 
 FLAG_WORDS = ("creat", "excl", "trunc", "append", "nonblock")
 MODES = ("-", "r", "w", "rw")
@@ -20,6 +23,7 @@ ERRORS = (
     "EBADF EINVAL ESPIPE EFBIG EOVERFLOW ENOENT EEXIST EMLINK "
     "ENAMETOOLONG EMFILE ENFILE ENOSPC EAGAIN EPIPE ENXIO ESRCH"
 ).split()
+ACTS = {1: "join", 2: "attach", 3: "resume", 4: "exit", 5: "close-run"}
 REFUSALS = {17: "NoMemory", 18: "RunFull", 19: "Waiting", 20: "NotHere", 21: "Foreign"}
 
 
@@ -221,7 +225,18 @@ def refused(reason: str) -> bytes:
 # ---- requests and answers, read
 
 
-def read_request(payload: Payload) -> str:
+def read_call(payload: Payload, byte: int) -> str:
+    """A call, as a line has it, of which the first byte was read."""
+    if byte not in CALLS:
+        raise Malformed
+    word, kinds = CALLS[byte]
+    fields = [field.read(payload) for field in kinds]
+    if word == "open":
+        fields.reverse()
+    return " ".join([word, *fields])
+
+
+def read_request(payload: Payload, _: int) -> str:
     """The line of a request."""
     byte = payload.number(1)
     if byte == 1:
@@ -229,13 +244,7 @@ def read_request(payload: Payload) -> str:
     if byte == 2:
         process = payload.number(4)
         return f"- p{process} attach = still"
-    if byte not in CALLS:
-        raise Malformed
-    word, kinds = CALLS[byte]
-    fields = [field.read(payload) for field in kinds]
-    if word == "open":
-        fields.reverse()
-    return " ".join(["- p0", word, *fields, "= still"])
+    return f"- p0 {read_call(payload, byte)} = still"
 
 
 def read_outcome(payload: Payload) -> str:
@@ -259,7 +268,7 @@ def read_outcome(payload: Payload) -> str:
     raise Malformed
 
 
-def read_answer(payload: Payload) -> str:
+def read_answer(payload: Payload, _: int) -> str:
     """The line of an answer, for an act that is a fork of process 0."""
     if payload.one_of({1: "recorded", 2: "refused"}) == "recorded":
         at = payload.number(8)
@@ -270,13 +279,23 @@ def read_answer(payload: Payload) -> str:
     return f"- p0 fork = refused {reason}"
 
 
-READERS = {"requests": read_request, "answers": read_answer}
+def read_record(payload: Payload, place: int) -> str:
+    """The line of the record at a place."""
+    actor, byte = payload.number(4), payload.number(1)
+    act = ACTS[byte] if byte in ACTS else read_call(payload, byte)
+    if act == "close-run" and actor != HOUSE:
+        raise Malformed
+    who = "house" if act == "close-run" else f"p{actor}"
+    return f"{place} {who} {act} = {read_outcome(payload)}"
 
 
-def line_of(kind: str, some: bytes) -> str:
-    """The line of a payload's value."""
+READERS = {"requests": read_request, "answers": read_answer, "records": read_record}
+
+
+def line_of(kind: str, some: bytes, place: int) -> str:
+    """The line of a payload's value, which comes after so many others."""
     payload = Payload(some)
-    line = READERS[kind](payload)
+    line = READERS[kind](payload, place)
     if payload.rest:
         raise Malformed
     return line
@@ -304,7 +323,7 @@ class Stream:
             if end > len(stream):
                 break
             try:
-                self.frames.append((end, line_of(kind, stream[at + 4 : end])))
+                self.frames.append((end, line_of(kind, stream[at + 4 : end], len(self.frames))))
             except Malformed:
                 self.fault, self.known = f"malformed {at}", end
                 break

@@ -157,7 +157,7 @@ class Client:
     def answer(self) -> str:
         """The next answer, as lines have it: `PLACE OUTCOME`, or `- refused WHY`."""
         payload = self.receive(int.from_bytes(self.receive(4), "big"))
-        place, _, outcome = frames.line_of("answers", payload).partition(" p0 fork = ")
+        place, _, outcome = frames.line_of("answers", payload, 0).partition(" p0 fork = ")
         return f"{place} {outcome}"
 
     def gets(self, wanted: str) -> None:
