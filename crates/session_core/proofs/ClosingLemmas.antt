@@ -61,7 +61,7 @@ pub record Rests (input : List ℕ) (base : Option (List ℕ)) (source : SourceS
   pub holds : Holds base o
   pub talks : AnswersFirst input o.answers
   pub ends : (held : Option (List ℕ)) (writes : LogState)
-      → EndsFor input (record { left = source.remaining; reads = source.log; held = held; writes = writes; seat = seat; answers = o.answers; end_is = end_of cause }) (end_of cause)
+      → EndsFor input (record { remaining = source.remaining; reads = source.log; contents = held; writes = writes; seat = seat; answers = o.answers; end_is = end_of cause }) (end_of cause)
 
 -- an end that a session has of itself
 abbrev IsOrdinary : End → Type 0
@@ -102,7 +102,7 @@ sends : (input : List ℕ) (base : Option (List ℕ)) (source : SourceState) (ol
 sends input base source old new seat cause wanted r (inl h) =
     let holds = h.0.flushes.holds base r.holds in
     let Ends : List Told → Type 0 = λ l.
-    EndsFor input (record { left = source.remaining; reads = source.log; held = new.sink.contents; writes = new.sink.log; seat = seat; answers = l; end_is = end_of cause }) (end_of cause) in
+    EndsFor input (record { remaining = source.remaining; reads = source.log; contents = new.sink.contents; writes = new.sink.log; seat = seat; answers = l; end_is = end_of cause }) (end_of cause) in
     subst (Stands input base source new seat) (sym h.1) (record {
       talks = subst (AnswersFirst input) (sym h.0.flushes.answers) r.talks;
       written = written_as base new.sink.contents new.answers cause (all_written base new holds h.0.all);
@@ -233,7 +233,7 @@ all_read base input o at h = record { requests = h.requests; read = h.read; answ
 
 rests_answered : (input : List ℕ) (base : Option (List ℕ)) (source : SourceState) (o : OutputState) (at : Stage) (cause : Why) (seat : Option SeatState) → (h : IsAnswered base input o at)
     → ((held : Option (List ℕ)) (writes : LogState)
-    → EndsFor input (record { left = source.remaining; reads = source.log; held = held; writes = writes; seat = seat; answers = o.answers; end_is = end_of cause }) (end_of cause))
+    → EndsFor input (record { remaining = source.remaining; reads = source.log; contents = held; writes = writes; seat = seat; answers = o.answers; end_is = end_of cause }) (end_of cause))
     → Rests input base source o seat cause
 rests_answered input base source o at cause seat h ends = record { holds = h.holds; talks = first_read input h.requests progress.More o.answers at h.read h.talking; ends = ends }
 

@@ -10,8 +10,8 @@ use Rattle.session_core.specs.Answers.{answers_text, receipts_of}
 use Rattle.session_core.specs.Output.{OutputState, fresh_output}
 use Rattle.session_core.specs.Streams.{LogState, SourceState, fresh_log}
 use Rattle.session_core.specs.Reading.{ReadsFresh}
-use Rattle.session_core.specs.Closing.{IsTaken, LeavesAll, session_of}
-use Rattle.session_core.specs.Served.{ComesTo, Serves}
+use Rattle.session_core.specs.Closing.{LeavesAll, session_of}
+use Rattle.session_core.specs.Served.{SessionState, ComesTo, Serves}
 use Rattle.session_core.proofs.ClosingLemmas.{first_none}
 
 fresh_few : (log : LogState) → log ≡ fresh_log → log.interruptions ≤ INTERRUPTIONS_MAX
@@ -19,7 +19,7 @@ fresh_few log e = subst (λ (n : ℕ). n ≤ INTERRUPTIONS_MAX) (sym (ap (λ (l 
 
 -- nothing was read, since memory ran out
 pub unserved : (from base : Option (List ℕ)) (reads writes : LogState) (answers : List Told) → reads ≡ fresh_log → writes ≡ fresh_log → answers ≡ []
-    → (always : Bool) → Serves always from base (record { left = from; reads = reads; held = base; writes = writes; seat = None; answers = answers; end_is = end.NoMemory })
+    → (always : Bool) → Serves always from base (record { remaining = from; reads = reads; contents = base; writes = writes; seat = None; answers = answers; end_is = end.NoMemory })
 unserved from base reads writes answers unread unwritten none always = record {
   input = [];
   consumes = Consumes-nil from;
@@ -35,18 +35,18 @@ unserved from base reads writes answers unread unwritten none always = record {
 }
 
 -- what was read is answered, and the session is left
-pub served : (always : Bool) (from to : SourceState) (begin rest base : Option (List ℕ)) (old mid new : OutputState) (found : Over) (left : Left) (reads : LogState) (answers : List Told) (held : Option (List ℕ)) (log : LogState)
-    → from ≡ record { remaining = begin; log = fresh_log } → rest ≡ to.remaining → reads ≡ to.log → old ≡ fresh_output base → to.log.calls ≤ READS_MAX → reads.interruptions ≤ INTERRUPTIONS_MAX → ReadsFresh from to old mid found → LeavesAll mid new found left → IsTaken new left.last answers held log → (always ≡ true → log.refusals ≡ 0)
-    → Serves always begin base (record { left = rest; reads = reads; held = held; writes = log; seat = left.seat; answers = answers; end_is = left.end })
-served always from to begin rest base old mid new found left reads answers held log unread rest_is reads_are fresh few few_interrupted all leaves taken through =
+pub served : (always : Bool) (from to : SourceState) (begin base : Option (List ℕ)) (old mid new : OutputState) (found : Over) (left : Left) (s : SessionState)
+    → from ≡ record { remaining = begin; log = fresh_log } → old ≡ fresh_output base → to.log.calls ≤ READS_MAX → ReadsFresh from to old mid found → LeavesAll mid new found left
+    → session_of to new left ≡ s → s.reads.interruptions ≤ INTERRUPTIONS_MAX → s.writes.interruptions ≤ INTERRUPTIONS_MAX → (always ≡ true → s.writes.refusals ≡ 0)
+    → Serves always begin base s
+served always from to begin base old mid new found left s unread fresh few all leaves same few_reads few_writes through =
     let r = all base fresh in
-    let begins : from.remaining ≡ begin = ap (λ (s : SourceState). s.remaining) unread in
-    let same : session_of to new left ≡ record { left = rest; reads = reads; held = held; writes = log; seat = left.seat; answers = answers; end_is = left.end } = cc (taken.answers_are, taken.held_is, taken.log_is, rest_is, reads_are) in
+    let begins : from.remaining ≡ begin = ap (λ (source : SourceState). source.remaining) unread in
     record {
       input = r.input;
-      consumes = subst (λ (known : Option (List ℕ)). Consumes known rest r.input) begins (subst (λ (known : Option (List ℕ)). Consumes from.remaining known r.input) (sym rest_is) r.consumes);
-      few_reads = subst (λ (l : LogState). l.calls ≤ READS_MAX) (sym reads_are) few;
-      few_interrupted = (few_interrupted, taken.few);
+      consumes = subst (λ (known : Option (List ℕ)). Consumes known s.remaining r.input) begins (subst (λ (x : SessionState). Consumes from.remaining x.remaining r.input) same r.consumes);
+      few_reads = subst (λ (x : SessionState). x.reads.calls ≤ READS_MAX) same few;
+      few_interrupted = (few_reads, few_writes);
       let_through = through;
       comes = subst (ComesTo r.input base) same (leaves base r.input to r.is_over r.met);
     }

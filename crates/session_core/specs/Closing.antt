@@ -30,7 +30,7 @@ end_of why.NoMemory = end.NoMemory
 abbrev pub SendsLast : OutputState → OutputState → Why → End → Type 0
 SendsLast old new why found = (SendsAll old new × (found ≡ end_of why)) ⊎ (FailsToSend old new × (found ≡ end.WriteFault new.sent))
 
--- the exit of a process is recorded, and its session ends so; or the kernel does not know the seat
+-- the exit of a process is recorded, and its session has the wanted end; or the kernel does not know the seat
 abbrev pub HangsUp : SeatState → End → SeatState → End → Type 0
 HangsUp old wanted spent found = (Exits old spent × (found ≡ wanted)) ⊎ ((spent ≡ old) × (found ≡ end.Foreign))
 
@@ -40,7 +40,7 @@ LeavesWith stage.Opening wanted seat found = (seat ≡ None) × (found ≡ wante
 LeavesWith (stage.Ready seat) wanted None found = ⊥
 LeavesWith (stage.Ready seat) wanted (Some spent) found = HangsUp seat wanted spent found
 
--- the answers, with that of a last receipt
+-- the answers, and after them that of a last receipt, if there is one
 abbrev pub with_last : List Told → Option Receipted → List Told
 with_last answers None = answers
 with_last answers (Some receipt) = answers ++ told.Recorded receipt ∷ []
@@ -55,9 +55,9 @@ pub record IsTaken (o : OutputState) (last : Option Receipted) (answers : List T
 -- the session that is left
 abbrev pub session_of : SourceState → OutputState → Left → SessionState
 session_of source o left = record {
-  left = source.remaining;
+  remaining = source.remaining;
   reads = source.log;
-  held = o.sink.contents;
+  contents = o.sink.contents;
   writes = o.sink.log;
   seat = left.seat;
   answers = with_last o.answers left.last;

@@ -24,14 +24,14 @@ use Rattle.session_core.specs.Talk.{AreAnswered, Converses, IsCut}
 
 -- ---- what was read
 
--- the requests whose frames bytes begin with
+-- the bytes begin with the frames of these requests
 pub record Begins (input : List ℕ) (requests : List Request) : Type 0 where
   pub text : List ℕ
   pub rest : List ℕ
   pub is : input ≡ text ++ rest
   pub frames : AreFrames SpellsRequest 65792 requests text
 
--- all requests of bytes, and the fault after them, if there is one
+-- these are all requests of the bytes, with the fault after them, if there is one
 abbrev pub AreRequests : List ℕ → List Request → Progress → Type 0
 AreRequests input requests told = AreValues SpellsRequest 65792 0 input requests told
 
@@ -56,7 +56,7 @@ pub record AnswersFirst (input : List ℕ) (answers : List Told) : Type 0 where
   pub begins : Begins input requests
   pub converses : Converses requests answers
 
--- each request of bytes without a fault is answered
+-- the bytes have no fault, and each of their requests is answered
 pub record AnswersAll (input : List ℕ) (answers : List Told) : Type 0 where
   pub requests : List Request
   pub read : AreRequests input requests progress.More
@@ -70,7 +70,7 @@ pub record AnswersToFault (input : List ℕ) (answers : List Told) : Type 0 wher
   pub read : AreRequests input requests told
   pub answered : AreAnswered requests answers
 
--- each request before one that has no place there is answered
+-- each request is answered before one that has no place there
 pub record AnswersToMisplaced (input : List ℕ) (answers : List Told) : Type 0 where
   pub requests : List Request
   pub next : Request
@@ -94,13 +94,13 @@ pub record HasExited (seat : SeatState) (answers : List Told) : Type 0 where
   pub receipts : seat.receipts ≡ receipts_of answers ++ exit ∷ []
   pub act_is : exit.record_is.act ≡ act.Exit
 
--- those of the answers, and one that would be the next answer: memory ran out for that
+-- the receipts are those of the answers, and one that would be the next answer, for which memory ran out
 pub record HasUntold (input : List ℕ) (receipts : List Receipted) (answers : List Told) : Type 0 where
   pub untold : Receipted
   pub receipts_are : receipts ≡ receipts_of answers ++ untold ∷ []
   pub talks : AnswersFirst input (answers ++ told.Recorded untold ∷ [])
 
--- such a one before that of the exit
+-- such receipts, and after them that of the exit
 pub record HasExitedUntold (input : List ℕ) (seat : SeatState) (answers : List Told) : Type 0 where
   pub before : List Receipted
   pub exit : Receipted
@@ -108,14 +108,14 @@ pub record HasExitedUntold (input : List ℕ) (seat : SeatState) (answers : List
   pub has_untold : HasUntold input before answers
   pub act_is : exit.record_is.act ≡ act.Exit
 
--- the opening is refused in the record: there is its one receipt, that of an error
+-- the opening is refused in the record: its one receipt is that of an error, and is answered
 pub record IsRefusedOpening (seat : SeatState) (answers : List Told) : Type 0 where
   pub receipt : Receipted
   pub receipts : seat.receipts ≡ receipt ∷ []
   pub answers_are : answers ≡ told.Recorded receipt ∷ []
   pub is_error : IsError receipt.record_is.outcome
 
--- and that is not answered
+-- the same, where memory ran out for the answer
 pub record IsRefusedUntold (input : List ℕ) (seat : SeatState) (answers : List Told) : Type 0 where
   pub none : answers ≡ []
   pub has_untold : HasUntold input seat.receipts answers
@@ -143,7 +143,7 @@ IsSeated input (Some seat) answers end = IsSeatOf input seat answers end
 
 -- ---- what was written
 
--- all answers are; where the writer failed, and for a seat that the kernel does not know, a front of them
+-- all answers are written; where the writer failed or the kernel does not know the seat, the first bytes of their text are
 abbrev pub IsWritten : Option (List ℕ) → Option (List ℕ) → List Told → End → Type 0
 IsWritten old new answers (end.WriteFault sent) = IsFrontWritten old new answers sent
 IsWritten old new answers end.Foreign = (sent : ℕ) × IsFrontWritten old new answers sent
@@ -153,9 +153,9 @@ IsWritten old new answers other = Appends old new (answers_text answers)
 
 -- a session that is over: what its reader has left and its writer holds, where that is known; what became of their calls; its seat, its answers and its end
 pub record SessionState : Type 0 where
-  pub left : Option (List ℕ)
+  pub remaining : Option (List ℕ)
   pub reads : LogState
-  pub held : Option (List ℕ)
+  pub contents : Option (List ℕ)
   pub writes : LogState
   pub seat : Option SeatState
   pub answers : List Told
@@ -167,13 +167,13 @@ IsTurnedAway seat answers = (spent : SeatState) × (seat ≡ Some spent) × IsRe
 
 -- the reader is at its end and each request is answered; or the opening is refused; or the call that waited is given up
 abbrev pub IsClosed : List ℕ → SessionState → Type 0
-IsClosed input s = (IsAtEnd s.left × AnswersAll input s.answers) ⊎ (IsTurnedAway s.seat s.answers ⊎ AnswersToCut input s.answers None)
+IsClosed input s = (IsAtEnd s.remaining × AnswersAll input s.answers) ⊎ (IsTurnedAway s.seat s.answers ⊎ AnswersToCut input s.answers None)
 
 -- the run was full for the opening, or when the call that waited could go on
 abbrev pub IsRunFull : List ℕ → List Told → Type 0
 IsRunFull input answers = (answers ≡ told.Refused refusal.RunFull ∷ []) ⊎ AnswersToCut input answers (Some refusal.RunFull)
 
--- why a session ends. Of want of memory, and of a seat that the kernel does not know, nothing is said here
+-- why a session ends. Nothing is said here of want of memory, and of a seat that the kernel does not know
 abbrev pub EndsFor : List ℕ → SessionState → End → Type 0
 EndsFor input s end.Closed = IsClosed input s
 EndsFor input s end.ReadFault = IsReadNoMore s.reads × AnswersAll input s.answers
@@ -183,17 +183,17 @@ EndsFor input s end.RunFull = IsRunFull input s.answers
 EndsFor input s end.NoMemory = Unit {0}
 EndsFor input s end.Foreign = Unit {0}
 
--- what a session comes to that read these bytes, where this is what its writer held before
+-- what a session comes to that read these bytes and whose writer held this before
 pub record ComesTo (input : List ℕ) (base : Option (List ℕ)) (s : SessionState) : Type 0 where
   pub talks : AnswersFirst input s.answers
-  pub written : IsWritten base s.held s.answers s.end_is
+  pub written : IsWritten base s.contents s.answers s.end_is
   pub seated : IsSeated input s.seat s.answers s.end_is
   pub ends : EndsFor input s s.end_is
 
--- a session, from what its reader has and its writer holds on; under a gate that always says yes no answer is refused
+-- what a session comes to, where this is what its reader had and its writer held at the start; a gate that always says yes has refused no answer
 pub record Serves (always : Bool) (from base : Option (List ℕ)) (s : SessionState) : Type 0 where
   pub input : List ℕ
-  pub consumes : Consumes from s.left input
+  pub consumes : Consumes from s.remaining input
   pub few_reads : s.reads.calls ≤ READS_MAX
   pub few_interrupted : (s.reads.interruptions ≤ INTERRUPTIONS_MAX) × (s.writes.interruptions ≤ INTERRUPTIONS_MAX)
   pub let_through : always ≡ true → s.writes.refusals ≡ 0

@@ -14,14 +14,15 @@ use byte_ledger::ledgers::Ledgers;
 use record_book::seat::{Seat, SpentSeat};
 use std::alloc::Global;
 use std::io::{Read, Write};
+use std::marker::Model;
 use std::sync::Wait;
 use system_lock::kernel::Kernel;
 
-/// A session that is over.
+/// A session that is over. Contracts see it as a `SessionState`.
 #[derive(Drop)]
-pub struct Served<R, W, L: Ledgers> {
-    /// The seat of its process, whose last receipt is that of its exit, but at `End::Foreign`; or of an opening that was refused in
-    /// the record. None where no process was opened, and none refused in the record.
+pub struct Served<R: Read, W: Write, L: Ledgers> {
+    /// The seat of its process. Its last receipt is that of the exit, except at `End::Foreign`. Where the opening was refused in the
+    /// record, the seat has only the receipt of that. `None` where no opening was recorded.
     pub seat: Option<SpentSeat<L>>,
     /// What it told its client, in order.
     pub answers: Vec<Told>,
@@ -34,9 +35,17 @@ pub struct Served<R, W, L: Ledgers> {
     pub writes: StreamLog,
 }
 
-/// Serves one process: reads its requests, asks the kernel for each, and writes each answer once the gate lets it through, until the
-/// session ends for one of the reasons of `End`. Then its process is hung up. It waits where a call of its process waits. The session
-/// is known to the gate by its number.
+impl<R: Read, W: Write, L: Ledgers> Model for Served<R, W, L> {
+    ghost use Rattle.session_core.specs.Served.{SessionState};
+
+    ghost Value = { SessionState };
+
+    ghost view = { λ s. record { remaining = R.remaining s.reader; reads = s.reads; contents = W.contents s.writer; writes = s.writes; seat = s.seat; answers = s.answers.items; end_is = s.end } };
+}
+
+/// Serves one process: reads its requests, asks the kernel for each, and writes each answer once the gate lets it through. This goes on
+/// until the session ends for one of the reasons of `End`; then its process is hung up. It waits where a call of its process waits. The
+/// gate knows the session by its number.
 pub fn serve<Rt: Wait, R: Read, W: Write, G: Gate, L: Ledgers, K: Kernel<Seat<L>, SpentSeat<L>>>(
     rt: &Rt,
     alloc: Global,
@@ -46,7 +55,7 @@ pub fn serve<Rt: Wait, R: Read, W: Write, G: Gate, L: Ledgers, K: Kernel<Seat<L>
     session: u64,
     gate: G,
 ) -> Served<R, W, L>
-    ensures { Serves G.is_open (R.remaining reader) (W.contents writer) (record { left = R.remaining result.reader; reads = result.reads; held = W.contents result.writer; writes = result.writes; seat = result.seat; answers = result.answers.items; end_is = result.end }) }
+    ensures { Serves G.is_open (R.remaining reader) (W.contents writer) result }
 {
     let mut output = match Output::new(alloc, writer, session, gate) {
         Ok(output) => output,
@@ -70,7 +79,7 @@ pub fn serve<Rt: Wait, R: Read, W: Write, G: Gate, L: Ledgers, K: Kernel<Seat<L>
 
 /// A session that has read nothing, since memory ran out.
 fn unserved<R: Read, W: Write, L: Ledgers>(alloc: Global, reader: R, writer: W) -> Served<R, W, L>
-    ensures { (always : Bool) → Serves always (R.remaining reader) (W.contents writer) (record { left = R.remaining result.reader; reads = result.reads; held = W.contents result.writer; writes = result.writes; seat = result.seat; answers = result.answers.items; end_is = result.end }) }
+    ensures { (always : Bool) → Serves always (R.remaining reader) (W.contents writer) result }
 {
     Served {
         seat: None,
