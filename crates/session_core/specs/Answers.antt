@@ -19,7 +19,7 @@ told_bytes (told.Refused refusal) = frame (answer_bytes (answers.Refused refusal
 abbrev pub answers_text : List Told → List ℕ
 answers_text all = flat_map told_bytes all
 
--- a front of the answers' text was written onto what a writer held: so many bytes, as they are told
+-- the first bytes of the answers' text were written after what a writer held: so many, as it is told
 pub record IsFrontWritten (old new : Option (List ℕ)) (answers : List Told) (sent : ℕ) : Type 0 where
   pub text : List ℕ
   pub rest : List ℕ

@@ -27,11 +27,11 @@ abbrev pub fault_of : Manner → ℕ → Option ErrorKind
 fault_of manner call =
     if fails_now manner.fails_at call then Some kinds.ConnectionReset else if (call % (manner.interruptions + 1)) == 0 then None else Some kinds.Interrupted
 
--- how many bytes a reader gives that may give so many, into a buffer of a length, of those that it has left
+-- how many bytes a reader gives: at most so many, no more than there is room for, and no more than it has left
 abbrev pub given_count : ℕ → ℕ → ℕ → ℕ
 given_count most room left = min (min room (max most 1)) left
 
--- so many bytes are given, and none only where there are none or none fit
+-- so many bytes are given; none are given only where there are none or none fit
 pub record GivesFront (old new : ReaderState) (buffer : List ℕ) (count : ℕ) : Type 0 where
   pub within : count ≤ length buffer
   pub gives : old.rest ≡ take count buffer ++ new.rest

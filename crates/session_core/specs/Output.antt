@@ -17,14 +17,14 @@ pub record OutputState : Type 0 where
 abbrev pub fresh_output : Option (List ℕ) → OutputState
 fresh_output contents = record { sink = record { contents = contents; log = fresh_log }; unsent = []; sent = 0; answers = [] }
 
--- the answers' text was written onto what the writer held, all of it but what is not written yet
+-- the answers' text was written after what the writer held, all of it but what is not written yet
 pub record Holds (base : Option (List ℕ)) (o : OutputState) : Type 0 where
   pub text : List ℕ
   pub appends : Appends base o.sink.contents text
   pub is : text ++ o.unsent ≡ answers_text o.answers
   pub sent_is : o.sent ≡ told_place (length text)
 
--- a front of the answers' text was written onto what the writer held, and no more is written to it
+-- the first bytes of the answers' text were written after what the writer held, and no more is written to it
 pub record Broke (base : Option (List ℕ)) (o : OutputState) : Type 0 where
   pub front : IsFrontWritten base o.sink.contents o.answers o.sent
   pub broken : IsWrittenNoMore o.sink.log
@@ -37,7 +37,7 @@ KeepsHolding old new = (base : Option (List ℕ)) → Holds base old → Holds b
 abbrev pub Breaks : OutputState → OutputState → Type 0
 Breaks old new = (base : Option (List ℕ)) → Holds base old → Broke base new
 
--- a gate was asked: of what is answered, written and still to be written nothing has changed
+-- a gate was asked: nothing has changed of what is answered, of what is written, and of what is still to be written
 pub record Passes (old new : OutputState) : Type 0 where
   pub contents : new.sink.contents ≡ old.sink.contents
   pub unsent : new.unsent ≡ old.unsent

@@ -33,7 +33,7 @@ pub record IsOverAtOne (base : Option (List ℕ)) (input : List ℕ) (o : Output
   pub begins : Begins input (handled ++ next ∷ later)
   pub is : OverBy base handled next o found
 
--- a session whose bytes have a fault, before which each request is answered
+-- a session whose bytes have a fault; each request before that is answered
 pub record IsMalformed (base : Option (List ℕ)) (input : List ℕ) (o : OutputState) (at : Stage) : Type 0 where
   pub requests : List Request
   pub told : Progress
@@ -57,7 +57,7 @@ pub record IsUnwritten (base : Option (List ℕ)) (input : List ℕ) (o : Output
   pub receipts : HasReceipts at o.answers
   pub converses : Converses requests o.answers
 
--- a session for whose next requests memory ran out
+-- a session that had no memory for its next requests
 pub record IsUnread (base : Option (List ℕ)) (input : List ℕ) (o : OutputState) (at : Stage) : Type 0 where
   pub requests : List Request
   pub begins : Begins input requests

@@ -22,7 +22,7 @@ abbrev pub MayRead : SourceState → Turn → Type 0
 MayRead source (turn.GoesOn at) = source.log.interruptions < INTERRUPTIONS_MAX
 MayRead source (turn.Over over) = Unit {0}
 
--- what came of these bytes, where the reader stands so
+-- what came of these bytes, with this reader
 abbrev pub ReadBy : Option (List ℕ) → List ℕ → SourceState → DecoderState → OutputState → Turn → Type 0
 ReadBy base input source decoder o (turn.GoesOn at) = IsServing base input decoder o at
 ReadBy base input source decoder o (turn.Over over) = IsOver base input o over × IsMet source over

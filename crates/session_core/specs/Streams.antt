@@ -53,7 +53,7 @@ pub record SinkState : Type 0 where
   pub contents : Option (List ℕ)
   pub log : LogState
 
--- so many bytes were read, and not none
+-- so many bytes were read, at least one
 pub record Takes (old new : Option (List ℕ)) (buffer : List ℕ) (count : ℕ) : Type 0 where
   pub some : 0 < count
   pub within : count ≤ length buffer
@@ -71,7 +71,7 @@ pub record ReadsOnce (old new : SourceState) (buffer : List ℕ) (found : Gave) 
   pub gives : Gives old.remaining new.remaining buffer found
   pub log : new.log ≡ noted old.log found
 
--- so many bytes were written, and not none
+-- so many bytes were written, at least one
 pub record SomeWritten (old new : Option (List ℕ)) (bytes : List ℕ) (count : ℕ) : Type 0 where
   pub some : 0 < count
   pub within : count ≤ length bytes

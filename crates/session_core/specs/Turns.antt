@@ -101,7 +101,7 @@ WhyRefused refusal.NoMemory found = found ≡ why.NoMemory
 WhyRefused refusal.RunFull found = found ≡ why.RunFull
 WhyRefused other found = ⊥
 
--- a refusal is answered and brings its end; or nothing is where memory runs out, and the end is that
+-- a refusal is answered and brings its end; or memory runs out for the answer, and that is the end
 abbrev pub PutsGivenUp : OutputState → OutputState → Refusal → Why → Type 0
 PutsGivenUp old new refusal found = (WhyRefused refusal found × Puts old new (told.Refused refusal)) ⊎ ((found ≡ why.NoMemory) × (new ≡ old))
 

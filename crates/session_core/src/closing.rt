@@ -14,7 +14,7 @@ use std::io::Write;
 use std::sync::Wait;
 use system_lock::kernel::{Kernel, Why as EndedWhy};
 
-/// A session that is left: its spent seat, of the kind `P`, its end, and the receipt of a last answer that is not written, if there is one.
+/// A session that is left: its spent seat, of the kind `P`; its end; and, if its last answer is not written, the receipt of that answer.
 #[derive(Drop)]
 pub(crate) struct Left<P> {
     pub(crate) seat: Option<P>,
@@ -95,8 +95,8 @@ fn left_by<P: Drop>(ended: (P, End), last: Option<Receipt>) -> Left<P>
     }
 }
 
-/// Writes the last answers and hangs up a process for whose last answer memory ran out. Where the writer fails, that answer is
-/// told among those that are not written.
+/// Leaves a session whose memory ran out for its last answer: the other answers are written, and its process is hung up. Where the
+/// writer fails, the last answer counts as one more that is not written.
 fn leave_untold<Rt: Wait, W: Write, G: Gate, L: Ledgers, K: Kernel<Seat<L>, SpentSeat<L>>>(
     rt: &Rt,
     output: &mut Output<W, G>,

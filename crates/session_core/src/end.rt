@@ -5,15 +5,15 @@ pub enum End {
     Closed,
     /// The reader failed, was interrupted sixteen times in a row, or was read 1,048,576 times.
     ReadFault,
-    /// The writer failed, took no byte, or was interrupted sixteen times in a row, or the gate refused an answer a thousand times, after
-    /// the writer took so many bytes; `u64::MAX` stands for that many or more.
+    /// The writer failed, took no byte, or was interrupted sixteen times in a row; or the gate refused an answer a thousand times. The
+    /// writer had taken so many bytes by then; `u64::MAX` stands for that many or more.
     WriteFault { sent: u64 },
     /// Bytes that are no frame of a request, or a request out of place.
     Malformed,
-    /// The run was full for the opening, or for the resume of a call that waited.
+    /// The run had no room for the record of the opening, or of the resume of a call that waited.
     RunFull,
-    /// Memory ran out for the session, for its opening, or for the resume of a call that waited. One receipt may be unanswered.
+    /// Memory ran out for the session, for its opening, or for the resume of a call that waited. One receipt may have no answer.
     NoMemory,
-    /// The kernel does not know the seat, so no exit is recorded. One receipt may be unanswered.
+    /// The kernel does not know the seat, so no exit is recorded. One receipt may have no answer.
     Foreign,
 }

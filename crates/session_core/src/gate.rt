@@ -4,19 +4,19 @@ ghost use Rattle.std.specs.Prelude.{◌≡◌, Bool, true};
 
 use std::sync::Arc;
 
-/// What says when an answer of a session may be written.
+/// It says when an answer of a session may be written.
 pub trait Gate: Drop {
     ghost use Rattle.std.specs.Prelude.{Bool};
 
     // whether it always says yes
     ghost is_open: { Bool };
 
-    /// Whether an answer may be written now. The session is counted from 0, in the order in which connections were accepted. The place
-    /// is that of the answer's record; for a refusal that left no record, it is how many records the session's process has seen.
+    /// Whether an answer may be written now. Sessions are numbered from 0, in the order in which their connections were accepted. The
+    /// place is that of the answer's record. For a refusal that left no record, it is how many records the session's process has seen.
     fn may_write(&self, session: u64, place: u64) -> bool
         ensures { is_open ≡ true → result ≡ true };
 
-    /// Whether it always says yes. Answers are then gathered before they are written, and are else written one by one.
+    /// Whether it always says yes. If it does, answers are gathered and written together; otherwise they are written one by one.
     fn is_always_open(&self) -> bool
         ensures { result ≡ is_open };
 }

@@ -1,4 +1,4 @@
-//! Readers and writers over memory, which fail, are interrupted, and give or take few bytes, as they are told to.
+//! Readers and writers over memory. They fail, are interrupted, and give or take few bytes, as they are told to.
 
 ghost use Rattle.std.specs.Prelude.{◌≡◌, ◌+◌, ◌≤◌, ◌⊎◌, [], Some, None, List, true, false, min, length, IfOk, IfErr, OnOk, OnErr};
 ghost use Rattle.std.specs.Io.{ReadsAtMost, WritesAtMost};
@@ -98,7 +98,7 @@ impl MemoryReader {
 impl Read for MemoryReader {
     ghost remaining = { λ r. Some r.rest };
 
-    /// Gives bytes, fails or is interrupted, as it was told.
+    /// Gives bytes, fails or is interrupted, as it was told to.
     fn read(&mut self, buffer: &mut [u8]) -> io::Result<usize>
         ensures bound { ReadsAtMost result buffer.new }
         ensures bytes { ReadConsumes (Some self.old.rest) (Some self.new.rest) result buffer.new }
@@ -116,7 +116,7 @@ impl Read for MemoryReader {
     }
 }
 
-/// A writer whose bytes stay in memory. For want of memory it fails too.
+/// A writer whose bytes stay in memory. It also fails where memory runs out.
 #[derive(Drop)]
 pub struct MemoryWriter {
     bytes: Vec<u8>,
@@ -171,7 +171,7 @@ impl MemoryWriter {
 impl Write for MemoryWriter {
     ghost contents = { λ w. Some w.bytes };
 
-    /// Takes bytes, fails or is interrupted, as it was told; it also fails where memory runs out.
+    /// Takes bytes, fails or is interrupted, as it was told to. It also fails where memory runs out.
     fn write(&mut self, buffer: &[u8]) -> io::Result<usize>
         ensures bound { WritesAtMost result buffer.now }
         ensures bytes { WriteAppends (Some self.old.bytes) (Some self.new.bytes) result buffer.now }
@@ -190,7 +190,7 @@ impl Write for MemoryWriter {
         Ok(front.len())
     }
 
-    /// Fails, as it was told; there is nothing to do.
+    /// Fails if it was told to. There is nothing to write.
     fn flush(&mut self) -> io::Result<()>
         ensures bytes { Keeps (Some self.old.bytes) (Some self.new.bytes) }
         ensures same { self.new ≡ record self.old { flushes = one_more self.old.flushes } }

@@ -24,7 +24,7 @@ pub(crate) struct Output<W: Write, G: Gate> {
     session: u64,
     /// How many answers were let through.
     let_through: usize,
-    /// How many records the session's process has seen by these.
+    /// How many records the session's process has seen by the last of these.
     seen: u64,
     unsent: Vec<u8>,
     /// How many bytes were written.
@@ -43,7 +43,7 @@ impl<W: Write, G: Gate> Model for Output<W, G> {
     ghost invariant = { λ o. (vec_len o.answers < vec_capacity o.answers) × (o.let_through ≤ vec_len o.answers) × (G.is_open ≡ true → o.sink.log.refusals ≡ 0) };
 }
 
-/// The place by which a gate is asked for an answer, of a process that has seen so many records.
+/// The place that a gate is told of an answer. The process has seen so many records before it.
 fn place_of(answer: &Told, seen: u64) -> u64 {
     match answer {
         Told::Recorded(receipt) => receipt.place(),
@@ -51,7 +51,7 @@ fn place_of(answer: &Told, seen: u64) -> u64 {
     }
 }
 
-/// How many records a process has seen with an answer, which had seen so many before.
+/// How many records a process has seen with this answer. It has seen so many before it.
 fn seen_with(answer: &Told, seen: u64) -> u64 {
     match answer {
         Told::Recorded(receipt) => receipt.place().saturating_add(1),
@@ -59,8 +59,8 @@ fn seen_with(answer: &Told, seen: u64) -> u64 {
     }
 }
 
-/// Asks a gate for answers, one after another, as long as they are let through; and how many records the session's process has seen by
-/// then.
+/// Asks a gate for answers, one after another, as long as they are let through: whether all were, and how many records the session's
+/// process has seen by then.
 fn let_all<W: Write, G: Gate>(
     sink: &mut Sink<W>,
     gate: &G,
@@ -86,7 +86,7 @@ fn let_all<W: Write, G: Gate>(
 const GATHERED: usize = 65_536;
 
 impl<W: Write, G: Gate> Output<W, G> {
-    /// No answers yet, for this writer, which is given back where memory runs out; a gate is asked by this number.
+    /// No answers yet. The gate is asked by this number of the session. Where memory runs out, the writer is given back.
     pub(crate) fn new(alloc: Global, writer: W, session: u64, gate: G) -> Result<Self, W>
         ensures ok { IfOk result (λ output. output ≡ fresh_output (W.contents writer)) }
         ensures err { IfErr result (λ back. back ≡ writer) }
@@ -168,7 +168,7 @@ impl<W: Write, G: Gate> Output<W, G> {
         self.flush()
     }
 
-    /// Adds an answer with its frame, or gives the receipt back where memory runs out, and leaves all as it is.
+    /// Adds an answer with its frame. Where memory runs out, all stays as it is, and the receipt is given back.
     pub(crate) fn put_recorded(&mut self, receipt: Receipt) -> Result<(), Receipt>
         ensures ok { OnOk result (Puts self.old self.new (told.Recorded receipt)) }
         ensures back { IfErr result (λ back. back ≡ receipt) }
@@ -201,7 +201,7 @@ impl<W: Write, G: Gate> Output<W, G> {
         Ok(())
     }
 
-    /// The answers, with the last one, which is not written, if there is one; the writer, and what became of its calls.
+    /// The answers, the writer, and what became of the writer's calls. A last answer that is not written is added to the answers.
     pub(crate) fn into_parts(self, last: Option<Receipt>) -> (Vec<Told>, W, StreamLog)
         ensures taken { IsTaken self last result.0.items (W.contents result.1) result.2 }
         ensures gate { G.is_open ≡ true → result.2.refusals ≡ 0 }

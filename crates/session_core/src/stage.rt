@@ -38,7 +38,8 @@ pub(crate) enum Over<S, P> {
     Refused(P),
     /// The kernel gave up the call that its process waited in, and has recorded its exit.
     Lost(P),
-    /// The process has ended for want of memory or of records, in the call that it waited in. That was answered, unless memory ran out for it.
+    /// The process has ended in the call that it waited in, since memory ran out or the run was full. That was answered, unless memory ran
+    /// out for the answer.
     Ended { seat: P, why: Why },
     /// The kernel knows no such seat.
     Foreign(P),

@@ -1,4 +1,4 @@
-//! The streams of a session. What became of the calls on them is noted beside.
+//! The streams of a session, each with a log of what became of the calls on it.
 
 ghost use Rattle.std.specs.Prelude.{◌≡◌, true, false, ◌+◌, ◌<◌, ◌≤◌, ◌⊎◌, ◌↔◌, ◌==◌, if◌then◌else◌, length, IfOk, IfErr, OnOk, OnErr};
 ghost use Rattle.std.specs.IoError.{error_kind};
@@ -74,7 +74,7 @@ impl StreamLog {
         self.calls
     }
 
-    /// How many calls up to the last one were interrupted, one after another.
+    /// How many of the last calls were interrupted, one after another.
     pub fn interruptions(&self) -> u32
         ensures value { result ≡ self.now.interruptions }
         ensures few { result ≤ 16 }
@@ -89,7 +89,7 @@ impl StreamLog {
         self.failed
     }
 
-    /// How many times a gate said, one after another and up to now, that an answer may not be written. Of a reader there are none.
+    /// How many times in a row a gate has now refused an answer. For a reader it is 0.
     pub fn refusals(&self) -> u32
         ensures value { result ≡ self.now.refusals }
         ensures few { result ≤ 1000 }
@@ -114,7 +114,7 @@ impl StreamLog {
     }
 }
 
-/// What a call gave that told so: a number of bytes, of which 0 means this; that it was interrupted, or that it failed.
+/// What a call gave that returned this. Where it returned 0 bytes, it gave `none`.
 fn gave_of(told: io::Result<usize>, none: Gave) -> Gave
     ensures ok { IfOk told (λ count. result ≡ (if count == 0 then none else gave.Bytes count)) }
     ensures interrupted { IfErr told (λ error. (result ≡ gave.Interrupted) ↔ (error_kind error ≡ ErrorKind.Interrupted)) }
@@ -184,7 +184,7 @@ impl<R: Read> Source<R> {
     }
 }
 
-/// Nothing more is to be written: the writer of a session has failed, or was interrupted sixteen times in a row, or its gate held an
+/// Nothing more is to be written: the writer of a session has failed or was interrupted sixteen times in a row, or the gate held an
 /// answer back.
 #[derive(Drop)]
 pub(crate) struct WriterFailed;
@@ -240,7 +240,7 @@ impl<W: Write> Sink<W> {
         is_let
     }
 
-    /// Asks a gate for an answer until that may be written, but not for ever. Between two questions other threads may run.
+    /// Asks a gate for an answer until the answer may be written, but not for ever. Other threads may run between two questions.
     pub(crate) fn ask_often<G: Gate>(&mut self, gate: &G, session: u64, place: u64) -> bool
         ensures contents { self.new.contents ≡ self.old.contents }
         ensures refused { result ≡ false → 1000 ≤ self.new.log.refusals }
@@ -299,7 +299,7 @@ impl<W: Write> Sink<W> {
         }
     }
 
-    /// Writes bytes and flushes them, and tells how many were written, and whether all of that went well.
+    /// Writes bytes and flushes them: how many were written, and whether all went well.
     pub(crate) fn write_all(&mut self, bytes: &[u8]) -> (usize, Result<(), WriterFailed>)
         ensures front { WritesFront self.old.contents self.new.contents bytes.now result.0 }
         ensures whole { OnOk result.1 (result.0 ≡ length bytes.now) }

@@ -38,7 +38,7 @@ fn put_first<W: Write, G: Gate>(
     }
 }
 
-/// Answers a refusal for want of memory or of records, and says why the session ends. Where memory runs out for the answer, that is why.
+/// Answers that memory ran out or the run is full, and says why the session ends. Where memory runs out for the answer, that is why.
 fn put_given_up<W: Write, G: Gate>(output: &mut Output<W, G>, refusal: Refusal) -> Why
     requires { IsWanting refusal }
     ensures { PutsGivenUp output.old output.new refusal result }
@@ -88,7 +88,8 @@ fn goes_on(outcome: &Outcome) -> bool
     }
 }
 
-/// Says how the session is over whose process has ended in the call that it waited in. Want of memory or of records is answered.
+/// How a session is over whose process has ended in the call that it waited in. Where memory ran out or the run was full, that is
+/// answered.
 fn give_up<W: Write, G: Gate, L: Ledgers>(output: &mut Output<W, G>, ended: EndedIn<L>) -> OverOf<L>
     requires { IsWhyFinished ended.why }
     ensures gives { GivesUp ended output.old output.new result }
@@ -110,7 +111,7 @@ fn give_up<W: Write, G: Gate, L: Ledgers>(output: &mut Output<W, G>, ended: Ende
     }
 }
 
-/// Waits until a call goes on. All answers so far are written before.
+/// Waits until a call goes on. All answers so far have been written.
 fn finish_sent<Rt: Wait, W: Write, G: Gate, L: Ledgers, K: Kernel<Seat<L>, SpentSeat<L>>>(
     rt: &Rt,
     output: &Output<W, G>,
@@ -151,7 +152,7 @@ fn wait_once<Rt: Wait, W: Write, G: Gate, L: Ledgers, K: Kernel<Seat<L>, SpentSe
     }
 }
 
-/// Waits for the reply of a call, and answers what comes of it until then.
+/// Waits for the reply of a call, and answers it and all that comes of the call before it.
 fn wait_out<Rt: Wait, W: Write, G: Gate, L: Ledgers, K: Kernel<Seat<L>, SpentSeat<L>>>(
     rt: &Rt,
     output: &mut Output<W, G>,
@@ -201,7 +202,7 @@ fn take_call<Rt: Wait, W: Write, G: Gate, L: Ledgers, K: Kernel<Seat<L>, SpentSe
     }
 }
 
-/// Takes up a request where a session is.
+/// Takes up a request at this stage of a session.
 fn take_up<Rt: Wait, W: Write, G: Gate, L: Ledgers, K: Kernel<Seat<L>, SpentSeat<L>>>(
     rt: &Rt,
     output: &mut Output<W, G>,
@@ -224,7 +225,7 @@ fn take_up<Rt: Wait, W: Write, G: Gate, L: Ledgers, K: Kernel<Seat<L>, SpentSeat
     }
 }
 
-/// Takes up a request where a session is. What was gathered is written first, if it is much.
+/// Takes up a request at this stage of a session. What was gathered is written first, if it is much.
 fn take_next<Rt: Wait, W: Write, G: Gate, L: Ledgers, K: Kernel<Seat<L>, SpentSeat<L>>>(
     rt: &Rt,
     output: &mut Output<W, G>,
