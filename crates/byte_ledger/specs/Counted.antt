@@ -15,7 +15,7 @@ pub record Counted : Type 0 where
 
 -- the same with one record more, which took and gave so many bytes
 abbrev pub counted_more : ℕ → ℕ → Counted → Counted
-counted_more taken given c = record { records = c.records + 1; bytes_in = c.bytes_in + taken; bytes_out = c.bytes_out + given }
+counted_more bytes_in bytes_out c = record { records = c.records + 1; bytes_in = c.bytes_in + bytes_in; bytes_out = c.bytes_out + bytes_out }
 
 -- how many holders have shares, and what was counted through all of them
 pub record TalliesState : Type 0 where

@@ -101,16 +101,16 @@ impl<L: Ledgers> Tallies<L> {
     }
 
     /// Counts one record, and the bytes that it took and gave, through shares of these tallies.
-    pub fn count(&mut self, shares: &mut Shares<L>, taken: u64, given: u64)
+    pub fn count(&mut self, shares: &mut Shares<L>, bytes_in: u64, bytes_out: u64)
         requires records { self.old.counted.records + 1 < 2 ^ 64 }
-        requires bytes_in { self.old.counted.bytes_in + taken < 2 ^ 64 }
-        requires bytes_out { self.old.counted.bytes_out + given < 2 ^ 64 }
-        ensures tallies { self.new ≡ record self.old { counted = counted_more taken given self.old.counted } }
-        ensures shares { shares.new ≡ counted_more taken given shares.old }
+        requires bytes_in { self.old.counted.bytes_in + bytes_in < 2 ^ 64 }
+        requires bytes_out { self.old.counted.bytes_out + bytes_out < 2 ^ 64 }
+        ensures tallies { self.new ≡ record self.old { counted = counted_more bytes_in bytes_out self.old.counted } }
+        ensures shares { shares.new ≡ counted_more bytes_in bytes_out shares.old }
     {
         self.records.add(&mut shares.records, 1);
-        self.bytes_in.add(&mut shares.bytes_in, taken);
-        self.bytes_out.add(&mut shares.bytes_out, given);
+        self.bytes_in.add(&mut shares.bytes_in, bytes_in);
+        self.bytes_out.add(&mut shares.bytes_out, bytes_out);
     }
 
     /// The sums of all shares that were opened, which are those of the tallies; or that some are missing.

@@ -37,35 +37,35 @@ pub closed_at_most : (b : BookState) → closed_as b ≤ 1
 closed_at_most b = at_most_one (world_now b).closed
 
 -- a book with one record more, which was counted
-pub record IsMore (old new : BookState) (t t' : TalliesState) (r : Record) (taken given : ℕ) : Type 0 where
+pub record IsMore (old new : BookState) (t t' : TalliesState) (r : Record) (bytes_in bytes_out : ℕ) : Type 0 where
   pub limits : new.limits ≡ old.limits
   pub history : new.history ≡ old.history ++ r ∷ []
-  pub taken_is : taken ≡ took (world_now old) r
-  pub given_is : given ≡ gave (world_now old) r
-  pub few_taken : taken ≤ GIVEN_BYTES_MAX
-  pub few_given : given ≤ GIVEN_BYTES_MAX
-  pub counted : t'.counted ≡ counted_more taken given t.counted
+  pub in_is : bytes_in ≡ took (world_now old) r
+  pub out_is : bytes_out ≡ gave (world_now old) r
+  pub few_in : bytes_in ≤ GIVEN_BYTES_MAX
+  pub few_out : bytes_out ≤ GIVEN_BYTES_MAX
+  pub counted : t'.counted ≡ counted_more bytes_in bytes_out t.counted
   pub opened : t'.opened ≡ t.opened + seats_of r.act
   pub closing : closed_as new + seats_of r.act ≤ closed_as old + 1
 
-pub counts_on : (old new : BookState) (t t' : TalliesState) (house after : Option Counted) (r : Record) (taken given : ℕ)
-    → IsCounted old t house → IsMore old new t t' r taken given → after ≡ option_map (λ receipts. only_records (length receipts)) new.house → IsCounted new t' after
-counts_on old new t t' house after r taken given is more house_is =
+pub counts_on : (old new : BookState) (t t' : TalliesState) (house after : Option Counted) (r : Record) (bytes_in bytes_out : ℕ)
+    → IsCounted old t house → IsMore old new t t' r bytes_in bytes_out → after ≡ option_map (λ receipts. only_records (length receipts)) new.house → IsCounted new t' after
+counts_on old new t t' house after r bytes_in bytes_out is more house_is =
     let bounds = old.limits.bounds in
     let count : length new.history ≡ length old.history + 1 = ap length more.history ∙ length-append old.history (r ∷ []) in
     let pushed : seats_in new.history ≡ seats_in old.history + seats_of r.act = ap seats_in more.history ∙ seats_in-push old.history r in
     let seats : seats_given new ≡ seats_given old + seats_of r.act = omega (arith, pushed) in
-    let counted : counted_in new ≡ counted_more taken given (counted_in old) =
-    rw (more.history, more.limits, bytes_in-push bounds old.history r, bytes_out-push bounds old.history r, more.taken_is, more.given_is, length-append old.history (r ∷ [])) refl in
-    let taken_more : t'.counted.bytes_in ≡ t.counted.bytes_in + taken = ap (λ c. c.bytes_in) more.counted in
-    let given_more : t'.counted.bytes_out ≡ t.counted.bytes_out + given = ap (λ c. c.bytes_out) more.counted in
+    let counted : counted_in new ≡ counted_more bytes_in bytes_out (counted_in old) =
+    rw (more.history, more.limits, bytes_in-push bounds old.history r, bytes_out-push bounds old.history r, more.in_is, more.out_is, length-append old.history (r ∷ [])) refl in
+    let in_more : t'.counted.bytes_in ≡ t.counted.bytes_in + bytes_in = ap (λ c. c.bytes_in) more.counted in
+    let out_more : t'.counted.bytes_out ≡ t.counted.bytes_out + bytes_out = ap (λ c. c.bytes_out) more.counted in
     record {
-      counted = more.counted ∙ ap (counted_more taken given) is.counted ∙ sym counted;
+      counted = more.counted ∙ ap (counted_more bytes_in bytes_out) is.counted ∙ sym counted;
       opened = more.opened ∙ ap (λ n. n + seats_of r.act) is.opened ∙ sym seats;
       house_is = house_is;
       few_seats = omega (arith, seats, count, more.closing, is.few_seats);
-      few_taken = omega (arith, taken_more, more.few_taken, is.few_taken, count);
-      few_given = omega (arith, given_more, more.few_given, is.few_given, count);
+      few_in = omega (arith, in_more, more.few_in, is.few_in, count);
+      few_out = omega (arith, out_more, more.few_out, is.few_out, count);
     }
 
 some_step : StepPlansProcesses → (bounds : Bounds) (w : World) (actor : ℕ) (a : Act) (o : Outcome) (s : Option Stepped) → step bounds w actor a ≡ s → option_map (λ s. s.outcome) s ≡ Some o
@@ -85,21 +85,21 @@ closed_after planned old new actor a receipt is =
     ap (λ (v : World). v.closed) now ∙ some_step planned bounds w actor a r.outcome (step bounds w actor a) refl is.outcome
 
 -- the same, of an act that does not close the run
-pub counts_appended : StepPlansProcesses → (old new : BookState) (t t' : TalliesState) (house : Option Counted) (actor : ℕ) (a : Act) (receipt : Receipted) (taken given : ℕ)
+pub counts_appended : StepPlansProcesses → (old new : BookState) (t t' : TalliesState) (house : Option Counted) (actor : ℕ) (a : Act) (receipt : Receipted) (bytes_in bytes_out : ℕ)
     → IsCounted old t house → Appends old new actor a receipt → closes a ≡ false → seats_of a ≤ 1
-    → taken ≡ took (world_now old) receipt.record_is → given ≡ gave (world_now old) receipt.record_is → taken ≤ GIVEN_BYTES_MAX → given ≤ GIVEN_BYTES_MAX
-    → t'.counted ≡ counted_more taken given t.counted → t'.opened ≡ t.opened + seats_of a → IsCounted new t' house
-counts_appended planned old new t t' house actor a receipt taken given is appends stays one taken_is given_is few_taken few_given counted opened =
+    → bytes_in ≡ took (world_now old) receipt.record_is → bytes_out ≡ gave (world_now old) receipt.record_is → bytes_in ≤ GIVEN_BYTES_MAX → bytes_out ≤ GIVEN_BYTES_MAX
+    → t'.counted ≡ counted_more bytes_in bytes_out t.counted → t'.opened ≡ t.opened + seats_of a → IsCounted new t' house
+counts_appended planned old new t t' house actor a receipt bytes_in bytes_out is appends stays one in_is out_is few_in few_out counted opened =
     let same : (world_now new).closed ≡ (world_now old).closed = closed_after planned old new actor a receipt appends ∙ ap (λ b. b || (world_now old).closed) stays in
     let flag : closed_as new ≡ closed_as old = ap (λ b. cond b 1 0) same in
     let seats : seats_of receipt.record_is.act ≡ seats_of a = ap seats_of appends.act_is in
-    counts_on old new t t' house house receipt.record_is taken given is (record {
+    counts_on old new t t' house house receipt.record_is bytes_in bytes_out is (record {
       limits = appends.limits;
       history = appends.history;
-      taken_is = taken_is;
-      given_is = given_is;
-      few_taken = few_taken;
-      few_given = few_given;
+      in_is = in_is;
+      out_is = out_is;
+      few_in = few_in;
+      few_out = few_out;
       counted = counted;
       opened = opened ∙ ap (λ n. t.opened + n) (sym seats);
       closing = omega (arith, flag, seats, one);
@@ -130,10 +130,10 @@ counts_orphan old new t t' p s s' is e tallied shared =
     counts_on old new t t' (Some s) (Some s') (exit_record p) 0 0 is (record {
       limits = e.limits;
       history = e.history;
-      taken_is = refl;
-      given_is = refl;
-      few_taken = omega arith;
-      few_given = omega arith;
+      in_is = refl;
+      out_is = refl;
+      few_in = omega arith;
+      few_out = omega arith;
       counted = ap (λ x. x.counted) tallied;
       opened = let same : t'.opened ≡ t.opened = ap (λ x. x.opened) tallied in omega (arith, same);
       closing = omega (arith, flag);
@@ -147,10 +147,10 @@ counts_closing old new t t' s receipts is e tallied =
     counts_on old new t t' (Some s) None closing_record 0 0 is (record {
       limits = e.limits;
       history = e.history;
-      taken_is = refl;
-      given_is = refl;
-      few_taken = omega arith;
-      few_given = omega arith;
+      in_is = refl;
+      out_is = refl;
+      few_in = omega arith;
+      few_out = omega arith;
       counted = ap (λ x. x.counted) tallied;
       opened = let same : t'.opened ≡ t.opened = ap (λ x. x.opened) tallied in omega (arith, same);
       closing = omega (arith, flag);

@@ -8,7 +8,7 @@ use Rattle.record_book.specs.declared.append.Appended.{Appended}
 -- its receipt is there twice, and the bytes are those that it took and gave in the world before it
 pub record TellsMoved (old : BookState) (a : Appended) : Type 0 where
   pub shared : a.shared ≡ a.receipt
-  pub taken : a.taken ≡ took (world_now old) a.receipt.record_is
-  pub given : a.given ≡ gave (world_now old) a.receipt.record_is
-  pub few_taken : a.taken ≤ GIVEN_BYTES_MAX
-  pub few_given : a.given ≤ GIVEN_BYTES_MAX
+  pub bytes_in : a.bytes_in ≡ took (world_now old) a.receipt.record_is
+  pub bytes_out : a.bytes_out ≡ gave (world_now old) a.receipt.record_is
+  pub few_in : a.bytes_in ≤ GIVEN_BYTES_MAX
+  pub few_out : a.bytes_out ≤ GIVEN_BYTES_MAX

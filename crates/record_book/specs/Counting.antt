@@ -39,5 +39,5 @@ pub record IsCounted (b : BookState) (tallies : TalliesState) (house : Option Co
   pub opened : tallies.opened ≡ seats_given b
   pub house_is : house ≡ option_map (λ receipts. only_records (length receipts)) b.house
   pub few_seats : seats_given b + (if (world_now b).closed then 1 else 0) ≤ length b.history + 1
-  pub few_taken : tallies.counted.bytes_in ≤ GIVEN_BYTES_MAX * length b.history
-  pub few_given : tallies.counted.bytes_out ≤ GIVEN_BYTES_MAX * length b.history
+  pub few_in : tallies.counted.bytes_in ≤ GIVEN_BYTES_MAX * length b.history
+  pub few_out : tallies.counted.bytes_out ≤ GIVEN_BYTES_MAX * length b.history

@@ -46,8 +46,8 @@ fn shared_at(alloc: Global, place: u64, entry: Record) -> Result<Shared, AllocEr
 pub(crate) struct Appended {
     pub(crate) receipt: Receipt,
     pub(crate) shared: Receipt,
-    pub(crate) taken: u64,
-    pub(crate) given: u64,
+    pub(crate) bytes_in: u64,
+    pub(crate) bytes_out: u64,
 }
 
 impl Journal {
@@ -95,8 +95,8 @@ impl Journal {
         Ok(Appended {
             receipt: made.receipt,
             shared: made.shared,
-            taken: moved.taken,
-            given: moved.given,
+            bytes_in: moved.bytes_in,
+            bytes_out: moved.bytes_out,
         })
     }
 }

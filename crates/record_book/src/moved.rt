@@ -102,22 +102,22 @@ pub(crate) fn gave(item: &Record) -> u64
 /// How many bytes a record took from its process and gave to it.
 #[derive(Clone, Copy)]
 pub(crate) struct BytesMoved {
-    pub(crate) taken: u64,
-    pub(crate) given: u64,
+    pub(crate) bytes_in: u64,
+    pub(crate) bytes_out: u64,
 }
 
 /// The bytes that a record took and gave; the machine is as it was before the record.
 #[inline(always)]
 pub(crate) fn bytes_moved(machine: &Machine, item: &Record) -> BytesMoved
     requires { took machine.now.world item.now ≤ length (data_of machine.now.world item.now.actor item.now.act) }
-    ensures taken { result.taken ≡ took machine.now.world item.now }
-    ensures given { (w : World) → result.given ≡ gave w item.now }
-    ensures few_taken { result.taken ≤ GIVEN_BYTES_MAX }
-    ensures few_given { result.given ≤ GIVEN_BYTES_MAX }
+    ensures bytes_in { result.bytes_in ≡ took machine.now.world item.now }
+    ensures bytes_out { (w : World) → result.bytes_out ≡ gave w item.now }
+    ensures few_in { result.bytes_in ≤ GIVEN_BYTES_MAX }
+    ensures few_out { result.bytes_out ≤ GIVEN_BYTES_MAX }
 {
     data_is_short(machine, item);
     BytesMoved {
-        taken: took(machine, item),
-        given: gave(item),
+        bytes_in: took(machine, item),
+        bytes_out: gave(item),
     }
 }

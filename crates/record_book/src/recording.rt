@@ -41,8 +41,8 @@ impl<L: Ledgers> Book<L> {
             Ok(appended) => appended,
             Err(error) => return Err(error),
         };
-        let (taken, given) = (appended.taken, appended.given);
-        self.tallies.count(&mut seat.shares, taken, given);
+        let (bytes_in, bytes_out) = (appended.bytes_in, appended.bytes_out);
+        self.tallies.count(&mut seat.shares, bytes_in, bytes_out);
         seat.seen = appended.receipt.place() + 1;
         seat.receipts.push_reserved(appended.shared);
         Ok(appended.receipt)
@@ -70,7 +70,7 @@ impl<L: Ledgers> Book<L> {
         self.journal.is_run();
         let mut shares = self.tallies.open_shares();
         self.tallies
-            .count(&mut shares, appended.taken, appended.given);
+            .count(&mut shares, appended.bytes_in, appended.bytes_out);
         let seen = appended.receipt.place() + 1;
         receipts.push_reserved(appended.shared);
         let seat = Seat {

@@ -10,5 +10,5 @@ invariant_of-self-2 g c =
     let one = c.requires.opens in
     let opened : c.count.new.self.opened ≡ c.self.inside.tallies.opened + 1 = ap (λ t. t.opened) c.count.ensures.tallies ∙ ap (λ t. t.opened) c.open_shares-shares.ensures.opens in
     counts_appended c.processes_are_counted.ensures.planned c.self.inside.journal c.append.new.self c.self.inside.tallies c.count.new.self c.self.inside.house c.args.actor c.args.act a.receipt
-    a.taken a.given c.self.invariant c.in_ok-appended.ensures.appends c.requires.closes (omega (arith, one)) moved.taken moved.given moved.few_taken moved.few_given
-    (ap (λ t. t.counted) c.count.ensures.tallies ∙ ap (λ t. counted_more a.taken a.given t.counted) c.open_shares-shares.ensures.opens) (omega (arith, opened, one))
+    a.bytes_in a.bytes_out c.self.invariant c.in_ok-appended.ensures.appends c.requires.closes (omega (arith, one)) moved.bytes_in moved.bytes_out moved.few_in moved.few_out
+    (ap (λ t. t.counted) c.count.ensures.tallies ∙ ap (λ t. counted_more a.bytes_in a.bytes_out t.counted) c.open_shares-shares.ensures.opens) (omega (arith, opened, one))

@@ -81,12 +81,12 @@ returns-clause-moved c =
     let item_is : arc_value c.in_ok-made.made.item ≡ r = c.in_ok-made.ensures.item in
     let told_is : c.in_ok-made.made.receipt.record_is ≡ r = c.in_ok-made.ensures.receipt in
     let w_is : b.machine.world ≡ w = c.self.invariant.world in
-    let took_is : c.bytes_moved-moved.result.taken ≡ took w r = rw (c.bytes_moved-moved.ensures.taken, c.deref.ensures, item_is, c.in_ok-reserve_for.ensures.world, w_is) refl in
-    let gave_is : c.bytes_moved-moved.result.given ≡ gave w r = rw (c.bytes_moved-moved.ensures.given w, c.deref.ensures, item_is) refl in
+    let took_is : c.bytes_moved-moved.result.bytes_in ≡ took w r = rw (c.bytes_moved-moved.ensures.bytes_in, c.deref.ensures, item_is, c.in_ok-reserve_for.ensures.world, w_is) refl in
+    let gave_is : c.bytes_moved-moved.result.bytes_out ≡ gave w r = rw (c.bytes_moved-moved.ensures.bytes_out w, c.deref.ensures, item_is) refl in
     rw (← c.self.view_is) (record {
       shared = c.in_ok-made.ensures.shared;
-      taken = rw told_is took_is;
-      given = rw told_is gave_is;
-      few_taken = c.bytes_moved-moved.ensures.few_taken;
-      few_given = c.bytes_moved-moved.ensures.few_given;
+      bytes_in = rw told_is took_is;
+      bytes_out = rw told_is gave_is;
+      few_in = c.bytes_moved-moved.ensures.few_in;
+      few_out = c.bytes_moved-moved.ensures.few_out;
     })
