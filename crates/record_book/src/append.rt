@@ -13,7 +13,6 @@ use posix_model::change::Decided;
 use posix_model::reader::Reader;
 use std::alloc::{AllocError, Global};
 use std::sync::Arc;
-use table_calls::given::given;
 
 /// A record that is shared: for the history, and for its receipt, twice.
 #[derive(Drop)]
@@ -89,8 +88,12 @@ impl Journal {
             &decided.change.process,
         )?;
         let moved = bytes_moved(&self.machine, &made.item);
-        self.machine.apply(given(&made.item.act), decided.change);
-        self.history.push_reserved(made.item);
+        Journal::push(
+            &mut self.machine,
+            &mut self.history,
+            made.item,
+            decided.change,
+        );
         keep_exit(&mut self.exits, prepared);
         Ok(Appended {
             receipt: made.receipt,

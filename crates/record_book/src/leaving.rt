@@ -17,7 +17,6 @@ use crate::journal::Journal;
 use crate::prepared::Prepared;
 use crate::seat::Receipt;
 use call_types::act::{Act, HOUSE, Record};
-use call_types::part::Part;
 use machine_state::machine::Machine;
 use posix_model::change::Decided;
 use posix_model::laws::processes_are_counted;
@@ -50,8 +49,7 @@ fn end_process(
         None => unreachable!(),
     };
     let Decided { change, .. } = decide_exit(process);
-    machine.apply(Part::Slice(&[]), change);
-    history.push_reserved(kept);
+    Journal::push(machine, history, kept, change);
     Receipt::new(place, told)
 }
 
@@ -136,8 +134,7 @@ impl Journal {
         let (kept, told) = house.closing.shares();
         let mut receipts = house.receipts;
         let Decided { change, .. } = decided;
-        self.machine.apply(Part::Slice(&[]), change);
-        self.history.push_reserved(kept);
+        Journal::push(&mut self.machine, &mut self.history, kept, change);
         receipts.push_reserved(Receipt::new(place, told));
         receipts
     }

@@ -13,6 +13,7 @@ mod leaving;
 mod moved;
 pub mod opening;
 mod prepared;
+mod push;
 pub mod reading;
 mod recording;
 mod refusals;

@@ -1,8 +1,6 @@
 use Rattle.std.proofs.Common.{◌≡◌, ◌+◌, ◌∙◌, cond, None, Some, refl, sym, ap, subst, arith, length}
 use Rattle.std.specs.Arc.{arc_value}
-use Rattle.std.proofs.lemmas.List.{map-append}
 use Rattle.call_types.specs.declared.act.Record.{Record}
-use Rattle.call_types.specs.Stored.{part_bytes}
 use Rattle.slots.specs.Slots.{live}
 use Rattle.posix_model.specs.Whole.{EachThere, IsItsFifo}
 use Rattle.posix_model.specs.declared.world.World.{World}
@@ -16,8 +14,8 @@ use Rattle.record_book.proofs.GrowLemmas.{journal_grows, journal_stays, closed_s
 use Rattle.record_book.proofs.ExitLemmas.{exits_changed, prepared_count, house_grows}
 use Rattle.record_book.proofs.journal.Journal.append.Goals as goal
 
-pub apply-requires-clause-ends : goal.apply-requires-clause-ends
-apply-requires-clause-ends c =
+pub push-requires-clause-ends : goal.push-requires-clause-ends
+push-requires-clause-ends c =
     let planned = rw (← c.self.view_is) at c.requires.planned in
     let P : World → Type 0 = λ w. EachThere (λ d. IsItsFifo w.files d.target) w.descriptions in
     subst P (sym (c.in_ok-reserve_for.ensures.world ∙ c.self.invariant.world)) planned.whole.ends
@@ -36,7 +34,6 @@ invariant_of-self-2 c =
     let planned = rw (← c.self.view_is) at c.requires.planned in
     let r : Record = record { actor = c.args.actor; act = c.args.act; outcome = c.args.decided.outcome } in
     let item_is : arc_value c.in_ok-made.made.item ≡ r = c.in_ok-made.ensures.item in
-    let given_is : part_bytes c.given.result ≡ given c.args.act = rw (c.given.ensures.bytes, c.deref-2.ensures, item_is) refl in
     let w_is : b.machine.world ≡ w = c.self.invariant.world in
     let next = (stepped w (given r.act) c.args.decided).world in
     let none : ended_by c.args.decided.change.process ≡ 0 = planned.told.ended ∙ c.requires.ends in
@@ -47,11 +44,11 @@ invariant_of-self-2 c =
     journal_grows b _ r c.args.decided c.self.invariant (record {
       planned = planned;
       outcome = refl;
-      records = rw (c.push_reserved.ensures.items, map-append, item_is) refl;
+      records = rw (c.push.ensures.history, item_is) refl;
       limits = refl;
-      world = rw (c.apply.ensures.world, c.in_ok-reserve_for.ensures.world, c.self.invariant.world, given_is) refl;
-      room = c.push_reserved.ensures.capacity;
-      capacity = c.apply.ensures.capacity ∙ c.in_ok-reserve_for.ensures.capacity;
+      world = rw (c.push.ensures.world, item_is, c.in_ok-reserve_for.ensures.world, c.self.invariant.world) refl;
+      room = c.push.ensures.capacity;
+      capacity = c.push.ensures.pipes ∙ c.in_ok-reserve_for.ensures.capacity;
       exits = rw (c.keep_exit.ensures, prepared_is, c.in_ok-prepared.ensures.exits, c.self.invariant.exits, w_is) (sym (exits_changed w (given r.act) c.args.decided.change none));
       closing =
           c.in_ok-prepared.ensures.house.closing ∙ c.self.invariant.closing ∙ ap prepared_closing w_is ∙

@@ -1,5 +1,4 @@
 use Rattle.std.proofs.Common.{◌≡◌, ◌∙◌, false, Some, refl, sym}
-use Rattle.std.proofs.lemmas.List.{map-append}
 use Rattle.record_book.specs.Exits.{closing_record}
 use Rattle.record_book.proofs.ExitLemmas.{closing_is}
 use Rattle.record_book.proofs.GrowLemmas.{journal_shuts}
@@ -11,11 +10,11 @@ invariant_of-self c =
     let has : c.self.inside.house ≡ Some c.in-Some.house = sym c.take.ensures.value ∙ c.in-Some.is in
     let closing : c.in-Some.house.closing ≡ closing_record = closing_is c.in-Some.house.closing c.self.inside.machine.world (rw has at c.self.invariant.closing) stays_open in
     journal_shuts c.self.inside _ c.self.invariant (rw (← c.self.view_is, c.decide_close_run-decided.ensures) at c.is_planned.ensures) (record {
-      records = rw (c.push_reserved.ensures.items, map-append, c.shares-kept.ensures.kept, closing) refl;
+      records = rw (c.push.ensures.history, c.shares-kept.ensures.kept, closing) refl;
       limits = refl;
-      world = rw (c.apply.ensures.world, c.decide_close_run-decided.ensures) refl;
-      capacity = c.apply.ensures.capacity;
-      room = c.push_reserved.ensures.capacity;
+      world = rw (c.push.ensures.world, c.shares-kept.ensures.kept, closing, c.decide_close_run-decided.ensures) refl;
+      capacity = c.push.ensures.pipes;
+      room = c.push.ensures.capacity;
       exits = refl;
       house = c.take.ensures.after;
     })
