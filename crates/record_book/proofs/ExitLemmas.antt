@@ -127,27 +127,27 @@ drop_past [] (suc n) past = refl
 drop_past (x ∷ xs) zero past = absurd (omega (arith, past))
 drop_past (x ∷ xs) (suc n) past = drop_past xs n (omega (arith, past))
 
-drop_behind : {T : Type 0} (xs : List (Option T)) (n : ℕ) → drop (suc n) (set xs n None) ≡ drop (suc n) xs
-drop_behind [] n = refl
-drop_behind (x ∷ xs) zero = refl
-drop_behind (x ∷ xs) (suc n) = drop_behind xs n
+drop_emptied : {T : Type 0} (xs : List (Option T)) (n : ℕ) → drop (suc n) (set xs n None) ≡ drop (suc n) xs
+drop_emptied [] n = refl
+drop_emptied (x ∷ xs) zero = refl
+drop_emptied (x ∷ xs) (suc n) = drop_emptied xs n
 
 -- the exits that are left from a number on
-abbrev pub exits_behind : ℕ → List (Option Process) → List Record
-exits_behind n ps = map exit_record (orphans_from n (drop n ps))
+abbrev pub exits_ahead : ℕ → List (Option Process) → List Record
+exits_ahead n ps = map exit_record (orphans_from n (drop n ps))
 
-pub behind_other : (ps : List (Option Process)) (n : ℕ) → n < length ps → awaits (slot ps n) ≡ false → exits_behind n ps ≡ exits_behind (n + 1) ps
-behind_other ps n below other =
+pub ahead_other : (ps : List (Option Process)) (n : ℕ) → n < length ps → awaits (slot ps n) ≡ false → exits_ahead n ps ≡ exits_ahead (n + 1) ps
+ahead_other ps n below other =
     let next : n + 1 ≡ suc n = omega arith in
     rw (next, drop_next ps n below, other) refl
 
-pub behind_orphan : (ps : List (Option Process)) (n : ℕ) → n < length ps → awaits (slot ps n) ≡ true → exits_behind n ps ≡ exit_record n ∷ exits_behind (n + 1) (set ps n None)
-behind_orphan ps n below one =
+pub ahead_orphan : (ps : List (Option Process)) (n : ℕ) → n < length ps → awaits (slot ps n) ≡ true → exits_ahead n ps ≡ exit_record n ∷ exits_ahead (n + 1) (set ps n None)
+ahead_orphan ps n below one =
     let next : n + 1 ≡ suc n = omega arith in
-    rw (next, drop_next ps n below, one, drop_behind ps n) refl
+    rw (next, drop_next ps n below, one, drop_emptied ps n) refl
 
-pub behind_all : (ps : List (Option Process)) (n : ℕ) → length ps ≤ n → exits_behind n ps ≡ []
-behind_all ps n past = rw (drop_past ps n past) refl
+pub ahead_none : (ps : List (Option Process)) (n : ℕ) → length ps ≤ n → exits_ahead n ps ≡ []
+ahead_none ps n past = rw (drop_past ps n past) refl
 
 -- receipts of records in a row
 pub receipts_more : (place : ℕ) (xs ys : List Record) → receipts_from place (xs ++ ys) ≡ receipts_from place xs ++ receipts_from (place + length xs) ys

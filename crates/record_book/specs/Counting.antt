@@ -1,4 +1,4 @@
--- What a book counts, of the journal that it holds (own).
+-- What a book counts of its journal (own).
 use Rattle.std.specs.Prelude.{◌≡◌, ℕ, ◌+◌, ◌≤◌, ◌*◌, List, [], ◌∷◌, Option, length, if◌then◌else◌}
 use Rattle.std.specs.Option.{option_map}
 use Rattle.call_types.specs.declared.act.Act.{Act}
@@ -9,7 +9,7 @@ use Rattle.posix_model.specs.Turns.{bytes_in, bytes_out}
 use Rattle.byte_ledger.specs.Counted.{Counted, TalliesState}
 use Rattle.record_book.specs.Book.{BookState, world_now}
 
--- how many seats an act opens: a join and an attach open one, whatever their outcome
+-- how many seats an act opens: a join and an attach open one each, whatever their outcome
 abbrev pub seats_of : Act → ℕ
 seats_of act.Join = 1
 seats_of act.Attach = 1
@@ -32,8 +32,8 @@ counted_in b = record { records = length b.history; bytes_in = bytes_in b.limits
 abbrev pub only_records : ℕ → Counted
 only_records n = record { records = n; bytes_in = 0; bytes_out = 0 }
 
--- the tallies count the records of a book and the bytes that they took and gave, each seat has its shares, those of the house count its
--- receipts, and no count is too great
+-- the tallies count the records of a book and the bytes that they took and gave, there are shares for each seat, the shares of the
+-- house count its receipts, and no count is too great
 pub record IsCounted (b : BookState) (tallies : TalliesState) (house : Option Counted) : Type 0 where
   pub counted : tallies.counted ≡ counted_in b
   pub opened : tallies.opened ≡ seats_given b

@@ -29,15 +29,15 @@ pub record IsOrphansExit (old new : BookState) (process : ℕ) : Type 0 where
   pub processes : (world_now new).processes ≡ slice_set (world_now old).processes process None
   pub closed : (world_now new).closed ≡ (world_now old).closed
 
--- the closing is recorded, and the receipts of the house are given away with its own
+-- the closing is recorded, and the house gives its receipts away, with that of the closing
 pub record IsShutBy (old new : BookState) (receipts : List Receipted) : Type 0 where
   pub limits : new.limits ≡ old.limits
   pub history : new.history ≡ old.history ++ closing_record ∷ []
   pub receipts_are : Some receipts ≡ told_more (length old.history) (closing_record ∷ []) old.house
   pub given_away : new.house ≡ None
 
--- these records are appended, and the house gives its receipts away with theirs, has seen all, counts a record for each, and holds none
--- any more
+-- these records are appended; the seat of the house has its receipts and theirs, has seen all records, and counts one for each
+-- receipt; and the book holds no receipts of the house any more
 pub record Ends (old new : BookState) (rs : List Record) (house : SeatState) : Type 0 where
   pub limits : new.limits ≡ old.limits
   pub history : new.history ≡ old.history ++ rs

@@ -5,20 +5,20 @@ use Rattle.call_types.specs.declared.act.Record.{Record}
 use Rattle.record_book.specs.Seat.{Receipted}
 use Rattle.record_book.specs.declared.house.House.{House}
 
--- its receipts
+-- the receipts of the house
 abbrev pub receipts_of : Option House → Option (List Receipted)
 receipts_of house = option_map (λ h. h.receipts.items) house
 
--- its prepared record
+-- the record of the closing, which is prepared
 abbrev pub closing_of : Option House → Option Record
 closing_of house = option_map (λ h. h.closing) house
 
--- it has room for the receipts of so many exits and of the closing
+-- there is room in it for the receipts of so many exits and of the closing
 abbrev pub HasRoom : ℕ → Option House → Type 0
 HasRoom exits None = Unit {0}
 HasRoom exits (Some h) = vec_len h.receipts + exits + 1 ≤ vec_capacity h.receipts
 
--- it holds the same, with no less room
+-- it holds the same, and has no less room
 pub record SameHouse (old new : Option House) : Type 0 where
   pub receipts : receipts_of new ≡ receipts_of old
   pub closing : closing_of new ≡ closing_of old

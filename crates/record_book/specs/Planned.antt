@@ -1,4 +1,4 @@
--- What acts come to, as a book takes them.
+-- What a book asks of an act before it records it.
 use Rattle.std.specs.Prelude.{◌≡◌, ℕ, ◌+◌, ◌≤◌, false, Some, length}
 use Rattle.call_types.specs.declared.act.Act.{Act}
 use Rattle.posix_model.specs.Fits.{Fits, IsProper, PutsWithin}
@@ -11,8 +11,8 @@ use Rattle.posix_model.specs.declared.change.Decided.{Decided}
 use Rattle.record_book.specs.Book.{BookState, world_now, world_after}
 use Rattle.record_book.specs.Refusals.{is_too_full}
 
--- what was decided is what the act comes to, it can be made in a world in which nothing refers to what is gone, and its record fits
--- into the run
+-- what was decided is what the act comes to; its change can be made in the world, in which nothing refers to what is gone; and its
+-- record fits into the run
 pub record IsPlanned (b : BookState) (actor : ℕ) (act : Act) (d : Decided) : Type 0 where
   pub comes_to_is : comes_to b.limits.bounds (world_now b) actor act ≡ Some d
   pub fits : Fits (world_now b) (given act) d.change

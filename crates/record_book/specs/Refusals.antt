@@ -29,7 +29,7 @@ seat_refusals b s =
     ∷ (not (is_here (slot (world_now b).processes s.pid)), NotHere)
     ∷ []
 
--- the refusals of a call: those two, and that its process waits in a call, and that the run is full
+-- the refusals of a call: those two; then that its process waits in a call; then that the run is full
 abbrev pub start_refusals : BookState → SeatState → Call → List (Bool × Refusal)
 start_refusals b s call =
     seat_refusals b s
@@ -49,7 +49,7 @@ join_refusal b = first_refusal ((is_too_full b (length (world_now b).processes) 
 abbrev pub attach_refusal : BookState → ℕ → Option Refusal
 attach_refusal b process = first_refusal ((is_too_full b process act.Attach, RunFull) ∷ [])
 
--- the first refusal of an exit, which has those two alone
+-- the first refusal of an exit, which has only the two of a seat
 abbrev pub exit_refusal : BookState → SeatState → Option Refusal
 exit_refusal b s = first_refusal (seat_refusals b s)
 
@@ -57,16 +57,16 @@ exit_refusal b s = first_refusal (seat_refusals b s)
 abbrev pub is_ready_for : BookState → SeatState → Bool
 is_ready_for b s = is_ready b.limits.bounds (world_now b) s.pid
 
--- the first refusal of a resume: those two, and where its process waits in a call that is ready, that the run is full
+-- the first refusal of a resume: those two; then, if its process waits in a call that is ready, that the run is full
 abbrev pub resume_refusal : BookState → SeatState → Option Refusal
 resume_refusal b s = first_refusal (seat_refusals b s ++ (is_ready_for b s && is_too_full b s.pid act.Resume, RunFull) ∷ [])
 
--- a refusal is the first that is due; where none is, only memory can be wanting
+-- a refusal is the first that is due; if none is due, memory ran out
 abbrev pub IsDue : Option Refusal → Refusal → Type 0
 IsDue (Some due) refusal = refusal ≡ due
 IsDue None refusal = refusal ≡ NoMemory
 
--- so is that of a resume; and where its process waits in no call that is ready, it is one of an exit
+-- the refusal of a resume is due; and if its process waits in no call that is ready, it is one of an exit
 pub record ResumeRefused (b : BookState) (s : SeatState) (refusal : Refusal) : Type 0 where
   pub due : IsDue (resume_refusal b s) refusal
   pub ready : exit_refusal b s ≡ None → is_ready_for b s ≡ true

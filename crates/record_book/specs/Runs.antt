@@ -159,7 +159,7 @@ RunTells old new seats after (a ∷ acts) told =
     (mid : BookState) × (between : Seats) × (first : List Told) × (more : List Told) ×
     (told ≡ first ++ more) × Tells old mid seats between a first × RunTells mid new between after acts more
 
--- whatever was told before, what is told of one act more goes on from it
+-- whatever was told before, it is what is told of all acts together with what is told of one act more
 abbrev pub GoesOn : BookState → BookState → Seats → Seats → ScriptAct → Told → Type 0
 GoesOn old new seats after a told =
     (first : BookState) → (opened : Seats) → (acts : List ScriptAct) → (before : List Told) →

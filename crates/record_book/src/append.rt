@@ -14,7 +14,7 @@ use posix_model::reader::Reader;
 use std::alloc::{AllocError, Global};
 use std::sync::Arc;
 
-/// A record that is shared: for the history, and for its receipt, twice.
+/// One record, shared three times: for the history, and for two receipts.
 #[derive(Drop)]
 struct Shared {
     item: Arc<Record>,
@@ -22,7 +22,7 @@ struct Shared {
     shared: Receipt,
 }
 
-/// Shares a record that will stand at this place. An error says that memory ran out.
+/// Allocates a record that will stand at this place, and shares it. An error says that memory ran out.
 #[inline(always)]
 fn shared_at(alloc: Global, place: u64, entry: Record) -> Result<Shared, AllocError>
     ensures item { IfOk result (λ s. arc_value s.item ≡ entry) }
@@ -40,7 +40,8 @@ fn shared_at(alloc: Global, place: u64, entry: Record) -> Result<Shared, AllocEr
     })
 }
 
-/// A record that was appended: its receipt, twice, and the bytes that it took and gave.
+/// What is told of a record that was appended: its receipt, twice, and how many bytes it took from its process and gave to its
+/// process.
 #[derive(Drop)]
 pub(crate) struct Appended {
     pub(crate) receipt: Receipt,
@@ -52,8 +53,8 @@ pub(crate) struct Appended {
 impl Journal {
     ghost use Rattle.record_book.specs.Appended.{TellsMoved};
 
-    /// Appends the record of a planned act that ends no process and does not close the run, and makes its change. Where it adds a
-    /// process, it makes all that the exit of that one will need. On an error all is as it was.
+    /// Makes the change of a planned act, and appends its record. The act ends no process and does not close the run. If it adds
+    /// a process, all that the exit of that process will need is made too. On an error nothing changes.
     #[inline(always)]
     pub(crate) fn append(
         &mut self,

@@ -12,14 +12,14 @@ use posix_model::pipe_laws::bytes_of_pipe;
 use std::alloc::{AllocError, Global};
 use std::marker::Model;
 
-/// The record of a run: its limits, and all that was recorded, in order. Contracts see these two, and the receipts of the
-/// house, which it holds until the run is closed; the world is the one that the model gives after the records. Its type names the
-/// ledgers that its records and bytes are counted by, so a seat of another book does not fit.
+/// The book of a run: its limits and its records, in order. Contracts see these two, and the receipts of the house, which the
+/// book holds until the run is closed. The world is the one to which the records lead in the model. The type names the ledgers by
+/// which records and bytes are counted, so the seat of another book does not fit.
 #[derive(Drop)]
 pub struct Book<L: Ledgers> {
     pub(crate) journal: Journal,
     pub(crate) tallies: Tallies<L>,
-    /// The shares of the house, which it holds until the run is closed.
+    /// The shares of the house, until the run is closed.
     pub(crate) house: Option<Shares<L>>,
 }
 
@@ -36,7 +36,8 @@ impl<L: Ledgers> Model for Book<L> {
 }
 
 impl<L: Ledgers> Book<L> {
-    /// A book without records, with room for all of them, and with all that its closing will need. It counts by these ledgers.
+    /// A book without records, with room for as many as the limits allow, and with all that its closing will need. It counts by
+    /// these ledgers.
     pub fn new(alloc: Global, limits: Limits, blanks: Blanks) -> Result<Self, AllocError>
         requires { blanks ≡ L.names }
         ensures { IfOk result (λ book. book ≡ new_book limits) }
@@ -51,8 +52,9 @@ impl<L: Ledgers> Book<L> {
         })
     }
 
-    /// How much the book holds. What it holds is a run of the model, in which each pipe holds what was put into it and not yet got
-    /// out again, and the data of a write of at most 512 bytes (PIPE_BUF) went in unbroken (page of write).
+    /// How many records the book holds, and how many bytes they took and gave. The records are a run of the model. In this run each
+    /// pipe holds the bytes that were put into it and not yet taken out, and the data of a write of at most 512 bytes (PIPE_BUF) went
+    /// in unbroken (page of write).
     pub fn counts(&self) -> Sums
         ensures records { result.records ≡ length self.now.history }
         ensures bytes_in { result.bytes_in ≡ bytes_in self.now.limits.bounds self.now.history }

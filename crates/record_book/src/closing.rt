@@ -1,4 +1,4 @@
-//! The closing of a run, which takes no memory: what it needs was made with the book and with each process.
+//! The closing of a run. It takes no memory: what it needs was made with the book and with each process.
 
 ghost use Rattle.std.specs.Prelude.{◌≡◌, ◌∷◌, [], false, true, is_some};
 ghost use Rattle.slots.specs.Slots.{slot};
@@ -12,7 +12,7 @@ use byte_ledger::ledgers::Ledgers;
 use call_types::act::HOUSE;
 
 impl<L: Ledgers> Book<L> {
-    /// Records the exit of a live process, of which the house has the receipt, and counts it.
+    /// Records and counts the exit of a live process. The house gets the receipt.
     fn record_orphans_exit(&mut self, process: u32)
         requires there { is_some (slot (world_now self.old).processes process) ≡ true }
         requires is_open { (world_now self.old).closed ≡ false }
@@ -27,7 +27,7 @@ impl<L: Ledgers> Book<L> {
         }
     }
 
-    /// Records the exits of all processes that have no connection, by rising number.
+    /// Records the exits of all processes without a connection, in the order of their numbers.
     fn end_orphans(&mut self)
         requires { (world_now self.old).closed ≡ false }
         ensures { OrphansEnd self.old self.new }
@@ -39,7 +39,7 @@ impl<L: Ledgers> Book<L> {
         }
     }
 
-    /// Records the closing of a run that is open; the house's seat with all its receipts.
+    /// Records the closing of an open run, and returns the seat of the house, with all its receipts.
     fn record_closing(&mut self) -> SpentSeat<L>
         requires { (world_now self.old).closed ≡ false }
         ensures { Ends self.old self.new (closing_record ∷ []) result }
@@ -60,8 +60,9 @@ impl<L: Ledgers> Book<L> {
         }
     }
 
-    /// Closes a run: the exits of the processes that have no connection, by rising number, and then the closing itself; the
-    /// house's seat, which has their receipts. Of a run that is closed nothing is recorded. It takes no memory.
+    /// Closes a run: records the exits of the processes without a connection, in the order of their numbers, and then the closing.
+    /// Returns the seat of the house, which has their receipts; or None if the run was closed already, and then records nothing. It
+    /// takes no memory.
     pub fn close_run(&mut self) -> Option<SpentSeat<L>>
         ensures closes { Closes self.old self.new result }
         ensures closed { (world_now self.new).closed ≡ true }

@@ -1,4 +1,4 @@
-//! Exits, which take no memory: what they need was made before.
+//! Exits. They take no memory: what they need was made before.
 
 ghost use Rattle.std.specs.Prelude.{◌≡◌, ◌+◌, ◌<◌, ◌^◌, None, Some, true, is_some, IfOk, IfErr, OnOk, OnErr};
 ghost use Rattle.byte_ledger.specs.Counted.{counted_more};
@@ -22,7 +22,7 @@ pub struct Unspent<L: Ledgers> {
 }
 
 impl<L: Ledgers> Book<L> {
-    /// Records the exit of the process of a seat, which is live, and counts it by the shares of the seat; its receipt.
+    /// Records the exit of a seat's process, which is live, counts it by the shares of the seat, and returns the receipt.
     pub(crate) fn record_exit(&mut self, seat: &mut Seat<L>) -> Receipt
         requires { is_some (slot (world_now self.old).processes seat.old.pid) ≡ true }
         ensures appends { Appends self.old self.new seat.old.pid Act.Exit result }
@@ -36,8 +36,8 @@ impl<L: Ledgers> Book<L> {
         receipt
     }
 
-    /// Records the exit of the seat's process, and gives the spent seat, with the receipt of the exit as its last; or gives
-    /// the seat back, and leaves the book as it was. It takes no memory.
+    /// Records the exit of the seat's process, and returns the spent seat, whose last receipt is that of the exit; or gives the
+    /// seat back and leaves the book as it was. It takes no memory.
     pub fn exit(&mut self, seat: Seat<L>) -> Result<SpentSeat<L>, Unspent<L>>
         ensures recorded { IfOk result (λ spent. Exits self.old self.new seat spent) }
         ensures not_refused { OnOk result (exit_refusal self.old seat ≡ None) }

@@ -11,7 +11,7 @@ use posix_model::change::ProcessEdit;
 use slots::numbered::Numbered;
 use std::alloc::{AllocError, Global};
 
-/// Makes room for the receipts of so many exits and of the closing.
+/// Makes room in the house for the receipts of so many exits and of the closing.
 fn reserve_house(house: &mut Option<House>, live: usize) -> Result<(), AllocError>
     requires { live < 4294967296 }
     ensures same { SameHouse house.old house.new }
@@ -23,7 +23,7 @@ fn reserve_house(house: &mut Option<House>, live: usize) -> Result<(), AllocErro
     }
 }
 
-/// Makes what the exit of the process of this number will need: its record, and room for it.
+/// Makes what the exit of the process of this number will need: its record, and room for its receipt.
 #[inline(never)]
 fn prepare_added(
     alloc: Global,
@@ -45,7 +45,7 @@ fn prepare_added(
     Prepared::new(alloc, number as u32, Act::Exit)
 }
 
-/// Makes what the exit of a process that is to be added will need; nothing for another edit.
+/// Makes what the exit of a process will need, if the edit adds one.
 #[inline(always)]
 pub(crate) fn prepare_exit(
     alloc: Global,

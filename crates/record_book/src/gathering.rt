@@ -1,4 +1,4 @@
-//! All shares of a book, brought together.
+//! All shares of a book, summed up.
 
 ghost use Rattle.std.specs.Prelude.{◌≡◌, map, sum, length, IfOk, IfErr, OnOk};
 ghost use Rattle.posix_model.specs.Turns.{bytes_in, bytes_out};
@@ -11,8 +11,8 @@ use byte_ledger::tallies::{GatherFault, Shares, Sums};
 use std::alloc::Global;
 
 impl<L: Ledgers> Book<L> {
-    /// Gathers the shares of all seats, that of the house among them: their sums, which are those of the records; or that some are
-    /// missing.
+    /// Gathers the shares of all seats and of the house. Returns their sums, which are those of the records; or an error, if some
+    /// are missing or memory ran out.
     pub fn gather(self, alloc: Global, shares: Vec<Shares<L>>) -> Result<Sums, GatherFault>
         ensures records { IfOk result (λ sums. sums.records ≡ length self.history) }
         ensures bytes_in { IfOk result (λ sums. sums.bytes_in ≡ bytes_in self.limits.bounds self.history) }

@@ -1,4 +1,4 @@
-//! What a book holds of a run but for what is counted: its records, and the machine after them.
+//! A book without its counts: the records of a run, and the machine after them.
 
 ghost use Rattle.std.specs.Prelude.{◌≡◌, ◌≤◌, ◌+◌, false, true, is_some, length, IfOk};
 ghost use Rattle.slots.specs.Slots.{slot};
@@ -17,7 +17,7 @@ use std::alloc::{AllocError, Global};
 use std::marker::Model;
 use std::sync::Arc;
 
-/// The records of a run in their order, and the machine that they led to. Contracts see what they see of a book.
+/// The records of a run in order, and the machine that they led to. Contracts see the same of it as of a book.
 #[derive(Drop)]
 pub(crate) struct Journal {
     pub(crate) machine: Machine,
@@ -40,7 +40,7 @@ impl Model for Journal {
 }
 
 impl Journal {
-    /// A journal without records, with room for all of them, and with all that the closing of its run will need.
+    /// A journal without records, with room for as many as the limits allow, and with all that the closing of its run will need.
     pub(crate) fn new(alloc: Global, limits: Limits) -> Result<Self, AllocError>
         ensures { IfOk result (λ journal. journal ≡ new_book limits) }
     {
@@ -58,7 +58,8 @@ impl Journal {
         })
     }
 
-    /// What it holds is a run of the model, in which the exits and the closing have their records. It does nothing.
+    /// Promises that the records are a run of the model, and that enough more are free for the exits and the closing. It does
+    /// nothing.
     pub(crate) fn is_run(&self)
         ensures is_legal { legal self.now.limits.bounds self.now.history }
         ensures reserve { length self.now.history + exits_left (world_now self.now) ≤ self.now.limits.records }
@@ -88,7 +89,7 @@ impl Journal {
         self.history.len() as u64
     }
 
-    /// The house of a run that is open holds its receipts. It does nothing.
+    /// Promises that the house of an open run holds its receipts. It does nothing.
     pub(crate) fn has_house(&self)
         ensures { (world_now self.now).closed ≡ false → is_some self.now.house ≡ true }
     {

@@ -1,4 +1,4 @@
-//! Exits and the closing in a journal, which take no memory: what they need was made before.
+//! Exits and the closing in a journal. They take no memory: what they need was made before.
 
 ghost use Rattle.std.specs.Prelude.{◌≡◌, ◌+◌, ◌<◌, ◌^◌, ◌++◌, ◌∷◌, [], None, Some, true, false, is_some, length, map, slice_set, vec_len, vec_capacity};
 ghost use Rattle.std.specs.Arc.{arc_value};
@@ -25,7 +25,7 @@ use slots::numbered::Numbered;
 use std::sync::Arc;
 use table_calls::exit::{decide_close_run, decide_exit};
 
-/// Ends a process by its prepared record; the receipt of it.
+/// Ends a process by its prepared record, and returns the receipt.
 fn end_process(
     machine: &mut Machine,
     history: &mut Vec<Arc<Record>>,
@@ -54,7 +54,7 @@ fn end_process(
 }
 
 impl Journal {
-    /// The record of the exit of a process that is live fits into the run. It does nothing.
+    /// Promises that the record of a live process's exit fits into the run. It does nothing.
     fn exit_fits(&self, process: u32)
         requires { is_some (slot (world_now self.now).processes process) ≡ true }
         ensures { is_too_full self.now process Act.Exit ≡ false }
@@ -64,7 +64,7 @@ impl Journal {
         processes_are_counted();
     }
 
-    /// So the book can record it. It does nothing.
+    /// Promises that the exit of a live process can be recorded. It does nothing.
     fn is_exit_planned(&self, process: u32)
         requires { is_some (slot (world_now self.now).processes process) ≡ true }
         ensures { IsPlanned self.now process Act.Exit (exit process) }
@@ -74,7 +74,7 @@ impl Journal {
         self.is_planned(process, &Act::Exit, &decided);
     }
 
-    /// Records the exit of a live process.
+    /// Records the exit of a live process, and returns the receipt.
     pub(crate) fn record_exit(&mut self, process: u32) -> Receipt
         requires { is_some (slot (world_now self.old).processes process) ≡ true }
         ensures appends { Appends self.old self.new process Act.Exit result }
@@ -90,7 +90,7 @@ impl Journal {
         )
     }
 
-    /// Records the exit of a live process, of which the house has the receipt.
+    /// Records the exit of a live process. The house gets the receipt.
     pub(crate) fn record_orphans_exit(&mut self, process: u32)
         requires there { is_some (slot (world_now self.old).processes process) ≡ true }
         requires is_open { (world_now self.old).closed ≡ false }
@@ -109,7 +109,7 @@ impl Journal {
         }
     }
 
-    /// What the closing of a run that is open comes to fits into the run. It does nothing.
+    /// Promises that the record of the closing fits into an open run. It does nothing.
     fn is_closing_planned(&self)
         requires { (world_now self.now).closed ≡ false }
         ensures { is_too_full self.now HOUSE Act.CloseRun ≡ false }
@@ -118,7 +118,7 @@ impl Journal {
         processes_are_counted();
     }
 
-    /// Records the closing of a run that is open; the receipts of the house, that of the closing as the last.
+    /// Records the closing of an open run. Returns the receipts of the house, of which the last is that of the closing.
     pub(crate) fn record_closing(&mut self) -> Vec<Receipt>
         requires { (world_now self.old).closed ≡ false }
         ensures { IsShutBy self.old self.new result.items }
@@ -139,7 +139,7 @@ impl Journal {
         receipts
     }
 
-    /// A run whose house has given its receipts away is closed. It does nothing.
+    /// Promises that a run is closed, if its house has given its receipts away. It does nothing.
     pub(crate) fn is_closed_for_good(&self)
         requires { self.now.house ≡ None }
         ensures { (world_now self.now).closed ≡ true }

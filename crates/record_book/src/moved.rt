@@ -12,7 +12,7 @@ use machine_state::machine::Machine;
 use posix_model::reader::Reader;
 use process_table::process::Parked;
 
-/// The bytes that a call has moved in all, as an outcome tells them.
+/// How many bytes a call has moved in all, as its outcome says.
 #[inline(always)]
 fn total(outcome: &Outcome) -> u64
     ensures { result ≡ total outcome.now }
@@ -25,7 +25,7 @@ fn total(outcome: &Outcome) -> u64
     }
 }
 
-/// The bytes that a new call took, of so many in all.
+/// How many bytes a new call took from its process, where it moved `now` bytes.
 #[inline(always)]
 fn took_at_once(now: u64, call: &Call) -> u64
     ensures { result ≡ took_in now (new_turn call.now) }
@@ -33,7 +33,7 @@ fn took_at_once(now: u64, call: &Call) -> u64
     if call.payload().is_some() { now } else { 0 }
 }
 
-/// The bytes that a call took that was parked, of so many in all.
+/// How many bytes a call took from its process since it was parked, where it has moved `now` bytes in all.
 #[inline(never)]
 fn took_since(now: u64, parked: &Parked) -> u64
     ensures { result ≡ took_in now (next_turn parked.now) }
@@ -45,7 +45,7 @@ fn took_since(now: u64, parked: &Parked) -> u64
     }
 }
 
-/// The data of a call is short. It does nothing.
+/// Promises that the data of a call is short. It does nothing.
 #[inline(always)]
 fn payload_is_short(call: &Call)
     ensures { length (unwrap_or (payload_of call.now) []) ≤ GIVEN_BYTES_MAX }
@@ -55,7 +55,7 @@ fn payload_is_short(call: &Call)
     }
 }
 
-/// The data that a record's act takes bytes from is short. It does nothing.
+/// Promises that the data from which the act of a record takes its bytes is short. It does nothing.
 #[inline(always)]
 fn data_is_short(machine: &Machine, item: &Record)
     ensures { length (data_of machine.now.world item.now.actor item.now.act) ≤ GIVEN_BYTES_MAX }
@@ -71,7 +71,7 @@ fn data_is_short(machine: &Machine, item: &Record)
     }
 }
 
-/// The bytes that a record took from its process; the machine is as it was before the record.
+/// How many bytes a record took from its process. The machine must still be as it was before the record.
 #[inline(always)]
 pub(crate) fn took(machine: &Machine, item: &Record) -> u64
     ensures { result ≡ took machine.now.world item.now }
@@ -87,7 +87,7 @@ pub(crate) fn took(machine: &Machine, item: &Record) -> u64
     }
 }
 
-/// The bytes that a record gave to its process, at most 65,536.
+/// How many bytes a record gave to its process: at most 65,536.
 #[inline(always)]
 pub(crate) fn gave(item: &Record) -> u64
     ensures bytes { (w : World) → result ≡ gave w item.now }
@@ -106,7 +106,7 @@ pub(crate) struct BytesMoved {
     pub(crate) bytes_out: u64,
 }
 
-/// The bytes that a record took and gave; the machine is as it was before the record.
+/// How many bytes a record took and gave. The machine must still be as it was before the record.
 #[inline(always)]
 pub(crate) fn bytes_moved(machine: &Machine, item: &Record) -> BytesMoved
     requires { took machine.now.world item.now ≤ length (data_of machine.now.world item.now.actor item.now.act) }

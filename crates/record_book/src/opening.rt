@@ -8,16 +8,16 @@ use call_types::act::Act;
 use call_types::refusal::Refusal;
 use std::alloc::{AllocError, Global};
 
-/// What a join or an attach gives, with a seat of the kind `S` or a spent one of the kind `P`.
+/// What a join or an attach gives: a seat of type `S`, or a spent seat of type `P`.
 #[derive(Drop)]
 pub enum Opened<S, P> {
     /// The seat of the process.
     Seated(S),
-    /// The one receipt of the recorded error: EAGAIN of a join, ESRCH of an attach.
+    /// A seat with one receipt, that of the recorded error: EAGAIN of a join, ESRCH of an attach.
     Refused(P),
 }
 
-/// The same, of one book.
+/// The same, with the seats of a book.
 pub type OpenedIn<L> = Opened<Seat<L>, SpentSeat<L>>;
 
 impl<L: Ledgers> Book<L> {
@@ -30,7 +30,7 @@ impl<L: Ledgers> Book<L> {
         self.journal.next_pid()
     }
 
-    /// Records a join that is not refused, and gives its receipt once more beside the seat. On an error all is as it was.
+    /// Records a join that is not refused. Returns its receipt once more beside the seat. On an error nothing changes.
     pub(crate) fn record_join(
         &mut self,
         alloc: Global,
@@ -50,7 +50,7 @@ impl<L: Ledgers> Book<L> {
         Ok((Opened::Seated(seat), receipt))
     }
 
-    /// Records an attach that is not refused, and gives its receipt once more beside the seat. On an error all is as it was.
+    /// Records an attach that is not refused. Returns its receipt once more beside the seat. On an error nothing changes.
     pub(crate) fn record_attach(
         &mut self,
         alloc: Global,
@@ -70,8 +70,7 @@ impl<L: Ledgers> Book<L> {
         Ok((Opened::Refused(SpentSeat::of(seat)), receipt))
     }
 
-    /// Records a join: a new process, already attached, or EAGAIN. A `Refusal` is not recorded, and leaves the book as
-    /// it was.
+    /// Records a join: a new process, already attached, or EAGAIN. A `Refusal` is not recorded, and leaves the book as it was.
     pub fn join(&mut self, alloc: Global) -> Result<OpenedIn<L>, Refusal>
         ensures recorded { IfOk result (λ opened. Joins self.old self.new opened) }
         ensures not_refused { OnOk result (join_refusal self.old ≡ None) }
@@ -85,8 +84,8 @@ impl<L: Ledgers> Book<L> {
         Ok(opened)
     }
 
-    /// Records an attach: the connection of a child that waits for one, or ESRCH. A `Refusal` is not recorded, and leaves the
-    /// book as it was.
+    /// Records an attach: it connects a child that waits for a connection, or gives ESRCH. A `Refusal` is not recorded, and leaves
+    /// the book as it was.
     pub fn attach(&mut self, alloc: Global, process: u32) -> Result<OpenedIn<L>, Refusal>
         ensures recorded { IfOk result (λ opened. Attaches self.old self.new process opened) }
         ensures not_refused { OnOk result (attach_refusal self.old process ≡ None) }

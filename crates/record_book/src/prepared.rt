@@ -9,8 +9,8 @@ use std::alloc::{AllocError, Global};
 use std::marker::Model;
 use std::sync::Arc;
 
-/// The record of an act that cannot be refused, made before it is due: once for the history, and once for its receipt.
-/// Contracts see the record.
+/// The record of an act that cannot be refused. It is made before it is due, and shared: once for the history, and once for its
+/// receipt. Contracts see the record.
 #[derive(Drop)]
 pub(crate) struct Prepared {
     kept: Arc<Record>,
@@ -30,7 +30,7 @@ impl Model for Prepared {
 }
 
 impl Prepared {
-    /// The record of an act that replies ok.
+    /// The record of an act whose reply is ok.
     pub(crate) fn new(alloc: Global, actor: u32, act: Act) -> Result<Self, AllocError>
         ensures { IfOk result (λ p. p ≡ record { actor = actor; act = act; outcome = Replied Done }) }
     {
@@ -46,7 +46,7 @@ impl Prepared {
         Ok(Prepared { kept, told })
     }
 
-    /// The record for the history, and the one for the receipt.
+    /// The share for the history, and the one for the receipt.
     pub(crate) fn shares(self) -> (Arc<Record>, Arc<Record>)
         ensures kept { arc_value result.0 ≡ self }
         ensures told { arc_value result.1 ≡ self }

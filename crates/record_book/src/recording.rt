@@ -1,4 +1,4 @@
-//! The records of a seat's process, which its shares count.
+//! Records of the process of a seat, counted by the seat's shares.
 
 ghost use Rattle.std.specs.Prelude.{◌≡◌, false, IfOk, OnErr};
 ghost use Rattle.posix_model.specs.Sound.{ended, closes};
@@ -16,8 +16,8 @@ use posix_model::laws::processes_are_counted;
 use std::alloc::{AllocError, Global};
 
 impl<L: Ledgers> Book<L> {
-    /// Appends the record of a planned act of a seat's process that opens no seat, ends no process and does not close the run, and
-    /// gives its receipt to the seat too. On an error all is as it was.
+    /// Appends the record of a planned act of a seat's process. The act opens no seat, ends no process and does not close the run.
+    /// The seat gets the receipt too. On an error nothing changes.
     #[inline(always)]
     pub(crate) fn append(
         &mut self,
@@ -48,8 +48,8 @@ impl<L: Ledgers> Book<L> {
         Ok(appended.receipt)
     }
 
-    /// Appends the record of a planned act that opens a seat, and gives its receipt once more beside the seat. On an error all is
-    /// as it was.
+    /// Appends the record of a planned act that opens a seat. Returns its receipt once more beside the seat. On an error nothing
+    /// changes.
     pub(crate) fn append_first(
         &mut self,
         alloc: Global,

@@ -41,7 +41,7 @@ impl Journal {
         pipe_calls::resume::is_ready(&self.machine, self.limits.bounds(), process as usize)
     }
 
-    /// Whether too few records would be left after one more, with so many live processes.
+    /// Whether one record more would leave too few for the exits of so many live processes and the closing of an open run.
     pub(crate) fn overfills(&self, live: usize) -> bool
         requires { live ≤ live_in (world_now self.now).processes + 1 }
         ensures { result ≡ not (nat_le ((length self.now.history + 1) + (if (world_now self.now).closed then live else live + 1)) self.now.limits.records) }
@@ -54,7 +54,7 @@ impl Journal {
         self.history.len() as u64 + 1 + exits > self.limits.records()
     }
 
-    /// Whether the record of a call of a process that may make one would leave too few records.
+    /// Whether the record of a call would leave too few records. The process may make a call.
     fn call_overfills(&self, process: u32, call: &Call) -> bool
         requires { can_call (slot (world_now self.now).processes process) ≡ true }
         ensures { result ≡ is_too_full self.now process (Act.Call call.now) }
@@ -81,7 +81,7 @@ impl Journal {
         self.overfills(self.machine.live_processes())
     }
 
-    /// Whether the record of a resume of a call that is ready would leave too few records.
+    /// Whether the record of a resume would leave too few records. The call that the process waits in is ready.
     pub(crate) fn resume_overfills(&self, process: u32) -> bool
         requires { is_ready self.now.limits.bounds (world_now self.now) process ≡ true }
         ensures { result ≡ is_too_full self.now process Act.Resume }
@@ -91,7 +91,7 @@ impl Journal {
         self.overfills(self.machine.live_processes())
     }
 
-    /// The first refusal of an exit, and of whatever else the seat's process does.
+    /// The first refusal of an exit. The refusals of all that the seat's process does begin with these.
     #[inline(always)]
     pub(crate) fn exit_refusal<L: Ledgers>(&self, seat: &Seat<L>) -> Option<Refusal>
         ensures { result ≡ exit_refusal self.now seat.now }
@@ -109,7 +109,7 @@ impl Journal {
         None
     }
 
-    /// The first refusal of a call that is not recorded.
+    /// The first refusal of a call. A call that is refused is not recorded.
     #[inline(always)]
     pub(crate) fn start_refusal<L: Ledgers>(&self, seat: &Seat<L>, call: &Call) -> Option<Refusal>
         ensures { result ≡ start_refusal self.now seat.now call.now }
@@ -126,7 +126,7 @@ impl Journal {
         None
     }
 
-    /// What an act comes to, whose record fits into the run, the journal can record. It does nothing.
+    /// Promises that what an act comes to can be recorded, if its record fits into the run. It does nothing.
     pub(crate) fn is_planned(&self, actor: u32, act: &Act, decided: &Decided)
         requires comes { comes_to self.now.limits.bounds (world_now self.now) actor act.now ≡ Some decided.now }
         requires roomy { is_too_full self.now actor act.now ≡ false }
@@ -160,7 +160,7 @@ impl Journal {
         )
     }
 
-    /// Whether no process more can be made.
+    /// Whether no further process can be made.
     pub(crate) fn is_full(&self) -> bool
         ensures { result ≡ is_full (world_now self.now) }
     {

@@ -1,4 +1,4 @@
-//! The calls that wait, taken up again.
+//! Calls that wait are taken up again.
 
 ghost use Rattle.std.specs.Prelude.{◌≡◌, None, true, false, IfOk, IfErr, OnOk, OnErr};
 ghost use Rattle.posix_model.specs.Resume.{is_ready};
@@ -30,7 +30,7 @@ impl<L: Ledgers> Book<L> {
         self.journal.is_ready(process)
     }
 
-    /// Records a resume of a call that is ready. On an error all is as it was.
+    /// Records a resume of a call that is ready. On an error nothing changes.
     fn record_resume(&mut self, alloc: Global, seat: &mut Seat<L>) -> Result<Receipt, AllocError>
         requires ready { is_ready_for self.old seat.old ≡ true }
         requires roomy { is_too_full self.old seat.old.pid Act.Resume ≡ false }
@@ -43,8 +43,9 @@ impl<L: Ledgers> Book<L> {
         self.append(alloc, seat, Act::Resume, decided)
     }
 
-    /// Takes up the call that the seat's process waits in, if it is ready; the seat gets the receipt too. Neither a `Refusal` nor
-    /// `Still` is recorded, and both leave book and seat as they were. `Still` comes before RunFull and want of memory.
+    /// Takes up the call that the seat's process waits in, if it is ready. The seat gets the receipt too. Neither a `Refusal` nor
+    /// `Still` is recorded, and both leave book and seat as they were. `Still` is told before the run can be full and before memory
+    /// can run out.
     pub fn resume(&mut self, alloc: Global, seat: &mut Seat<L>) -> Result<Resumed, Refusal>
         ensures resumed { IfOk result (λ resumed. Resumes self.old self.new seat.old seat.new resumed) }
         ensures not_refused { OnOk result (resume_refusal self.old seat.old ≡ None) }

@@ -14,17 +14,19 @@ use call_types::call::Call;
 use call_types::refusal::Refusal;
 use std::alloc::{AllocError, Global};
 
-/// What is told of an act of a script: its record; the records of a closing, of which the house has the receipts; that a closing has nothing
-/// to close, or a process that is resumed waits in no call that is ready; or that the act is refused, with the process whose act
-/// it was or would have been, and why.
+/// What is told of an act of a script.
 #[derive(Drop)]
 pub enum Told<'a> {
+    /// Its record.
     Recorded(Receipt),
+    /// The receipts of all that a closing recorded.
     Closed(Vec<Receipt>),
+    /// Nothing was recorded: the run to be closed is closed already, or the process to be resumed waits in no call that is ready.
     Still {
         actor: u32,
         act: &'a ScriptAct,
     },
+    /// The act was refused, and why. The actor is the process whose act it was, or would have been.
     Refused {
         actor: u32,
         act: &'a ScriptAct,
@@ -40,7 +42,7 @@ fn copy_of(call: &Call) -> Result<Call, AllocError>
 }
 
 impl<L: Ledgers> Book<L> {
-    /// The same as `start`, of a call that stays where it is: its copy is made once nothing but memory can refuse it.
+    /// The same as `start`, for a call that is borrowed: it is copied once nothing but want of memory can refuse it.
     #[inline(always)]
     fn start_copy(
         &mut self,
@@ -63,7 +65,7 @@ impl<L: Ledgers> Book<L> {
     ghost use Rattle.slots.specs.Slots.{slot};
     ghost use Rattle.record_book.specs.Runs.{Seats as ScriptSeats, JoinRuns, AttachRuns, CallRuns, ResumeGoes, ExitRuns, Tells, GoesOn, RunTells};
 
-    /// Runs a join of a script; where it makes a process, its seat is put among the others.
+    /// Runs a join of a script. If it makes a process, its seat is put among the others.
     fn run_join(&mut self, alloc: Global, seats: &mut Seats<L>) -> Result<Receipt, Refusal>
         ensures runs { JoinRuns self.old self.new seats.old.0 seats.new.0 result }
         ensures limits { self.new.limits ≡ self.old.limits }
@@ -80,7 +82,7 @@ impl<L: Ledgers> Book<L> {
         Ok(receipt)
     }
 
-    /// Runs an attach of a script; where it attaches a process, its seat is put among the others.
+    /// Runs an attach of a script. If it attaches a process, its seat is put among the others.
     fn run_attach(
         &mut self,
         alloc: Global,
@@ -103,7 +105,7 @@ impl<L: Ledgers> Book<L> {
         Ok(receipt)
     }
 
-    /// Runs an exit of a script; its seat is no longer among the others.
+    /// Runs an exit of a script. The seat of its process is taken from among the others.
     fn run_exit(&mut self, seats: &mut Seats<L>, process: u32) -> Result<Receipt, Refusal>
         ensures runs { ExitRuns self.old self.new seats.old.0 seats.new.0 process result (slot seats.old.0 process) }
         ensures limits { self.new.limits ≡ self.old.limits }
@@ -182,8 +184,8 @@ impl<L: Ledgers> Book<L> {
         }
     }
 
-    /// Runs the next act of a script, and tells of it; the seats are those that the script opened. What was told of the acts
-    /// before and this are what is told of all of them.
+    /// Runs the next act of a script, and tells of it. The seats are those that the script opened. What was told of the earlier
+    /// acts, followed by this, is what is told of all of them.
     pub fn run_act<'a>(
         &mut self,
         alloc: Global,
@@ -225,8 +227,8 @@ impl<L: Ledgers> Book<L> {
         }
     }
 
-    /// Runs the acts of a script in their order, and tells of each. Only the room for what is told can be wanting as a
-    /// whole, and then nothing was run.
+    /// Runs the acts of a script in order, and tells of each. An error says that there is no memory to tell of them all, and then
+    /// none was run.
     pub fn run_acts<'a>(
         &mut self,
         alloc: Global,

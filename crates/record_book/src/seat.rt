@@ -9,7 +9,7 @@ use std::alloc::{AllocError, Global};
 use std::marker::Model;
 use std::sync::Arc;
 
-/// A record of the book, shared and never copied, with its place, counted from 0. Contracts see the two.
+/// A record of the book, shared and not copied, with its place, counted from 0. Contracts see the two.
 #[derive(Drop)]
 pub struct Receipt {
     place: u64,
@@ -58,7 +58,7 @@ impl Receipt {
     }
 }
 
-/// What holds what a seat holds. Contracts of kernels see by it what a seat of theirs is.
+/// Types that hold what a seat holds. By this the contracts of kernels see their seats.
 pub trait AsSeat {
     ghost use Rattle.record_book.specs.Seat.{SeatState};
 
@@ -73,8 +73,8 @@ impl<L: Ledgers> AsSeat for SpentSeat<L> {
     ghost as_seat = { λ s. s };
 }
 
-/// What a process holds of a book: its number, how many records it has seen, the receipts of its own acts, and shares that count
-/// them, and the bytes that they took and gave. Its type names the ledgers of its book.
+/// What the connection of a process holds: the number of the process, how many records it has seen, the receipts of its own acts,
+/// and shares that count these acts and the bytes that they took and gave. The type names the ledgers of its book.
 #[derive(Drop)]
 pub struct Seat<L: Ledgers> {
     pub(crate) pid: u32,
@@ -103,7 +103,7 @@ impl<L: Ledgers> Seat<L> {
         self.pid
     }
 
-    /// How many records of the book the seat has seen: one past its last receipt, or what it was told of since.
+    /// How many records of the book the seat has seen: all up to its last receipt, or as many as it was told of since.
     pub fn seen(&self) -> u64
         ensures { result ≡ self.now.seen }
     {
@@ -141,7 +141,8 @@ impl<L: Ledgers> Seat<L> {
     }
 }
 
-/// A seat that gets no more receipts: its process has ended, or its join or attach was refused. Contracts see the same as of a seat.
+/// A seat that gets no more receipts: its process has ended, or its join or attach failed. Contracts see the same of it as of a
+/// seat.
 #[derive(Drop)]
 pub struct SpentSeat<L: Ledgers> {
     pub(crate) pid: u32,
@@ -159,7 +160,7 @@ impl<L: Ledgers> Model for SpentSeat<L> {
 }
 
 impl<L: Ledgers> SpentSeat<L> {
-    /// The same seat, which gets no more receipts.
+    /// The same seat, to get no more receipts.
     pub fn of(seat: Seat<L>) -> Self
         ensures { result ≡ seat }
     {
@@ -171,7 +172,7 @@ impl<L: Ledgers> SpentSeat<L> {
         }
     }
 
-    /// The number of the seat's process, or the one that was asked for; that of the house is `HOUSE`.
+    /// The number of the seat's process, or of the one that was asked for. That of the house is `HOUSE`.
     pub fn pid(&self) -> u32
         ensures { result ≡ self.now.pid }
     {
@@ -192,7 +193,7 @@ impl<L: Ledgers> SpentSeat<L> {
         self.receipts.as_slice()
     }
 
-    /// Its receipts, and what they count.
+    /// Its receipts and its shares.
     pub fn into_parts(self) -> (Vec<Receipt>, Shares<L>)
         ensures receipts { result.0.items ≡ self.receipts }
         ensures counted { result.1 ≡ self.counted }

@@ -9,7 +9,7 @@ use byte_ledger::ledgers::Ledgers;
 use std::alloc::{AllocError, Global};
 use std::marker::Model;
 
-/// Free slots up to a length, for which there is room.
+/// Adds free slots up to a length, for which there is room.
 fn pad<L: Ledgers>(slots: &mut Vec<Option<Seat<L>>>, len: usize)
     requires longer { vec_len slots.old ≤ len }
     requires room { len ≤ vec_capacity slots.old }
@@ -21,8 +21,7 @@ fn pad<L: Ledgers>(slots: &mut Vec<Option<Seat<L>>>, len: usize)
     }
 }
 
-/// The seats that a script opened: that of a process stands at the process's number. Contracts see the slots, and for how
-/// many there is room.
+/// The seats that a script opened, each at the number of its process. Contracts see the slots, and for how many there is room.
 #[derive(Drop)]
 pub struct Seats<L: Ledgers> {
     pub(crate) slots: Vec<Option<Seat<L>>>,

@@ -11,9 +11,9 @@ use call_types::refusal::Refusal;
 use std::alloc::{AllocError, Global};
 
 impl<L: Ledgers> Book<L> {
-    /// Records a call that is not refused. On an error all is as it was.
-    // It stands once in a program, for scripts and sessions, so that what decides a call and what changes the machine, which are
-    // called nowhere else, stand in it.
+    /// Records a call that is not refused. On an error nothing changes.
+    // Not inlined, so that it stands once in a program, for scripts and for sessions. `decide_call` then has one caller, and is
+    // inlined here.
     #[inline(never)]
     pub(crate) fn record_call(
         &mut self,
@@ -36,8 +36,8 @@ impl<L: Ledgers> Book<L> {
         self.append(alloc, seat, act, decided)
     }
 
-    /// Records a call of the seat's process, or its refusal by the rules; the seat gets the receipt too. A `Refusal`
-    /// is not recorded, and leaves book and seat as they were.
+    /// Records a call of the seat's process, whatever its outcome. The seat gets the receipt too. A `Refusal` is not
+    /// recorded, and leaves book and seat as they were.
     pub fn start(
         &mut self,
         alloc: Global,

@@ -2,13 +2,13 @@ use Rattle.std.proofs.Common.{◌≡◌, ◌++◌, length}
 use Rattle.record_book.specs.Book.{world_now}
 use Rattle.record_book.specs.Exits.{orphans_exits}
 use Rattle.record_book.specs.Ends.{told_more}
-use Rattle.record_book.proofs.ExitLemmas.{exits_behind}
+use Rattle.record_book.proofs.ExitLemmas.{exits_ahead}
 use Rattle.record_book.proofs.book.Book.end_orphans.Given as goal
 
 -- the exits so far, and those that are left
 abbrev pub invariant-loop-process : goal.invariant-loop-process
 invariant-loop-process g l =
-    let left = exits_behind l.process (world_now l.self).processes in
+    let left = exits_ahead l.process (world_now l.self).processes in
     record {
       limits : l.self.limits ≡ l.fn.self.limits;
       history : l.self.history ++ left ≡ l.fn.self.history ++ orphans_exits (world_now l.fn.self);
