@@ -60,67 +60,32 @@ impl Call {
     pub fn is_same(&self, other: &Call) -> bool
         ensures { (result ≡ true) ↔ (self.now ≡ other.now) }
     {
-        match (self, other) {
-            (Call::Open { name: a, flags: f }, Call::Open { name: b, flags: g }) => {
-                a.is_same(b) && *f == *g
-            }
-            (Call::Close { fd: a }, Call::Close { fd: b }) => *a == *b,
-            (Call::Read { fd: a, count: m }, Call::Read { fd: b, count: n }) => {
-                *a == *b && *m == *n
-            }
-            (Call::Write { fd: a, bytes: v }, Call::Write { fd: b, bytes: w }) => {
-                *a == *b && v.is_same(w)
-            }
-            (
-                Call::Pread {
-                    fd: a,
-                    start: s,
-                    count: m,
-                },
-                Call::Pread {
-                    fd: b,
-                    start: t,
-                    count: n,
-                },
-            ) => *a == *b && *s == *t && *m == *n,
-            (
-                Call::Pwrite {
-                    fd: a,
-                    start: s,
-                    bytes: v,
-                },
-                Call::Pwrite {
-                    fd: b,
-                    start: t,
-                    bytes: w,
-                },
-            ) => *a == *b && *s == *t && v.is_same(w),
-            (
-                Call::Lseek {
-                    fd: a,
-                    offset: s,
-                    whence: m,
-                },
-                Call::Lseek {
-                    fd: b,
-                    offset: t,
-                    whence: n,
-                },
-            ) => *a == *b && *s == *t && *m == *n,
-            (Call::Ftruncate { fd: a, len: s }, Call::Ftruncate { fd: b, len: t }) => {
-                *a == *b && *s == *t
-            }
-            (Call::Dup { fd: a }, Call::Dup { fd: b }) => *a == *b,
-            (Call::Dup2 { fd: a, to: s }, Call::Dup2 { fd: b, to: t }) => *a == *b && *s == *t,
-            (Call::Pipe, Call::Pipe) => true,
-            (Call::Mkfifo { name: a }, Call::Mkfifo { name: b }) => a.is_same(b),
-            (Call::Link { old: a, new: s }, Call::Link { old: b, new: t }) => {
-                a.is_same(b) && s.is_same(t)
-            }
-            (Call::Unlink { name: a }, Call::Unlink { name: b }) => a.is_same(b),
-            (Call::Fstat { fd: a }, Call::Fstat { fd: b }) => *a == *b,
-            (Call::Fork, Call::Fork) => true,
-            _ => false,
+        match self {
+            Call::Open { name, flags } =>
+                matches!(other, Call::Open { name: n, flags: f } if name.is_same(n) && *flags == *f),
+            Call::Close { fd } => matches!(other, Call::Close { fd: f } if *fd == *f),
+            Call::Read { fd, count } =>
+                matches!(other, Call::Read { fd: f, count: c } if *fd == *f && *count == *c),
+            Call::Write { fd, bytes } =>
+                matches!(other, Call::Write { fd: f, bytes: b } if *fd == *f && bytes.is_same(b)),
+            Call::Pread { fd, start, count } =>
+                matches!(other, Call::Pread { fd: f, start: s, count: c } if *fd == *f && *start == *s && *count == *c),
+            Call::Pwrite { fd, start, bytes } =>
+                matches!(other, Call::Pwrite { fd: f, start: s, bytes: b } if *fd == *f && *start == *s && bytes.is_same(b)),
+            Call::Lseek { fd, offset, whence } =>
+                matches!(other, Call::Lseek { fd: f, offset: o, whence: w } if *fd == *f && *offset == *o && *whence == *w),
+            Call::Ftruncate { fd, len } =>
+                matches!(other, Call::Ftruncate { fd: f, len: l } if *fd == *f && *len == *l),
+            Call::Dup { fd } => matches!(other, Call::Dup { fd: f } if *fd == *f),
+            Call::Dup2 { fd, to } =>
+                matches!(other, Call::Dup2 { fd: f, to: t } if *fd == *f && *to == *t),
+            Call::Pipe => matches!(other, Call::Pipe),
+            Call::Mkfifo { name } => matches!(other, Call::Mkfifo { name: n } if name.is_same(n)),
+            Call::Link { old, new } =>
+                matches!(other, Call::Link { old: o, new: n } if old.is_same(o) && new.is_same(n)),
+            Call::Unlink { name } => matches!(other, Call::Unlink { name: n } if name.is_same(n)),
+            Call::Fstat { fd } => matches!(other, Call::Fstat { fd: f } if *fd == *f),
+            Call::Fork => matches!(other, Call::Fork),
         }
     }
 }
