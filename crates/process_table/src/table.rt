@@ -100,13 +100,6 @@ impl DescriptorTable {
         old
     }
 
-    /// Lets a descriptor refer to this description.
-    pub fn set(&mut self, fd: usize, number: usize)
-        ensures { self.new ≡ slice_set self.old fd (Some number) }
-    {
-        self.slots.put(fd, Some(number));
-    }
-
     /// Frees a descriptor (page of close); what it referred to.
     pub fn clear(&mut self, fd: usize) -> Option<usize>
         ensures old { result ≡ slot self.old fd }
