@@ -9,8 +9,8 @@ use Rattle.call_types.specs.declared.bounded.StoredName.{StoredName}
 use Rattle.call_types.specs.declared.bounded.StoredName.TheVariants as names
 use Rattle.call_types.specs.declared.bounded.StoredData.{StoredData}
 use Rattle.call_types.specs.declared.bounded.StoredData.TheVariants as kept
-use Rattle.call_types.specs.declared.part.Part.{Part}
-use Rattle.call_types.specs.declared.part.Part.TheVariants as parts
+use Rattle.call_types.specs.declared.span.Span.{Span}
+use Rattle.call_types.specs.declared.span.Span.TheVariants as spans
 
 -- the bytes that are gathered
 abbrev pub gathered_bytes : Gathering → List ℕ
@@ -33,7 +33,7 @@ stored_bytes (kept.Few few) = few
 stored_bytes (kept.Same byte count) = replicate count byte
 stored_bytes (kept.Many many) = (arc_value many).items
 
--- the bytes of a part
-abbrev pub part_bytes : Part → List ℕ
-part_bytes (parts.Slice bytes) = bytes.now
-part_bytes (parts.Same byte count) = replicate count byte
+-- the bytes of a span
+abbrev pub span_bytes : Span → List ℕ
+span_bytes (spans.Slice bytes) = bytes.now
+span_bytes (spans.Same byte count) = replicate count byte

@@ -1,11 +1,11 @@
 ghost use Rattle.std.specs.Prelude.{◌≡◌, ◌≤◌, ◌==◌, ◌++◌, [], List, ℕ, length, replicate, IfOk, IfSome};
 ghost use Rattle.call_types.specs.declared.limits.TheConstants.{GIVEN_NAME_MAX};
-ghost use Rattle.call_types.specs.Stored.{stored_name, stored_bytes, part_bytes};
+ghost use Rattle.call_types.specs.Stored.{stored_name, stored_bytes, span_bytes};
 
 use crate::few::{FEW, FewBytes};
 use crate::gathered::{Gathered, Gathering};
 use crate::limits::{GIVEN_BYTES_MAX, GIVEN_NAME_MAX, TRANSFER_MAX};
-use crate::part::Part;
+use crate::span::Span;
 use std::alloc::{AllocError, Global};
 use std::marker::Model;
 use std::sync::Arc;
@@ -239,7 +239,7 @@ impl<const MOST: usize> Data<MOST> {
         ensures exact { result ≡ length self.now }
         ensures within { result ≤ MOST }
     {
-        self.part().len()
+        self.span().len()
     }
 
     /// Whether there is no byte.
@@ -250,17 +250,17 @@ impl<const MOST: usize> Data<MOST> {
     }
 
     /// The bytes, where they are.
-    pub fn part(&self) -> Part<'_>
-        ensures value { part_bytes result ≡ self.now }
+    pub fn span(&self) -> Span<'_>
+        ensures value { span_bytes result ≡ self.now }
         ensures within { length self.now ≤ MOST }
     {
         match &self.stored {
-            StoredData::Few(few) => Part::Slice(few.as_slice()),
-            StoredData::Same { byte, count } => Part::Same {
+            StoredData::Few(few) => Span::Slice(few.as_slice()),
+            StoredData::Same { byte, count } => Span::Same {
                 byte: *byte,
                 count: *count,
             },
-            StoredData::Many(many) => Part::Slice(many.as_slice()),
+            StoredData::Many(many) => Span::Slice(many.as_slice()),
         }
     }
 }

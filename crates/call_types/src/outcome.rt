@@ -3,7 +3,7 @@ use crate::errno::Errno;
 
 /// What a file is, as fstat tells it.
 #[derive(Clone, Copy, Debug, PartialEq, Eq)]
-pub enum Kind {
+pub enum FileType {
     /// A regular file.
     Regular,
     /// A pipe with a name.
@@ -16,7 +16,7 @@ pub enum Kind {
 #[derive(Clone, Copy, Debug, PartialEq, Eq)]
 pub struct Stat {
     /// What the file is.
-    pub kind: Kind,
+    pub kind: FileType,
     /// The size in bytes, at most 1,048,576.
     pub size: u64,
     /// How many names the file has.

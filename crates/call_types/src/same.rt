@@ -2,13 +2,13 @@
 //! kept.
 
 ghost use Rattle.std.specs.Prelude.{◌≡◌, ◌↔◌, true, length, replicate};
-ghost use Rattle.call_types.specs.Stored.{part_bytes};
+ghost use Rattle.call_types.specs.Stored.{span_bytes};
 
 use crate::act::{Act, Record};
 use crate::bounded::{Data, Name};
 use crate::call::Call;
 use crate::outcome::{Outcome, Reply};
-use crate::part::Part;
+use crate::span::Span;
 
 /// Whether bytes are one byte that stands so many times.
 fn is_repeated(bytes: &[u8], byte: u8, count: usize) -> bool
@@ -17,18 +17,18 @@ fn is_repeated(bytes: &[u8], byte: u8, count: usize) -> bool
     bytes.len() == count && bytes.iter().all(|other| *other == byte)
 }
 
-impl<'a> Part<'a> {
+impl<'a> Span<'a> {
     /// Whether these are the same bytes as others.
-    pub fn is_same(self, other: Part<'_>) -> bool
-        ensures { (result ≡ true) ↔ (part_bytes self.entry ≡ part_bytes other.entry) }
+    pub fn is_same(self, other: Span<'_>) -> bool
+        ensures { (result ≡ true) ↔ (span_bytes self.entry ≡ span_bytes other.entry) }
     {
         match (self, other) {
-            (Part::Slice(bytes), Part::Slice(others)) => bytes == others,
-            (Part::Slice(bytes), Part::Same { byte, count }) => is_repeated(bytes, byte, count),
-            (Part::Same { byte, count }, Part::Slice(bytes)) => is_repeated(bytes, byte, count),
+            (Span::Slice(bytes), Span::Slice(others)) => bytes == others,
+            (Span::Slice(bytes), Span::Same { byte, count }) => is_repeated(bytes, byte, count),
+            (Span::Same { byte, count }, Span::Slice(bytes)) => is_repeated(bytes, byte, count),
             (
-                Part::Same { byte, count },
-                Part::Same {
+                Span::Same { byte, count },
+                Span::Same {
                     byte: other_byte,
                     count: other_count,
                 },
@@ -51,7 +51,7 @@ impl<const MOST: usize> Data<MOST> {
     pub fn is_same(&self, other: &Data<MOST>) -> bool
         ensures { (result ≡ true) ↔ (self.now ≡ other.now) }
     {
-        self.part().is_same(other.part())
+        self.span().is_same(other.span())
     }
 }
 

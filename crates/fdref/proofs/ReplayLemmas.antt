@@ -7,7 +7,7 @@ use Rattle.std.proofs.lemmas.Bool.{lt-ltb, cases_lt}
 use Rattle.script_text.specs.ReadingScripts.{script}
 use Rattle.fdref.specs.Replay.{OfInput}
 
--- a text that is cut behind the limit is too long, as the whole is
+-- a text that is cut after the limit is too long, as the whole is
 pub script_cut : (most : ℕ) (text input : List ℕ) → most ≡ 16777217 → text ≡ take most input → script text ≡ script input
 script_cut most text input limit cut =
     elim (cases_lt 16777216 (length input)) [

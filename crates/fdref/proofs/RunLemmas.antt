@@ -10,13 +10,13 @@ use Rattle.script_text.specs.ReadingResults.{ScriptFails, NextGives}
 use Rattle.script_text.specs.declared.fault.ScriptFault.{ScriptFault}
 use Rattle.record_book.specs.Book.{BookState, new_book}
 use Rattle.record_book.specs.Runs.{RunTells, Seats}
-use Rattle.record_book.specs.declared.run.Told.{Told}
+use Rattle.record_book.specs.declared.run.ScriptAnswer.{ScriptAnswer}
 use Rattle.script_text.specs.Spellings.{SpellsScript}
 use Rattle.script_text.specs.declared.fault.ScriptFault.TheVariants as faults
 use Rattle.posix_model.specs.History.{legal}
 use Rattle.fdref.specs.Output.{last_line, told_line, told_lines}
 use Rattle.fdref.specs.Replay.{RunsNext, RunsOn, Gathers, RunsScript, FailsAs, Refuses, Ends}
-use Rattle.fdref.specs.declared.ended.Ended.{Ended}
+use Rattle.fdref.specs.declared.job_end.JobEnd.{JobEnd}
 
 -- nothing goes before
 followed_none : (read : Result (List ScriptAct) ScriptFault) → followed [] read ≡ read
@@ -29,7 +29,7 @@ followed_on acts next (Ok others) = ap (λ l. Ok l) (sym (append_assoc acts next
 followed_on acts next (Err fault) = refl
 
 -- one line more
-lines_next : (told : List Told) (one : Told) → told_lines (told ++ one ∷ []) ≡ told_lines told ++ told_line one
+lines_next : (told : List ScriptAnswer) (one : ScriptAnswer) → told_lines (told ++ one ∷ []) ≡ told_lines told ++ told_line one
 lines_next told one = flat_map-append told_line told (one ∷ []) ∙ ap (λ l. told_lines told ++ l) (append-nil (told_line one))
 
 -- at first nothing was read
@@ -109,7 +109,7 @@ refused (Some known) fault text spelled same fails =
     record { unspelled = λ acts spells. let e : script known ≡ Ok acts = spelled acts known spells in cc; fault_is = is }
 
 -- a run that was not made has written nothing
-pub fails_ends : (limits : Limits) (input old : Option (List ℕ)) (text : List ℕ) (end : Ended)
+pub fails_ends : (limits : Limits) (input old : Option (List ℕ)) (text : List ℕ) (end : JobEnd)
     → ((acts : List ScriptAct) (other : List ℕ) → SpellsScript acts other → script other ≡ Ok acts) → IfSome input (λ known. script text ≡ script known)
     → FailsAs text end → Ends limits input old old end
 fails_ends limits input old text end spelled same (faults.NoMemory, is, fails) = subst (Ends limits input old old) (sym is) refl

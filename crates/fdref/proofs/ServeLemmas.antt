@@ -9,8 +9,8 @@ use Rattle.run_core.specs.declared.report.Shortage.{Shortage}
 use Rattle.run_core.specs.declared.report.Shortage.TheVariants as shortage
 use Rattle.fdref.specs.Output.{AppendsFront}
 use Rattle.fdref.specs.Serve.{IsReport, Reports, end_of, report_line}
-use Rattle.fdref.specs.declared.ended.Ended.{Ended}
-use Rattle.fdref.specs.declared.ended.Ended.TheVariants as ended
+use Rattle.fdref.specs.declared.job_end.JobEnd.{JobEnd}
+use Rattle.fdref.specs.declared.job_end.JobEnd.TheVariants as ended
 
 -- the sessions of a report are those that hold its receipts
 pub report_of : (limits : Limits) (most sessions records taken given : ℕ) (held : List Held) (line : List ℕ)
@@ -39,7 +39,7 @@ reports_by limits most old new (Some shortage.NoThread) sessions records taken g
     (line, (report_of limits most sessions records taken given held line all few run is, rw all fewer), written)
 
 -- or only a front of it was written
-pub reports_front : (limits : Limits) (most : ℕ) (old new : Option (List ℕ)) (sessions records taken given : ℕ) (held : List Held) (line : List ℕ) (found : Ended)
+pub reports_front : (limits : Limits) (most : ℕ) (old new : Option (List ℕ)) (sessions records taken given : ℕ) (held : List Held) (line : List ℕ) (found : JobEnd)
     → length held ≡ sessions → sessions ≤ most → IsRunOf limits records taken given held → line ≡ report_line sessions records taken given → AppendsFront old new line → found ≡ ended.CannotWrite
     → Reports limits most old new found
 unfolding report_of

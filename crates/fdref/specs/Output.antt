@@ -6,22 +6,22 @@ use Rattle.posix_model.specs.Turns.{bytes_in, bytes_out}
 use Rattle.script_text.specs.Lines.{record_line, refused_line, still_line, totals_line}
 use Rattle.record_book.specs.Seat.{Receipted}
 use Rattle.record_book.specs.Book.{BookState}
-use Rattle.record_book.specs.declared.run.Told.{Told}
-use Rattle.record_book.specs.declared.run.Told.TheVariants.{Recorded, Closed, Still, Refused}
+use Rattle.record_book.specs.declared.run.ScriptAnswer.{ScriptAnswer}
+use Rattle.record_book.specs.declared.run.ScriptAnswer.TheVariants.{Recorded, Closed, Still, Refused}
 
 -- the line of a receipt
 abbrev pub receipt_line : Receipted → List ℕ
 receipt_line receipt = record_line receipt.place receipt.record_is
 
 -- the lines of what is told of an act: one, but a line for each record of a closing
-abbrev pub told_line : Told → List ℕ
+abbrev pub told_line : ScriptAnswer → List ℕ
 told_line (Recorded receipt) = receipt_line receipt
 told_line (Closed receipts) = flat_map receipt_line receipts.items
 told_line (Still actor act) = still_line actor act.now
 told_line (Refused actor act refusal) = refused_line actor act.now refusal
 
 -- the lines of all that is told
-abbrev pub told_lines : List Told → List ℕ
+abbrev pub told_lines : List ScriptAnswer → List ℕ
 told_lines told = flat_map told_line told
 
 -- the last line of a run: the totals of its book

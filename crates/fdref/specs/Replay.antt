@@ -11,15 +11,15 @@ use Rattle.script_text.specs.declared.fault.ScriptFault.{ScriptFault}
 use Rattle.script_text.specs.declared.fault.ScriptFault.TheVariants as faults
 use Rattle.record_book.specs.Book.{BookState, new_book}
 use Rattle.record_book.specs.Runs.{RunTells, GoesOn, Seats}
-use Rattle.record_book.specs.declared.run.Told.{Told}
+use Rattle.record_book.specs.declared.run.ScriptAnswer.{ScriptAnswer}
 use Rattle.fdref.specs.Output.{AppendsFront, last_line, told_line, told_lines}
-use Rattle.fdref.specs.declared.ended.Ended.{Ended}
-use Rattle.fdref.specs.declared.ended.Ended.TheVariants as ended
+use Rattle.fdref.specs.declared.job_end.JobEnd.{JobEnd}
+use Rattle.fdref.specs.declared.job_end.JobEnd.TheVariants as ended
 
 -- the output is the lines of what is told of the acts in a new book, and the line of totals; the book's records are a run of
 -- the model
 pub record IsOutput (limits : Limits) (acts : List ScriptAct) (output : List ℕ) : Type 0 where
-  pub told : List Told
+  pub told : List ScriptAnswer
   pub book : BookState
   pub seats : Seats
   pub runs : RunTells (new_book limits) book [] seats acts told
@@ -36,7 +36,7 @@ WritesFront limits acts old new = (output : List ℕ) × IsOutput limits acts ou
 
 -- one act more was run, and its lines stand after the others
 pub record RunsNext (old new : BookState) (seats after : Seats) (act : ScriptAct) (lines more : List ℕ) : Type 0 where
-  pub told : Told
+  pub told : ScriptAnswer
   pub goes_on : GoesOn old new seats after act told
   pub limits_are : new.limits ≡ old.limits
   pub lines_are : more ≡ lines ++ told_line told
@@ -44,7 +44,7 @@ pub record RunsNext (old new : BookState) (seats after : Seats) (act : ScriptAct
 -- acts that were read were run one after another, and their lines stand after the others; what is left is read as rest
 pub record RunsOn (read rest : Result (List ScriptAct) ScriptFault) (old new : BookState) (seats after : Seats) (lines more : List ℕ) : Type 0 where
   pub acts : List ScriptAct
-  pub told : List Told
+  pub told : List ScriptAnswer
   pub is_read : read ≡ followed acts rest
   pub runs : RunTells old new seats after acts told
   pub limits_are : new.limits ≡ old.limits
@@ -53,7 +53,7 @@ pub record RunsOn (read rest : Result (List ScriptAct) ScriptFault) (old new : B
 -- acts that were read were run in a book, to their end, and this is their output
 pub record Gathers (read : Result (List ScriptAct) ScriptFault) (old new : BookState) (output : List ℕ) : Type 0 where
   pub acts : List ScriptAct
-  pub told : List Told
+  pub told : List ScriptAnswer
   pub seats : Seats
   pub is_read : read ≡ Ok acts
   pub runs : RunTells old new [] seats acts told
@@ -66,17 +66,17 @@ abbrev pub RunsScript : Limits → List ℕ → List ℕ → Type 0
 RunsScript limits text output = (acts : List ScriptAct) × (script text ≡ Ok acts) × IsOutput limits acts output
 
 -- the end that a fault of a script is
-abbrev pub ended_by : ScriptFault → Ended
+abbrev pub ended_by : ScriptFault → JobEnd
 ended_by (faults.BadLine line column) = ended.BadLine line column
 ended_by faults.TooLong = ended.TooLong
 ended_by faults.NoMemory = ended.NoMemory
 
 -- the end says why what was read gave no output: by its fault, or for want of memory
-abbrev pub FailsReading : Result (List ScriptAct) ScriptFault → Ended → Type 0
+abbrev pub FailsReading : Result (List ScriptAct) ScriptFault → JobEnd → Type 0
 FailsReading read end = (fault : ScriptFault) × (end ≡ ended_by fault) × ScriptFails fault read
 
 -- the same of a text
-abbrev pub FailsAs : List ℕ → Ended → Type 0
+abbrev pub FailsAs : List ℕ → JobEnd → Type 0
 FailsAs text end = FailsReading (script text) end
 
 -- the text is a script, and the output of its acts was written, and nothing else
@@ -101,7 +101,7 @@ abbrev pub OfInput : Option (List ℕ) → (List ℕ → Type 0) → Type 0
 OfInput input P = (text : List ℕ) × IfSome input (λ known. text ≡ known) × P text
 
 -- what the end says of the input, where that is known, and of what was written
-abbrev pub Ends : Limits → Option (List ℕ) → Option (List ℕ) → Option (List ℕ) → Ended → Type 0
+abbrev pub Ends : Limits → Option (List ℕ) → Option (List ℕ) → Option (List ℕ) → JobEnd → Type 0
 Ends limits input old new ended.Done = OfInput input (WritesReplay limits old new)
 Ends limits input old new (ended.BadLine line column) = IfSome input (Refuses (faults.BadLine line column)) × (new ≡ old)
 Ends limits input old new ended.TooLong = IfSome input (Refuses faults.TooLong) × (new ≡ old)
@@ -114,7 +114,7 @@ Ends limits input old new ended.MissingShare = ⊥
 Ends limits input old new (ended.Disagree place) = ⊥
 
 -- the exit status of an end
-abbrev pub ended_status : Ended → ℕ
+abbrev pub ended_status : JobEnd → ℕ
 ended_status ended.Done = 0
 ended_status (ended.BadLine line column) = 3
 ended_status ended.TooLong = 3
@@ -127,7 +127,7 @@ ended_status ended.MissingShare = 6
 ended_status (ended.Disagree place) = 6
 
 -- what is written of an end on standard error (own)
-abbrev pub ended_text : Ended → List ℕ
+abbrev pub ended_text : JobEnd → List ℕ
 ended_text ended.Done = []
 ended_text (ended.BadLine line column) = codes "line " ++ (decimal line ++ (codes " column " ++ (decimal column ++ codes ": not an act\n")))
 ended_text ended.TooLong = codes "script too long\n"

@@ -10,8 +10,8 @@ use Rattle.run_core.specs.declared.report.RunFault.TheVariants as fault
 use Rattle.run_core.specs.declared.report.Shortage.{Shortage}
 use Rattle.run_core.specs.declared.report.Shortage.TheVariants as shortage
 use Rattle.fdref.specs.Output.{AppendsFront}
-use Rattle.fdref.specs.declared.ended.Ended.{Ended}
-use Rattle.fdref.specs.declared.ended.Ended.TheVariants as ended
+use Rattle.fdref.specs.declared.job_end.JobEnd.{JobEnd}
+use Rattle.fdref.specs.declared.job_end.JobEnd.TheVariants as ended
 
 -- the line that reports a run: how many sessions were started, and the totals of its book
 abbrev pub report_line : ℕ → ℕ → ℕ → ℕ → List ℕ
@@ -36,19 +36,19 @@ abbrev pub IsShortReport : Limits → ℕ → List ℕ → Type 0
 IsShortReport limits sessions line = (report : IsReport limits sessions line) × (length report.held < sessions)
 
 -- how a run ended whose report is written
-abbrev pub end_of : Option Shortage → Ended
+abbrev pub end_of : Option Shortage → JobEnd
 end_of None = ended.Done
 end_of (Some shortage.NoConnection) = ended.CannotListen
 end_of (Some shortage.NoThread) = ended.NoThread
 
 -- how a run ended that gave no report
-abbrev pub ended_by : RunFault → Ended
+abbrev pub ended_by : RunFault → JobEnd
 ended_by fault.NoMemory = ended.NoMemory
 ended_by fault.Missing = ended.MissingShare
 ended_by (fault.Disagree place) = ended.Disagree place
 
 -- what the end says of what was written
-abbrev pub Reports : Limits → ℕ → Option (List ℕ) → Option (List ℕ) → Ended → Type 0
+abbrev pub Reports : Limits → ℕ → Option (List ℕ) → Option (List ℕ) → JobEnd → Type 0
 Reports limits most old new ended.Done = (line : List ℕ) × IsFullReport limits most line × Appends old new line
 Reports limits most old new ended.CannotListen = (line : List ℕ) × IsShortReport limits most line × Appends old new line
 Reports limits most old new ended.NoThread = (line : List ℕ) × IsShortReport limits most line × Appends old new line

@@ -1,8 +1,8 @@
 //! The program `fdref`.
 #![tactic(auto)]
 
-mod ended;
 mod job;
+mod job_end;
 mod listener;
 mod output;
 mod perform;
@@ -14,8 +14,8 @@ ghost use Rattle.std.specs.Process.{exit_status};
 ghost use Rattle.fdref.specs.CommandLine.{status_of};
 ghost use Rattle.fdref.specs.Replay.{ended_status};
 
-use ended::Ended;
 use job::{Job, JobFault, job_of, not_text};
+use job_end::JobEnd;
 use listener::Sockets;
 use perform::perform;
 use std::io;
@@ -45,7 +45,7 @@ fn asked(rt: &HostRuntime) -> Result<Job, JobFault> {
 }
 
 /// The exit code of how a job ended.
-fn code_of(ended: Ended) -> ExitCode
+fn code_of(ended: JobEnd) -> ExitCode
     ensures { exit_status result ≡ ended_status ended }
 {
     ExitCode::from(ended.status())
@@ -59,7 +59,7 @@ fn code_of_fault(fault: &JobFault) -> ExitCode
 }
 
 /// Says on standard error how a job ended, and ends the program.
-fn end(rt: &HostRuntime, ended: Ended) -> ExitCode
+fn end(rt: &HostRuntime, ended: JobEnd) -> ExitCode
     ensures { exit_status result ≡ ended_status ended }
 {
     let _ = eprint!(rt; "{ended}");
@@ -82,7 +82,7 @@ fn main(rt: HostRuntime) -> ExitCode {
         Err(fault) => fault,
     };
     match (tell(&rt, &fault), &fault) {
-        (Err(_), JobFault::Shown(_)) => end(&rt, Ended::CannotWrite),
+        (Err(_), JobFault::Shown(_)) => end(&rt, JobEnd::CannotWrite),
         _ => code_of_fault(&fault),
     }
 }

@@ -4,8 +4,8 @@ ghost use Rattle.std.specs.List.{flat_map};
 ghost use Rattle.std.specs.Io.KnownBytes.{Appends, Keeps};
 ghost use Rattle.fdref.specs.Output.{AppendsFront, receipt_line, told_line};
 
-use crate::ended::Ended;
-use record_book::run::Told;
+use crate::job_end::JobEnd;
+use record_book::run::ScriptAnswer;
 use record_book::seat::Receipt;
 use script_text::lines::{write_record, write_refused, write_still};
 use std::alloc::AllocError;
@@ -15,25 +15,25 @@ use std::io::{ErrorKind, Write};
 const TRIES: u64 = u64::MAX;
 
 /// Writes a front of a text, and says how many bytes it has; none where the writer was interrupted.
-fn write_some<W: Write>(writer: &mut W, text: &[u8]) -> Result<usize, Ended>
+fn write_some<W: Write>(writer: &mut W, text: &[u8]) -> Result<usize, JobEnd>
     ensures few { IfOk result (λ count. count ≤ length text.now) }
     ensures front { IfOk result (λ count. Appends (W.contents writer.old) (W.contents writer.new) (take count text.now)) }
     ensures kept { OnErr result (Keeps (W.contents writer.old) (W.contents writer.new)) }
-    ensures fault { IfErr result (λ ended. ended ≡ Ended.CannotWrite) }
+    ensures fault { IfErr result (λ ended. ended ≡ JobEnd.CannotWrite) }
 {
     match writer.write(text) {
-        Ok(0) => Err(Ended::CannotWrite),
+        Ok(0) => Err(JobEnd::CannotWrite),
         Ok(count) => Ok(count),
         Err(error) if error.kind() == ErrorKind::Interrupted => Ok(0),
-        Err(_) => Err(Ended::CannotWrite),
+        Err(_) => Err(JobEnd::CannotWrite),
     }
 }
 
 /// Writes a text. Where the writer fails, it has a front of the text, and nothing else.
-fn write_whole<W: Write>(writer: &mut W, text: &[u8]) -> Result<(), Ended>
+fn write_whole<W: Write>(writer: &mut W, text: &[u8]) -> Result<(), JobEnd>
     ensures text { OnOk result (Appends (W.contents writer.old) (W.contents writer.new) text.now) }
     ensures front { OnErr result (AppendsFront (W.contents writer.old) (W.contents writer.new) text.now) }
-    ensures fault { IfErr result (λ ended. ended ≡ Ended.CannotWrite) }
+    ensures fault { IfErr result (λ ended. ended ≡ JobEnd.CannotWrite) }
 {
     let mut rest = text;
     for _ in 0..TRIES {
@@ -43,7 +43,7 @@ fn write_whole<W: Write>(writer: &mut W, text: &[u8]) -> Result<(), Ended>
         let count = write_some(writer, rest)?;
         rest = &rest[count..];
     }
-    Err(Ended::CannotWrite)
+    Err(JobEnd::CannotWrite)
 }
 
 /// Gathers the lines of receipts.
@@ -57,14 +57,14 @@ fn put_receipts(out: &mut Vec<u8>, receipts: &[Receipt]) -> Result<(), AllocErro
 }
 
 /// Gathers the lines of what is told of an act.
-pub(crate) fn put_line(out: &mut Vec<u8>, told: &Told<'_>) -> Result<(), AllocError>
+pub(crate) fn put_line(out: &mut Vec<u8>, told: &ScriptAnswer<'_>) -> Result<(), AllocError>
     ensures { OnOk result (out.new.items ≡ out.old.items ++ told_line told.now) }
 {
     match told {
-        Told::Recorded(receipt) => write_record(out, receipt.place(), receipt.record()),
-        Told::Closed(receipts) => put_receipts(out, receipts.as_slice()),
-        Told::Still { actor, act } => write_still(out, *actor, act),
-        Told::Refused {
+        ScriptAnswer::Recorded(receipt) => write_record(out, receipt.place(), receipt.record()),
+        ScriptAnswer::Closed(receipts) => put_receipts(out, receipts.as_slice()),
+        ScriptAnswer::Still { actor, act } => write_still(out, *actor, act),
+        ScriptAnswer::Refused {
             actor,
             act,
             refusal,
@@ -73,14 +73,14 @@ pub(crate) fn put_line(out: &mut Vec<u8>, told: &Told<'_>) -> Result<(), AllocEr
 }
 
 /// Writes a text whole, and flushes it. Where that fails, a front of it is written, and nothing else.
-pub(crate) fn write_lines<W: Write>(writer: &mut W, text: &[u8]) -> Result<(), Ended>
+pub(crate) fn write_lines<W: Write>(writer: &mut W, text: &[u8]) -> Result<(), JobEnd>
     ensures text { OnOk result (Appends (W.contents writer.old) (W.contents writer.new) text.now) }
     ensures front { OnErr result (AppendsFront (W.contents writer.old) (W.contents writer.new) text.now) }
-    ensures fault { IfErr result (λ ended. ended ≡ Ended.CannotWrite) }
+    ensures fault { IfErr result (λ ended. ended ≡ JobEnd.CannotWrite) }
 {
     write_whole(writer, text)?;
     if writer.flush().is_err() {
-        return Err(Ended::CannotWrite);
+        return Err(JobEnd::CannotWrite);
     }
     Ok(())
 }

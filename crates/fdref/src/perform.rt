@@ -3,8 +3,8 @@
 ghost use Rattle.std.specs.Prelude.{◌≡◌, IfSome};
 ghost use Rattle.fdref.specs.Perform.{Performs};
 
-use crate::ended::Ended;
 use crate::job::Job;
+use crate::job_end::JobEnd;
 use crate::replay::replay;
 use crate::serve::serve_on;
 use run_core::source::Source;
@@ -31,7 +31,7 @@ pub fn perform<Rt: Threads + Wait + Copy + Send + 'static, L: Listens, R: Read +
     reader: R,
     writer: &mut W,
     job: Job,
-) -> Ended
+) -> JobEnd
     ensures { Performs job (R.remaining reader) (W.contents writer.old) (W.contents writer.new) result }
 {
     match job {
@@ -52,7 +52,7 @@ pub fn perform<Rt: Threads + Wait + Copy + Send + 'static, L: Listens, R: Read +
                     writer,
                 )
             }
-            None => Ended::CannotListen,
+            None => JobEnd::CannotListen,
         },
     }
 }

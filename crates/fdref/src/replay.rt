@@ -5,13 +5,13 @@ ghost use Rattle.script_text.specs.ReadingResults.{ScriptFails};
 ghost use Rattle.script_text.specs.declared.script.TheConstants.{SCRIPT_MAX};
 ghost use Rattle.fdref.specs.Replay.{Ends, Gathers, RunsNext, RunsOn, RunsScript, FailsAs, FailsReading};
 
-use crate::ended::Ended;
+use crate::job_end::JobEnd;
 use crate::output::{put_line, write_lines};
 use byte_ledger::ledgers::{Blanks, Ledgers};
 use call_types::act::ScriptAct;
 use call_types::limits::Limits;
 use record_book::book::Book;
-use record_book::run::Told;
+use record_book::run::ScriptAnswer;
 use record_book::seats::Seats;
 use script_text::fault::ScriptFault;
 use script_text::lines::write_totals;
@@ -23,17 +23,17 @@ use std::marker::Brand;
 use std::mem::forget;
 
 /// Reads the whole script, or one byte more than a script has.
-fn read_text<R: Read + Drop>(alloc: Global, reader: R) -> Result<Vec<u8>, Ended>
+fn read_text<R: Read + Drop>(alloc: Global, reader: R) -> Result<Vec<u8>, JobEnd>
     ensures text { IfOk result (λ text. IfSome (R.remaining reader) (λ input. script text.items ≡ script input)) }
     ensures whole { IfOk result (λ text. IfSome (R.remaining reader) (λ input. length text.items ≤ SCRIPT_MAX → text.items ≡ input)) }
-    ensures fault { IfErr result (λ ended. (ended ≡ Ended.CannotRead) ⊎ (ended ≡ Ended.NoMemory)) }
+    ensures fault { IfErr result (λ ended. (ended ≡ JobEnd.CannotRead) ⊎ (ended ≡ JobEnd.NoMemory)) }
 {
     let mut text = Vec::new(alloc);
     let mut reader = reader.take(SCRIPT_MAX as u64 + 1);
     match reader.read_to_end(&mut text) {
         Ok(_) => Ok(text),
-        Err(error) if error.kind() == ErrorKind::OutOfMemory => Err(Ended::NoMemory),
-        Err(_) => Err(Ended::CannotRead),
+        Err(error) if error.kind() == ErrorKind::OutOfMemory => Err(JobEnd::NoMemory),
+        Err(_) => Err(JobEnd::CannotRead),
     }
 }
 
@@ -50,7 +50,7 @@ fn run_next<L: Ledgers>(
 {
     let told = book.run_act(alloc, seats, &act);
     put_line(lines, &told)?;
-    if let Told::Recorded(_) = told {
+    if let ScriptAnswer::Recorded(_) = told {
         forget(told);
         forget(act);
     }
@@ -84,7 +84,7 @@ fn gather_lines<L: Ledgers>(
     script: &mut Script<'_>,
     book: &mut Book<L>,
     room: usize,
-) -> Result<Vec<u8>, Ended>
+) -> Result<Vec<u8>, JobEnd>
     ensures lines { IfOk result (λ lines. Gathers script.old.read book.old book.new lines.items) }
     ensures fault { IfErr result (λ ended. FailsReading script.old.read ended) }
 {
@@ -108,7 +108,7 @@ fn run_script<L: Ledgers>(
     limits: Limits,
     blanks: Blanks,
     text: &[u8],
-) -> Result<Vec<u8>, Ended>
+) -> Result<Vec<u8>, JobEnd>
     requires { blanks ≡ L.names }
     ensures lines { IfOk result (λ lines. RunsScript limits text.now lines.items) }
     ensures fault { IfErr result (λ ended. FailsAs text.now ended) }
@@ -131,7 +131,7 @@ pub fn replay<R: Read + Drop, W: Write>(
     reader: R,
     writer: &mut W,
     limits: Limits,
-) -> Ended
+) -> JobEnd
     ensures { Ends limits (R.remaining reader) (W.contents writer.old) (W.contents writer.new) result }
 {
     spelled_scripts_are_read();
@@ -145,7 +145,7 @@ pub fn replay<R: Read + Drop, W: Write>(
         Err(ended) => return ended,
     };
     match write_lines(writer, lines.as_slice()) {
-        Ok(()) => Ended::Done,
+        Ok(()) => JobEnd::Done,
         Err(ended) => ended,
     }
 }

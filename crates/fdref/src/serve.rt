@@ -2,9 +2,9 @@
 
 ghost use Rattle.std.specs.Prelude.{◌≡◌, ◌++◌, ◌+◌, ◌<◌, ◌^◌, Some, codes, decimal, vec_len, IfOk};
 ghost use Rattle.fdref.specs.Serve.{Reports, end_of, ended_by, report_line};
-ghost use Rattle.fdref.specs.declared.ended.Ended.TheVariants as ended;
+ghost use Rattle.fdref.specs.declared.job_end.JobEnd.TheVariants as ended;
 
-use crate::ended::Ended;
+use crate::job_end::JobEnd;
 use crate::output::write_lines;
 use byte_ledger::ledgers::{Blanks, Ledgers};
 use call_types::limits::Limits;
@@ -30,24 +30,24 @@ fn line_of<R, V>(alloc: Global, report: &Report<R, V>) -> Result<Vec<u8>, AllocE
 }
 
 /// How a run ended whose report is written.
-fn end_of(shortage: Option<Shortage>) -> Ended
+fn end_of(shortage: Option<Shortage>) -> JobEnd
     ensures { result ≡ end_of shortage }
 {
     match shortage {
-        None => Ended::Done,
-        Some(Shortage::NoConnection) => Ended::CannotListen,
-        Some(Shortage::NoThread) => Ended::NoThread,
+        None => JobEnd::Done,
+        Some(Shortage::NoConnection) => JobEnd::CannotListen,
+        Some(Shortage::NoThread) => JobEnd::NoThread,
     }
 }
 
 /// The end of a run that gives no report.
-fn ended_by(fault: RunFault) -> Ended
+fn ended_by(fault: RunFault) -> JobEnd
     ensures { result ≡ ended_by fault }
 {
     match fault {
-        RunFault::NoMemory => Ended::NoMemory,
-        RunFault::Missing => Ended::MissingShare,
-        RunFault::Disagree { place } => Ended::Disagree { place },
+        RunFault::NoMemory => JobEnd::NoMemory,
+        RunFault::Missing => JobEnd::MissingShare,
+        RunFault::Disagree { place } => JobEnd::Disagree { place },
     }
 }
 
@@ -65,7 +65,7 @@ fn serve_with<
     limits: Limits,
     blanks: Blanks,
     writer: &mut W,
-) -> Ended
+) -> JobEnd
     requires failures { S.failures source.old + 1 < 2 ^ 64 }
     requires ledgers { blanks ≡ L.names }
     requires limits { L.limits ≡ Some limits }
@@ -81,7 +81,7 @@ fn serve_with<
     };
     let line = match line_of(alloc, &report) {
         Ok(line) => line,
-        Err(_) => return Ended::NoMemory,
+        Err(_) => return JobEnd::NoMemory,
     };
     match write_lines(writer, line.as_slice()) {
         Ok(()) => end_of(report.shortage),
@@ -97,7 +97,7 @@ pub fn serve_on<Rt: Threads + Wait + Copy + Send + 'static, S: Source + Send + '
     sessions: usize,
     limits: Limits,
     writer: &mut W,
-) -> Ended
+) -> JobEnd
     requires failures { S.failures source.old + 1 < 2 ^ 64 }
     ensures reports { Reports limits sessions (W.contents writer.old) (W.contents writer.new) result }
     ensures failed { result ≡ ended.CannotListen → S.failures source.new ≡ S.failures source.old + 1 }

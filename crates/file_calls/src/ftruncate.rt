@@ -9,7 +9,7 @@ use call_types::limits::Bounds;
 use call_types::outcome::Reply;
 use posix_model::change::{Decided, FileEdit, TableEdit, does, refused};
 use posix_model::opened::OpenDescriptor;
-use posix_model::reader::Reader;
+use posix_model::reader::WorldReader;
 
 /// The first refusal of an ftruncate of an open descriptor.
 fn ftruncate_fault(bounds: Bounds, descriptor: OpenDescriptor, len: i64) -> Option<Errno>
@@ -31,7 +31,7 @@ fn ftruncate_fault(bounds: Bounds, descriptor: OpenDescriptor, len: i64) -> Opti
 }
 
 /// What ftruncate comes to: EBADF, EINVAL, EFBIG over the size limit, or a file of this length, in bytes (page of ftruncate).
-pub fn decide_ftruncate<R: Reader>(
+pub fn decide_ftruncate<R: WorldReader>(
     state: &R,
     bounds: Bounds,
     process: usize,

@@ -10,10 +10,10 @@ use call_types::outcome::Reply;
 use call_types::whence::Whence;
 use posix_model::change::{Decided, FileEdit, TableEdit, does, refused};
 use posix_model::opened::OpenDescriptor;
-use posix_model::reader::Reader;
+use posix_model::reader::WorldReader;
 
 /// From where the offset is counted, in bytes: the start, the offset or the end.
-fn base_of<R: Reader>(state: &R, descriptor: OpenDescriptor, whence: Whence) -> u64
+fn base_of<R: WorldReader>(state: &R, descriptor: OpenDescriptor, whence: Whence) -> u64
     ensures { result ≡ base_of (R.world state.now) descriptor whence }
 {
     match whence {
@@ -48,7 +48,7 @@ fn lseek_fault(descriptor: OpenDescriptor, to: i128) -> Option<Errno>
 
 /// What lseek comes to: EBADF, ESPIPE, EINVAL before the start of the file, EOVERFLOW past the greatest offset, or the new
 /// offset (page of lseek).
-pub fn decide_lseek<R: Reader>(
+pub fn decide_lseek<R: WorldReader>(
     state: &R,
     process: usize,
     fd: i32,

@@ -15,12 +15,12 @@ use call_types::outcome::Reply;
 use pipe_calls::open_end::{decide_open_end, is_met};
 use pipe_calls::opening::{free_descriptor, new_description};
 use posix_model::change::{Decided, FileEdit, TableEdit, does, refused};
-use posix_model::reader::Reader;
+use posix_model::reader::WorldReader;
 use posix_model::world::Fifo;
 use std::alloc::{AllocError, Global};
 
 /// The FIFO that a name leads to, if it leads to one.
-fn found_fifo<R: Reader>(state: &R, found: Option<usize>) -> Option<Fifo>
+fn found_fifo<R: WorldReader>(state: &R, found: Option<usize>) -> Option<Fifo>
     ensures { result ≡ found_fifo (R.world state.now) found }
 {
     match found {
@@ -37,7 +37,7 @@ fn is_both(flags: OpenFlags, fifo: Option<Fifo>) -> bool
 }
 
 /// Whether an open of a FIFO for writing, with nonblock, would meet no reader.
-fn is_unread<R: Reader>(state: &R, flags: OpenFlags, fifo: Option<Fifo>) -> bool
+fn is_unread<R: WorldReader>(state: &R, flags: OpenFlags, fifo: Option<Fifo>) -> bool
     ensures { result ≡ is_unread (R.world state.now) flags fifo }
 {
     match fifo {
@@ -51,7 +51,7 @@ fn is_unread<R: Reader>(state: &R, flags: OpenFlags, fifo: Option<Fifo>) -> bool
 }
 
 /// The first refusal of what a name leads to: ENOENT, EEXIST, EINVAL or ENXIO.
-fn found_fault<R: Reader>(state: &R, flags: OpenFlags, found: Option<usize>) -> Option<Errno>
+fn found_fault<R: WorldReader>(state: &R, flags: OpenFlags, found: Option<usize>) -> Option<Errno>
     ensures { result ≡ first_fault (found_faults (R.world state.now) flags found) }
 {
     if found.is_none() && !flags.has(OpenFlags::CREAT) {
@@ -71,7 +71,7 @@ fn found_fault<R: Reader>(state: &R, flags: OpenFlags, found: Option<usize>) -> 
 }
 
 /// The first refusal for want of room: EMFILE, ENFILE or ENOSPC.
-fn room_fault<R: Reader>(state: &R, process: usize, found: Option<usize>) -> Option<Errno>
+fn room_fault<R: WorldReader>(state: &R, process: usize, found: Option<usize>) -> Option<Errno>
     ensures { result ≡ first_fault (room_faults (R.world state.now) process found) }
 {
     if state.lowest_free(process).is_none() {
@@ -88,7 +88,7 @@ fn room_fault<R: Reader>(state: &R, process: usize, found: Option<usize>) -> Opt
 
 /// The first refusal of an open of a name that leads to `found`: of its flags, its name, what that leads to, and for want
 /// of room.
-fn open_fault<R: Reader>(
+fn open_fault<R: WorldReader>(
     state: &R,
     process: usize,
     name: &[u8],
@@ -102,7 +102,12 @@ fn open_fault<R: Reader>(
 }
 
 /// The lowest free descriptor refers to a new description, with an edit of files.
-fn opens<R: Reader>(state: &R, process: usize, files: FileEdit, description: Description) -> Decided
+fn opens<R: WorldReader>(
+    state: &R,
+    process: usize,
+    files: FileEdit,
+    description: Description,
+) -> Decided
     ensures { result ≡ opens (R.world state.now) process files description }
 {
     let fd = free_descriptor(state, process);
@@ -126,7 +131,7 @@ fn emptied(file: usize, flags: OpenFlags) -> FileEdit
 }
 
 /// A file that is there is opened: a regular one, or an end of a FIFO. An error says that memory for a copy of the call ran out.
-fn open_there<R: Reader>(
+fn open_there<R: WorldReader>(
     state: &R,
     alloc: Global,
     process: usize,
@@ -147,7 +152,7 @@ fn open_there<R: Reader>(
 }
 
 /// The file that is there is opened, or a new one. An error says that memory for a new name, or for a copy of the call, ran out.
-fn open_found<R: Reader>(
+fn open_found<R: WorldReader>(
     state: &R,
     alloc: Global,
     process: usize,
@@ -172,7 +177,7 @@ fn open_found<R: Reader>(
 /// What open comes to: a refusal of its flags, its name, what that leads to or for want of room, or the lowest free
 /// descriptor; of an end of a FIFO the process may wait (page of open). An error says that memory for a new name, or for a copy
 /// of the call, ran out.
-pub fn decide_open<R: Reader>(
+pub fn decide_open<R: WorldReader>(
     state: &R,
     alloc: Global,
     process: usize,

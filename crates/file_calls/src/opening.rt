@@ -6,7 +6,7 @@ ghost use Rattle.posix_model.specs.Open.{is_name_byte, is_dots, name_faults, fla
 use call_types::errno::Errno;
 use call_types::flags::OpenFlags;
 use call_types::limits::{NAME_MAX, NAMES_MAX};
-use posix_model::reader::Reader;
+use posix_model::reader::WorldReader;
 
 /// Whether a byte may stand in a name (XBD 3, Portable Filename Character Set).
 fn is_name_byte(byte: u8) -> bool
@@ -46,7 +46,7 @@ pub fn name_fault(name: &[u8]) -> Option<Errno>
 }
 
 /// Whether there may be no further name.
-pub fn names_full<R: Reader>(state: &R) -> bool
+pub fn names_full<R: WorldReader>(state: &R) -> bool
     ensures { result ≡ names_full (R.world state.now) }
 {
     state.name_count() >= NAMES_MAX

@@ -9,7 +9,7 @@ use call_types::limits::TRANSFER_MAX;
 use call_types::outcome::Reply;
 use posix_model::change::{Decided, refused, tells};
 use posix_model::opened::OpenDescriptor;
-use posix_model::reader::Reader;
+use posix_model::reader::WorldReader;
 use std::alloc::{AllocError, Global};
 
 /// The first refusal of a pread of an open descriptor.
@@ -33,7 +33,7 @@ fn pread_fault(descriptor: OpenDescriptor, start: i64, count: usize) -> Option<E
 
 /// What pread comes to: EBADF, ESPIPE, EINVAL, or at most `count` bytes from the position on, none at the end of the file.
 /// The offset stays (page of read, pread). An error says that memory ran out.
-pub fn decide_pread<R: Reader>(
+pub fn decide_pread<R: WorldReader>(
     state: &R,
     alloc: Global,
     process: usize,

@@ -10,7 +10,7 @@ use call_types::errno::Errno;
 use call_types::limits::{Bounds, TRANSFER_MAX};
 use posix_model::change::{Decided, TableEdit, refused};
 use posix_model::opened::OpenDescriptor;
-use posix_model::reader::Reader;
+use posix_model::reader::WorldReader;
 
 /// The first refusal of a pwrite of an open descriptor.
 fn pwrite_fault(
@@ -41,7 +41,7 @@ fn pwrite_fault(
 
 /// What pwrite comes to: EBADF, ESPIPE, EINVAL, EFBIG, or how many of the bytes fit from the position on, under append too.
 /// The offset stays (page of write, pwrite).
-pub fn decide_pwrite<R: Reader>(
+pub fn decide_pwrite<R: WorldReader>(
     state: &R,
     bounds: Bounds,
     process: usize,

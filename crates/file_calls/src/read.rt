@@ -16,7 +16,7 @@ use pipe_calls::read::decide_read_end;
 use pipe_calls::targets::pipe_at;
 use posix_model::change::{Decided, FileEdit, TableEdit, does, refused, tells};
 use posix_model::opened::OpenDescriptor;
-use posix_model::reader::Reader;
+use posix_model::reader::WorldReader;
 use std::alloc::{AllocError, Global};
 
 /// The first refusal of a read of an open descriptor.
@@ -47,7 +47,7 @@ fn gives(descriptor: OpenDescriptor, got: Content) -> Decided
 }
 
 /// A read of a regular file, from the offset on, none at its end. An error says that memory ran out.
-fn read_file<R: Reader>(
+fn read_file<R: WorldReader>(
     state: &R,
     alloc: Global,
     descriptor: OpenDescriptor,
@@ -65,7 +65,7 @@ fn read_file<R: Reader>(
 /// What read comes to, which is this call: EBADF, EINVAL, EAGAIN, or at most `count` bytes. Those of a regular file are read
 /// from the offset on, none at its end; of a pipe or FIFO those that it holds, and the process may wait (page of read). An
 /// error says that memory ran out.
-pub fn decide_read<R: Reader>(
+pub fn decide_read<R: WorldReader>(
     state: &R,
     alloc: Global,
     process: usize,

@@ -15,11 +15,11 @@ use pipe_calls::targets::pipe_at;
 use pipe_calls::write::decide_write_end;
 use posix_model::change::{Decided, TableEdit, refused};
 use posix_model::opened::OpenDescriptor;
-use posix_model::reader::Reader;
+use posix_model::reader::WorldReader;
 use std::alloc::{AllocError, Global};
 
 /// Where a write begins, in bytes: at the end under append, else at the offset.
-fn write_start<R: Reader>(state: &R, descriptor: OpenDescriptor) -> u64
+fn write_start<R: WorldReader>(state: &R, descriptor: OpenDescriptor) -> u64
     ensures { result ≡ write_start descriptor.description (length (bytes_of (R.world state.now) (file_at descriptor))) }
 {
     if descriptor.description.append {
@@ -64,7 +64,7 @@ fn write_file(bounds: Bounds, start: u64, bytes: &Payload, descriptor: OpenDescr
 /// What write comes to, which is this call: EBADF, EINVAL, EFBIG, EAGAIN, EPIPE, or how many of the bytes went in. A regular
 /// file takes those that fit from the offset on, or from the end on under append. A pipe or FIFO takes those that it has room
 /// for, and the process may wait (page of write). An error says that memory for a copy of the call ran out.
-pub fn decide_write<R: Reader>(
+pub fn decide_write<R: WorldReader>(
     state: &R,
     alloc: Global,
     bounds: Bounds,

@@ -9,8 +9,8 @@ use Rattle.call_types.specs.Ranges.{AreBytes}
 use Rattle.call_types.specs.declared.limits.TheConstants.{TRANSFER_MAX}
 use Rattle.call_types.specs.declared.errno.Errno.{Errno}
 use Rattle.call_types.specs.declared.errno.Errno.TheVariants as errors
-use Rattle.call_types.specs.declared.outcome.Kind.{Kind}
-use Rattle.call_types.specs.declared.outcome.Kind.TheVariants as kinds
+use Rattle.call_types.specs.declared.outcome.FileType.{FileType}
+use Rattle.call_types.specs.declared.outcome.FileType.TheVariants as kinds
 use Rattle.call_types.specs.declared.outcome.Reply.{Reply}
 use Rattle.call_types.specs.declared.outcome.Reply.TheVariants as replies
 use Rattle.call_types.specs.declared.outcome.Outcome.{Outcome}
@@ -31,16 +31,16 @@ use Rattle.frame_codec.proofs.FieldReads.{Below32, Below64, reads32, reads64, co
 abbrev Always : {A : Type 0} → A → Type 0
 Always x = Unit {0}
 
-kind_back : (kind : Kind) → Always kind → kind_of (kind_byte kind) ≡ Some kind
+kind_back : (kind : FileType) → Always kind → kind_of (kind_byte kind) ≡ Some kind
 kind_back kinds.Regular h = refl
 kind_back kinds.Fifo h = refl
 kind_back kinds.Pipe h = refl
 
-kind_there : (b : ℕ) (kind : Kind) → kind_of b ≡ Some kind → (b ≡ kind_byte kind) × Always kind
+kind_there : (b : ℕ) (kind : FileType) → kind_of b ≡ Some kind → (b ≡ kind_byte kind) × Always kind
 kind_there b kind e =
-    let none : Option Kind = None in
-    let at_pipe : Option Kind = cond (eqb b 2) (Some kinds.Pipe) none in
-    let at_fifo : Option Kind = cond (eqb b 1) (Some kinds.Fifo) at_pipe in
+    let none : Option FileType = None in
+    let at_pipe : Option FileType = cond (eqb b 2) (Some kinds.Pipe) none in
+    let at_fifo : Option FileType = cond (eqb b 1) (Some kinds.Fifo) at_pipe in
     elim (chosen (eqb b 0) (Some kinds.Regular) at_fifo (Some kind) e) [
       | inl is ↦ (eqb-true b 0 is.0 ∙ ap kind_byte (some_is kinds.Regular kind is.1), tt)
       | inr other ↦
@@ -50,8 +50,8 @@ kind_there b kind e =
           ]
     ]
 
-kind_reads : Reads (λ (kind : Kind). kind_byte kind ∷ []) (λ (kind : Kind). Always kind) (byte_at kind_of)
-kind_reads = byted kind_byte kind_of (λ (kind : Kind). Always kind) kind_back kind_there
+kind_reads : Reads (λ (kind : FileType). kind_byte kind ∷ []) (λ (kind : FileType). Always kind) (byte_at kind_of)
+kind_reads = byted kind_byte kind_of (λ (kind : FileType). Always kind) kind_back kind_there
 
 error_back : (errno : Errno) → Always errno → error_of (error_number errno) ≡ Some errno
 error_back errors.EBADF h = refl
@@ -111,14 +111,14 @@ size_bytes p = number_bytes w64 p.0 ++ number_bytes w32 p.1
 sizes : Reads size_bytes SizeFits (two_at (number_at w64) (number_at w32))
 sizes = two (number_bytes w64) Below64 (number_at w64) (number_bytes w32) Below32 (number_at w32) reads64 reads32
 
-abbrev ToldFits : Kind × (ℕ × ℕ) → Type 0
+abbrev ToldFits : FileType × (ℕ × ℕ) → Type 0
 ToldFits s = Always s.0 × SizeFits s.1
 
-abbrev told_bytes : Kind × (ℕ × ℕ) → List ℕ
+abbrev told_bytes : FileType × (ℕ × ℕ) → List ℕ
 told_bytes s = (kind_byte s.0 ∷ []) ++ size_bytes s.1
 
 stats : Reads told_bytes ToldFits (two_at (byte_at kind_of) (two_at (number_at w64) (number_at w32)))
-stats = two (λ (kind : Kind). kind_byte kind ∷ []) (λ (kind : Kind). Always kind) (byte_at kind_of) size_bytes SizeFits (two_at (number_at w64) (number_at w32)) kind_reads sizes
+stats = two (λ (kind : FileType). kind_byte kind ∷ []) (λ (kind : FileType). Always kind) (byte_at kind_of) size_bytes SizeFits (two_at (number_at w64) (number_at w32)) kind_reads sizes
 
 -- ---- outcomes
 
@@ -161,7 +161,7 @@ reply_again (replies.Number n) rest h = ap (λ (o : Option (ℕ × List ℕ)). o
 reply_again (replies.Data bytes) rest h = ap (λ (o : Option (List ℕ × List ℕ)). o >>= λ x. Some (data_of x.0, x.1)) (contents.again bytes rest h)
 reply_again (replies.Pair first second) rest h = ap (λ (o : Option ((ℕ × ℕ) × List ℕ)). o >>= λ x. Some (pair_of x.0, x.1)) (pairs.again (first, second) rest h)
 reply_again (replies.Stat stat) rest h =
-    ap (λ (o : Option ((Kind × (ℕ × ℕ)) × List ℕ)). o >>= λ x. Some (stat_of x.0, x.1)) (stats.again (stat.kind, (stat.size, stat.links)) rest (tt, h))
+    ap (λ (o : Option ((FileType × (ℕ × ℕ)) × List ℕ)). o >>= λ x. Some (stat_of x.0, x.1)) (stats.again (stat.kind, (stat.size, stat.links)) rest (tt, h))
 reply_again (replies.Error errno) rest h = ap (λ (o : Option (Errno × List ℕ)). o >>= λ x. Some (refused_by x.0, x.1)) (error_reads.again errno rest tt)
 
 outcome_again : (outcome : Outcome) (rest : List ℕ) → OutcomeFits outcome → outcome_at (outcome_bytes outcome ++ rest) ≡ Some (outcome, rest)

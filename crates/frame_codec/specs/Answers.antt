@@ -4,8 +4,8 @@ use Rattle.std.specs.Int.{w32, w64}
 use Rattle.call_types.specs.Errors.{error_number}
 use Rattle.call_types.specs.Ranges.{AreBytes}
 use Rattle.call_types.specs.declared.limits.TheConstants.{TRANSFER_MAX}
-use Rattle.call_types.specs.declared.outcome.Kind.{Kind}
-use Rattle.call_types.specs.declared.outcome.Kind.TheVariants as kinds
+use Rattle.call_types.specs.declared.outcome.FileType.{FileType}
+use Rattle.call_types.specs.declared.outcome.FileType.TheVariants as kinds
 use Rattle.call_types.specs.declared.outcome.Stat.{Stat}
 use Rattle.call_types.specs.declared.outcome.Reply.{Reply}
 use Rattle.call_types.specs.declared.outcome.Reply.TheVariants as replies
@@ -18,7 +18,7 @@ use Rattle.frame_codec.specs.declared.answer.Answer.TheVariants as answers
 use Rattle.frame_codec.specs.Fields.{number_bytes, counted_bytes}
 
 -- a kind of file
-abbrev pub kind_byte : Kind → ℕ
+abbrev pub kind_byte : FileType → ℕ
 kind_byte kinds.Regular = 0
 kind_byte kinds.Fifo = 1
 kind_byte kinds.Pipe = 2

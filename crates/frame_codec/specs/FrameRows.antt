@@ -6,7 +6,7 @@ use Rattle.call_types.specs.declared.act.Act.TheVariants as acts
 use Rattle.call_types.specs.declared.act.Record.{Record}
 use Rattle.call_types.specs.declared.call.Call.TheVariants as calls
 use Rattle.call_types.specs.declared.errno.Errno.TheVariants as errors
-use Rattle.call_types.specs.declared.outcome.Kind.TheVariants as kinds
+use Rattle.call_types.specs.declared.outcome.FileType.TheVariants as kinds
 use Rattle.call_types.specs.declared.outcome.Outcome.TheVariants as outcomes
 use Rattle.call_types.specs.declared.outcome.Reply.TheVariants as replies
 use Rattle.call_types.specs.declared.refusal.Refusal.TheVariants as refusals

@@ -5,8 +5,8 @@ use Rattle.call_types.specs.Errors.{error_number}
 use Rattle.call_types.specs.declared.limits.TheConstants.{TRANSFER_MAX}
 use Rattle.call_types.specs.declared.errno.Errno.{Errno}
 use Rattle.call_types.specs.declared.errno.Errno.TheVariants as errors
-use Rattle.call_types.specs.declared.outcome.Kind.{Kind}
-use Rattle.call_types.specs.declared.outcome.Kind.TheVariants as kinds
+use Rattle.call_types.specs.declared.outcome.FileType.{FileType}
+use Rattle.call_types.specs.declared.outcome.FileType.TheVariants as kinds
 use Rattle.call_types.specs.declared.outcome.Reply.TheVariants as replies
 use Rattle.call_types.specs.declared.outcome.Outcome.{Outcome}
 use Rattle.call_types.specs.declared.outcome.Outcome.TheVariants as outcomes
@@ -32,7 +32,7 @@ abbrev pub error_of : ℕ → Option Errno
 error_of b = error_among all_errors b
 
 -- a kind of file
-abbrev pub kind_of : ℕ → Option Kind
+abbrev pub kind_of : ℕ → Option FileType
 kind_of b = if b == 0 then Some kinds.Regular else if b == 1 then Some kinds.Fifo else if b == 2 then Some kinds.Pipe else None
 
 -- outcomes and refusals, made of their fields
@@ -45,7 +45,7 @@ data_of bytes = outcomes.Reply (replies.Data bytes)
 abbrev pub pair_of : ℕ × ℕ → Outcome
 pair_of p = outcomes.Reply (replies.Pair p.0 p.1)
 
-abbrev pub stat_of : Kind × (ℕ × ℕ) → Outcome
+abbrev pub stat_of : FileType × (ℕ × ℕ) → Outcome
 stat_of s = outcomes.Reply (replies.Stat (record { kind = s.0; size = s.1.0; links = s.1.1 }))
 
 abbrev pub refused_by : Errno → Outcome

@@ -4,7 +4,7 @@ ghost use Rattle.std.specs.Prelude.{◌≡◌, ◌≤◌, ◌<◌, ◌^◌, leng
 ghost use Rattle.frame_codec.specs.Frames.{told_length, Begun};
 
 use crate::fault::PayloadFault;
-use crate::kind::Kind;
+use crate::frame_kind::FrameKind;
 use std::alloc::{AllocError, Global};
 
 /// The bytes of a length.
@@ -39,7 +39,10 @@ pub(crate) fn length_told(bytes: &[u8]) -> usize
 }
 
 /// How bytes begin; an error says that memory ran out.
-pub(crate) fn begun<K: Kind>(alloc: Global, bytes: &[u8]) -> Result<Begins<K::Value>, AllocError>
+pub(crate) fn begun<K: FrameKind>(
+    alloc: Global,
+    bytes: &[u8],
+) -> Result<Begins<K::Value>, AllocError>
     ensures { IfOk result (λ begins. Begun K.spells K.most bytes.now begins) }
 {
     if bytes.len() < HEAD {

@@ -7,7 +7,7 @@ ghost use Rattle.frame_codec.specs.Decoding.{fresh, Fills, FillsHead, Completes,
 ghost use Rattle.frame_codec.specs.declared.decoder.Progress.TheVariants as progress;
 
 use crate::begun::{Begins, HEAD, Stop, begun, length_told};
-use crate::kind::Kind;
+use crate::frame_kind::FrameKind;
 use std::alloc::{AllocError, Global};
 use std::marker::{Model, PhantomData};
 
@@ -32,7 +32,7 @@ pub struct Fed<V> {
 
 /// What takes a stream of frames, piece by piece. It holds less than one frame between two pieces.
 #[derive(Drop)]
-pub struct Decoder<K: Kind> {
+pub struct Decoder<K: FrameKind> {
     alloc: Global,
     /// The bytes since the last whole frame.
     held: Vec<u8>,
@@ -42,7 +42,7 @@ pub struct Decoder<K: Kind> {
     kind: PhantomData<K>,
 }
 
-impl<K: Kind> Model for Decoder<K> {
+impl<K: FrameKind> Model for Decoder<K> {
     ghost use Rattle.frame_codec.specs.Decoding.{DecoderState, RestsOn};
 
     ghost Value = { DecoderState };
@@ -106,7 +106,7 @@ fn complete(held: &mut Vec<u8>, most: usize, piece: &[u8]) -> Result<usize, Allo
 }
 
 /// The values of the frames with which bytes begin, added to those before; how many bytes these have, and why no further one begins.
-fn frames_of<K: Kind>(
+fn frames_of<K: FrameKind>(
     alloc: Global,
     values: &mut Vec<K::Value>,
     bytes: &[u8],
@@ -138,7 +138,7 @@ fn keep_rest(alloc: Global, held: &mut Vec<u8>, stop: Stop, rest: &[u8]) -> Resu
 }
 
 /// The values of the frames with which bytes begin, as above; what is left is held.
-fn read_on<K: Kind>(
+fn read_on<K: FrameKind>(
     alloc: Global,
     held: &mut Vec<u8>,
     values: &mut Vec<K::Value>,
@@ -162,7 +162,7 @@ struct Read<V> {
 }
 
 /// Reads a piece where nothing is held.
-fn read_piece<K: Kind>(
+fn read_piece<K: FrameKind>(
     alloc: Global,
     held: &mut Vec<u8>,
     piece: &[u8],
@@ -180,7 +180,7 @@ fn read_piece<K: Kind>(
 }
 
 /// Reads a piece after what is held.
-fn read_after<K: Kind>(
+fn read_after<K: FrameKind>(
     alloc: Global,
     held: &mut Vec<u8>,
     piece: &[u8],
@@ -211,7 +211,7 @@ fn read_after<K: Kind>(
 }
 
 /// Reads a piece after what is held, if anything is.
-fn read_in<K: Kind>(
+fn read_in<K: FrameKind>(
     alloc: Global,
     held: &mut Vec<u8>,
     piece: &[u8],
@@ -226,7 +226,7 @@ fn read_in<K: Kind>(
     read_after::<K>(alloc, held, piece)
 }
 
-impl<K: Kind> Decoder<K> {
+impl<K: FrameKind> Decoder<K> {
     /// A decoder at the beginning of a stream. It takes no memory.
     pub fn new(alloc: Global) -> Self
         ensures { result ≡ fresh }

@@ -9,7 +9,7 @@ pub mod decoder;
 pub mod encode;
 pub mod fault;
 mod fields;
-pub mod kind;
+pub mod frame_kind;
 pub mod laws;
 mod outcomes;
 mod put;

@@ -10,7 +10,7 @@ ghost use Rattle.frame_codec.specs.ReadingAnswers.{error_of, kind_of, number_of,
 use crate::fault::PayloadFault;
 use crate::fields::{data, number32, number64};
 use call_types::errno::Errno;
-use call_types::outcome::{Kind, Outcome, Reply, Stat};
+use call_types::outcome::{FileType, Outcome, Reply, Stat};
 use call_types::refusal::Refusal;
 use std::alloc::Global;
 
@@ -40,13 +40,13 @@ fn pair(bytes: &[u8]) -> Result<(Outcome, &[u8]), PayloadFault>
 }
 
 /// A kind of file.
-fn kind(bytes: &[u8]) -> Result<(Kind, &[u8]), PayloadFault>
+fn kind(bytes: &[u8]) -> Result<(FileType, &[u8]), PayloadFault>
     ensures { Gives (λ x. (x.0, x.1.now)) result (byte_at kind_of bytes.now) }
 {
     match bytes {
-        [0, rest @ ..] => Ok((Kind::Regular, rest)),
-        [1, rest @ ..] => Ok((Kind::Fifo, rest)),
-        [2, rest @ ..] => Ok((Kind::Pipe, rest)),
+        [0, rest @ ..] => Ok((FileType::Regular, rest)),
+        [1, rest @ ..] => Ok((FileType::Fifo, rest)),
+        [2, rest @ ..] => Ok((FileType::Pipe, rest)),
         _ => Err(PayloadFault::Malformed),
     }
 }

@@ -3,11 +3,11 @@
 
 ghost use Rattle.std.specs.Prelude.{◌≡◌, ◌<◌, ◌^◌, ◌∷◌, [], length, replicate};
 ghost use Rattle.std.specs.Int.{w32, w64, cast_unsigned};
-ghost use Rattle.call_types.specs.Stored.{part_bytes};
+ghost use Rattle.call_types.specs.Stored.{span_bytes};
 ghost use Rattle.call_types.specs.Writing.{Appends};
 ghost use Rattle.frame_codec.specs.Fields.{number_bytes, counted_bytes};
 
-use call_types::part::Part;
+use call_types::span::Span;
 use std::alloc::AllocError;
 
 /// Appends bytes.
@@ -73,20 +73,20 @@ fn put_same(out: &mut Vec<u8>, byte: u8, count: usize) -> Result<(), AllocError>
 }
 
 /// Appends the bytes of a part.
-fn put_part(out: &mut Vec<u8>, part: Part<'_>) -> Result<(), AllocError>
-    ensures { Appends result out.old.items out.new.items (part_bytes part.entry) }
+fn put_part(out: &mut Vec<u8>, part: Span<'_>) -> Result<(), AllocError>
+    ensures { Appends result out.old.items out.new.items (span_bytes part.entry) }
 {
     match part {
-        Part::Slice(bytes) => put(out, bytes),
-        Part::Same { byte, count } => put_same(out, byte, count),
+        Span::Slice(bytes) => put(out, bytes),
+        Span::Same { byte, count } => put_same(out, byte, count),
     }
 }
 
 /// Appends data, after its length in four bytes.
 #[tactic(auto, using(crate::proofs::Fronts::keeps_after))]
-pub(crate) fn put_counted(out: &mut Vec<u8>, part: Part<'_>) -> Result<(), AllocError>
-    requires few { length (part_bytes part) < 2 ^ 32 }
-    ensures { Appends result out.old.items out.new.items (counted_bytes (part_bytes part.entry)) }
+pub(crate) fn put_counted(out: &mut Vec<u8>, part: Span<'_>) -> Result<(), AllocError>
+    requires few { length (span_bytes part) < 2 ^ 32 }
+    ensures { Appends result out.old.items out.new.items (counted_bytes (span_bytes part.entry)) }
 {
     put_u32(out, part.len() as u32)?;
     put_part(out, part)?;

@@ -68,7 +68,7 @@ fn put_write(out: &mut Vec<u8>, fd: i32, bytes: &Payload) -> Result<(), AllocErr
     ensures { Appends result out.old.items out.new.items (call_bytes (calls.Write fd bytes.now)) }
 {
     put_start(out, 19, fd)?;
-    put_counted(out, bytes.part())?;
+    put_counted(out, bytes.span())?;
     Ok(())
 }
 
@@ -88,7 +88,7 @@ fn put_pwrite(out: &mut Vec<u8>, fd: i32, start: i64, bytes: &Payload) -> Result
 {
     put_start(out, 21, fd)?;
     put_position(out, start)?;
-    put_counted(out, bytes.part())?;
+    put_counted(out, bytes.span())?;
     Ok(())
 }
 

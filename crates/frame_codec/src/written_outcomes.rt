@@ -11,18 +11,18 @@ ghost use Rattle.frame_codec.specs.Answers.{kind_byte, stat_bytes, reply_bytes, 
 use crate::put::{put_byte, put_counted, put_u32, put_u64};
 use call_types::bounded::Content;
 use call_types::errno::Errno;
-use call_types::outcome::{Kind, Outcome, Reply, Stat};
+use call_types::outcome::{FileType, Outcome, Reply, Stat};
 use call_types::refusal::Refusal;
 use std::alloc::AllocError;
 
 /// The byte of a kind of file.
-fn file_byte(kind: Kind) -> u8
+fn file_byte(kind: FileType) -> u8
     ensures { result ≡ kind_byte kind }
 {
     match kind {
-        Kind::Regular => 0,
-        Kind::Fifo => 1,
-        Kind::Pipe => 2,
+        FileType::Regular => 0,
+        FileType::Fifo => 1,
+        FileType::Pipe => 2,
     }
 }
 
@@ -50,7 +50,7 @@ fn put_content(out: &mut Vec<u8>, bytes: &Content) -> Result<(), AllocError>
     ensures { Appends result out.old.items out.new.items (3 ∷ counted_bytes bytes.now) }
 {
     put_byte(out, 3)?;
-    put_counted(out, bytes.part())?;
+    put_counted(out, bytes.span())?;
     Ok(())
 }
 

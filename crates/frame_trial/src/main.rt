@@ -8,13 +8,12 @@
 //! buffer that is used again after N bytes, and prints how many bytes that made. `bench/frames.py` times them.
 #![tactic(auto)]
 
-mod ended;
 mod shown;
 mod timed;
 mod trial;
+mod trial_fault;
 
-use ended::Ended;
-use frame_codec::kind::{Answers, Records, Requests};
+use frame_codec::frame_kind::{Answers, Records, Requests};
 use itoa::Buffer;
 use shown::Shown;
 use std::alloc::Global;
@@ -23,14 +22,15 @@ use std::io::Write;
 use std::process::ExitCode;
 use timed::{decoded_often, encoded_often};
 use trial::{Cut, Ran, read_stream, tried};
+use trial_fault::TrialFault;
 
 /// A number, as a word of the command line says it.
-fn number_of(word: &str) -> Result<usize, Ended> {
-    word.parse::<usize>().map_err(|_| Ended::Usage)
+fn number_of(word: &str) -> Result<usize, TrialFault> {
+    word.parse::<usize>().map_err(|_| TrialFault::Usage)
 }
 
 /// The line of a number.
-fn numbered(alloc: Global, number: u64) -> Result<Ran, Ended> {
+fn numbered(alloc: Global, number: u64) -> Result<Ran, TrialFault> {
     let mut lines = Vec::new(alloc);
     let mut buffer = Buffer::new();
     lines.extend_from_slice(buffer.format(number).as_bytes())?;
@@ -45,7 +45,7 @@ fn run_job<K: Shown>(
     stream: &[u8],
     first: usize,
     second: usize,
-) -> Result<Ran, Ended> {
+) -> Result<Ran, TrialFault> {
     match job {
         "show" => tried::<K>(
             alloc,
@@ -57,12 +57,12 @@ fn run_job<K: Shown>(
         ),
         "decode" => numbered(alloc, decoded_often::<K>(alloc, stream, first, second)?),
         "encode" => numbered(alloc, encoded_often::<K>(alloc, stream, first, second)?),
-        _ => Err(Ended::Usage),
+        _ => Err(TrialFault::Usage),
     }
 }
 
 /// Does what the words of the command line ask for.
-fn run_words(rt: &HostRuntime, words: &[String]) -> Result<Ran, Ended> {
+fn run_words(rt: &HostRuntime, words: &[String]) -> Result<Ran, TrialFault> {
     match words {
         [_, job, kind, first, second] => {
             let (first, second) = (number_of(first)?, number_of(second)?);
@@ -72,32 +72,32 @@ fn run_words(rt: &HostRuntime, words: &[String]) -> Result<Ran, Ended> {
                 "requests" => run_job::<Requests>(rt.alloc(), job, stream, first, second),
                 "answers" => run_job::<Answers>(rt.alloc(), job, stream, first, second),
                 "records" => run_job::<Records>(rt.alloc(), job, stream, first, second),
-                _ => Err(Ended::Usage),
+                _ => Err(TrialFault::Usage),
             }
         }
-        _ => Err(Ended::Usage),
+        _ => Err(TrialFault::Usage),
     }
 }
 
 /// The words of the command line.
-fn words_of(rt: &HostRuntime) -> Result<Vec<String>, Ended> {
+fn words_of(rt: &HostRuntime) -> Result<Vec<String>, TrialFault> {
     match std::env::args(rt) {
         Ok(words) => Ok(words.collect(rt.alloc())?),
-        Err(error) if error.kind() == io::ErrorKind::InvalidData => Err(Ended::Usage),
-        Err(_) => Err(Ended::NoMemory),
+        Err(error) if error.kind() == io::ErrorKind::InvalidData => Err(TrialFault::Usage),
+        Err(_) => Err(TrialFault::NoMemory),
     }
 }
 
 /// Decodes standard input, and prints what came of it, and how many pieces were given again as an error.
-fn run(rt: &HostRuntime) -> Result<(), Ended> {
+fn run(rt: &HostRuntime) -> Result<(), TrialFault> {
     let words = words_of(rt)?;
     let ran = run_words(rt, words.as_slice())?;
     let mut out = io::writer(rt);
     if out.write_all(ran.lines.as_slice()).is_err() || out.flush().is_err() {
-        return Err(Ended::CannotWrite);
+        return Err(TrialFault::CannotWrite);
     }
     if ran.again > 0 && eprint!(rt; "given again: {}\n", ran.again).is_err() {
-        return Err(Ended::CannotWrite);
+        return Err(TrialFault::CannotWrite);
     }
     Ok(())
 }

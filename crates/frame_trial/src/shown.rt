@@ -5,12 +5,12 @@ use call_types::call::Call;
 use call_types::request::Request;
 use frame_codec::answer::Answer;
 use frame_codec::encode::{encode_answer, encode_record, encode_request};
-use frame_codec::kind::{Answers, Kind, Records, Requests};
+use frame_codec::frame_kind::{Answers, FrameKind, Records, Requests};
 use script_text::lines::{write_record, write_refused, write_still};
 use std::alloc::AllocError;
 
 /// A kind of stream whose values can be shown.
-pub(crate) trait Shown: Kind {
+pub(crate) trait Shown: FrameKind {
     /// Appends the line of a value, which comes after so many others.
     fn put_line(out: &mut Vec<u8>, before: u64, value: &Self::Value) -> Result<(), AllocError>;
 

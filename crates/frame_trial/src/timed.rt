@@ -1,6 +1,6 @@
 //! One stream, decoded or encoded many times, so that it can be timed.
-use crate::ended::Ended;
 use crate::shown::Shown;
+use crate::trial_fault::TrialFault;
 use frame_codec::decoder::Decoder;
 use std::alloc::Global;
 
@@ -10,7 +10,7 @@ pub(crate) fn decoded_often<K: Shown>(
     stream: &[u8],
     size: usize,
     times: usize,
-) -> Result<u64, Ended> {
+) -> Result<u64, TrialFault> {
     let mut count: u64 = 0;
     for _time in 0..times {
         let mut decoder = Decoder::<K>::new(alloc);
@@ -28,7 +28,7 @@ pub(crate) fn encoded_often<K: Shown>(
     stream: &[u8],
     size: usize,
     times: usize,
-) -> Result<u64, Ended> {
+) -> Result<u64, TrialFault> {
     let fed = Decoder::<K>::new(alloc).feed(stream)?;
     let mut out = Vec::new(alloc);
     let mut count: u64 = 0;

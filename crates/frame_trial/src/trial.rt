@@ -1,6 +1,6 @@
 //! One stream, decoded in pieces.
-use crate::ended::Ended;
 use crate::shown::Shown;
+use crate::trial_fault::TrialFault;
 use frame_codec::decoder::{Decoder, Fed, Progress};
 use std::alloc::Global;
 use std::fmt::Write;
@@ -35,31 +35,33 @@ struct Trial<K: Shown> {
 }
 
 /// The line of what is told after a piece.
-fn progress_line(alloc: Global, progress: Progress) -> Result<String, Ended> {
+fn progress_line(alloc: Global, progress: Progress) -> Result<String, TrialFault> {
     let mut line = String::new(alloc);
     let written = match progress {
         Progress::More => write!(line, "more\n"),
         Progress::Malformed { at } => write!(line, "malformed {at}\n"),
         Progress::TooLong { at } => write!(line, "too long {at}\n"),
     };
-    written.map_err(|_| Ended::NoMemory)?;
+    written.map_err(|_| TrialFault::NoMemory)?;
     Ok(line)
 }
 
 impl<K: Shown> Trial<K> {
     /// Gives a piece to the decoder, and once more where memory is wanting.
-    fn feed(&mut self, piece: &[u8]) -> Result<Fed<K::Value>, Ended> {
+    fn feed(&mut self, piece: &[u8]) -> Result<Fed<K::Value>, TrialFault> {
         match self.decoder.feed(piece) {
             Ok(fed) => Ok(fed),
             Err(_) => {
                 self.again = self.again.saturating_add(1);
-                self.decoder.feed(piece).map_err(|_| Ended::RefusedTwice)
+                self.decoder
+                    .feed(piece)
+                    .map_err(|_| TrialFault::RefusedTwice)
             }
         }
     }
 
     /// Gives a piece to the decoder, and gathers the lines and the frames of its values.
-    fn give(&mut self, piece: &[u8]) -> Result<(), Ended> {
+    fn give(&mut self, piece: &[u8]) -> Result<(), TrialFault> {
         let fed = self.feed(piece)?;
         for value in fed.values.as_slice() {
             K::put_line(&mut self.lines, self.values, value)?;
@@ -73,17 +75,20 @@ impl<K: Shown> Trial<K> {
 }
 
 /// Reads the whole stream.
-pub(crate) fn read_stream<R: Read + Drop>(alloc: Global, mut reader: R) -> Result<Vec<u8>, Ended> {
+pub(crate) fn read_stream<R: Read + Drop>(
+    alloc: Global,
+    mut reader: R,
+) -> Result<Vec<u8>, TrialFault> {
     let mut stream = Vec::new(alloc);
     match reader.read_to_end(&mut stream) {
         Ok(_) => Ok(stream),
-        Err(error) if error.kind() == ErrorKind::OutOfMemory => Err(Ended::NoMemory),
-        Err(_) => Err(Ended::CannotRead),
+        Err(error) if error.kind() == ErrorKind::OutOfMemory => Err(TrialFault::NoMemory),
+        Err(_) => Err(TrialFault::CannotRead),
     }
 }
 
 /// What comes of a stream that is cut so.
-pub(crate) fn tried<K: Shown>(alloc: Global, cut: Cut, stream: &[u8]) -> Result<Ran, Ended> {
+pub(crate) fn tried<K: Shown>(alloc: Global, cut: Cut, stream: &[u8]) -> Result<Ran, TrialFault> {
     let mut trial = Trial::<K> {
         alloc,
         decoder: Decoder::new(alloc),

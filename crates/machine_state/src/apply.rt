@@ -1,5 +1,5 @@
 ghost use Rattle.std.specs.Prelude.{◌≡◌, false};
-ghost use Rattle.call_types.specs.Stored.{part_bytes};
+ghost use Rattle.call_types.specs.Stored.{span_bytes};
 ghost use Rattle.posix_model.specs.Change.{with_files, with_processes, with_table, changed};
 ghost use Rattle.posix_model.specs.Fits.{FilesFit, ProcessFits, TableFits, removes, ends, Fits, FilesProper, ProcessProper, TableProper, IsProper, PutsWithin};
 ghost use Rattle.posix_model.specs.Whole.{EachThere, IsItsFifo};
@@ -9,20 +9,20 @@ ghost use Rattle.machine_state.specs.Room.{HasFileRoom, HasProcessRoom, HasTable
 
 use crate::machine::Machine;
 use crate::stored_file::FileBody;
-use call_types::part::Part;
+use call_types::span::Span;
 use posix_model::change::{Change, FileEdit, ProcessEdit, TableEdit};
 use posix_model::laws::sweep_releases;
 
 impl Machine {
     /// Makes an edit of files that takes no name away, with the bytes of the act. Nothing waits for a sweep after it.
     #[inline(always)]
-    fn apply_files(&mut self, bytes: Part<'_>, edit: FileEdit)
+    fn apply_files(&mut self, bytes: Span<'_>, edit: FileEdit)
         requires fits { FilesFit self.old.world edit }
-        requires proper { FilesProper self.old.world (part_bytes bytes) edit }
+        requires proper { FilesProper self.old.world (span_bytes bytes) edit }
         requires room { HasFileRoom self.old.room edit }
         requires holds { PutsWithin self.old.room.capacity self.old.world edit }
         requires stays { removes edit ≡ false }
-        ensures world { self.new.world ≡ with_files self.old.world (part_bytes bytes.entry) edit }
+        ensures world { self.new.world ≡ with_files self.old.world (span_bytes bytes.entry) edit }
         ensures tables { KeepsTableRoom self.old self.new }
     {
         match edit {
@@ -107,13 +107,13 @@ impl Machine {
 
     /// Makes a change, and sweeps after it. It cannot fail for want of memory: its room stands reserved.
     #[inline(always)]
-    pub fn apply(&mut self, bytes: Part<'_>, change: Change)
-        requires fits { Fits self.old.world (part_bytes bytes) change }
-        requires proper { IsProper self.old.world (part_bytes bytes) change }
+    pub fn apply(&mut self, bytes: Span<'_>, change: Change)
+        requires fits { Fits self.old.world (span_bytes bytes) change }
+        requires proper { IsProper self.old.world (span_bytes bytes) change }
         requires room { HasRoom self.old change }
         requires holds { PutsWithin self.old.room.capacity self.old.world change.files }
         requires ends { EachThere (λ description. IsItsFifo self.old.world.files description.target) self.old.world.descriptions }
-        ensures world { self.new.world ≡ sweep (changed self.old.world (part_bytes bytes.entry) change) }
+        ensures world { self.new.world ≡ sweep (changed self.old.world (span_bytes bytes.entry) change) }
         ensures capacity { self.new.room.capacity ≡ self.old.room.capacity }
     {
         let Change {

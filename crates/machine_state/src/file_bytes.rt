@@ -1,8 +1,8 @@
 ghost use Rattle.std.specs.Prelude.{◌≡◌, ◌+◌, ◌≤◌, [], length, OnOk};
-ghost use Rattle.call_types.specs.Stored.{part_bytes};
+ghost use Rattle.call_types.specs.Stored.{span_bytes};
 ghost use Rattle.posix_model.specs.Bytes.{splice, resized};
 
-use call_types::part::Part;
+use call_types::span::Span;
 use posix_model::contents::{overwrite, pad};
 use std::alloc::{AllocError, Global};
 use std::marker::Model;
@@ -52,9 +52,9 @@ impl FileBytes {
     }
 
     /// Writes `new` from the byte `start` on; a gap before it is filled with zeros.
-    pub(crate) fn write(&mut self, start: usize, new: Part<'_>)
-        requires { start + length (part_bytes new) ≤ self.old.room }
-        ensures { self.new.bytes ≡ splice self.old.bytes start (part_bytes new.entry) }
+    pub(crate) fn write(&mut self, start: usize, new: Span<'_>)
+        requires { start + length (span_bytes new) ≤ self.old.room }
+        ensures { self.new.bytes ≡ splice self.old.bytes start (span_bytes new.entry) }
     {
         pad(&mut self.bytes, start);
         overwrite(&mut self.bytes, start, new);

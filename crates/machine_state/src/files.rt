@@ -1,6 +1,6 @@
 ghost use Rattle.std.specs.Prelude.{◌≡◌, ◌+◌, ◌<◌, ◌≤◌, None, true, is_some, length, slice_index, OnOk};
 ghost use Rattle.call_types.specs.declared.limits.TheConstants.{NAMES_MAX};
-ghost use Rattle.call_types.specs.Stored.{part_bytes};
+ghost use Rattle.call_types.specs.Stored.{span_bytes};
 ghost use Rattle.slots.specs.Slots.{slot};
 ghost use Rattle.posix_model.specs.Bytes.{splice, resized};
 ghost use Rattle.call_types.specs.Names.{file_of, with_name, without_name};
@@ -16,7 +16,7 @@ use crate::machine::Machine;
 use crate::stored_file::{FileBody, StoredFile};
 use crate::stored_files::{add_link, drop_link, reserve_bytes, set_len, write};
 use call_types::bounded::Name;
-use call_types::part::Part;
+use call_types::span::Span;
 use posix_model::laws::sweep_releases;
 use slots::used::Used;
 use std::alloc::AllocError;
@@ -34,10 +34,10 @@ impl Machine {
     }
 
     /// Writes bytes into a file from the byte `start` on.
-    pub(crate) fn write_bytes(&mut self, file: usize, start: usize, bytes: Part<'_>)
+    pub(crate) fn write_bytes(&mut self, file: usize, start: usize, bytes: Span<'_>)
         requires there { is_regular_file (slot self.old.world.files file) ≡ true }
-        requires room { start + length (part_bytes bytes) ≤ slice_index self.old.room.bytes file }
-        ensures world { self.new.world ≡ with_bytes self.old.world file (splice (bytes_of self.old.world file) start (part_bytes bytes.entry)) }
+        requires room { start + length (span_bytes bytes) ≤ slice_index self.old.room.bytes file }
+        ensures world { self.new.world ≡ with_bytes self.old.world file (splice (bytes_of self.old.world file) start (span_bytes bytes.entry)) }
         ensures tables { KeepsTableRoom self.old self.new }
     {
         write(&mut self.files, file, start, bytes);

@@ -4,13 +4,13 @@ use crate::stored_pipes::{held_in, peek, readers_of, writers_of};
 use call_types::bounded::Content;
 use posix_model::contents::bytes_at;
 use posix_model::opened::OpenDescriptor;
-use posix_model::reader::Reader;
+use posix_model::reader::WorldReader;
 use posix_model::world::Fifo;
 use process_table::process::Parked;
 use process_table::table::DescriptorTable;
 use std::alloc::{AllocError, Global};
 
-impl Reader for Machine {
+impl WorldReader for Machine {
     ghost world = { λ m. m.world };
 
     #[inline(always)]

@@ -1,5 +1,5 @@
 ghost use Rattle.std.specs.Prelude.{◌≡◌, ℕ, ◌+◌, ◌≤◌, ◌<◌, ◌^◌, [], length, OnOk};
-ghost use Rattle.call_types.specs.Stored.{part_bytes};
+ghost use Rattle.call_types.specs.Stored.{span_bytes};
 ghost use Rattle.posix_model.specs.Bytes.{splice, resized};
 ghost use Rattle.posix_model.specs.Descriptors.{file_bytes};
 ghost use Rattle.posix_model.specs.Pipes.{fifo_at, unopened};
@@ -8,7 +8,7 @@ ghost use Rattle.machine_state.specs.Files.{file_in, room_in, edited_bytes, open
 
 use crate::file_bytes::FileBytes;
 use call_types::description::Mode;
-use call_types::part::Part;
+use call_types::span::Span;
 use posix_model::world::Fifo;
 use std::alloc::{AllocError, Global};
 
@@ -128,9 +128,9 @@ impl StoredFile {
     }
 
     /// Writes `new` into a regular file from the byte `start` on; a gap before it is filled with zeros.
-    pub(crate) fn write(&mut self, start: usize, new: Part<'_>)
-        requires { start + length (part_bytes new) ≤ room_in self.old.body }
-        ensures { (room : ℕ) × (self.new ≡ edited_bytes (λ bytes. splice bytes start (part_bytes new.entry)) room self.old) }
+    pub(crate) fn write(&mut self, start: usize, new: Span<'_>)
+        requires { start + length (span_bytes new) ≤ room_in self.old.body }
+        ensures { (room : ℕ) × (self.new ≡ edited_bytes (λ bytes. splice bytes start (span_bytes new.entry)) room self.old) }
     {
         match &mut self.body {
             FileBody::Regular(bytes) => bytes.write(start, new),

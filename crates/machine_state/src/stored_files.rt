@@ -1,7 +1,7 @@
 //! The files of a machine, each under its number, with the count of its names and holders.
 
 ghost use Rattle.std.specs.Prelude.{◌≡◌, ℕ, ◌+◌, ◌<◌, ◌≤◌, ◌^◌, Some, true, is_some, length, slice_index, OnOk};
-ghost use Rattle.call_types.specs.Stored.{part_bytes};
+ghost use Rattle.call_types.specs.Stored.{span_bytes};
 ghost use Rattle.slots.specs.Slots.{slot, edited};
 ghost use Rattle.slots.specs.Uses.{uses_at, value_at, values_in, use_added, use_dropped, with_value};
 ghost use Rattle.posix_model.specs.Bytes.{splice, resized};
@@ -13,7 +13,7 @@ ghost use Rattle.machine_state.specs.Files.{edited_bytes, opened_stored, forgott
 
 use crate::stored_file::StoredFile;
 use call_types::description::{Mode, Target};
-use call_types::part::Part;
+use call_types::span::Span;
 use posix_model::world::Fifo;
 use slots::numbered::Numbered;
 use slots::used::Used;
@@ -67,11 +67,11 @@ pub(crate) fn write(
     files: &mut Numbered<Used<StoredFile>>,
     number: usize,
     start: usize,
-    new: Part<'_>,
+    new: Span<'_>,
 )
     requires there { is_some (slot files.old.0 number) ≡ true }
-    requires room { start + length (part_bytes new) ≤ slice_index (room_slots (values_in files.old.0)) number }
-    ensures { (room : ℕ) × (files.new.0 ≡ edited number (with_value (edited_bytes (λ bytes. splice bytes start (part_bytes new.entry)) room)) files.old.0) }
+    requires room { start + length (span_bytes new) ≤ slice_index (room_slots (values_in files.old.0)) number }
+    ensures { (room : ℕ) × (files.new.0 ≡ edited number (with_value (edited_bytes (λ bytes. splice bytes start (span_bytes new.entry)) room)) files.old.0) }
 {
     files.value_mut(number).value.write(start, new);
 }

@@ -3,7 +3,7 @@
 ghost use Rattle.std.specs.Prelude.{◌≡◌, ℕ, ◌+◌, ◌-◌, ◌<◌, ◌≤◌, ◌^◌, ◌∷◌, ◌++◌, [], Some, true, is_some, length, take, drop, unwrap_or, IfOk};
 ghost use Rattle.call_types.specs.declared.limits.TheConstants.{TRANSFER_MAX};
 ghost use Rattle.call_types.specs.CallTable.{payload_of};
-ghost use Rattle.call_types.specs.Stored.{part_bytes};
+ghost use Rattle.call_types.specs.Stored.{span_bytes};
 ghost use Rattle.slots.specs.Slots.{slot, edited};
 ghost use Rattle.slots.specs.Uses.{uses_at, value_at, values_in, used_once, with_value};
 ghost use Rattle.posix_model.specs.Descriptors.{pipe_bytes};
@@ -15,7 +15,7 @@ ghost use Rattle.machine_state.specs.Pipes.{pipe_slots, readers_at, writers_at, 
 use crate::stored_pipe::StoredPipe;
 use call_types::bounded::Content;
 use call_types::description::Mode;
-use call_types::part::Part;
+use call_types::span::Span;
 use pipe_ring::PipeRing;
 use process_table::process::Parked;
 use process_table::processes::ProcessTable;
@@ -73,43 +73,43 @@ pub(crate) fn writers_of(pipes: &Numbered<Used<StoredPipe>>, number: usize) -> u
 }
 
 /// Puts bytes into a ring, after those that it holds; there is room for all of them.
-fn put_part(ring: &mut PipeRing, bytes: Part<'_>)
-    requires { length (part_bytes bytes) ≤ ring.old.capacity - length ring.old.bytes }
-    ensures { ring.new ≡ record { bytes = after_those (part_bytes bytes.entry) ring.old.bytes; capacity = ring.old.capacity } }
+fn put_part(ring: &mut PipeRing, bytes: Span<'_>)
+    requires { length (span_bytes bytes) ≤ ring.old.capacity - length ring.old.bytes }
+    ensures { ring.new ≡ record { bytes = after_those (span_bytes bytes.entry) ring.old.bytes; capacity = ring.old.capacity } }
 {
     match bytes {
-        Part::Slice(bytes) => ring.put_all(bytes),
-        Part::Same { byte, count } => ring.put_same(byte, count),
+        Span::Slice(bytes) => ring.put_all(bytes),
+        Span::Same { byte, count } => ring.put_same(byte, count),
     }
 }
 
 /// Puts bytes into a pipe, after those that it holds (page of write).
-pub(crate) fn put(pipes: &mut Numbered<Used<StoredPipe>>, number: usize, bytes: Part<'_>)
+pub(crate) fn put(pipes: &mut Numbered<Used<StoredPipe>>, number: usize, bytes: Span<'_>)
     requires there { is_some (slot pipes.old.0 number) ≡ true }
-    requires room { length (part_bytes bytes) ≤ room_left (value_at (slot pipes.old.0 number)) }
-    ensures slots { pipes.new.0 ≡ edited number (with_value (edited_ring (after_those (part_bytes bytes.entry)))) pipes.old.0 }
+    requires room { length (span_bytes bytes) ≤ room_left (value_at (slot pipes.old.0 number)) }
+    ensures slots { pipes.new.0 ≡ edited number (with_value (edited_ring (after_those (span_bytes bytes.entry)))) pipes.old.0 }
     ensures room { pipes.new.1 ≡ pipes.old.1 }
 {
     put_part(&mut pipes.value_mut(number).value.ring, bytes);
 }
 
 /// The data of a call that waits, after the bytes that it moved, and no more than so many.
-fn waiting_bytes(parked: &Parked, count: usize) -> Part<'_>
-    ensures { part_bytes result ≡ take count (drop parked.now.moved (unwrap_or (payload_of parked.now.call) [])) }
+fn waiting_bytes(parked: &Parked, count: usize) -> Span<'_>
+    ensures { span_bytes result ≡ take count (drop parked.now.moved (unwrap_or (payload_of parked.now.call) [])) }
 {
     match parked.call.get().payload() {
-        Some(bytes) => bytes.part().cut(parked.moved as usize, count),
-        None => Part::Slice(&[]),
+        Some(bytes) => bytes.span().cut(parked.moved as usize, count),
+        None => Span::Slice(&[]),
     }
 }
 
 /// The data of the call that a process waits in, after the bytes that it moved, and no more than so many.
-fn parked_bytes(processes: &ProcessTable, process: usize, count: usize) -> Part<'_>
-    ensures { part_bytes result ≡ take count (rest_of (parked_of (slot processes.now.0 process))) }
+fn parked_bytes(processes: &ProcessTable, process: usize, count: usize) -> Span<'_>
+    ensures { span_bytes result ≡ take count (rest_of (parked_of (slot processes.now.0 process))) }
 {
     match processes.parked(process) {
         Some(parked) => waiting_bytes(parked, count),
-        None => Part::Slice(&[]),
+        None => Span::Slice(&[]),
     }
 }
 

@@ -1,5 +1,5 @@
 //! The lines of a run, gathered although memory is wanting once.
-use record_book::run::Told;
+use record_book::run::ScriptAnswer;
 use record_book::seat::Receipt;
 use script_text::lines::{write_record, write_refused, write_still};
 use std::alloc::AllocError;
@@ -13,12 +13,12 @@ fn put_receipts(out: &mut Vec<u8>, receipts: &[Receipt]) -> Result<(), AllocErro
 }
 
 /// Appends the lines of what is told of an act.
-fn put_told(out: &mut Vec<u8>, told: &Told<'_>) -> Result<(), AllocError> {
+fn put_told(out: &mut Vec<u8>, told: &ScriptAnswer<'_>) -> Result<(), AllocError> {
     match told {
-        Told::Recorded(receipt) => write_record(out, receipt.place(), receipt.record()),
-        Told::Closed(receipts) => put_receipts(out, receipts.as_slice()),
-        Told::Still { actor, act } => write_still(out, *actor, act),
-        Told::Refused {
+        ScriptAnswer::Recorded(receipt) => write_record(out, receipt.place(), receipt.record()),
+        ScriptAnswer::Closed(receipts) => put_receipts(out, receipts.as_slice()),
+        ScriptAnswer::Still { actor, act } => write_still(out, *actor, act),
+        ScriptAnswer::Refused {
             actor,
             act,
             refusal,
@@ -27,7 +27,7 @@ fn put_told(out: &mut Vec<u8>, told: &Told<'_>) -> Result<(), AllocError> {
 }
 
 /// Appends the lines of what is told of an act; where memory was wanting, it is asked for once more.
-pub(crate) fn gather(out: &mut Vec<u8>, told: &Told<'_>) -> Result<(), AllocError> {
+pub(crate) fn gather(out: &mut Vec<u8>, told: &ScriptAnswer<'_>) -> Result<(), AllocError> {
     let len = out.len();
     if put_told(out, told).is_ok() {
         return Ok(());

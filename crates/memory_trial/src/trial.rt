@@ -2,15 +2,15 @@
 
 ghost use Rattle.std.specs.Prelude.{◌≡◌};
 
-use crate::ended::Ended;
 use crate::lines::gather;
 use crate::stand::Stand;
+use crate::trial_fault::TrialFault;
 use byte_ledger::ledgers::{Blanks, Ledgers};
 use call_types::act::ScriptAct;
 use call_types::limits::Limits;
 use call_types::refusal::Refusal;
 use record_book::book::Book;
-use record_book::run::Told;
+use record_book::run::ScriptAnswer;
 use record_book::seats::Seats;
 use script_text::lines::write_totals;
 use script_text::script::{SCRIPT_MAX, Script};
@@ -18,10 +18,10 @@ use std::alloc::{AllocError, Global};
 use std::io::{ErrorKind, Read};
 
 /// Whether an act was refused for want of memory.
-fn is_wanting(told: &Told<'_>) -> bool {
+fn is_wanting(told: &ScriptAnswer<'_>) -> bool {
     matches!(
         told,
-        Told::Refused {
+        ScriptAnswer::Refused {
             refusal: Refusal::NoMemory,
             ..
         }
@@ -63,25 +63,29 @@ impl<L: Ledgers> Run<L> {
     }
 
     /// Gives an act to the book; where memory is wanting, it must have left all as it was, and is given again.
-    fn give<'a>(&mut self, alloc: Global, act: &'a ScriptAct) -> Result<Told<'a>, Ended> {
+    fn give<'a>(
+        &mut self,
+        alloc: Global,
+        act: &'a ScriptAct,
+    ) -> Result<ScriptAnswer<'a>, TrialFault> {
         let before = Stand::of(&self.book, &self.seats);
         let told = self.book.run_act(alloc, &mut self.seats, act);
         if !is_wanting(&told) {
             return Ok(told);
         }
         if Stand::of(&self.book, &self.seats) != before {
-            return Err(Ended::Changed { act: self.acts });
+            return Err(TrialFault::Changed { act: self.acts });
         }
         self.again = self.again.saturating_add(1);
         let told = self.book.run_act(alloc, &mut self.seats, act);
         if is_wanting(&told) {
-            return Err(Ended::RefusedTwice { act: self.acts });
+            return Err(TrialFault::RefusedTwice { act: self.acts });
         }
         Ok(told)
     }
 
     /// Gives the next act to the book, and gathers its lines.
-    fn give_next(&mut self, alloc: Global, act: ScriptAct) -> Result<(), Ended> {
+    fn give_next(&mut self, alloc: Global, act: ScriptAct) -> Result<(), TrialFault> {
         self.acts = self.acts.saturating_add(1);
         let told = self.give(alloc, &act)?;
         gather(&mut self.lines, &told)?;
@@ -90,13 +94,13 @@ impl<L: Ledgers> Run<L> {
 }
 
 /// Reads the whole script, or one byte more than a script has.
-fn read_text<R: Read + Drop>(alloc: Global, reader: R) -> Result<Vec<u8>, Ended> {
+fn read_text<R: Read + Drop>(alloc: Global, reader: R) -> Result<Vec<u8>, TrialFault> {
     let mut text = Vec::new(alloc);
     let mut reader = reader.take(SCRIPT_MAX as u64 + 1);
     match reader.read_to_end(&mut text) {
         Ok(_) => Ok(text),
-        Err(error) if error.kind() == ErrorKind::OutOfMemory => Err(Ended::NoMemory),
-        Err(_) => Err(Ended::CannotRead),
+        Err(error) if error.kind() == ErrorKind::OutOfMemory => Err(TrialFault::NoMemory),
+        Err(_) => Err(TrialFault::CannotRead),
     }
 }
 
@@ -105,7 +109,7 @@ fn give_all<L: Ledgers>(
     alloc: Global,
     script: &mut Script<'_>,
     run: &mut Run<L>,
-) -> Result<(), Ended> {
+) -> Result<(), TrialFault> {
     while let Some(act) = script.next_act(alloc)? {
         run.give_next(alloc, act)?;
     }
@@ -118,7 +122,7 @@ pub(crate) fn tried<R: Read + Drop, L: Ledgers>(
     reader: R,
     limits: Limits,
     blanks: Blanks,
-) -> Result<Ran, Ended>
+) -> Result<Ran, TrialFault>
     requires { blanks ≡ L.names }
 {
     let text = read_text(alloc, reader)?;

@@ -11,7 +11,7 @@ use call_types::description::{Mode, Target};
 use call_types::flags::OpenFlags;
 use call_types::outcome::Reply;
 use posix_model::change::{Decided, FileEdit, TableEdit, does};
-use posix_model::reader::Reader;
+use posix_model::reader::WorldReader;
 use posix_model::world::Fifo;
 use process_table::kept_call::KeptCall;
 use process_table::process::Parked;
@@ -19,7 +19,7 @@ use std::alloc::{AllocError, Global};
 
 /// Whether an end of a pipe opposite to one of this mode is open. One for reading and writing has none: an open of a FIFO for
 /// both is refused.
-pub(crate) fn has_opposite<R: Reader>(state: &R, mode: Mode, pipe: usize) -> bool
+pub(crate) fn has_opposite<R: WorldReader>(state: &R, mode: Mode, pipe: usize) -> bool
     ensures { result ≡ has_opposite (R.world state.now) mode pipe }
 {
     match mode {
@@ -30,7 +30,7 @@ pub(crate) fn has_opposite<R: Reader>(state: &R, mode: Mode, pipe: usize) -> boo
 }
 
 /// Whether an end of a FIFO opposite to one of this mode is open.
-pub fn is_met<R: Reader>(state: &R, mode: Mode, fifo: Fifo) -> bool
+pub fn is_met<R: WorldReader>(state: &R, mode: Mode, fifo: Fifo) -> bool
     ensures { result ≡ is_met (R.world state.now) mode fifo }
 {
     match fifo.pipe {
@@ -54,14 +54,14 @@ pub(crate) fn opposite_openings(mode: Mode, fifo: Option<Fifo>) -> u64
 }
 
 /// The pipe between the ends of a FIFO: the one that it has, or the next.
-fn pipe_between<R: Reader>(state: &R, fifo: Fifo) -> usize
+fn pipe_between<R: WorldReader>(state: &R, fifo: Fifo) -> usize
     ensures { result ≡ pipe_between (R.world state.now) (Some fifo) }
 {
     fifo.pipe.unwrap_or(state.next_pipe())
 }
 
 /// The lowest free descriptor refers to a new description of an end of a FIFO.
-fn opens_end<R: Reader>(
+fn opens_end<R: WorldReader>(
     state: &R,
     process: usize,
     flags: OpenFlags,
@@ -84,7 +84,7 @@ fn opens_end<R: Reader>(
 
 /// What an open of a FIFO comes to: an end of it is open from now on, and without nonblock the process waits in the call where
 /// no opposite end is open (page of open). An error says that memory for a copy of the call ran out.
-pub fn decide_open_end<R: Reader>(
+pub fn decide_open_end<R: WorldReader>(
     state: &R,
     alloc: Global,
     process: usize,

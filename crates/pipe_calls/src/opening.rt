@@ -3,7 +3,7 @@ ghost use Rattle.posix_model.specs.Open.{mode_of, new_description, free_descript
 
 use call_types::description::{Description, Mode, Target};
 use call_types::flags::OpenFlags;
-use posix_model::reader::Reader;
+use posix_model::reader::WorldReader;
 
 /// For what a file is opened.
 pub(crate) fn mode_of(flags: OpenFlags) -> Mode
@@ -33,7 +33,7 @@ pub fn new_description(target: Target, flags: OpenFlags) -> Description
 }
 
 /// The lowest free descriptor of a process, and 0 where there is none (XSH 2.14, File Descriptor Allocation).
-pub fn free_descriptor<R: Reader>(state: &R, process: usize) -> usize
+pub fn free_descriptor<R: WorldReader>(state: &R, process: usize) -> usize
     ensures { result ≡ free_descriptor (R.world state.now) process }
 {
     state.lowest_free(process).unwrap_or(0)

@@ -12,12 +12,12 @@ use call_types::limits::TRANSFER_MAX;
 use call_types::outcome::Reply;
 use posix_model::change::{Decided, FileEdit, Try, tells};
 use posix_model::opened::OpenDescriptor;
-use posix_model::reader::Reader;
+use posix_model::reader::WorldReader;
 use std::alloc::{AllocError, Global};
 
 /// One try of a read of a pipe: at most `count` of the bytes that it holds, none where it has no writer, or it waits (page of
 /// read). An error says that memory for the bytes ran out.
-pub fn read_try<R: Reader>(
+pub fn read_try<R: WorldReader>(
     state: &R,
     alloc: Global,
     pipe: usize,
@@ -42,7 +42,7 @@ pub fn read_try<R: Reader>(
 
 /// What a read of a pipe or FIFO comes to: of no bytes it changes nothing, else it is tried, and may wait (page of read). An
 /// error says that memory ran out.
-pub fn decide_read_end<R: Reader>(
+pub fn decide_read_end<R: WorldReader>(
     state: &R,
     alloc: Global,
     process: usize,

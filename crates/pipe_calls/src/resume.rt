@@ -12,15 +12,15 @@ use call_types::call::Call;
 use call_types::description::Target;
 use call_types::limits::{Bounds, PIPE_BUF};
 use call_types::outcome::Reply;
-use posix_model::change::{Decided, FileEdit, Source, Try};
+use posix_model::change::{DataSource, Decided, FileEdit, Try};
 use posix_model::opened::OpenDescriptor;
-use posix_model::reader::Reader;
+use posix_model::reader::WorldReader;
 use posix_model::world::Fifo;
 use process_table::process::Parked;
 use std::alloc::{AllocError, Global};
 
 /// Whether a read of a pipe can go on: it holds bytes, or has no writer.
-fn read_ready<R: Reader>(state: &R, pipe: usize) -> bool
+fn read_ready<R: WorldReader>(state: &R, pipe: usize) -> bool
     ensures { result ≡ read_ready (R.world state.now) pipe }
 {
     state.held_in(pipe) != 0 || !state.has_writer(pipe)
@@ -34,14 +34,14 @@ fn room_wanted(len: usize) -> usize
 }
 
 /// Whether a write of so many bytes to a pipe can go on: there is room, or no reader.
-fn write_ready<R: Reader>(state: &R, bounds: Bounds, pipe: usize, len: usize) -> bool
+fn write_ready<R: WorldReader>(state: &R, bounds: Bounds, pipe: usize, len: usize) -> bool
     ensures { result ≡ write_ready bounds (R.world state.now) pipe len }
 {
     room_wanted(len) <= room_in(state, bounds, pipe) || !state.has_reader(pipe)
 }
 
 /// The FIFO that a target is an end of.
-fn fifo_of<R: Reader>(state: &R, target: Target) -> Option<Fifo>
+fn fifo_of<R: WorldReader>(state: &R, target: Target) -> Option<Fifo>
     ensures { result ≡ fifo_of (R.world state.now) target }
 {
     match target {
@@ -51,7 +51,12 @@ fn fifo_of<R: Reader>(state: &R, target: Target) -> Option<Fifo>
 }
 
 /// Whether an open of an end of a FIFO can go on: an opposite end is open, or was opened since it waits.
-fn open_ready<R: Reader>(state: &R, descriptor: OpenDescriptor, pipe: usize, openings: u64) -> bool
+fn open_ready<R: WorldReader>(
+    state: &R,
+    descriptor: OpenDescriptor,
+    pipe: usize,
+    openings: u64,
+) -> bool
     ensures { result ≡ open_ready (R.world state.now) descriptor pipe openings }
 {
     let mode = descriptor.description.mode;
@@ -68,7 +73,7 @@ struct Waiting<'a> {
 }
 
 /// The call that a process waits in, if it is live and attached and waits in one.
-fn waiting_of<R: Reader>(state: &R, process: usize) -> Option<Waiting<'_>>
+fn waiting_of<R: WorldReader>(state: &R, process: usize) -> Option<Waiting<'_>>
     ensures { (bounds : Bounds) → next_of bounds (R.world state.now) process ≡ next_on bounds (R.world state.now) process result }
 {
     if !state.is_here(process) {
@@ -85,7 +90,7 @@ fn waiting_of<R: Reader>(state: &R, process: usize) -> Option<Waiting<'_>>
 }
 
 /// Whether a call that waits can go on.
-fn can_go_on<R: Reader>(state: &R, bounds: Bounds, waiting: Waiting<'_>) -> bool
+fn can_go_on<R: WorldReader>(state: &R, bounds: Bounds, waiting: Waiting<'_>) -> bool
     ensures { (process : ℕ) → result ≡ is_some (next_on bounds (R.world state.now) process (Some waiting.entry)) }
 {
     let pipe = waiting.pipe;
@@ -98,7 +103,7 @@ fn can_go_on<R: Reader>(state: &R, bounds: Bounds, waiting: Waiting<'_>) -> bool
 }
 
 /// The next try of a call that waits, if it can go on. An error says that memory for what it reads ran out.
-fn try_again<R: Reader>(
+fn try_again<R: WorldReader>(
     state: &R,
     alloc: Global,
     bounds: Bounds,
@@ -114,7 +119,7 @@ fn try_again<R: Reader>(
             Ok(Some(read_try(state, alloc, pipe, *count as usize)?))
         }
         Call::Write { bytes, .. } if write_ready(state, bounds, pipe, bytes.len()) => {
-            let source = Source::Parked { process };
+            let source = DataSource::Parked { process };
             let (len, moved) = (bytes.len(), parked.moved);
             Ok(Some(write_try(state, bounds, pipe, source, len, moved)))
         }
@@ -128,7 +133,7 @@ fn try_again<R: Reader>(
 }
 
 /// Whether a process waits in a call that is ready.
-pub fn is_ready<R: Reader>(state: &R, bounds: Bounds, process: usize) -> bool
+pub fn is_ready<R: WorldReader>(state: &R, bounds: Bounds, process: usize) -> bool
     ensures { result ≡ is_ready bounds (R.world state.now) process }
 {
     match waiting_of(state, process) {
@@ -139,7 +144,7 @@ pub fn is_ready<R: Reader>(state: &R, bounds: Bounds, process: usize) -> bool
 
 /// What a resume of a process comes to, or nothing where it waits in no call that is ready. An error says that memory for what
 /// its call reads ran out.
-pub fn decide_resume<R: Reader>(
+pub fn decide_resume<R: WorldReader>(
     state: &R,
     alloc: Global,
     bounds: Bounds,

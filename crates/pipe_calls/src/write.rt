@@ -11,13 +11,13 @@ use call_types::call::Call;
 use call_types::errno::Errno;
 use call_types::limits::{Bounds, GIVEN_BYTES_MAX, PIPE_BUF};
 use call_types::outcome::Reply;
-use posix_model::change::{Decided, FileEdit, Source, Try, tells};
+use posix_model::change::{DataSource, Decided, FileEdit, Try, tells};
 use posix_model::opened::OpenDescriptor;
-use posix_model::reader::Reader;
+use posix_model::reader::WorldReader;
 use std::alloc::{AllocError, Global};
 
 /// For how many more bytes a pipe has room.
-pub(crate) fn room_in<R: Reader>(state: &R, bounds: Bounds, pipe: usize) -> usize
+pub(crate) fn room_in<R: WorldReader>(state: &R, bounds: Bounds, pipe: usize) -> usize
     ensures { result ≡ room_in bounds (R.world state.now) pipe }
 {
     (bounds.pipe_capacity as usize).saturating_sub(state.held_in(pipe))
@@ -36,11 +36,11 @@ fn broken(moved: u32) -> Reply
 
 /// One try of a write of `len` bytes to a pipe, of which `moved` went in before: all the rest where there is room for it; else,
 /// where `len` is at most 512 (PIPE_BUF), none, and where it is more, what fits; and it waits (page of write).
-pub fn write_try<R: Reader>(
+pub fn write_try<R: WorldReader>(
     state: &R,
     bounds: Bounds,
     pipe: usize,
-    source: Source,
+    source: DataSource,
     len: usize,
     moved: u32,
 ) -> Try
@@ -80,7 +80,7 @@ pub fn write_try<R: Reader>(
 
 /// What a write to a pipe or FIFO comes to: of no bytes it changes nothing, else it is tried, and may wait (page of write). An
 /// error says that memory for a copy of the call ran out.
-pub fn decide_write_end<R: Reader>(
+pub fn decide_write_end<R: WorldReader>(
     state: &R,
     alloc: Global,
     bounds: Bounds,
@@ -97,6 +97,6 @@ pub fn decide_write_end<R: Reader>(
     if bytes.is_empty() {
         return Ok(tells(Reply::Number(0)));
     }
-    let tried = write_try(state, bounds, pipe, Source::Act, bytes.len(), 0);
+    let tried = write_try(state, bounds, pipe, DataSource::Act, bytes.len(), 0);
     first_try(alloc, process, call, descriptor, tried)
 }

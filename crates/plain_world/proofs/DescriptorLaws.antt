@@ -21,7 +21,7 @@ use Rattle.call_types.specs.Flags.{has}
 use Rattle.call_types.specs.Flags as flag
 use Rattle.posix_model.specs.Types.{Data}
 use Rattle.call_types.specs.declared.description.Mode.TheVariants as mode
-use Rattle.posix_model.specs.declared.change.Source.TheVariants as source
+use Rattle.posix_model.specs.declared.change.DataSource.TheVariants as source
 use Rattle.posix_model.specs.declared.change.Try.TheVariants.{Ends, Waits}
 use Rattle.posix_model.specs.Close.{close}
 use Rattle.posix_model.specs.Step.{given, decided}

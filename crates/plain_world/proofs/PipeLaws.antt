@@ -30,11 +30,11 @@ use Rattle.posix_model.specs.Laws.{SweepLeaves}
 use Rattle.posix_model.specs.Types.{PIPE_BUF, EPIPE}
 use Rattle.posix_model.specs.declared.world.File.TheVariants as file
 use Rattle.call_types.specs.declared.description.Mode.TheVariants as mode
-use Rattle.posix_model.specs.declared.change.Source.TheVariants as source
+use Rattle.posix_model.specs.declared.change.DataSource.TheVariants as source
 use Rattle.posix_model.specs.declared.change.FileEdit.TheVariants as on_files
 use Rattle.posix_model.specs.declared.change.TableEdit.TheVariants as on_table
 use Rattle.posix_model.specs.declared.change.Try.TheVariants.{Ends, Waits}
-use Rattle.plain_world.specs.Types.{Call, Errno, OpenFlags, Bounds, World, Process, Parked, Source, Mode, File, Fifo, OpenDescriptor, FileEdit, Decided, Try, EAGAIN, Number, Error}
+use Rattle.plain_world.specs.Types.{Call, Errno, OpenFlags, Bounds, World, Process, Parked, DataSource, Mode, File, Fifo, OpenDescriptor, FileEdit, Decided, Try, EAGAIN, Number, Error}
 use Rattle.plain_world.specs.Calls.{IsNoError}
 use Rattle.plain_world.specs.PipeLaws.{CountsOpening, FifoCountsOpenings, OpensEmpty, ReopenedIsEmpty, ExitTakesBackNothing, HoldsAfter, WriteLosesNothing, ResumedWriteLosesNothing, WholeOrNone, SmallWriteIsWhole, UnparkedIsNotReady, UnparkedIsNotResumed}
 use Rattle.plain_world.proofs.PageLemmas.{page_has, on_open_has, opened_has, if_has, where_may, step_parts}
@@ -107,7 +107,7 @@ try_has : (Has : Try → Type 0) (b : Bool) (x y : Try) → (b ≡ true → Has 
 try_has Has true x y h k = h refl
 try_has Has false x y h k = k refl
 
-write_takes_none : (bounds : Bounds) (w : World) (pipe : ℕ) (from : Source) (len moved : ℕ) → takes_none (edit_of (write_try bounds w pipe from len moved)) ≡ true
+write_takes_none : (bounds : Bounds) (w : World) (pipe : ℕ) (from : DataSource) (len moved : ℕ) → takes_none (edit_of (write_try bounds w pipe from len moved)) ≡ true
 write_takes_none bounds w pipe from len moved =
     let None_taken : Try → Type 0 = λ x. takes_none (edit_of x) ≡ true in
     let rest = len - moved in

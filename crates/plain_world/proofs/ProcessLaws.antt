@@ -18,7 +18,7 @@ use Rattle.posix_model.specs.Step.{stepped}
 use Rattle.posix_model.specs.Laws.{SweepLeaves}
 use Rattle.plain_world.specs.Types.{World, Process, OpenDescriptor, Replied, Number, Done, EAGAIN}
 use Rattle.plain_world.specs.Calls.{before_sweep}
-use Rattle.plain_world.specs.ProcessLaws.{Forks, ForkCopies, ForkShares, FullForkRefused, description_at, SharedIsSeen, Ended, ExitFrees, ClosingCloses, ClosedOnce}
+use Rattle.plain_world.specs.ProcessLaws.{Forks, ForkCopies, ForkShares, FullForkRefused, description_at, SharedIsSeen, AfterExit, ExitFrees, ClosingCloses, ClosedOnce}
 use Rattle.plain_world.proofs.PageLemmas.{page_has, where_may, step_parts}
 use Rattle.plain_world.proofs.OpenedLemmas.{IsOpenAt, opened_stands}
 use Rattle.plain_world.proofs.SlotLemmas.{slot_pushed, slot_at_end, slot_edited, slot_freed}
@@ -97,7 +97,7 @@ shared_is_seen w p q fd to o is number =
       λ k. record { first = moved w p fd o k first; second = moved w q to second k other.1 },
     )
 
-exit_ends : SweepLeaves → (w : World) (p : ℕ) → Ended w (stepped w [] (exit p)).world p
+exit_ends : SweepLeaves → (w : World) (p : ℕ) → AfterExit w (stepped w [] (exit p)).world p
 exit_ends leaves w p =
     let left = leaves (changed w [] (exit p).change) in
     record {
@@ -112,8 +112,8 @@ exit_ends leaves w p =
 
 pub exit_frees : SweepLeaves → ExitFrees
 exit_frees leaves bounds w p s h =
-    step_parts (λ t. (t.outcome ≡ Replied Done) × Ended w t.world p) bounds w p act.Exit s
-    (λ d is. subst (λ x. ((stepped w [] x).outcome ≡ Replied Done) × Ended w (stepped w [] x).world p) (where_may (is_some (slot w.processes p)) (exit p) d is)
+    step_parts (λ t. (t.outcome ≡ Replied Done) × AfterExit w t.world p) bounds w p act.Exit s
+    (λ d is. subst (λ x. ((stepped w [] x).outcome ≡ Replied Done) × AfterExit w (stepped w [] x).world p) (where_may (is_some (slot w.processes p)) (exit p) d is)
     (refl, exit_ends leaves w p)) h
 
 pub closing_closes : ClosingCloses

@@ -64,7 +64,7 @@ OtherAttachRefused = (bounds : Bounds) (w : World) (process : ℕ) → sweep w �
 
 -- a process is gone, the others, all names and whether the run is closed are as they were, and of the descriptions just those stay, as
 -- they were, that a descriptor of another process refers to, and of the files those with a name or such a description
-pub record Ended (w v : World) (process : ℕ) : Type 0 where
+pub record AfterExit (w v : World) (process : ℕ) : Type 0 where
   pub gone : slot v.processes process ≡ None
   pub others : (other : ℕ) → other ≢ process → slot v.processes other ≡ slot w.processes other
   pub all : length v.processes ≡ length w.processes
@@ -75,7 +75,7 @@ pub record Ended (w v : World) (process : ℕ) : Type 0 where
 
 -- an exit that is a step replies Done, ends its process and frees what only that process had open (page of exit)
 abbrev pub ExitFrees : Type 0
-ExitFrees = (bounds : Bounds) (w : World) (process : ℕ) (s : Stepped) → step bounds w process act.Exit ≡ Some s → (s.outcome ≡ Replied Done) × Ended w s.world process
+ExitFrees = (bounds : Bounds) (w : World) (process : ℕ) (s : Stepped) → step bounds w process act.Exit ≡ Some s → (s.outcome ≡ Replied Done) × AfterExit w s.world process
 
 -- a closing of a run that is not closed closes it and changes nothing else, where the world was its own sweep (own)
 abbrev pub ClosingCloses : Type 0

@@ -7,7 +7,7 @@ use Rattle.call_types.specs.declared.act.TheConstants.{HOUSE}
 use Rattle.call_types.specs.declared.act.Act.TheVariants as act
 use Rattle.call_types.specs.declared.outcome.Outcome.TheVariants as outcome
 use Rattle.call_types.specs.declared.outcome.Reply.TheVariants as reply
-use Rattle.call_types.specs.declared.outcome.Kind.TheVariants.{Regular}
+use Rattle.call_types.specs.declared.outcome.FileType.TheVariants.{Regular}
 use Rattle.posix_model.specs.History.{legal}
 use Rattle.posix_model.specs.Turns.{bytes_in, bytes_out}
 

@@ -16,7 +16,7 @@ pub use Rattle.posix_model.specs.declared.world.File.{File}
 pub use Rattle.posix_model.specs.declared.world.Fifo.{Fifo}
 pub use Rattle.process_table.specs.declared.process.Parked.{Parked}
 pub use Rattle.posix_model.specs.declared.opened.OpenDescriptor.{OpenDescriptor}
-pub use Rattle.posix_model.specs.declared.change.Source.{Source}
+pub use Rattle.posix_model.specs.declared.change.DataSource.{DataSource}
 pub use Rattle.posix_model.specs.declared.change.FileEdit.{FileEdit}
 pub use Rattle.posix_model.specs.declared.change.ProcessEdit.{ProcessEdit}
 pub use Rattle.posix_model.specs.declared.change.TableEdit.{TableEdit}

@@ -6,7 +6,7 @@ ghost use Rattle.std.specs.Prelude.{◌≡◌, ◌+◌, ◌<◌, ◌≤◌, ◌^
 ghost use Rattle.posix_model.specs.Bytes.{splice, resized};
 ghost use Rattle.slots.specs.Slots.{slot, edited};
 ghost use Rattle.call_types.specs.Names.{file_of};
-ghost use Rattle.call_types.specs.Stored.{part_bytes};
+ghost use Rattle.call_types.specs.Stored.{span_bytes};
 ghost use Rattle.call_types.specs.Descriptions.{at_offset};
 ghost use Rattle.process_table.specs.Processes.{with_connection, with_parked, with_total, with_entry};
 ghost use Rattle.posix_model.specs.Descriptors.{file_bytes};
@@ -19,8 +19,8 @@ use crate::pipes::{
 };
 use call_types::bounded::Name;
 use call_types::description::{Description, Mode};
-use call_types::part::Part;
-use posix_model::change::{Change, FileEdit, ProcessEdit, Source, TableEdit};
+use call_types::span::Span;
+use posix_model::change::{Change, DataSource, FileEdit, ProcessEdit, TableEdit};
 use posix_model::contents::Contents;
 use posix_model::world::{Fifo, File, World};
 use process_table::process::{Parked, Process};
@@ -51,10 +51,10 @@ fn write_bytes(
     files: &mut Slots<File>,
     file: usize,
     start: usize,
-    bytes: Part<'_>,
+    bytes: Span<'_>,
 ) -> Result<(), AllocError>
-    requires { start + length (part_bytes bytes) < 2 ^ 63 }
-    ensures { OnOk result (files.new ≡ slice_set files.old file (Some (File.Regular (splice (file_bytes (slot files.old file)) start (part_bytes bytes.entry))))) }
+    requires { start + length (span_bytes bytes) < 2 ^ 63 }
+    ensures { OnOk result (files.new ≡ slice_set files.old file (Some (File.Regular (splice (file_bytes (slot files.old file)) start (span_bytes bytes.entry))))) }
 {
     let mut contents = take_bytes(alloc, files, file);
     contents.write_at(start, bytes)?;
@@ -85,17 +85,17 @@ fn make_file(world: &mut World, name: Name, new: File) -> Result<(), AllocError>
 /// Puts the first bytes of the act, or of a call that waits, into a pipe.
 fn put_into(
     world: &mut World,
-    bytes: Part<'_>,
+    bytes: Span<'_>,
     pipe: usize,
-    source: Source,
+    source: DataSource,
     count: usize,
 ) -> Result<(), AllocError>
-    requires { count ≤ length (bytes_from world.old (part_bytes bytes) source) }
-    ensures { OnOk result (world.new ≡ with_files world.old (part_bytes bytes.entry) (FileEdit.Put pipe source count)) }
+    requires { count ≤ length (bytes_from world.old (span_bytes bytes) source) }
+    ensures { OnOk result (world.new ≡ with_files world.old (span_bytes bytes.entry) (FileEdit.Put pipe source count)) }
 {
     match source {
-        Source::Act => put_bytes(&mut world.pipes, pipe, bytes.cut(0, count)),
-        Source::Parked { process } => {
+        DataSource::Act => put_bytes(&mut world.pipes, pipe, bytes.cut(0, count)),
+        DataSource::Parked { process } => {
             let rest = parked_bytes(&world.processes, process);
             put_bytes(&mut world.pipes, pipe, rest.cut(0, count))
         }
@@ -106,11 +106,11 @@ fn put_into(
 fn make_files(
     alloc: Global,
     world: &mut World,
-    bytes: Part<'_>,
+    bytes: Span<'_>,
     edit: FileEdit,
 ) -> Result<(), AllocError>
-    requires { FilesProper world.old (part_bytes bytes) edit }
-    ensures { OnOk result (world.new ≡ with_files world.old (part_bytes bytes.entry) edit) }
+    requires { FilesProper world.old (span_bytes bytes) edit }
+    ensures { OnOk result (world.new ≡ with_files world.old (span_bytes bytes.entry) edit) }
 {
     match edit {
         FileEdit::Nothing => Ok(()),
@@ -295,11 +295,11 @@ fn make_table(alloc: Global, world: &mut World, edit: TableEdit) -> Result<(), A
 pub(crate) fn make(
     alloc: Global,
     world: &mut World,
-    bytes: Part<'_>,
+    bytes: Span<'_>,
     change: Change,
 ) -> Result<(), AllocError>
-    requires { IsProper world.old (part_bytes bytes) change }
-    ensures { OnOk result (world.new ≡ changed world.old (part_bytes bytes.entry) change) }
+    requires { IsProper world.old (span_bytes bytes) change }
+    ensures { OnOk result (world.new ≡ changed world.old (span_bytes bytes.entry) change) }
 {
     let Change {
         files,

@@ -4,7 +4,7 @@
 
 ghost use Rattle.std.specs.Prelude.{[], ◌≡◌, ◌+◌, drop, unwrap_or, length, IfOk, OnOk};
 ghost use Rattle.call_types.specs.CallTable.{payload_of};
-ghost use Rattle.call_types.specs.Stored.{part_bytes};
+ghost use Rattle.call_types.specs.Stored.{span_bytes};
 ghost use Rattle.slots.specs.Slots.{slot, edited};
 ghost use Rattle.process_table.specs.Processes.{parked_of};
 ghost use Rattle.posix_model.specs.Change.{rest_of, after_those, end_of};
@@ -12,7 +12,7 @@ ghost use Rattle.posix_model.specs.Pipes.{fifo_at, pipe_of_fifo, with_pipe_for, 
 
 use call_types::call::Call;
 use call_types::description::{Description, Mode, Target};
-use call_types::part::Part;
+use call_types::span::Span;
 use posix_model::contents::Contents;
 use posix_model::world::{Fifo, File};
 use process_table::process::{Parked, Process};
@@ -20,45 +20,45 @@ use slots::dense::Slots;
 use std::alloc::{AllocError, Global};
 
 /// The data of a call that writes; none of any other.
-fn payload_of(call: &Call) -> Part<'_>
-    ensures { part_bytes result ≡ unwrap_or (payload_of call.now) [] }
+fn payload_of(call: &Call) -> Span<'_>
+    ensures { span_bytes result ≡ unwrap_or (payload_of call.now) [] }
 {
     match call.payload() {
-        Some(bytes) => bytes.part(),
-        None => Part::Slice(&[]),
+        Some(bytes) => bytes.span(),
+        None => Span::Slice(&[]),
     }
 }
 
 /// The bytes of a list after the first ones.
-fn after_first(bytes: Part<'_>, count: usize) -> Part<'_>
-    ensures { part_bytes result ≡ drop count (part_bytes bytes.entry) }
+fn after_first(bytes: Span<'_>, count: usize) -> Span<'_>
+    ensures { span_bytes result ≡ drop count (span_bytes bytes.entry) }
 {
     bytes.cut(count, bytes.len())
 }
 
 /// The data of a call that waits, after the bytes that it moved.
-fn rest_of(parked: &Parked) -> Part<'_>
-    ensures { part_bytes result ≡ rest_of (Some parked.now) }
+fn rest_of(parked: &Parked) -> Span<'_>
+    ensures { span_bytes result ≡ rest_of (Some parked.now) }
 {
     after_first(payload_of(parked.call.get()), parked.moved as usize)
 }
 
 /// The data of the call that a process waits in, after the bytes that it moved.
-pub(crate) fn parked_bytes(processes: &Slots<Process>, process: usize) -> Part<'_>
-    ensures { part_bytes result ≡ rest_of (parked_of (slot processes.now process)) }
+pub(crate) fn parked_bytes(processes: &Slots<Process>, process: usize) -> Span<'_>
+    ensures { span_bytes result ≡ rest_of (parked_of (slot processes.now process)) }
 {
     match processes.get(process) {
         Some(process) => match &process.parked {
             Some(parked) => rest_of(parked),
-            None => Part::Slice(&[]),
+            None => Span::Slice(&[]),
         },
-        None => Part::Slice(&[]),
+        None => Span::Slice(&[]),
     }
 }
 
 /// Adds bytes at the end; an error says that memory ran out.
-fn add_bytes(contents: &mut Contents, bytes: Part<'_>) -> Result<(), AllocError>
-    ensures { OnOk result (contents.new ≡ after_those (part_bytes bytes.entry) contents.old) }
+fn add_bytes(contents: &mut Contents, bytes: Span<'_>) -> Result<(), AllocError>
+    ensures { OnOk result (contents.new ≡ after_those (span_bytes bytes.entry) contents.old) }
 {
     let held = contents.len();
     match held.checked_add(bytes.len()) {
@@ -71,9 +71,9 @@ fn add_bytes(contents: &mut Contents, bytes: Part<'_>) -> Result<(), AllocError>
 pub(crate) fn put_bytes(
     pipes: &mut Slots<Contents>,
     pipe: usize,
-    bytes: Part<'_>,
+    bytes: Span<'_>,
 ) -> Result<(), AllocError>
-    ensures { OnOk result (pipes.new ≡ edited pipe (after_those (part_bytes bytes.entry)) pipes.old) }
+    ensures { OnOk result (pipes.new ≡ edited pipe (after_those (span_bytes bytes.entry)) pipes.old) }
 {
     if let Some(mut contents) = pipes.take(pipe) {
         add_bytes(&mut contents, bytes)?;
@@ -89,7 +89,7 @@ fn left_of(alloc: Global, contents: &Contents, count: usize) -> Result<Contents,
     let mut left = Contents::new(alloc);
     add_bytes(
         &mut left,
-        after_first(Part::Slice(contents.as_slice()), count),
+        after_first(Span::Slice(contents.as_slice()), count),
     )?;
     Ok(left)
 }

@@ -10,7 +10,7 @@ use call_types::outcome::Outcome;
 use pipe_calls::resume::is_ready;
 use posix_model::change::Decided;
 use posix_model::laws::acts_are_sound;
-use posix_model::reader::Reader;
+use posix_model::reader::WorldReader;
 use posix_model::world::World;
 use std::alloc::{AllocError, Global};
 use table_calls::decide::{can_call, decide};

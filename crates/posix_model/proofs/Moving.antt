@@ -6,7 +6,7 @@ use Rattle.slots.specs.Slots.{slot}
 use Rattle.process_table.specs.Processes.{parked_of}
 use Rattle.call_types.specs.CallTable.{payload_of}
 use Rattle.call_types.specs.declared.call.Call.TheVariants as call
-use Rattle.posix_model.specs.Types.{Call, World, Bounds, Errno, Parked, Source, OpenDescriptor, FileEdit, Decided, Try, EPIPE, EAGAIN, PIPE_BUF, Replied, Number, Data, Error}
+use Rattle.posix_model.specs.Types.{Call, World, Bounds, Errno, Parked, DataSource, OpenDescriptor, FileEdit, Decided, Try, EPIPE, EAGAIN, PIPE_BUF, Replied, Number, Data, Error}
 use Rattle.posix_model.specs.Pages.{refused}
 use Rattle.posix_model.specs.Descriptors.{held_in}
 use Rattle.posix_model.specs.Pipes.{room_in, has_reader, has_writer}
@@ -103,7 +103,7 @@ fair_broken w bytes pipe fd new moved =
     (λ e. fair_still w bytes (eqb pipe) t (Ends (Error EPIPE) on_files.Nothing) refl (omega arith) refl)
     (λ e. fair_still w bytes (eqb pipe) t (Ends (Number moved) on_files.Nothing) refl (omega arith) refl)
 
-pub fair_write : (bounds : Bounds) (w : World) (bytes : List ℕ) (pipe : ℕ) (s : Source) (fd : ℤ) (new : List ℕ) (moved : ℕ) →
+pub fair_write : (bounds : Bounds) (w : World) (bytes : List ℕ) (pipe : ℕ) (s : DataSource) (fd : ℤ) (new : List ℕ) (moved : ℕ) →
     bytes_from w bytes s ≡ drop moved new → (length new ≤ PIPE_BUF → moved ≡ 0) → FairWrite w bytes pipe fd new moved (write_try bounds w pipe s (length new) moved)
 fair_write bounds w bytes pipe s fd new moved from small =
     let t = turn_of (call.Write fd new) moved in

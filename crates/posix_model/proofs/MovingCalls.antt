@@ -35,7 +35,7 @@ use Rattle.posix_model.specs.Waiting.{HasLeft, EachWaitsWell}
 use Rattle.posix_model.specs.Turns.{Turn, new_turn, next_turn, total, took_in, data_in}
 use Rattle.posix_model.specs.Given.{data_given}
 use Rattle.posix_model.specs.PipeRecord.{TurnOn, opened_if, turn_with, parked_on, turn_on, is_on}
-use Rattle.posix_model.specs.declared.change.Source.TheVariants as source
+use Rattle.posix_model.specs.declared.change.DataSource.TheVariants as source
 use Rattle.posix_model.specs.declared.change.FileEdit.TheVariants as on_files
 use Rattle.posix_model.specs.declared.change.ProcessEdit.TheVariants as on_process
 use Rattle.posix_model.specs.declared.change.TableEdit.TheVariants as on_table

@@ -210,7 +210,7 @@ in_between : {T K : Type 0} (respect : T → K) (y last : Option T) (x z : T) �
 in_between respect None last x z none some h = let gone : last ≡ None = none refl in cc
 in_between respect (Some m) last x z none some h = some m refl
 
--- what stands before and behind two changes stood in between
+-- what stands before and after two changes stood in between
 pub stays_twice : {T K : Type 0} (respect : T → K) (xs ys zs : List (Option T)) → Rises xs ys → Rises ys zs → StaysSame respect xs ys → StaysSame respect ys zs → StaysSame respect xs zs
 stays_twice respect xs ys zs r s first second n x z h k =
     let longer = r.longer in

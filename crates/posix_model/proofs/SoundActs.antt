@@ -8,7 +8,7 @@ use Rattle.call_types.specs.declared.call.Call.TheVariants as call
 use Rattle.call_types.specs.Names.{file_of}
 use Rattle.slots.specs.Slots.{slot}
 use Rattle.process_table.specs.Processes.{free_table, copied_table, awaits}
-use Rattle.posix_model.specs.Types.{Act, Bounds, World, Process, ProcessEdit, Decided, TRANSFER_MAX, Replied, Data, Done, Told}
+use Rattle.posix_model.specs.Types.{Act, Bounds, World, Process, ProcessEdit, Decided, TRANSFER_MAX, Replied, Data, Done, StatReply}
 use Rattle.posix_model.specs.Bytes.{bytes_at}
 use Rattle.posix_model.specs.Whole.{IsThere, IsWhole}
 use Rattle.posix_model.specs.Descriptors.{opened, bytes_of}
@@ -84,7 +84,7 @@ calls_are_sound bounds w p (call.Unlink name) =
     page_has (Answers bounds w p (call.Unlink name)) (unlink w name) (sound_refused bounds w p (call.Unlink name) refl) (λ free. sound_unlink bounds w p name free)
 calls_are_sound bounds w p (call.Fstat fd) =
     on_open_has (Answers bounds w p (call.Fstat fd)) (opened w p fd) (fstat w) (sound_refused bounds w p (call.Fstat fd) refl)
-    (λ o is _. sound_tells bounds w p (call.Fstat fd) (Told (stat_of w o.description.target)) refl refl refl (omega arith))
+    (λ o is _. sound_tells bounds w p (call.Fstat fd) (StatReply (stat_of w o.description.target)) refl refl refl (omega arith))
 calls_are_sound bounds w p call.Fork =
     sound_adds bounds w p (act.Call call.Fork) (copied_table (slot w.processes p)) false (record { told = λ _. refl; refused = λ _. refl; planned = refl; ended = refl; closed = refl; few = λ _. omega arith })
     (λ whole. copied_can w (slot w.processes p) (whole.processes p) (whole.tables p))

@@ -8,7 +8,7 @@ use Rattle.call_types.specs.declared.call.Call.TheVariants as call
 use Rattle.call_types.specs.declared.description.Target.TheVariants as target
 use Rattle.slots.specs.Slots.{slot}
 use Rattle.process_table.specs.Processes.{is_here, parked_of}
-use Rattle.posix_model.specs.Types.{Call, Outcome, Bounds, World, Process, Parked, Target, OpenDescriptor, Source, FileEdit, Decided, Try, TRANSFER_MAX, PIPE_BUF, EAGAIN, EPIPE, Replied, ParkedAt, Part, Reply, Errno, Number, Data, Error}
+use Rattle.posix_model.specs.Types.{Call, Outcome, Bounds, World, Process, Parked, Target, OpenDescriptor, DataSource, FileEdit, Decided, Try, TRANSFER_MAX, PIPE_BUF, EAGAIN, EPIPE, Replied, ParkedAt, Part, Reply, Errno, Number, Data, Error}
 use Rattle.posix_model.specs.Whole.{IsThere, TargetIsThere, IsWhole}
 use Rattle.process_table.specs.Waits.{AsksFew}
 use Rattle.posix_model.specs.Descriptors.{opened, held_in}
@@ -25,7 +25,7 @@ use Rattle.posix_model.specs.Step.{given}
 use Rattle.posix_model.specs.Given.{data_given}
 use Rattle.posix_model.specs.Turns.{Turn, next_turn, total, took_in, took, data_in}
 use Rattle.posix_model.specs.Sound.{added, adds, data_of, data_most, is_of_pipes, may_change_pipes, FilesWithin, Sound}
-use Rattle.posix_model.specs.declared.change.Source.TheVariants as source
+use Rattle.posix_model.specs.declared.change.DataSource.TheVariants as source
 use Rattle.posix_model.specs.declared.change.FileEdit.TheVariants as on_files
 use Rattle.posix_model.specs.declared.change.TableEdit.TheVariants as on_table
 use Rattle.posix_model.specs.declared.change.Try.TheVariants.{Ends, Waits}
@@ -98,7 +98,7 @@ read_is_try bounds w bytes fd pipe count moved there =
     (λ _. record { piped = nothing_piped bounds w bytes; refusal = λ error h. cc; brief = omega arith; few = omega arith }))
 
 -- a try of a write that has so many bytes left of its data
-write_is_try : (bounds : Bounds) (w : World) (bytes : List ℕ) (fd : ℤ) (data_is : List ℕ) (pipe moved : ℕ) (source : Source) → (IsWhole w → IsThere w.pipes pipe) →
+write_is_try : (bounds : Bounds) (w : World) (bytes : List ℕ) (fd : ℤ) (data_is : List ℕ) (pipe moved : ℕ) (source : DataSource) → (IsWhole w → IsThere w.pipes pipe) →
     length data_is - moved ≤ length (bytes_from w bytes source) →
     IsTry bounds w bytes (record { call = call.Write fd data_is; moved = moved }) (write_try bounds w pipe source (length data_is) moved)
 write_is_try bounds w bytes fd data_is pipe moved source there left =

@@ -99,7 +99,7 @@ held_wanted names ds n d f h is = or_above (links names f) (holders ds f) (descr
 stays : (a b c : Bool) → a ≡ (b && c) → b ≡ true → c ≡ true → a ≡ true
 stays a b c e f g = cc (e, ap (λ x. x && c) f)
 
--- a file that is wanted is of its kind behind the sweep
+-- a file that is wanted is of its kind after the sweep
 wanted_kind : (w : World) (p : Option File → Bool) (f : ℕ) → ((old new : Fifo) → p (Some (file.Fifo old)) ≡ p (Some (file.Fifo new))) →
     is_wanted w.names (sweep w).descriptions f ≡ true → p (slot (sweep w).files f) ≡ p (slot w.files f)
 wanted_kind w p f same wanted =

@@ -12,7 +12,7 @@ use Rattle.call_types.specs.declared.act.TheConstants.{HOUSE}
 use Rattle.call_types.specs.declared.act.Act.TheVariants as act
 use Rattle.call_types.specs.declared.call.Call.TheVariants as call
 use Rattle.call_types.specs.declared.description.Target.TheVariants as target
-use Rattle.posix_model.specs.Types.{Call, Act, Record, Errno, Reply, OpenFlags, Bounds, World, Process, Parked, Description, Target, Fifo, OpenDescriptor, Source, FileEdit, ProcessEdit, TableEdit, Decided, Try, PIPE_BUF, EAGAIN, Number, Data, Error}
+use Rattle.posix_model.specs.Types.{Call, Act, Record, Errno, Reply, OpenFlags, Bounds, World, Process, Parked, Description, Target, Fifo, OpenDescriptor, DataSource, FileEdit, ProcessEdit, TableEdit, Decided, Try, PIPE_BUF, EAGAIN, Number, Data, Error}
 use Rattle.posix_model.specs.Whole.{EachThere}
 use Rattle.posix_model.specs.Positions.{file_at}
 use Rattle.posix_model.specs.Descriptors.{opened, opened_number, opened_description, bytes_of, held_in}
@@ -31,7 +31,7 @@ use Rattle.posix_model.specs.Resume.{read_ready, write_ready, open_ready, try_ag
 use Rattle.posix_model.specs.Step.{can_call, decided, comes_to, given, step}
 use Rattle.posix_model.specs.History.{empty_world, after, world_from}
 use Rattle.posix_model.specs.Waiting.{may_wait, HasLeft, WaitsWell, EachWaitsWell, StepKeepsWaits, HistoryWaits}
-use Rattle.posix_model.specs.declared.change.Source.TheVariants as source
+use Rattle.posix_model.specs.declared.change.DataSource.TheVariants as source
 use Rattle.posix_model.specs.declared.change.FileEdit.TheVariants as on_files
 use Rattle.posix_model.specs.declared.change.ProcessEdit.TheVariants as on_process
 use Rattle.posix_model.specs.declared.change.TableEdit.TheVariants as on_table
@@ -274,7 +274,7 @@ read_left w pipe fd count =
     try_has Has (not (eqb (held_in w pipe) 0)) (Ends (Data (take count (held_bytes w pipe))) (on_files.Take pipe count)) (cond (has_writer w pipe) (Waits 0 on_files.Nothing) (Ends (Data []) on_files.Nothing))
     (λ _. tt) (λ _. try_has Has (has_writer w pipe) (Waits 0 on_files.Nothing) (Ends (Data []) on_files.Nothing) (λ _. refl) (λ _. tt))
 
-write_left : (bounds : Bounds) (w : World) (pipe : ℕ) (from : Source) (fd : ℤ) (new : List ℕ) (moved : ℕ) → HasLeft (call.Write fd new) moved → Left (call.Write fd new) (write_try bounds w pipe from (length new) moved)
+write_left : (bounds : Bounds) (w : World) (pipe : ℕ) (from : DataSource) (fd : ℤ) (new : List ℕ) (moved : ℕ) → HasLeft (call.Write fd new) moved → Left (call.Write fd new) (write_try bounds w pipe from (length new) moved)
 write_left bounds w pipe from fd new moved left =
     let Has : Try → Type 0 = Left (call.Write fd new) in
     let len = length new in

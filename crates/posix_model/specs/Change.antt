@@ -7,12 +7,12 @@ use Rattle.slots.specs.Slots.{slot, edited}
 use Rattle.process_table.specs.Processes.{process_with, with_connection, parked_of, with_parked, with_total}
 use Rattle.posix_model.specs.Descriptors.{with_descriptor, with_offset, bytes_of}
 use Rattle.posix_model.specs.Pipes.{unopened, with_pipe, with_opening}
-use Rattle.posix_model.specs.Types.{World, File, Description, Mode, Parked, Source, FileEdit, ProcessEdit, TableEdit, Change}
+use Rattle.posix_model.specs.Types.{World, File, Description, Mode, Parked, DataSource, FileEdit, ProcessEdit, TableEdit, Change}
 use Rattle.posix_model.specs.Given.{data_given}
 use Rattle.posix_model.specs.declared.world.File.TheVariants as file
 use Rattle.call_types.specs.declared.description.Mode.TheVariants as mode
 use Rattle.call_types.specs.declared.description.Target.TheVariants as target
-use Rattle.posix_model.specs.declared.change.Source.TheVariants as source
+use Rattle.posix_model.specs.declared.change.DataSource.TheVariants as source
 use Rattle.posix_model.specs.declared.change.FileEdit.TheVariants as on_files
 use Rattle.posix_model.specs.declared.change.ProcessEdit.TheVariants as on_process
 use Rattle.posix_model.specs.declared.change.TableEdit.TheVariants as on_table
@@ -31,7 +31,7 @@ rest_of None = []
 rest_of (Some parked) = drop parked.moved (data_given parked.call)
 
 -- the bytes that go into a pipe, where the act gives these
-abbrev pub bytes_from : World → List ℕ → Source → List ℕ
+abbrev pub bytes_from : World → List ℕ → DataSource → List ℕ
 bytes_from w bytes source.Act = bytes
 bytes_from w bytes (source.Parked process) = rest_of (parked_of (slot w.processes process))
 

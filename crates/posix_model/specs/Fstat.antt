@@ -1,7 +1,7 @@
 -- The page of fstat: kind, size and links.
 use Rattle.std.specs.Prelude.{ℕ, min, [], length}
-use Rattle.posix_model.specs.Types.{Stat, World, Target, OpenDescriptor, Told}
-use Rattle.call_types.specs.declared.outcome.Kind.TheVariants as kind
+use Rattle.posix_model.specs.Types.{Stat, World, Target, OpenDescriptor, StatReply}
+use Rattle.call_types.specs.declared.outcome.FileType.TheVariants as kind
 use Rattle.posix_model.specs.Counts.{links}
 use Rattle.posix_model.specs.Pages.{Page, tells}
 use Rattle.posix_model.specs.Descriptors.{bytes_of, held_in}
@@ -23,4 +23,4 @@ stat_of w (target.Fifo file pipe) = record { kind = kind.Fifo; size = held_in w 
 
 -- fstat(fd)
 abbrev pub fstat : World → OpenDescriptor → Page
-fstat w o = record { faults = []; effect = tells (Told (stat_of w o.description.target)) }
+fstat w o = record { faults = []; effect = tells (StatReply (stat_of w o.description.target)) }

@@ -9,7 +9,7 @@ use Rattle.call_types.specs.declared.description.Target.TheVariants as target
 use Rattle.posix_model.specs.Descriptors.{opened, held_in}
 use Rattle.posix_model.specs.Pipes.{room_in, has_reader, has_writer, has_opposite, pipe_at, fifo_at, opposite_openings}
 use Rattle.posix_model.specs.Tries.{read_try, write_try, next_try}
-use Rattle.posix_model.specs.declared.change.Source.TheVariants as source
+use Rattle.posix_model.specs.declared.change.DataSource.TheVariants as source
 use Rattle.posix_model.specs.declared.change.FileEdit.TheVariants as on_files
 use Rattle.posix_model.specs.declared.change.Try.TheVariants.{Ends}
 

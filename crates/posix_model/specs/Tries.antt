@@ -9,7 +9,7 @@
 --   an open of a FIFO          an opposite end is open, or was opened since it    its descriptor
 --                              waits (page of open; own: or was opened since)
 use Rattle.std.specs.Prelude.{ℕ, ◌+◌, ◌-◌, ◌==◌, not, nat_le, [], take, if◌then◌else◌}
-use Rattle.posix_model.specs.Types.{Call, World, Bounds, Parked, OpenDescriptor, Source, FileEdit, Reply, Decided, Try, EAGAIN, EPIPE, PIPE_BUF, Replied, ParkedAt, Part, Number, Data, Error}
+use Rattle.posix_model.specs.Types.{Call, World, Bounds, Parked, OpenDescriptor, DataSource, FileEdit, Reply, Decided, Try, EAGAIN, EPIPE, PIPE_BUF, Replied, ParkedAt, Part, Number, Data, Error}
 use Rattle.posix_model.specs.Pages.{no_change, does, refused}
 use Rattle.posix_model.specs.Descriptors.{held_in}
 use Rattle.posix_model.specs.Pipes.{held_bytes, room_in, has_reader, has_writer}
@@ -31,7 +31,7 @@ broken moved = if moved == 0 then Error EPIPE else Number moved
 
 -- a write of so many bytes, which moved some before: all the rest where there is room for it; else, where they are at most
 -- PIPE_BUF, it waits and puts none, and where they are more it puts what fits, and waits (page of write)
-abbrev pub write_try : Bounds → World → ℕ → Source → ℕ → ℕ → Try
+abbrev pub write_try : Bounds → World → ℕ → DataSource → ℕ → ℕ → Try
 write_try bounds w pipe source len moved =
     let rest = len - moved in
     let room = room_in bounds w pipe in

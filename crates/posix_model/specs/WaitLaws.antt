@@ -8,7 +8,7 @@ use Rattle.call_types.specs.declared.call.Call.TheVariants as call
 use Rattle.call_types.specs.declared.act.Act.TheVariants as act
 use Rattle.slots.specs.Slots.{slot, edited}
 use Rattle.process_table.specs.Processes.{parked_of, with_parked}
-use Rattle.posix_model.specs.Types.{Call, Record, Outcome, Errno, Bounds, World, Parked, OpenDescriptor, Source, Change, Decided, Try, PIPE_BUF, EPIPE, Replied, ParkedAt, Part, Error}
+use Rattle.posix_model.specs.Types.{Call, Record, Outcome, Errno, Bounds, World, Parked, OpenDescriptor, DataSource, Change, Decided, Try, PIPE_BUF, EPIPE, Replied, ParkedAt, Part, Error}
 use Rattle.posix_model.specs.declared.change.ProcessEdit.TheVariants as on_process
 use Rattle.posix_model.specs.Pages.{no_change}
 use Rattle.posix_model.specs.Descriptors.{opened}
@@ -32,7 +32,7 @@ ReadyReads = (w : World) (pipe count : ℕ) → read_ready w pipe ≡ not (is_st
 
 -- a write that has bytes left, and has moved none if it is small, is ready exactly where its next try ends or moves more (page of write)
 abbrev pub ReadyWrites : Type 0
-ReadyWrites = (bounds : Bounds) (w : World) (pipe : ℕ) (s : Source) (len moved : ℕ) → moved < len → (len ≤ PIPE_BUF → moved ≡ 0) →
+ReadyWrites = (bounds : Bounds) (w : World) (pipe : ℕ) (s : DataSource) (len moved : ℕ) → moved < len → (len ≤ PIPE_BUF → moved ≡ 0) →
     write_ready bounds w pipe len ≡ not (is_stuck moved (write_try bounds w pipe s len moved))
 
 -- whether a call is under nonblock: an open by its flags, any other by the description that it is on, if that is open (O_NONBLOCK of open)

@@ -4,7 +4,7 @@ use Rattle.slots.specs.Slots.{slot}
 use Rattle.call_types.specs.Descriptions.{can_read, can_write}
 use Rattle.call_types.specs.declared.call.Call.TheVariants as call
 use Rattle.call_types.specs.declared.description.Target.TheVariants as target
-use Rattle.posix_model.specs.declared.change.Source.TheVariants as source
+use Rattle.posix_model.specs.declared.change.DataSource.TheVariants as source
 use Rattle.process_table.specs.Processes.{is_here, parked_of}
 use Rattle.posix_model.specs.Types.{Call, Act, Record, OpenFlags, Bounds, World, Parked, Target, Mode, OpenDescriptor, Decided, PIPE_BUF, Replied, Number}
 use Rattle.posix_model.specs.Descriptors.{opened}

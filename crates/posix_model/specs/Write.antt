@@ -5,7 +5,7 @@ use Rattle.call_types.specs.Descriptions.{can_write}
 use Rattle.posix_model.specs.Positions.{is_regular, file_at}
 use Rattle.posix_model.specs.Pipes.{pipe_at}
 use Rattle.posix_model.specs.Tries.{write_try, first_try}
-use Rattle.posix_model.specs.declared.change.Source.TheVariants as source
+use Rattle.posix_model.specs.declared.change.DataSource.TheVariants as source
 use Rattle.posix_model.specs.Pages.{Page, does, tells}
 use Rattle.posix_model.specs.Descriptors.{bytes_of}
 use Rattle.posix_model.specs.declared.change.FileEdit.TheVariants as on_files

@@ -10,7 +10,7 @@ use process_table::table::DescriptorTable;
 
 /// Which bytes go into a pipe.
 #[derive(Clone, Copy)]
-pub enum Source {
+pub enum DataSource {
     /// The data of the act's own call, from its first byte on.
     Act,
     /// The data of the call that a process waits in, after the bytes that it moved.
@@ -53,7 +53,7 @@ pub enum FileEdit {
     /// So many bytes go into a pipe, after those that it holds.
     Put {
         pipe: usize,
-        source: Source,
+        source: DataSource,
         count: usize,
     },
     /// So many bytes leave a pipe, or all that it holds; those first that went in first.

@@ -1,8 +1,8 @@
 ghost use Rattle.std.specs.Prelude.{◌≡◌, ◌+◌, ◌≤◌, ◌<◌, ◌^◌, [], List, ℕ, length, replicate, vec_len, vec_capacity, OnOk, OnErr};
-ghost use Rattle.call_types.specs.Stored.{part_bytes};
+ghost use Rattle.call_types.specs.Stored.{span_bytes};
 ghost use Rattle.posix_model.specs.Bytes.{padded_to, overwritten, splice, bytes_at, resized};
 
-use call_types::part::Part;
+use call_types::span::Span;
 use std::alloc::{AllocError, Global};
 use std::marker::Model;
 
@@ -65,15 +65,15 @@ fn overwrite_slice(bytes: &mut Vec<u8>, start: usize, new: &[u8])
 }
 
 /// Writes new bytes from `start` on, over what is there and after it.
-pub fn overwrite(bytes: &mut Vec<u8>, start: usize, new: Part<'_>)
+pub fn overwrite(bytes: &mut Vec<u8>, start: usize, new: Span<'_>)
     requires within { start ≤ vec_len bytes.old }
-    requires room { start + length (part_bytes new) ≤ vec_capacity bytes.old }
-    ensures items { bytes.new.items ≡ overwritten bytes.old.items start (part_bytes new.entry) }
+    requires room { start + length (span_bytes new) ≤ vec_capacity bytes.old }
+    ensures items { bytes.new.items ≡ overwritten bytes.old.items start (span_bytes new.entry) }
     ensures capacity { vec_capacity bytes.old ≤ vec_capacity bytes.new }
 {
     match new {
-        Part::Slice(new) => overwrite_slice(bytes, start, new),
-        Part::Same { byte, count } => overwrite_same(bytes, start, byte, count),
+        Span::Slice(new) => overwrite_slice(bytes, start, new),
+        Span::Same { byte, count } => overwrite_same(bytes, start, byte, count),
     }
 }
 
@@ -114,9 +114,9 @@ impl Contents {
     }
 
     /// Writes `new` from `start` on; a gap before it is filled with zeros.
-    pub fn write_at(&mut self, start: usize, new: Part<'_>) -> Result<(), AllocError>
-        requires { start + length (part_bytes new) < 2 ^ 63 }
-        ensures ok { OnOk result (self.new ≡ splice self.old start (part_bytes new.entry)) }
+    pub fn write_at(&mut self, start: usize, new: Span<'_>) -> Result<(), AllocError>
+        requires { start + length (span_bytes new) < 2 ^ 63 }
+        ensures ok { OnOk result (self.new ≡ splice self.old start (span_bytes new.entry)) }
         ensures err { OnErr result (self.new ≡ self.old) }
     {
         let end = start + new.len();

@@ -8,7 +8,7 @@ ghost use Rattle.posix_model.specs.Pipes.{held_bytes};
 
 use crate::counts::{links, readers, writers};
 use crate::opened::OpenDescriptor;
-use crate::reader::Reader;
+use crate::reader::WorldReader;
 use crate::world::{Fifo, File, World};
 use call_types::bounded::Content;
 use process_table::process::{Parked, Process};
@@ -59,7 +59,7 @@ pub fn held_bytes(world: &World, pipe: usize) -> &[u8]
     }
 }
 
-impl Reader for World {
+impl WorldReader for World {
     ghost world = { λ w. w };
 
     fn opened(&self, process: usize, fd: i32) -> Option<OpenDescriptor> {

@@ -21,7 +21,7 @@ use process_table::table::DescriptorTable;
 use std::alloc::{AllocError, Global};
 
 /// A state that can be read as a world.
-pub trait Reader {
+pub trait WorldReader {
     ghost world: { Self → Worlds };
 
     /// What a descriptor of a process leads to, if it is open.

@@ -4,10 +4,10 @@ use Rattle.call_types.specs.declared.act.ScriptAct.{ScriptAct}
 use Rattle.slots.specs.Slots.{slot}
 use Rattle.record_book.specs.Book.{BookState}
 use Rattle.record_book.specs.Runs.{Seats, Tells, RunTells, GoesOn}
-use Rattle.record_book.specs.declared.run.Told.{Told}
+use Rattle.record_book.specs.declared.run.ScriptAnswer.{ScriptAnswer}
 
 -- a run goes on by one act
-pub run_more : (old mid new : BookState) (seats between after : Seats) (acts : List ScriptAct) (told next : List Told) (a : ScriptAct) →
+pub run_more : (old mid new : BookState) (seats between after : Seats) (acts : List ScriptAct) (told next : List ScriptAnswer) (a : ScriptAct) →
     RunTells old mid seats between acts told → Tells mid new between after a next → RunTells old new seats after (acts ++ a ∷ []) (told ++ next)
 run_more old mid new seats between after [] told next a run tells =
     let P : BookState → Type 0 = λ b. Tells b new seats after a next in
@@ -17,7 +17,7 @@ run_more old mid new seats between after (x ∷ acts) told next a run tells =
     (run.0, run.1, run.2, run.3 ++ next, ap (λ l. l ++ next) run.4 ∙ append_assoc run.2 run.3 next, run.5, run_more run.0 mid new run.1 between after acts run.3 next a run.6 tells)
 
 -- what is told of an act goes on from whatever was told before
-pub goes_on : (old new : BookState) (seats after : Seats) (a : ScriptAct) (told : Told) → Tells old new seats after a (told ∷ []) → GoesOn old new seats after a told
+pub goes_on : (old new : BookState) (seats after : Seats) (a : ScriptAct) (told : ScriptAnswer) → Tells old new seats after a (told ∷ []) → GoesOn old new seats after a told
 goes_on old new seats after a told tells = λ first opened acts before runs. run_more first old new opened seats after acts before (told ∷ []) a runs tells
 
 -- a slot that is written with what stands there

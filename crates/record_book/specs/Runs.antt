@@ -18,8 +18,8 @@ use Rattle.record_book.specs.Openings.{next_pid, first_seat}
 use Rattle.record_book.specs.Ends.{Closes}
 use Rattle.record_book.specs.declared.resume.Resumed.{Resumed}
 use Rattle.record_book.specs.declared.resume.Resumed.TheVariants as resumed
-use Rattle.record_book.specs.declared.run.Told.{Told}
-use Rattle.record_book.specs.declared.run.Told.TheVariants.{Recorded, Closed, Still, Refused}
+use Rattle.record_book.specs.declared.run.ScriptAnswer.{ScriptAnswer}
+use Rattle.record_book.specs.declared.run.ScriptAnswer.TheVariants.{Recorded, Closed, Still, Refused}
 
 -- the seats that a script opened: that of a process stands at the process's number
 abbrev pub Seats : Type 0
@@ -145,7 +145,7 @@ abbrev pub seat_of_house : BookState → List Receipted → SeatState
 seat_of_house b receipts = record { pid = HOUSE; seen = length b.history; receipts = receipts; counted = only_records (length receipts) }
 
 -- what is told of an act: its record, the records of a closing, that there is nothing to close or no call that is ready, or why there is no record
-abbrev pub Tells : BookState → BookState → Seats → Seats → ScriptAct → List Told → Type 0
+abbrev pub Tells : BookState → BookState → Seats → Seats → ScriptAct → List ScriptAnswer → Type 0
 Tells old new seats after a (Recorded receipt ∷ []) = Runs old new seats after a (Ok receipt)
 Tells old new seats after a (Closed receipts ∷ []) = (a ≡ script.CloseRun) × Closes old new (Some (seat_of_house new receipts.items)) × (after ≡ seats)
 Tells old new seats after a (Still actor still ∷ []) = (actor ≡ actor_of old a) × (still.now ≡ a) × IsStill old new seats after a
@@ -153,14 +153,14 @@ Tells old new seats after a (Refused actor refused refusal ∷ []) = (actor ≡ 
 Tells old new seats after a other = ⊥
 
 -- what is told of acts one after another, from a book and seats on
-abbrev pub RunTells : BookState → BookState → Seats → Seats → List ScriptAct → List Told → Type 0
+abbrev pub RunTells : BookState → BookState → Seats → Seats → List ScriptAct → List ScriptAnswer → Type 0
 RunTells old new seats after [] told = (told ≡ []) × Unchanged old new seats after
 RunTells old new seats after (a ∷ acts) told =
-    (mid : BookState) × (between : Seats) × (first : List Told) × (more : List Told) ×
+    (mid : BookState) × (between : Seats) × (first : List ScriptAnswer) × (more : List ScriptAnswer) ×
     (told ≡ first ++ more) × Tells old mid seats between a first × RunTells mid new between after acts more
 
 -- whatever was told before, it is what is told of all acts together with what is told of one act more
-abbrev pub GoesOn : BookState → BookState → Seats → Seats → ScriptAct → Told → Type 0
+abbrev pub GoesOn : BookState → BookState → Seats → Seats → ScriptAct → ScriptAnswer → Type 0
 GoesOn old new seats after a told =
-    (first : BookState) → (opened : Seats) → (acts : List ScriptAct) → (before : List Told) →
+    (first : BookState) → (opened : Seats) → (acts : List ScriptAct) → (before : List ScriptAnswer) →
     RunTells first old opened seats acts before → RunTells first new opened after (acts ++ a ∷ []) (before ++ told ∷ [])

@@ -10,7 +10,7 @@ use crate::moved::bytes_moved;
 use crate::seat::Receipt;
 use call_types::act::{Act, Record};
 use posix_model::change::Decided;
-use posix_model::reader::Reader;
+use posix_model::reader::WorldReader;
 use std::alloc::{AllocError, Global};
 use std::sync::Arc;
 

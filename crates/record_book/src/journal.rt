@@ -11,7 +11,7 @@ use crate::prepared::Prepared;
 use call_types::act::{Act, HOUSE, Record};
 use call_types::limits::{Limits, PROCESSES_MAX};
 use machine_state::machine::Machine;
-use posix_model::reader::Reader;
+use posix_model::reader::WorldReader;
 use slots::numbered::Numbered;
 use std::alloc::{AllocError, Global};
 use std::marker::Model;

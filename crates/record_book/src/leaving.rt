@@ -20,7 +20,7 @@ use call_types::act::{Act, HOUSE, Record};
 use machine_state::machine::Machine;
 use posix_model::change::Decided;
 use posix_model::laws::processes_are_counted;
-use posix_model::reader::Reader;
+use posix_model::reader::WorldReader;
 use slots::numbered::Numbered;
 use std::sync::Arc;
 use table_calls::exit::{decide_close_run, decide_exit};

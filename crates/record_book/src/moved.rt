@@ -9,7 +9,7 @@ use call_types::call::Call;
 use call_types::limits::{GIVEN_BYTES_MAX, TRANSFER_MAX};
 use call_types::outcome::{Outcome, Reply};
 use machine_state::machine::Machine;
-use posix_model::reader::Reader;
+use posix_model::reader::WorldReader;
 use process_table::process::Parked;
 
 /// How many bytes a call has moved in all, as its outcome says.

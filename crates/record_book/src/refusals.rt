@@ -19,7 +19,7 @@ use call_types::refusal::Refusal;
 use pipe_calls::resume::decide_resume;
 use posix_model::change::Decided;
 use posix_model::laws::{acts_are_sound, numbers_rise, processes_are_counted};
-use posix_model::reader::Reader;
+use posix_model::reader::WorldReader;
 use std::alloc::{AllocError, Global};
 use table_calls::attach::decide_attach;
 use table_calls::decide::{call_adds, decide_call, join_adds};

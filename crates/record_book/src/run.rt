@@ -16,7 +16,7 @@ use std::alloc::{AllocError, Global};
 
 /// What is told of an act of a script.
 #[derive(Drop)]
-pub enum Told<'a> {
+pub enum ScriptAnswer<'a> {
     /// Its record.
     Recorded(Receipt),
     /// The receipts of all that a closing recorded.
@@ -129,7 +129,7 @@ impl<L: Ledgers> Book<L> {
     }
 
     /// Runs a closing of a script.
-    fn run_closing<'a>(&mut self, act: &'a ScriptAct) -> Told<'a>
+    fn run_closing<'a>(&mut self, act: &'a ScriptAct) -> ScriptAnswer<'a>
         requires { act.now ≡ ScriptAct.CloseRun }
         ensures tells { (seats : ScriptSeats) → Tells self.old self.new seats seats act.now (result ∷ []) }
         ensures limits { self.new.limits ≡ self.old.limits }
@@ -137,9 +137,9 @@ impl<L: Ledgers> Book<L> {
         match self.close_run() {
             Some(house) => {
                 let (receipts, _shares) = house.into_parts();
-                Told::Closed(receipts)
+                ScriptAnswer::Closed(receipts)
             }
-            None => Told::Still { actor: HOUSE, act },
+            None => ScriptAnswer::Still { actor: HOUSE, act },
         }
     }
 
@@ -191,7 +191,7 @@ impl<L: Ledgers> Book<L> {
         alloc: Global,
         seats: &mut Seats<L>,
         act: &'a ScriptAct,
-    ) -> Told<'a>
+    ) -> ScriptAnswer<'a>
         ensures tells { Tells self.old self.new seats.old.0 seats.new.0 act.now (result ∷ []) }
         ensures goes_on { GoesOn self.old self.new seats.old.0 seats.new.0 act.now result }
         ensures limits { self.new.limits ≡ self.old.limits }
@@ -206,7 +206,7 @@ impl<L: Ledgers> Book<L> {
                 match self.run_resume(alloc, seats, *process) {
                     Ok(Resumed::Recorded(receipt)) => (*process, Ok(receipt)),
                     Ok(Resumed::Still) => {
-                        return Told::Still {
+                        return ScriptAnswer::Still {
                             actor: *process,
                             act,
                         };
@@ -218,8 +218,8 @@ impl<L: Ledgers> Book<L> {
             ScriptAct::CloseRun => return self.run_closing(act),
         };
         match ran {
-            Ok(receipt) => Told::Recorded(receipt),
-            Err(refusal) => Told::Refused {
+            Ok(receipt) => ScriptAnswer::Recorded(receipt),
+            Err(refusal) => ScriptAnswer::Refused {
                 actor,
                 act,
                 refusal,
@@ -233,7 +233,7 @@ impl<L: Ledgers> Book<L> {
         &mut self,
         alloc: Global,
         acts: &'a [ScriptAct],
-    ) -> Result<Vec<Told<'a>>, AllocError>
+    ) -> Result<Vec<ScriptAnswer<'a>>, AllocError>
         ensures told { IfOk result (λ told. (seats : List (Option SeatState)) × RunTells self.old self.new [] seats acts.now told.items) }
         ensures limits { self.new.limits ≡ self.old.limits }
         ensures err { OnErr result (self.new ≡ self.old) }

@@ -9,7 +9,7 @@ use Rattle.call_types.specs.declared.call.Call.{Call}
 use Rattle.call_types.specs.declared.call.Call.TheVariants as calls
 use Rattle.call_types.specs.declared.act.ScriptAct.{ScriptAct}
 use Rattle.call_types.specs.declared.act.ScriptAct.TheVariants as acts
-use Rattle.script_text.specs.Reading.{◌>>=◌, Left, Word, cut, word_at, ended}
+use Rattle.script_text.specs.Reading.{◌>>=◌, Unread, Word, cut, word_at, ended}
 use Rattle.script_text.specs.ReadingNumbers.{process_of}
 use Rattle.call_types.specs.CallTable.{Entry, Parts, Parted, parts, made, call_table}
 use Rattle.script_text.proofs.CallParts.{all_parted, made_again}
@@ -42,7 +42,7 @@ one_of_takes (e ∷ es) w call h r =
 named_takes : (w : Word) (call : Call) → named_call w ≡ Ok call → Spelled w call
 named_takes w call e = one_of_takes call_table w call all_parted e
 
-word_takes : (left : Left) (w : Word) → word_at left ≡ Ok w → left ≡ Some (w.text ++ tail w.after)
+word_takes : (left : Unread) (w : Word) → word_at left ≡ Ok w → left ≡ Some (w.text ++ tail w.after)
 word_takes None w e = absurd cc
 word_takes (Some bytes) w e =
     let is : record { text = (cut 32 bytes).0; remaining = length bytes; after = (cut 32 bytes).1 } ≡ w = ok_is _ w e in
@@ -55,7 +55,7 @@ text_from w = w.text ++ tail w.after
 last_takes : (word : List ℕ) (last act : ScriptAct) (w : Word) → bytes_eq w.text word ≡ true → last_word last w.after ≡ Ok act → (text_from w ≡ word) × (last ≡ act)
 last_takes word last act w t e =
     let end = bind_ok (ended w.after) (λ end. Ok last) act e in
-    (ap (λ (x : List ℕ). x ++ tail w.after) ((bytes_eq-Decides w.text word).0 t) ∙ ap (λ (l : Left). word ++ tail l) (ended_takes w.after end.0 end.1) ∙ append-nil word, ok_is last act end.2)
+    (ap (λ (x : List ℕ). x ++ tail w.after) ((bytes_eq-Decides w.text word).0 t) ∙ ap (λ (l : Unread). word ++ tail l) (ended_takes w.after end.0 end.1) ∙ append-nil word, ok_is last act end.2)
 
 call_act_takes : (process : ℕ) (w : Word) (act : ScriptAct) → process < 2 ^ 32 → (named_call w >>= λ call. Ok (acts.Call process call)) ≡ Ok act → SpellsAct act (process_word process ++ (32 ∷ text_from w))
 call_act_takes process w act h e =
@@ -97,7 +97,7 @@ act_of_takes (Some process) w act is e =
     let spelled = process_takes w.text process is in
     let v = bind_ok (word_at w.after) (λ word. process_act process word) act e in
     let line : text_from w ≡ process_word process ++ (32 ∷ text_from v.0) =
-    ap (λ (t : List ℕ). t ++ tail w.after) spelled.0 ∙ ap (λ (l : Left). process_word process ++ tail l) (word_takes w.after v.0 v.1) in
+    ap (λ (t : List ℕ). t ++ tail w.after) spelled.0 ∙ ap (λ (l : Unread). process_word process ++ tail l) (word_takes w.after v.0 v.1) in
     subst (SpellsAct act) (sym line) (process_act_takes process v.0 act spelled.1 v.2)
 
 -- what is read is spelled so
@@ -123,7 +123,7 @@ act_from process text = word_at (Some text) >>= λ w. process_act process w
 -- an entry is found by its word
 abbrev Finds : Parts → Type 0
 Finds p =
-    (process remaining : ℕ) (left : Left) → process_act process (record { text = p.entry.word; remaining = remaining; after = left }) ≡ (entry_at p.entry left >>= λ call. Ok (acts.Call process call))
+    (process remaining : ℕ) (left : Unread) → process_act process (record { text = p.entry.word; remaining = remaining; after = left }) ≡ (entry_at p.entry left >>= λ call. Ok (acts.Call process call))
 
 finds : (call : Call) → Finds (parts call) × Unbroken (parts call).entry.word
 finds (calls.Close fd) = (λ process remaining left. refl, unbroken (codes "close") refl)
@@ -134,7 +134,7 @@ parts_again process p text finds one s =
     let left = left_of p.entry.fields p.values s.0 s.1 in
     let is : text ≡ p.entry.word ++ tail left.0 = s.2 ∙ ap (λ (r : List ℕ). p.entry.word ++ r) left.1 in
     ap (act_from process) is
-    ∙ ap (λ (parts : List ℕ × Left). process_act process (record { text = parts.0; remaining = length (p.entry.word ++ tail left.0); after = parts.1 })) (cut_again p.entry.word left.0 one)
+    ∙ ap (λ (parts : List ℕ × Unread). process_act process (record { text = parts.0; remaining = length (p.entry.word ++ tail left.0); after = parts.1 })) (cut_again p.entry.word left.0 one)
     ∙ finds process (length (p.entry.word ++ tail left.0)) left.0
     ∙ ap (λ (r : Result Call ℕ). r >>= λ call. Ok (acts.Call process call)) (fields_again p.entry.fields p.entry.make p.values left.0 (subst (SpellsFields p.entry.fields p.values) left.1 s.1))
 
@@ -144,7 +144,7 @@ call_again process call text s = parts_again process (parts call) text (finds ca
 -- the act of a line that begins with a process
 line_again : (process : ℕ) (line text : List ℕ) → process < 2 ^ 32 → line ≡ process_word process ++ (32 ∷ text) → act_at (Some line) ≡ act_from process text
 line_again process line text h is =
-    ap (λ (parts : List ℕ × Left). act_of (process_of parts.0) (record { text = parts.0; remaining = length line; after = parts.1 }))
+    ap (λ (parts : List ℕ × Unread). act_of (process_of parts.0) (record { text = parts.0; remaining = length line; after = parts.1 }))
     (ap (cut 32) is ∙ cut_again (process_word process) (Some text) (process_unbroken process h))
     ∙ ap (λ (o : Option ℕ). act_of o (record { text = process_word process; remaining = length line; after = Some text })) (process_again process h)
 

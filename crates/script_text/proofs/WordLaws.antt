@@ -8,7 +8,7 @@ use Rattle.std.specs.Char.{is_ascii_digit}
 use Rattle.std.specs.Str.{all_ascii_digits}
 use Rattle.std.specs.Fmt.{decimal, signed_decimal}
 use Rattle.std.proofs.lemmas.Fmt.{digits_decimal, decimal_nonempty}
-use Rattle.script_text.specs.Reading.{◌>>=◌, Left, cut, onto, valued, field, ended}
+use Rattle.script_text.specs.Reading.{◌>>=◌, Unread, cut, onto, valued, field, ended}
 use Rattle.script_text.specs.ReadingNumbers.{number_of, process_of, signed_of, negative, not_negative}
 use Rattle.script_text.specs.Lines.{process_word}
 use Rattle.script_text.proofs.Numerals.{own, number_takes, number_again, chosen}
@@ -43,12 +43,12 @@ pub decimal_unbroken : (n : ℕ) → n < 2 ^ 64 → Unbroken (decimal n)
 decimal_unbroken n h = digits_unbroken (decimal n) (digits_decimal own n h)
 
 -- what is left, with the space before it
-abbrev pub tail : Left → List ℕ
+abbrev pub tail : Unread → List ℕ
 tail None = []
 tail (Some bytes) = 32 ∷ bytes
 
 cut_parts : (b : Bool) (c : ℕ) (cs : List ℕ) → eqb c 32 ≡ b → cs ≡ (cut 32 cs).0 ++ tail (cut 32 cs).1
-    → (c ∷ cs) ≡ (let parts : List ℕ × Left = cond b ([], Some cs) (onto c (cut 32 cs)) in parts.0 ++ tail parts.1)
+    → (c ∷ cs) ≡ (let parts : List ℕ × Unread = cond b ([], Some cs) (onto c (cut 32 cs)) in parts.0 ++ tail parts.1)
 cut_parts true c cs e h = ap (λ (d : ℕ). d ∷ cs) (eqb-true c 32 e)
 cut_parts false c cs e h = ap (λ (ds : List ℕ). c ∷ ds) h
 
@@ -58,30 +58,30 @@ cut_joined [] = refl
 cut_joined (c ∷ cs) = cut_parts (eqb c 32) c cs refl (cut_joined cs)
 
 -- a word without a space is cut off
-pub cut_again : (word : List ℕ) (after : Left) → Unbroken word → cut 32 (word ++ tail after) ≡ (word, after)
+pub cut_again : (word : List ℕ) (after : Unread) → Unbroken word → cut 32 (word ++ tail after) ≡ (word, after)
 cut_again [] None h = refl
 cut_again [] (Some bytes) h = refl
 cut_again (c ∷ cs) after h = rw (ne_eqb c 32 h.0) (ap (onto c) (cut_again cs after h.1))
 
 -- a word that has a value, and what is left after it
-pub record Field {A : Type 0} (value : List ℕ → Option A) (left : Left) (a : A) (after : Left) : Type 0 where
+pub record Field {A : Type 0} (value : List ℕ → Option A) (left : Unread) (a : A) (after : Unread) : Type 0 where
   pub word : List ℕ
   pub is : left ≡ Some (word ++ tail after)
   pub has : value word ≡ Some a
 
-pub valued_parts : {A : Type 0} (o : Option A) (remaining : ℕ) (after rest : Left) (a : A) → valued o remaining after ≡ Ok (a, rest) → (o ≡ Some a) × (after ≡ rest)
+pub valued_parts : {A : Type 0} (o : Option A) (remaining : ℕ) (after rest : Unread) (a : A) → valued o remaining after ≡ Ok (a, rest) → (o ≡ Some a) × (after ≡ rest)
 valued_parts None remaining after rest a e = absurd cc
 valued_parts {A} (Some b) remaining after rest a e =
     let both : (b, after) ≡ (a, rest) = cc in
-    (ap (λ (p : A × Left). Some p.0) both, ap (λ (p : A × Left). p.1) both)
+    (ap (λ (p : A × Unread). Some p.0) both, ap (λ (p : A × Unread). p.1) both)
 
-pub field_takes : {A : Type 0} (value : List ℕ → Option A) (left : Left) (a : A) (after : Left) → field value left ≡ Ok (a, after) → Field value left a after
+pub field_takes : {A : Type 0} (value : List ℕ → Option A) (left : Unread) (a : A) (after : Unread) → field value left ≡ Ok (a, after) → Field value left a after
 field_takes value None a after e = absurd cc
 field_takes value (Some bytes) a after e =
     let parts = valued_parts (value (cut 32 bytes).0) (length bytes) (cut 32 bytes).1 after a e in
-    record { word = (cut 32 bytes).0; is = ap (λ (b : List ℕ). Some b) (cut_joined bytes ∙ ap (λ (l : Left). (cut 32 bytes).0 ++ tail l) parts.1); has = parts.0 }
+    record { word = (cut 32 bytes).0; is = ap (λ (b : List ℕ). Some b) (cut_joined bytes ∙ ap (λ (l : Unread). (cut 32 bytes).0 ++ tail l) parts.1); has = parts.0 }
 
-pub field_again : {A : Type 0} (value : List ℕ → Option A) (word : List ℕ) (a : A) (after : Left) → Unbroken word → value word ≡ Some a → field value (Some (word ++ tail after)) ≡ Ok (a, after)
+pub field_again : {A : Type 0} (value : List ℕ → Option A) (word : List ℕ) (a : A) (after : Unread) → Unbroken word → value word ≡ Some a → field value (Some (word ++ tail after)) ≡ Ok (a, after)
 field_again value word a after h e =
     rw (cut_again word after h, e) refl
 
@@ -97,7 +97,7 @@ pub bind_ok : {A B E : Type 0} (r : Result A E) (f : A → Result B E) (y : B) �
 bind_ok (Ok x) f y e = (x, refl, e)
 bind_ok (Err d) f y e = absurd cc
 
-pub ended_takes : (left : Left) (u : Unit {0}) → ended left ≡ Ok u → left ≡ None
+pub ended_takes : (left : Unread) (u : Unit {0}) → ended left ≡ Ok u → left ≡ None
 ended_takes None u e = refl
 ended_takes (Some bytes) u e = absurd cc
 

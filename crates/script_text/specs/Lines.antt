@@ -16,8 +16,8 @@ use Rattle.call_types.specs.declared.outcome.Outcome.{Outcome}
 use Rattle.call_types.specs.declared.outcome.Outcome.TheVariants as outcomes
 use Rattle.call_types.specs.declared.outcome.Reply.{Reply}
 use Rattle.call_types.specs.declared.outcome.Reply.TheVariants as replies
-use Rattle.call_types.specs.declared.outcome.Kind.{Kind}
-use Rattle.call_types.specs.declared.outcome.Kind.TheVariants as kinds
+use Rattle.call_types.specs.declared.outcome.FileType.{FileType}
+use Rattle.call_types.specs.declared.outcome.FileType.TheVariants as kinds
 use Rattle.call_types.specs.declared.outcome.Stat.{Stat}
 use Rattle.call_types.specs.declared.errno.Errno.{Errno}
 use Rattle.call_types.specs.declared.errno.Errno.TheVariants as errors
@@ -119,7 +119,7 @@ actor_word actor acts.CloseRun = codes "house"
 actor_word actor other = process_word actor
 
 -- what a file is
-abbrev pub kind_word : Kind → List ℕ
+abbrev pub kind_word : FileType → List ℕ
 kind_word kinds.Regular = codes "regular"
 kind_word kinds.Fifo = codes "fifo"
 kind_word kinds.Pipe = codes "pipe"

@@ -39,15 +39,15 @@ abbrev pub line_feed : ℕ
 line_feed = byte_of (codes "\n")
 
 -- what is left of a line after a space, or of a script after an LF; None where it has ended
-abbrev pub Left : Type 0
-Left = Option (List ℕ)
+abbrev pub Unread : Type 0
+Unread = Option (List ℕ)
 
 -- the same cut, with one more byte in front
-abbrev pub onto : ℕ → List ℕ × Left → List ℕ × Left
+abbrev pub onto : ℕ → List ℕ × Unread → List ℕ × Unread
 onto c parts = (c ∷ parts.0, parts.1)
 
 -- the bytes before the first that is mark, and what is left after it
-abbrev pub cut : ℕ → List ℕ → List ℕ × Left
+abbrev pub cut : ℕ → List ℕ → List ℕ × Unread
 cut mark [] = ([], None)
 cut mark (c ∷ cs) = if c == mark then ([], Some cs) else onto c (cut mark cs)
 
@@ -55,23 +55,23 @@ cut mark (c ∷ cs) = if c == mark then ([], Some cs) else onto c (cut mark cs)
 pub record Word : Type 0 where
   pub text : List ℕ
   pub remaining : ℕ
-  pub after : Left
+  pub after : Unread
 
 -- the next word, which may be missing
-abbrev pub word_at : Left → Result Word ℕ
+abbrev pub word_at : Unread → Result Word ℕ
 word_at None = Err 0
 word_at (Some bytes) = Ok (record { text = (cut space bytes).0; remaining = length bytes; after = (cut space bytes).1 })
 
 -- the value of a word, with what is left after it; a word without a value isn't allowed
-abbrev pub valued : {A : Type 0} → Option A → ℕ → Left → Result (A × Left) ℕ
+abbrev pub valued : {A : Type 0} → Option A → ℕ → Unread → Result (A × Unread) ℕ
 valued None remaining after = Err remaining
 valued (Some value) remaining after = Ok (value, after)
 
 -- a line ends where its act does
-abbrev pub ended : Left → Result (Unit {0}) ℕ
+abbrev pub ended : Unread → Result (Unit {0}) ℕ
 ended None = Ok tt
 ended (Some bytes) = Err (length bytes)
 
 -- the next word as a value, with what is left after it
-abbrev pub field : {A : Type 0} → (List ℕ → Option A) → Left → Result (A × Left) ℕ
+abbrev pub field : {A : Type 0} → (List ℕ → Option A) → Unread → Result (A × Unread) ℕ
 field value left = word_at left >>= λ word. valued (value word.text) word.remaining word.after

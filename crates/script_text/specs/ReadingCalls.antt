@@ -7,7 +7,7 @@ use Rattle.call_types.specs.declared.whence.Whence.{Whence}
 use Rattle.call_types.specs.declared.whence.Whence.TheVariants as whences
 use Rattle.call_types.specs.declared.act.ScriptAct.{ScriptAct}
 use Rattle.call_types.specs.declared.act.ScriptAct.TheVariants as acts
-use Rattle.script_text.specs.Reading.{◌>>=◌, Left, Word, word_at, field, ended}
+use Rattle.script_text.specs.Reading.{◌>>=◌, Unread, Word, word_at, field, ended}
 use Rattle.script_text.specs.ReadingNumbers.{count_of, process_of, descriptor_of, position_of}
 use Rattle.script_text.specs.ReadingNames.{name_of}
 use Rattle.script_text.specs.ReadingData.{data_of}
@@ -32,12 +32,12 @@ value_of some_flags word = flags_of word
 value_of a_whence word = whence_of word
 
 -- fields of these kinds, one word each, and then the end of the line
-abbrev pub fields_at : (ks : List FieldKind) → Makes ks → Left → Result Call ℕ
+abbrev pub fields_at : (ks : List FieldKind) → Makes ks → Unread → Result Call ℕ
 fields_at [] make left = ended left >>= λ end. Ok make
 fields_at (k ∷ ks) make left = field (value_of k) left >>= λ value. fields_at ks (make value.0) value.1
 
 -- the call of an entry, after its word
-abbrev pub entry_at : Entry → Left → Result Call ℕ
+abbrev pub entry_at : Entry → Unread → Result Call ℕ
 entry_at e left = fields_at e.fields e.make left
 
 -- the call of the first entry that a word names; a word that names none isn't allowed
@@ -50,7 +50,7 @@ abbrev pub named_call : Word → Result Call ℕ
 named_call w = one_of call_table w
 
 -- an act whose word is the last of its line
-abbrev pub last_word : ScriptAct → Left → Result ScriptAct ℕ
+abbrev pub last_word : ScriptAct → Unread → Result ScriptAct ℕ
 last_word act left = do
   end ← ended left
   Ok act
@@ -76,7 +76,7 @@ act_of (Some process) w = word_at w.after >>= λ word. process_act process word
 act_of None w = run_act w
 
 -- the act of a line, by its first word
-abbrev pub act_at : Left → Result ScriptAct ℕ
+abbrev pub act_at : Unread → Result ScriptAct ℕ
 act_at left = do
   word ← word_at left
   act_of (process_of word.text) word

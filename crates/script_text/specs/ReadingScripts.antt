@@ -5,7 +5,7 @@ use Rattle.call_types.specs.declared.act.ScriptAct.{ScriptAct}
 use Rattle.script_text.specs.declared.fault.ScriptFault.{ScriptFault}
 use Rattle.script_text.specs.declared.fault.ScriptFault.TheVariants as faults
 use Rattle.script_text.specs.declared.script.TheConstants.{SCRIPT_MAX}
-use Rattle.script_text.specs.Reading.{◌>>=◌, Left, line_feed}
+use Rattle.script_text.specs.Reading.{◌>>=◌, Unread, line_feed}
 use Rattle.script_text.specs.ReadingCalls.{reading}
 
 -- a line's act, or the fault with the line's number
@@ -37,12 +37,12 @@ abbrev pub script : List ℕ → Result (List ScriptAct) ScriptFault
 script text = if nat_lt SCRIPT_MAX (length text) then Err faults.TooLong else script_acts text
 
 -- the lines of what is left of a script
-abbrev pub left_lines : Left → List (List ℕ)
+abbrev pub left_lines : Unread → List (List ℕ)
 left_lines None = []
 left_lines (Some bytes) = slice_split (λ c. c == line_feed) bytes
 
 -- how many lines are left at most
-abbrev pub left_size : Left → ℕ
+abbrev pub left_size : Unread → ℕ
 left_size None = 0
 left_size (Some bytes) = length bytes + 1
 
@@ -52,9 +52,9 @@ pub record Rest : Type 0 where
   pub most : ℕ
 
 -- the acts of what is left after so many lines, or the first fault
-abbrev pub left_acts : ℕ → Left → Result (List ScriptAct) ScriptFault
+abbrev pub left_acts : ℕ → Unread → Result (List ScriptAct) ScriptFault
 left_acts number left = lines_acts (number + 1) (left_lines left)
 
 -- what is left after so many lines
-abbrev pub rest_of : ℕ → Left → Rest
+abbrev pub rest_of : ℕ → Unread → Rest
 rest_of number left = record { read = left_acts number left; most = left_size left }

@@ -10,7 +10,7 @@ ghost use Rattle.script_text.specs.ReadingCalls.{entry_at, one_of, named_call};
 ghost use Rattle.script_text.specs.Lines.{call_text};
 ghost use Rattle.script_text.specs.Room.{HasRoom, UsesRoom, name_room, data_room, call_room};
 
-use crate::cutting::Left;
+use crate::cutting::Unread;
 use crate::fault::WordFault;
 use crate::fields;
 use crate::flags::put_flags;
@@ -30,7 +30,7 @@ pub(crate) const CALL_ROOM: usize = 96;
 
 /// `open NAME FLAGS`, after its first word.
 #[inline(never)]
-fn open_call(alloc: Global, left: Left<'_>) -> Result<Call, WordFault>
+fn open_call(alloc: Global, left: Unread<'_>) -> Result<Call, WordFault>
     ensures { Gives (λ x. x) result (entry_at open_entry (option_copied left.entry)) }
 {
     let (name, left) = fields::name(alloc, left)?;
@@ -52,7 +52,7 @@ fn put_open(out: &mut Vec<u8>, name: &Name, flags: OpenFlags)
 }
 
 /// `close FD`
-fn close_call(left: Left<'_>) -> Result<Call, WordFault>
+fn close_call(left: Unread<'_>) -> Result<Call, WordFault>
     ensures { Gives (λ x. x) result (entry_at close_entry (option_copied left.entry)) }
 {
     let (fd, left) = fields::descriptor(left)?;
@@ -71,7 +71,7 @@ fn put_close(out: &mut Vec<u8>, fd: i32)
 }
 
 /// `read FD N`
-fn read_call(left: Left<'_>) -> Result<Call, WordFault>
+fn read_call(left: Unread<'_>) -> Result<Call, WordFault>
     ensures { Gives (λ x. x) result (entry_at read_entry (option_copied left.entry)) }
 {
     let (fd, left) = fields::descriptor(left)?;
@@ -92,7 +92,7 @@ fn put_read(out: &mut Vec<u8>, fd: i32, count: u32)
 }
 
 /// `write FD DATA`
-fn write_call(alloc: Global, left: Left<'_>) -> Result<Call, WordFault>
+fn write_call(alloc: Global, left: Unread<'_>) -> Result<Call, WordFault>
     ensures { Gives (λ x. x) result (entry_at write_entry (option_copied left.entry)) }
 {
     let (fd, left) = fields::descriptor(left)?;
@@ -110,11 +110,11 @@ fn put_write(out: &mut Vec<u8>, fd: i32, bytes: &Payload)
     put(out, b"write ");
     put_descriptor(out, fd);
     out.push_reserved(b' ');
-    put_data(out, bytes.part());
+    put_data(out, bytes.span());
 }
 
 /// `pread FD POS N`
-fn pread_call(left: Left<'_>) -> Result<Call, WordFault>
+fn pread_call(left: Unread<'_>) -> Result<Call, WordFault>
     ensures { Gives (λ x. x) result (entry_at pread_entry (option_copied left.entry)) }
 {
     let (fd, left) = fields::descriptor(left)?;
@@ -137,7 +137,7 @@ fn put_pread(out: &mut Vec<u8>, fd: i32, start: i64, count: u32)
 }
 
 /// `pwrite FD POS DATA`
-fn pwrite_call(alloc: Global, left: Left<'_>) -> Result<Call, WordFault>
+fn pwrite_call(alloc: Global, left: Unread<'_>) -> Result<Call, WordFault>
     ensures { Gives (λ x. x) result (entry_at pwrite_entry (option_copied left.entry)) }
 {
     let (fd, left) = fields::descriptor(left)?;
@@ -157,11 +157,11 @@ fn put_pwrite(out: &mut Vec<u8>, fd: i32, start: i64, bytes: &Payload)
     put_descriptor(out, fd);
     put_next_signed(out, start);
     out.push_reserved(b' ');
-    put_data(out, bytes.part());
+    put_data(out, bytes.span());
 }
 
 /// `lseek FD OFF set`, or `cur`, or `end`
-fn lseek_call(left: Left<'_>) -> Result<Call, WordFault>
+fn lseek_call(left: Unread<'_>) -> Result<Call, WordFault>
     ensures { Gives (λ x. x) result (entry_at lseek_entry (option_copied left.entry)) }
 {
     let (fd, left) = fields::descriptor(left)?;
@@ -185,7 +185,7 @@ fn put_lseek(out: &mut Vec<u8>, fd: i32, offset: i64, whence: Whence)
 }
 
 /// `ftruncate FD LEN`
-fn ftruncate_call(left: Left<'_>) -> Result<Call, WordFault>
+fn ftruncate_call(left: Unread<'_>) -> Result<Call, WordFault>
     ensures { Gives (λ x. x) result (entry_at ftruncate_entry (option_copied left.entry)) }
 {
     let (fd, left) = fields::descriptor(left)?;
@@ -206,7 +206,7 @@ fn put_ftruncate(out: &mut Vec<u8>, fd: i32, len: i64)
 }
 
 /// `dup FD`
-fn dup_call(left: Left<'_>) -> Result<Call, WordFault>
+fn dup_call(left: Unread<'_>) -> Result<Call, WordFault>
     ensures { Gives (λ x. x) result (entry_at dup_entry (option_copied left.entry)) }
 {
     let (fd, left) = fields::descriptor(left)?;
@@ -225,7 +225,7 @@ fn put_dup(out: &mut Vec<u8>, fd: i32)
 }
 
 /// `dup2 FD FD`
-fn dup2_call(left: Left<'_>) -> Result<Call, WordFault>
+fn dup2_call(left: Unread<'_>) -> Result<Call, WordFault>
     ensures { Gives (λ x. x) result (entry_at dup2_entry (option_copied left.entry)) }
 {
     let (fd, left) = fields::descriptor(left)?;
@@ -246,7 +246,7 @@ fn put_dup2(out: &mut Vec<u8>, fd: i32, to: i32)
 }
 
 /// `pipe`
-fn pipe_call(left: Left<'_>) -> Result<Call, WordFault>
+fn pipe_call(left: Unread<'_>) -> Result<Call, WordFault>
     ensures { Gives (λ x. x) result (entry_at pipe_entry (option_copied left.entry)) }
 {
     line_end(left)?;
@@ -263,7 +263,7 @@ fn put_pipe(out: &mut Vec<u8>)
 }
 
 /// `mkfifo NAME`
-fn mkfifo_call(alloc: Global, left: Left<'_>) -> Result<Call, WordFault>
+fn mkfifo_call(alloc: Global, left: Unread<'_>) -> Result<Call, WordFault>
     ensures { Gives (λ x. x) result (entry_at mkfifo_entry (option_copied left.entry)) }
 {
     let (name, left) = fields::name(alloc, left)?;
@@ -282,7 +282,7 @@ fn put_mkfifo(out: &mut Vec<u8>, name: &Name)
 }
 
 /// `link NAME NAME`
-fn link_call(alloc: Global, left: Left<'_>) -> Result<Call, WordFault>
+fn link_call(alloc: Global, left: Unread<'_>) -> Result<Call, WordFault>
     ensures { Gives (λ x. x) result (entry_at link_entry (option_copied left.entry)) }
 {
     let (old, left) = fields::name(alloc, left)?;
@@ -304,7 +304,7 @@ fn put_link(out: &mut Vec<u8>, old: &Name, new: &Name)
 }
 
 /// `unlink NAME`
-fn unlink_call(alloc: Global, left: Left<'_>) -> Result<Call, WordFault>
+fn unlink_call(alloc: Global, left: Unread<'_>) -> Result<Call, WordFault>
     ensures { Gives (λ x. x) result (entry_at unlink_entry (option_copied left.entry)) }
 {
     let (name, left) = fields::name(alloc, left)?;
@@ -323,7 +323,7 @@ fn put_unlink(out: &mut Vec<u8>, name: &Name)
 }
 
 /// `fstat FD`
-fn fstat_call(left: Left<'_>) -> Result<Call, WordFault>
+fn fstat_call(left: Unread<'_>) -> Result<Call, WordFault>
     ensures { Gives (λ x. x) result (entry_at fstat_entry (option_copied left.entry)) }
 {
     let (fd, left) = fields::descriptor(left)?;
@@ -342,7 +342,7 @@ fn put_fstat(out: &mut Vec<u8>, fd: i32)
 }
 
 /// `fork`
-fn fork_call(left: Left<'_>) -> Result<Call, WordFault>
+fn fork_call(left: Unread<'_>) -> Result<Call, WordFault>
     ensures { Gives (λ x. x) result (entry_at fork_entry (option_copied left.entry)) }
 {
     line_end(left)?;
@@ -440,7 +440,7 @@ pub(crate) fn room_of_call(call: &Call) -> usize
         }
         Call::Link { old, new } => CALL_ROOM + (room_of_name(old) + room_of_name(new)),
         Call::Write { bytes, .. } | Call::Pwrite { bytes, .. } => {
-            CALL_ROOM + room_of_data(bytes.part())
+            CALL_ROOM + room_of_data(bytes.span())
         }
         _ => CALL_ROOM,
     }

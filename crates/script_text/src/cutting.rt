@@ -8,7 +8,7 @@ ghost use Rattle.memchr.specs.Find.{IsFirstByte, is_byte};
 use memchr::memchr;
 
 /// What is left of a line after a space, or of a script after an LF; `None` where it has ended.
-pub(crate) type Left<'a> = Option<&'a [u8]>;
+pub(crate) type Unread<'a> = Option<&'a [u8]>;
 
 /// The index of the first byte that is `mark`, byte by byte.
 #[inline(always)]
@@ -20,7 +20,7 @@ fn first_of(mark: u8, bytes: &[u8]) -> Option<usize>
 
 /// The bytes before the index of the first mark, and what is left after it.
 #[inline(always)]
-fn parted(_mark: u8, found: Option<usize>, bytes: &[u8]) -> (&[u8], Left<'_>)
+fn parted(_mark: u8, found: Option<usize>, bytes: &[u8]) -> (&[u8], Unread<'_>)
     requires { IsFirstByte (is_byte _mark) bytes.now found }
     ensures value { (result.0.now, option_copied result.1) ≡ cut _mark bytes.now }
     ensures shorter { IfSome result.1 (λ rest. length rest.now < length bytes.now) }
@@ -33,7 +33,7 @@ fn parted(_mark: u8, found: Option<usize>, bytes: &[u8]) -> (&[u8], Left<'_>)
 
 /// The bytes up to the first that is `mark`, and what is left after it. A call of `memchr` costs more than it saves in a short text.
 #[inline(always)]
-pub(crate) fn cut_at(mark: u8, bytes: &[u8]) -> (&[u8], Left<'_>)
+pub(crate) fn cut_at(mark: u8, bytes: &[u8]) -> (&[u8], Unread<'_>)
     ensures value { (result.0.now, option_copied result.1) ≡ cut mark bytes.now }
     ensures shorter { IfSome result.1 (λ rest. length rest.now < length bytes.now) }
 {

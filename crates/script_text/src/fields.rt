@@ -8,7 +8,7 @@ ghost use Rattle.script_text.specs.ReadingData.{data_of};
 ghost use Rattle.script_text.specs.ReadingFlags.{flags_of};
 ghost use Rattle.script_text.specs.ReadingCalls.{whence_of};
 
-use crate::cutting::Left;
+use crate::cutting::Unread;
 use crate::fault::WordFault;
 use crate::flags::flags_value;
 use crate::name::name_value;
@@ -22,7 +22,7 @@ use call_types::whence::Whence;
 use std::alloc::Global;
 
 /// The next word as a descriptor.
-pub(crate) fn descriptor(left: Left<'_>) -> Result<(i32, Left<'_>), WordFault>
+pub(crate) fn descriptor(left: Unread<'_>) -> Result<(i32, Unread<'_>), WordFault>
     ensures { Gives (λ x. (x.0, option_copied x.1)) result (field descriptor_of (option_copied left.entry)) }
 {
     let word = next_word(left)?;
@@ -30,7 +30,7 @@ pub(crate) fn descriptor(left: Left<'_>) -> Result<(i32, Left<'_>), WordFault>
 }
 
 /// The next word as a position, an offset or a length, in bytes.
-pub(crate) fn position(left: Left<'_>) -> Result<(i64, Left<'_>), WordFault>
+pub(crate) fn position(left: Unread<'_>) -> Result<(i64, Unread<'_>), WordFault>
     ensures { Gives (λ x. (x.0, option_copied x.1)) result (field position_of (option_copied left.entry)) }
 {
     let word = next_word(left)?;
@@ -38,7 +38,7 @@ pub(crate) fn position(left: Left<'_>) -> Result<(i64, Left<'_>), WordFault>
 }
 
 /// The next word as a base of an offset: the start, the current offset, or the end.
-pub(crate) fn whence(left: Left<'_>) -> Result<(Whence, Left<'_>), WordFault>
+pub(crate) fn whence(left: Unread<'_>) -> Result<(Whence, Unread<'_>), WordFault>
     ensures { Gives (λ x. (x.0, option_copied x.1)) result (field whence_of (option_copied left.entry)) }
 {
     let word = next_word(left)?;
@@ -46,7 +46,7 @@ pub(crate) fn whence(left: Left<'_>) -> Result<(Whence, Left<'_>), WordFault>
 }
 
 /// The next word as a count of bytes.
-pub(crate) fn count(left: Left<'_>) -> Result<(u32, Left<'_>), WordFault>
+pub(crate) fn count(left: Unread<'_>) -> Result<(u32, Unread<'_>), WordFault>
     ensures { Gives (λ x. (x.0, option_copied x.1)) result (field count_of (option_copied left.entry)) }
 {
     let word = next_word(left)?;
@@ -54,7 +54,7 @@ pub(crate) fn count(left: Left<'_>) -> Result<(u32, Left<'_>), WordFault>
 }
 
 /// The next word as flags.
-pub(crate) fn flags(left: Left<'_>) -> Result<(OpenFlags, Left<'_>), WordFault>
+pub(crate) fn flags(left: Unread<'_>) -> Result<(OpenFlags, Unread<'_>), WordFault>
     ensures { Gives (λ x. (x.0.0, option_copied x.1)) result (field flags_of (option_copied left.entry)) }
 {
     let word = next_word(left)?;
@@ -62,7 +62,7 @@ pub(crate) fn flags(left: Left<'_>) -> Result<(OpenFlags, Left<'_>), WordFault>
 }
 
 /// The next word as a name.
-pub(crate) fn name(alloc: Global, left: Left<'_>) -> Result<(Name, Left<'_>), WordFault>
+pub(crate) fn name(alloc: Global, left: Unread<'_>) -> Result<(Name, Unread<'_>), WordFault>
     ensures { Gives (λ x. (x.0, option_copied x.1)) result (field name_of (option_copied left.entry)) }
 {
     let word = next_word(left)?;
@@ -70,7 +70,7 @@ pub(crate) fn name(alloc: Global, left: Left<'_>) -> Result<(Name, Left<'_>), Wo
 }
 
 /// The next word as data.
-pub(crate) fn payload(alloc: Global, left: Left<'_>) -> Result<(Payload, Left<'_>), WordFault>
+pub(crate) fn payload(alloc: Global, left: Unread<'_>) -> Result<(Payload, Unread<'_>), WordFault>
     ensures { Gives (λ x. (x.0, option_copied x.1)) result (field data_of (option_copied left.entry)) }
 {
     let word = next_word(left)?;

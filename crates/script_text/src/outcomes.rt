@@ -7,20 +7,20 @@ ghost use Rattle.script_text.specs.Room.{HasRoom, UsesRoom, outcome_room};
 use crate::payload::{put_data, room_of_data};
 use crate::put::{put, put_number};
 use call_types::errno::Errno;
-use call_types::outcome::{Kind, Outcome, Reply, Stat};
+use call_types::outcome::{FileType, Outcome, Reply, Stat};
 
 /// Bytes of an outcome that tells no data, at most.
 pub(crate) const OUTCOME_ROOM: usize = 64;
 
 /// How a kind of file is written.
-fn kind_text(kind: Kind) -> &'static [u8]
+fn kind_text(kind: FileType) -> &'static [u8]
     ensures text { result.now ≡ kind_word kind }
     ensures short { length result.now ≤ 7 }
 {
     match kind {
-        Kind::Regular => b"regular",
-        Kind::Fifo => b"fifo",
-        Kind::Pipe => b"pipe",
+        FileType::Regular => b"regular",
+        FileType::Fifo => b"fifo",
+        FileType::Pipe => b"pipe",
     }
 }
 
@@ -92,7 +92,7 @@ fn put_reply(out: &mut Vec<u8>, reply: &Reply)
     match reply {
         Reply::Done => put(out, b"ok"),
         Reply::Number(number) => put_number(out, *number),
-        Reply::Data(bytes) => put_data(out, bytes.part()),
+        Reply::Data(bytes) => put_data(out, bytes.span()),
         Reply::Pair(first, second) => put_pair(out, *first, *second),
         Reply::Stat(stat) => put_stat(out, *stat),
         Reply::Error(errno) => put_error(out, *errno),
@@ -116,7 +116,7 @@ pub(crate) fn room_of_outcome(outcome: &Outcome) -> usize
     ensures small { result < 2 ^ 32 }
 {
     match outcome {
-        Outcome::Reply(Reply::Data(bytes)) => room_of_data(bytes.part()),
+        Outcome::Reply(Reply::Data(bytes)) => room_of_data(bytes.span()),
         _ => OUTCOME_ROOM,
     }
 }

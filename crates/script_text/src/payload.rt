@@ -4,7 +4,7 @@ ghost use Rattle.std.specs.Prelude.{◌≡◌, ◌≤◌, ◌+◌, ◌*◌, ◌+
 ghost use Rattle.std.specs.Option.{option_map};
 ghost use Rattle.std.specs.List.{flat_map, list_all};
 ghost use Rattle.call_types.specs.declared.limits.TheConstants.{GIVEN_BYTES_MAX};
-ghost use Rattle.call_types.specs.Stored.{part_bytes};
+ghost use Rattle.call_types.specs.Stored.{span_bytes};
 ghost use Rattle.script_text.specs.Lines.{hex_pair, one_byte, data_word};
 ghost use Rattle.script_text.specs.ReadingData.{first_paired, hex_bytes, hex_data, repeated_data, data_of};
 ghost use Rattle.script_text.specs.Room.{HasRoom, UsesRoom, data_room};
@@ -15,7 +15,7 @@ use crate::put::{put, put_number};
 use call_types::bounded::Payload;
 use call_types::gathered::Gathered;
 use call_types::limits::GIVEN_BYTES_MAX;
-use call_types::part::Part;
+use call_types::span::Span;
 use hex::encode_to_slice;
 use std::alloc::{AllocError, Global};
 
@@ -206,26 +206,26 @@ fn put_same(out: &mut Vec<u8>, byte: u8, count: usize)
 }
 
 /// Appends data.
-pub(crate) fn put_data(out: &mut Vec<u8>, part: Part<'_>)
-    requires few { length (part_bytes part) ≤ GIVEN_BYTES_MAX }
-    requires room { HasRoom out.old (data_room (part_bytes part)) }
-    ensures text { out.new.items ≡ out.old.items ++ data_word (part_bytes part.entry) }
-    ensures room { UsesRoom out.old out.new (data_room (part_bytes part.entry)) }
+pub(crate) fn put_data(out: &mut Vec<u8>, part: Span<'_>)
+    requires few { length (span_bytes part) ≤ GIVEN_BYTES_MAX }
+    requires room { HasRoom out.old (data_room (span_bytes part)) }
+    ensures text { out.new.items ≡ out.old.items ++ data_word (span_bytes part.entry) }
+    ensures room { UsesRoom out.old out.new (data_room (span_bytes part.entry)) }
 {
     match part {
-        Part::Slice(bytes) => put_slice(out, bytes),
-        Part::Same { byte, count } => put_same(out, byte, count),
+        Span::Slice(bytes) => put_slice(out, bytes),
+        Span::Same { byte, count } => put_same(out, byte, count),
     }
 }
 
 /// Room in which data can be written.
-pub(crate) fn room_of_data(part: Part<'_>) -> usize
-    requires { length (part_bytes part) ≤ GIVEN_BYTES_MAX }
-    ensures enough { data_room (part_bytes part.entry) ≤ result }
+pub(crate) fn room_of_data(part: Span<'_>) -> usize
+    requires { length (span_bytes part) ≤ GIVEN_BYTES_MAX }
+    ensures enough { data_room (span_bytes part.entry) ≤ result }
     ensures small { result < 2 ^ 24 }
 {
     match part {
-        Part::Slice(bytes) => 2 * bytes.len() + FEW_DATA_ROOM,
-        Part::Same { .. } => FEW_DATA_ROOM,
+        Span::Slice(bytes) => 2 * bytes.len() + FEW_DATA_ROOM,
+        Span::Same { .. } => FEW_DATA_ROOM,
     }
 }

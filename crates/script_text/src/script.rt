@@ -6,7 +6,7 @@ ghost use Rattle.script_text.specs.ReadingScripts.{numbered};
 ghost use Rattle.call_types.specs.declared.act.ScriptAct.{ScriptAct};
 ghost use Rattle.script_text.specs.ReadingResults.{ScriptGives, Opens, NextGives};
 
-use crate::cutting::{Left, cut_at};
+use crate::cutting::{Unread, cut_at};
 use crate::fault::{ReadFault, ScriptFault};
 use crate::reading::read_act;
 use call_types::act::ScriptAct;
@@ -22,7 +22,7 @@ pub const SCRIPT_MAX: usize = 16_777_216;
 pub struct Script<'a> {
     /// How many lines were read.
     number: usize,
-    left: Left<'a>,
+    left: Unread<'a>,
 }
 
 impl<'a> Model for Script<'a> {

@@ -6,7 +6,7 @@ ghost use Rattle.std.specs.Str.{bytes_eq};
 ghost use Rattle.script_text.specs.Reading.{Gives, Word, word_at, valued, ended};
 ghost use Rattle.script_text.specs.declared.words.Next.{Next};
 
-use crate::cutting::{Left, cut_at};
+use crate::cutting::{Unread, cut_at};
 use crate::fault::WordFault;
 
 /// A word, how many bytes of the line remain where it begins, and what is left after it.
@@ -14,7 +14,7 @@ use crate::fault::WordFault;
 pub(crate) struct Next<'a> {
     pub(crate) text: &'a [u8],
     pub(crate) remaining: usize,
-    pub(crate) after: Left<'a>,
+    pub(crate) after: Unread<'a>,
 }
 
 impl<'a> Next<'a> {
@@ -31,7 +31,7 @@ impl<'a> Next<'a> {
     }
 
     /// The value of the word, with what is left after it; a word without one isn't allowed.
-    pub(crate) fn valued<T: Drop>(self, value: Option<T>) -> Result<(T, Left<'a>), WordFault>
+    pub(crate) fn valued<T: Drop>(self, value: Option<T>) -> Result<(T, Unread<'a>), WordFault>
         ensures { Gives (λ x. (x.0, option_copied x.1)) result (valued value self.entry.remaining (option_copied self.entry.after)) }
     {
         match value {
@@ -44,7 +44,7 @@ impl<'a> Next<'a> {
 }
 
 /// The next word of a line.
-pub(crate) fn next_word(left: Left<'_>) -> Result<Next<'_>, WordFault>
+pub(crate) fn next_word(left: Unread<'_>) -> Result<Next<'_>, WordFault>
     ensures { Gives (λ w. record { text = w.text.now; remaining = w.remaining; after = option_copied w.after }) result (word_at (option_copied left.entry)) }
 {
     match left {
@@ -61,7 +61,7 @@ pub(crate) fn next_word(left: Left<'_>) -> Result<Next<'_>, WordFault>
 }
 
 /// A line ends where its act does.
-pub(crate) fn line_end(left: Left<'_>) -> Result<(), WordFault>
+pub(crate) fn line_end(left: Unread<'_>) -> Result<(), WordFault>
     ensures reads { Gives (λ x. x) result (ended (option_copied left.entry)) }
     ensures fault { IfErr result (λ fault. ¬ (fault ≡ WordFault.NoMemory)) }
 {

@@ -16,7 +16,7 @@ use Rattle.session_core.specs.declared.told.Told.TheVariants as told
 use Rattle.session_core.specs.Stages.{Stage, Over, Turn}
 use Rattle.session_core.specs.declared.stage.Stage.TheVariants as stage
 use Rattle.session_core.specs.declared.stage.Over.TheVariants as over
-use Rattle.session_core.specs.declared.stage.Why.TheVariants as why
+use Rattle.session_core.specs.declared.stage.LeaveCause.TheVariants as why
 use Rattle.session_core.specs.declared.stage.Turn.TheVariants as turn
 use Rattle.session_core.specs.Answers.{receipts_of}
 use Rattle.session_core.specs.Output.{OutputState, Holds, Puts, Flushes, FailsToSend}

@@ -15,14 +15,14 @@ use Rattle.session_core.specs.declared.end.End.{End}
 use Rattle.session_core.specs.declared.end.End.TheVariants as end
 use Rattle.session_core.specs.declared.told.Told.{Told}
 use Rattle.session_core.specs.declared.told.Told.TheVariants as told
-use Rattle.session_core.specs.Stages.{Stage, Over, Left}
+use Rattle.session_core.specs.Stages.{Stage, Over, LeftSession}
 use Rattle.session_core.specs.declared.stage.Stage.TheVariants as stage
-use Rattle.session_core.specs.declared.stage.Why.{Why}
-use Rattle.session_core.specs.declared.stage.Why.TheVariants as why
+use Rattle.session_core.specs.declared.stage.LeaveCause.{LeaveCause}
+use Rattle.session_core.specs.declared.stage.LeaveCause.TheVariants as why
 use Rattle.session_core.specs.declared.stage.Over.TheVariants as over
 use Rattle.session_core.specs.Answers.{answers_text, told_bytes, receipts_of, IsFrontWritten}
 use Rattle.session_core.specs.Output.{OutputState, Holds, Broke, SendsAll, FailsToSend}
-use Rattle.session_core.specs.Streams.{LogState, SourceState}
+use Rattle.session_core.specs.Streams.{LogState, LoggedReaderState}
 use Rattle.session_core.specs.Talk.{IsCut, IsUnopened, AreAnswered, Converses}
 use Rattle.session_core.specs.Served.{Begins, AreRequests, IsMisplaced, AnswersFirst, AnswersAll, AnswersToCut, HasExited, HasUntold, IsRefusedOpening, IsSeatOf, IsSeated, IsWritten, EndsFor, ComesTo}
 use Rattle.session_core.specs.Turns.{IsTalking, IsOutOfPlace, HasReceipts, LeavesBy, EndedBy, IsUntoldOpening}
@@ -57,7 +57,7 @@ front_of_more old new answers one sent h = record {
 -- ---- a session that stands where it is, and is still to write its last answers
 
 -- all that it answered is known, and why it ends
-pub record Rests (input : List ℕ) (base : Option (List ℕ)) (source : SourceState) (o : OutputState) (seat : Option SeatState) (cause : Why) : Type 0 where
+pub record Rests (input : List ℕ) (base : Option (List ℕ)) (source : LoggedReaderState) (o : OutputState) (seat : Option SeatState) (cause : LeaveCause) : Type 0 where
   pub holds : Holds base o
   pub talks : AnswersFirst input o.answers
   pub ends : (held : Option (List ℕ)) (writes : LogState)
@@ -69,35 +69,35 @@ IsOrdinary end.Foreign = ⊥
 IsOrdinary other = Unit {0}
 
 -- its last answers are written, or its writer has failed
-pub record Stands (input : List ℕ) (base : Option (List ℕ)) (source : SourceState) (o : OutputState) (seat : Option SeatState) (wanted : End) : Type 0 where
+pub record Stands (input : List ℕ) (base : Option (List ℕ)) (source : LoggedReaderState) (o : OutputState) (seat : Option SeatState) (wanted : End) : Type 0 where
   pub talks : AnswersFirst input o.answers
   pub written : IsWritten base o.sink.contents o.answers wanted
   pub front : IsFrontWritten base o.sink.contents o.answers o.sent
   pub ends : EndsFor input (session_of source o (record { seat = seat; end = wanted; last = None })) wanted
 
-written_as : (old new : Option (List ℕ)) (answers : List Told) (cause : Why) → Appends old new (answers_text answers) → IsWritten old new answers (end_of cause)
+written_as : (old new : Option (List ℕ)) (answers : List Told) (cause : LeaveCause) → Appends old new (answers_text answers) → IsWritten old new answers (end_of cause)
 written_as old new answers why.Closed h = h
 written_as old new answers why.ReadFault h = h
 written_as old new answers why.Malformed h = h
 written_as old new answers why.RunFull h = h
 written_as old new answers why.NoMemory h = h
 
-ordinary_as : (cause : Why) → IsOrdinary (end_of cause)
+ordinary_as : (cause : LeaveCause) → IsOrdinary (end_of cause)
 ordinary_as why.Closed = tt
 ordinary_as why.ReadFault = tt
 ordinary_as why.Malformed = tt
 ordinary_as why.RunFull = tt
 ordinary_as why.NoMemory = tt
 
-ordinary_sent : (old new : OutputState) (cause : Why) (wanted : End) → SendsLast old new cause wanted → IsOrdinary wanted
+ordinary_sent : (old new : OutputState) (cause : LeaveCause) (wanted : End) → SendsLast old new cause wanted → IsOrdinary wanted
 ordinary_sent old new cause wanted (inl h) = subst IsOrdinary (sym h.1) (ordinary_as cause)
 ordinary_sent old new cause wanted (inr h) = subst IsOrdinary (sym h.1) tt
 
-answers_sent : (old new : OutputState) (cause : Why) (wanted : End) → SendsLast old new cause wanted → new.answers ≡ old.answers
+answers_sent : (old new : OutputState) (cause : LeaveCause) (wanted : End) → SendsLast old new cause wanted → new.answers ≡ old.answers
 answers_sent old new cause wanted (inl h) = h.0.flushes.answers
 answers_sent old new cause wanted (inr h) = h.0.answers
 
-sends : (input : List ℕ) (base : Option (List ℕ)) (source : SourceState) (old new : OutputState) (seat : Option SeatState) (cause : Why) (wanted : End) → Rests input base source old seat cause → SendsLast old new cause wanted
+sends : (input : List ℕ) (base : Option (List ℕ)) (source : LoggedReaderState) (old new : OutputState) (seat : Option SeatState) (cause : LeaveCause) (wanted : End) → Rests input base source old seat cause → SendsLast old new cause wanted
     → Stands input base source new seat wanted
 sends input base source old new seat cause wanted r (inl h) =
     let holds = h.0.flushes.holds base r.holds in
@@ -141,7 +141,7 @@ no_seat input end.Foreign answers o h = absurd o
 exited : (old spent : SeatState) (answers : List Told) → Exits old spent → old.receipts ≡ receipts_of answers → HasExited spent answers
 exited old spent answers h e = record { exit = h.0; receipts = h.1.receives.receipts ∙ ap (λ (l : List Receipted). l ++ h.0 ∷ []) e; act_is = h.1.act_is }
 
-hung_up : (input : List ℕ) (base : Option (List ℕ)) (source : SourceState) (o : OutputState) (wanted found : End) (seat spent : SeatState) → ((held : Option SeatState) → Stands input base source o held wanted) → IsOrdinary wanted
+hung_up : (input : List ℕ) (base : Option (List ℕ)) (source : LoggedReaderState) (o : OutputState) (wanted found : End) (seat spent : SeatState) → ((held : Option SeatState) → Stands input base source o held wanted) → IsOrdinary wanted
     → seat.receipts ≡ receipts_of o.answers → HangsUp seat wanted spent found → ComesTo input base (session_of source o (record { seat = Some spent; end = found; last = None }))
 hung_up input base source o wanted found seat spent stands ordinary receipts (inl h) =
     let s = stands (Some spent) in
@@ -160,7 +160,7 @@ hung_up input base source o wanted found seat spent stands ordinary receipts (in
       ends = tt;
     })
 
-left_so : (input : List ℕ) (base : Option (List ℕ)) (source : SourceState) (o : OutputState) (wanted : End) (at : Stage) (seat : Option SeatState) (found : End) (last : Option Receipted)
+left_so : (input : List ℕ) (base : Option (List ℕ)) (source : LoggedReaderState) (o : OutputState) (wanted : End) (at : Stage) (seat : Option SeatState) (found : End) (last : Option Receipted)
     → ((held : Option SeatState) → Stands input base source o held wanted) → IsOrdinary wanted → HasReceipts at o.answers → LeavesWith at wanted seat found → last ≡ None
     → ComesTo input base (session_of source o (record { seat = seat; end = found; last = last }))
 left_so input base source o wanted stage.Opening seat found last stands ordinary receipts h none =
@@ -179,7 +179,7 @@ left_so input base source o wanted (stage.Ready seat) (Some spent) found last st
     (hung_up input base source o wanted found seat spent stands ordinary receipts h)
 
 -- a session whose seat is spent already
-spent_so : (input : List ℕ) (base : Option (List ℕ)) (source : SourceState) (o : OutputState) (spent : SeatState) (wanted : End) → Stands input base source o (Some spent) wanted → IsSeatOf input spent o.answers wanted
+spent_so : (input : List ℕ) (base : Option (List ℕ)) (source : LoggedReaderState) (o : OutputState) (spent : SeatState) (wanted : End) → Stands input base source o (Some spent) wanted → IsSeatOf input spent o.answers wanted
     → ComesTo input base (session_of source o (record { seat = Some spent; end = wanted; last = None }))
 spent_so input base source o spent wanted s h = record { talks = s.talks; written = s.written; seated = h; ends = s.ends }
 
@@ -231,7 +231,7 @@ first_read input requests told answers at read talking = record { requests = req
 all_read : (base : Option (List ℕ)) (input : List ℕ) (o : OutputState) (at : Stage) → IsAnswered base input o at → AnswersAll input o.answers
 all_read base input o at h = record { requests = h.requests; read = h.read; answered = answered_so h.requests o.answers at h.talking }
 
-rests_answered : (input : List ℕ) (base : Option (List ℕ)) (source : SourceState) (o : OutputState) (at : Stage) (cause : Why) (seat : Option SeatState) → (h : IsAnswered base input o at)
+rests_answered : (input : List ℕ) (base : Option (List ℕ)) (source : LoggedReaderState) (o : OutputState) (at : Stage) (cause : LeaveCause) (seat : Option SeatState) → (h : IsAnswered base input o at)
     → ((held : Option (List ℕ)) (writes : LogState)
     → EndsFor input (record { remaining = source.remaining; reads = source.log; contents = held; writes = writes; seat = seat; answers = o.answers; end_is = end_of cause }) (end_of cause))
     → Rests input base source o seat cause
@@ -240,7 +240,7 @@ rests_answered input base source o at cause seat h ends = record { holds = h.hol
 unopened_converses : (requests : List Request) (answers : List Told) (refusal : Refusal) → IsUnopened requests answers refusal → Converses requests answers
 unopened_converses requests answers refusal h = record { handled = requests; later = []; requests_are = sym (append-nil requests); is = inr (inr (refusal, h)) }
 
-rests_at : (input : List ℕ) (base : Option (List ℕ)) (source : SourceState) (o : OutputState) (at : Stage) (cause : Why) (handled : List Request) (next : Request) (later : List Request) → Begins input (handled ++ next ∷ later) → LeavesBy base handled next o at cause
+rests_at : (input : List ℕ) (base : Option (List ℕ)) (source : LoggedReaderState) (o : OutputState) (at : Stage) (cause : LeaveCause) (handled : List Request) (next : Request) (later : List Request) → Begins input (handled ++ next ∷ later) → LeavesBy base handled next o at cause
     → (seat : Option SeatState) → Rests input base source o seat cause
 rests_at input base source o at why.Closed handled next later begins h seat = absurd h
 rests_at input base source o at why.ReadFault handled next later begins h seat = absurd h
@@ -267,14 +267,14 @@ rests_at input base source o at why.NoMemory handled next later begins h seat = 
   ends = λ (held : Option (List ℕ)) (writes : LogState). tt;
 }
 
-receipts_at : (base : Option (List ℕ)) (handled : List Request) (next : Request) (o : OutputState) (at : Stage) (cause : Why) → LeavesBy base handled next o at cause → HasReceipts at o.answers
+receipts_at : (base : Option (List ℕ)) (handled : List Request) (next : Request) (o : OutputState) (at : Stage) (cause : LeaveCause) → LeavesBy base handled next o at cause → HasReceipts at o.answers
 receipts_at base handled next o at why.Closed h = absurd h
 receipts_at base handled next o at why.ReadFault h = absurd h
 receipts_at base handled next o at why.Malformed h = has_receipts handled o.answers at h.1
 receipts_at base handled next o at why.RunFull h = h.1
 receipts_at base handled next o at why.NoMemory h = h.1
 
-rests_off : (input : List ℕ) (base : Option (List ℕ)) (source : SourceState) (o : OutputState) (at : Stage) (cause : Why) → LeavesOff base input o (over.Leaves at cause) → IsMet source (over.Leaves at cause) → (seat : Option SeatState) → Rests input base source o seat cause
+rests_off : (input : List ℕ) (base : Option (List ℕ)) (source : LoggedReaderState) (o : OutputState) (at : Stage) (cause : LeaveCause) → LeavesOff base input o (over.Leaves at cause) → IsMet source (over.Leaves at cause) → (seat : Option SeatState) → Rests input base source o seat cause
 rests_off input base source o at why.Closed h met seat = rests_answered input base source o at why.Closed seat h (λ (held : Option (List ℕ)) (writes : LogState). inl (met, all_read base input o at h))
 rests_off input base source o at why.ReadFault h met seat = rests_answered input base source o at why.ReadFault seat h (λ (held : Option (List ℕ)) (writes : LogState). (met, all_read base input o at h))
 rests_off input base source o at why.Malformed h met seat = record {
@@ -289,7 +289,7 @@ rests_off input base source o at why.NoMemory h met seat = record {
   ends = λ (held : Option (List ℕ)) (writes : LogState). tt;
 }
 
-receipts_off : (base : Option (List ℕ)) (input : List ℕ) (o : OutputState) (at : Stage) (cause : Why) → LeavesOff base input o (over.Leaves at cause) → HasReceipts at o.answers
+receipts_off : (base : Option (List ℕ)) (input : List ℕ) (o : OutputState) (at : Stage) (cause : LeaveCause) → LeavesOff base input o (over.Leaves at cause) → HasReceipts at o.answers
 receipts_off base input o at why.Closed h = has_receipts h.requests o.answers at h.talking
 receipts_off base input o at why.ReadFault h = has_receipts h.requests o.answers at h.talking
 receipts_off base input o at why.Malformed h = has_receipts h.requests o.answers at h.talking
@@ -301,7 +301,7 @@ receipts_off base input o at why.NoMemory h = h.receipts
 same_receipts : (at : Stage) (old new : List Told) → new ≡ old → HasReceipts at old → HasReceipts at new
 same_receipts at old new e h = subst (HasReceipts at) (sym e) h
 
-leaves_with : (input : List ℕ) (base : Option (List ℕ)) (source : SourceState) (old new : OutputState) (at : Stage) (cause : Why) (wanted : End) (left : Left) → ((seat : Option SeatState) → Rests input base source old seat cause) → HasReceipts at old.answers
+leaves_with : (input : List ℕ) (base : Option (List ℕ)) (source : LoggedReaderState) (old new : OutputState) (at : Stage) (cause : LeaveCause) (wanted : End) (left : LeftSession) → ((seat : Option SeatState) → Rests input base source old seat cause) → HasReceipts at old.answers
     → SendsLast old new cause wanted → LeavesWith at wanted left.seat left.end → left.last ≡ None → ComesTo input base (session_of source new left)
 leaves_with input base source old new at cause wanted left rests receipts sent h none =
     left_so input base source new wanted at left.seat left.end left.last
@@ -309,16 +309,16 @@ leaves_with input base source old new at cause wanted left rests receipts sent h
     (ordinary_sent old new cause wanted sent)
     (same_receipts at old.answers new.answers (answers_sent old new cause wanted sent) receipts) h none
 
-pub leaves : (old new : OutputState) (at : Stage) (cause : Why) (wanted : End) (left : Left) → SendsLast old new cause wanted → LeavesWith at wanted left.seat left.end → left.last ≡ None → LeavesAll old new (over.Leaves at cause) left
+pub leaves : (old new : OutputState) (at : Stage) (cause : LeaveCause) (wanted : End) (left : LeftSession) → SendsLast old new cause wanted → LeavesWith at wanted left.seat left.end → left.last ≡ None → LeavesAll old new (over.Leaves at cause) left
 leaves old new at cause wanted left sent h none base input source (inl k) met =
     leaves_with input base source old new at cause wanted left (rests_at input base source old at cause k.handled k.next k.later k.begins k.is) (receipts_at base k.handled k.next old at cause k.is) sent h none
 leaves old new at cause wanted left sent h none base input source (inr k) met =
     leaves_with input base source old new at cause wanted left (rests_off input base source old at cause k met) (receipts_off base input old at cause k) sent h none
 
-stands_broken : (input : List ℕ) (base : Option (List ℕ)) (source : SourceState) (o : OutputState) → Broke base o → AnswersFirst input o.answers → (seat : Option SeatState) → Stands input base source o seat (end.WriteFault o.sent)
+stands_broken : (input : List ℕ) (base : Option (List ℕ)) (source : LoggedReaderState) (o : OutputState) → Broke base o → AnswersFirst input o.answers → (seat : Option SeatState) → Stands input base source o seat (end.WriteFault o.sent)
 stands_broken input base source o h talks seat = record { talks = talks; written = h.front; front = h.front; ends = h.broken }
 
-pub unwritten : (o : OutputState) (at : Stage) (left : Left) → LeavesWith at (end.WriteFault o.sent) left.seat left.end → left.last ≡ None → LeavesAll o o (over.Unwritten at) left
+pub unwritten : (o : OutputState) (at : Stage) (left : LeftSession) → LeavesWith at (end.WriteFault o.sent) left.seat left.end → left.last ≡ None → LeavesAll o o (over.Unwritten at) left
 unwritten o at left h none base input source (inl k) met =
     left_so input base source o (end.WriteFault o.sent) at left.seat left.end left.last
     (stands_broken input base source o k.is.0 (talks_at input k.handled k.next k.later o.answers k.begins k.is.2)) tt k.is.1 h none
@@ -339,7 +339,7 @@ opening_told base input o handled next later receipts receipt begins h = record 
   talks = talks_at input handled next later (o.answers ++ told.Recorded receipt ∷ []) begins (subst (λ (l : List Told). Converses (handled ++ next ∷ []) (l ++ told.Recorded receipt ∷ [])) (sym h.answers) h.with_it);
 }
 
-opening_hung_up : (base : Option (List ℕ)) (input : List ℕ) (source : SourceState) (o : OutputState) (handled : List Request) (next : Request) (later : List Request) (seat spent : SeatState) (receipt : Receipted) (found : End) → Begins input (handled ++ next ∷ later)
+opening_hung_up : (base : Option (List ℕ)) (input : List ℕ) (source : LoggedReaderState) (o : OutputState) (handled : List Request) (next : Request) (later : List Request) (seat spent : SeatState) (receipt : Receipted) (found : End) → Begins input (handled ++ next ∷ later)
     → IsUntoldOpening base (handled ++ next ∷ []) o seat.receipts receipt → HangsUp seat end.NoMemory spent found → ComesTo input base (session_of source o (record { seat = Some spent; end = found; last = None }))
 opening_hung_up base input source o handled next later seat spent receipt found begins h (inl k) =
     subst (λ (e : End). ComesTo input base (session_of source o (record { seat = Some spent; end = e; last = None }))) (sym k.1) (record {
@@ -378,7 +378,7 @@ refusal_untold o spent base input source (inr k) met = absurd k
 
 -- ---- the last receipt is not answered
 
-untold_unwritten : (base : Option (List ℕ)) (input : List ℕ) (source : SourceState) (o : OutputState) (requests : List Request) (receipt : Receipted) (seat spent : SeatState) (found : End) → AnswersFirst input (o.answers ++ told.Recorded receipt ∷ []) → Broke base o
+untold_unwritten : (base : Option (List ℕ)) (input : List ℕ) (source : LoggedReaderState) (o : OutputState) (requests : List Request) (receipt : Receipted) (seat spent : SeatState) (found : End) → AnswersFirst input (o.answers ++ told.Recorded receipt ∷ []) → Broke base o
     → seat.receipts ≡ receipts_of (o.answers ++ told.Recorded receipt ∷ []) → HangsUp seat (end.WriteFault o.sent) spent found → ComesTo input base (session_of source o (record { seat = Some spent; end = found; last = Some receipt }))
 untold_unwritten base input source o requests receipt seat spent found talks broke receipts (inl k) =
     subst (λ (e : End). ComesTo input base (session_of source o (record { seat = Some spent; end = e; last = Some receipt }))) (sym k.1) (record {
@@ -405,7 +405,7 @@ untold_failed old new seat spent receipt found fails h base input source (inl k)
     untold_unwritten base input source new (k.handled ++ k.next ∷ k.later) receipt seat spent found (subst (λ (l : List Told). AnswersFirst input (told_with l)) (sym fails.answers) talks) (fails.breaks base k.is.holds) receipts h
 untold_failed old new seat spent receipt found fails h base input source (inr k) met = absurd k
 
-untold_written : (base : Option (List ℕ)) (input : List ℕ) (source : SourceState) (o : OutputState) (receipt : Receipted) (seat spent : SeatState) (found : End) → AnswersFirst input o.answers → Holds base o → o.unsent ≡ [] → HasUntold input seat.receipts o.answers
+untold_written : (base : Option (List ℕ)) (input : List ℕ) (source : LoggedReaderState) (o : OutputState) (receipt : Receipted) (seat spent : SeatState) (found : End) → AnswersFirst input o.answers → Holds base o → o.unsent ≡ [] → HasUntold input seat.receipts o.answers
     → HangsUp seat end.NoMemory spent found → ComesTo input base (session_of source o (record { seat = Some spent; end = found; last = None }))
 untold_written base input source o receipt seat spent found talks holds all untold (inl k) =
     subst (λ (e : End). ComesTo input base (session_of source o (record { seat = Some spent; end = e; last = None }))) (sym k.1) (record {
@@ -438,11 +438,11 @@ untold_sent old new seat spent receipt found sent h base input source (inr k) me
 -- ---- the process has ended already
 
 -- a refused opening, and one whose process has exited, at the ends that they may have
-refused_seat : (input : List ℕ) (old new : OutputState) (cause : Why) (wanted : End) (spent : SeatState) → cause ≡ why.Closed → SendsLast old new cause wanted → IsRefusedOpening spent new.answers → IsSeatOf input spent new.answers wanted
+refused_seat : (input : List ℕ) (old new : OutputState) (cause : LeaveCause) (wanted : End) (spent : SeatState) → cause ≡ why.Closed → SendsLast old new cause wanted → IsRefusedOpening spent new.answers → IsSeatOf input spent new.answers wanted
 refused_seat input old new cause wanted spent e (inl h) k = subst (IsSeatOf input spent new.answers) (sym (h.1 ∙ ap end_of e)) (inr k)
 refused_seat input old new cause wanted spent e (inr h) k = subst (IsSeatOf input spent new.answers) (sym h.1) (inr k)
 
-exited_seat : (input : List ℕ) (old new : OutputState) (cause : Why) (wanted : End) (spent : SeatState) → SendsLast old new cause wanted → HasExited spent old.answers → IsSeatOf input spent new.answers wanted
+exited_seat : (input : List ℕ) (old new : OutputState) (cause : LeaveCause) (wanted : End) (spent : SeatState) → SendsLast old new cause wanted → HasExited spent old.answers → IsSeatOf input spent new.answers wanted
 exited_seat input old new cause wanted spent sent h =
     seat_exited input wanted spent new.answers (ordinary_sent old new cause wanted sent) (subst (HasExited spent) (sym (answers_sent old new cause wanted sent)) h)
 
@@ -467,7 +467,7 @@ lost old new spent wanted sent base input source (inl k) met =
     spent_so input base source new spent wanted (sends input base source old new (Some spent) why.Closed wanted rests sent) (exited_seat input old new why.Closed wanted spent sent k.is.1)
 lost old new spent wanted sent base input source (inr k) met = absurd k
 
-ended_rests : (input : List ℕ) (base : Option (List ℕ)) (source : SourceState) (o : OutputState) (seat : Option SeatState) (spent : SeatState) (cause : Why) (handled : List Request) (next : Request) (later : List Request) → Begins input (handled ++ next ∷ later)
+ended_rests : (input : List ℕ) (base : Option (List ℕ)) (source : LoggedReaderState) (o : OutputState) (seat : Option SeatState) (spent : SeatState) (cause : LeaveCause) (handled : List Request) (next : Request) (later : List Request) → Begins input (handled ++ next ∷ later)
     → EndedBy base (handled ++ next ∷ []) o spent cause → Rests input base source o seat cause
 ended_rests input base source o seat spent why.Closed handled next later begins h = absurd h
 ended_rests input base source o seat spent why.ReadFault handled next later begins h = absurd h
@@ -483,14 +483,14 @@ ended_rests input base source o seat spent why.NoMemory handled next later begin
   ends = λ (held : Option (List ℕ)) (writes : LogState). tt;
 }
 
-ended_exited : (base : Option (List ℕ)) (requests : List Request) (o : OutputState) (spent : SeatState) (cause : Why) → EndedBy base requests o spent cause → HasExited spent o.answers
+ended_exited : (base : Option (List ℕ)) (requests : List Request) (o : OutputState) (spent : SeatState) (cause : LeaveCause) → EndedBy base requests o spent cause → HasExited spent o.answers
 ended_exited base requests o spent why.Closed h = absurd h
 ended_exited base requests o spent why.ReadFault h = absurd h
 ended_exited base requests o spent why.Malformed h = absurd h
 ended_exited base requests o spent why.RunFull h = h.1
 ended_exited base requests o spent why.NoMemory h = h.1
 
-pub ended : (old new : OutputState) (spent : SeatState) (cause : Why) (wanted : End) → SendsLast old new cause wanted → LeavesAll old new (over.Ended spent cause) (record { seat = Some spent; end = wanted; last = None })
+pub ended : (old new : OutputState) (spent : SeatState) (cause : LeaveCause) (wanted : End) → SendsLast old new cause wanted → LeavesAll old new (over.Ended spent cause) (record { seat = Some spent; end = wanted; last = None })
 ended old new spent cause wanted sent base input source (inl k) met =
     spent_so input base source new spent wanted
     (sends input base source old new (Some spent) cause wanted (ended_rests input base source old (Some spent) spent cause k.handled k.next k.later k.begins k.is) sent)
@@ -507,5 +507,5 @@ foreign o spent base input source (inl k) met = record {
 foreign o spent base input source (inr k) met = absurd k
 
 -- the same way to be over, and the same session that is left
-pub left_as : (old new : OutputState) (found same : Over) (left other : Left) → found ≡ same → left ≡ other → LeavesAll old new same other → LeavesAll old new found left
-left_as old new found same left other e k h = subst (λ (x : Over). LeavesAll old new x left) (sym e) (subst (λ (x : Left). LeavesAll old new same x) (sym k) h)
+pub left_as : (old new : OutputState) (found same : Over) (left other : LeftSession) → found ≡ same → left ≡ other → LeavesAll old new same other → LeavesAll old new found left
+left_as old new found same left other e k h = subst (λ (x : Over). LeavesAll old new x left) (sym e) (subst (λ (x : LeftSession). LeavesAll old new same x) (sym k) h)

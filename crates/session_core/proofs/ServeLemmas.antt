@@ -3,12 +3,12 @@ use Rattle.std.proofs.Common.{◌≡◌, ℕ, ◌≤◌, Bool, true, List, [], O
 use Rattle.std.specs.Io.KnownBytes.{Appends, Consumes}
 use Rattle.std.proofs.KnownBytes.{Appends-nil, Consumes-nil}
 use Rattle.session_core.specs.declared.end.End.TheVariants as end
-use Rattle.session_core.specs.Stages.{Over, Left}
+use Rattle.session_core.specs.Stages.{Over, LeftSession}
 use Rattle.session_core.specs.declared.stream.TheConstants.{INTERRUPTIONS_MAX, READS_MAX}
 use Rattle.session_core.specs.declared.told.Told.{Told}
 use Rattle.session_core.specs.Answers.{answers_text, receipts_of}
 use Rattle.session_core.specs.Output.{OutputState, fresh_output}
-use Rattle.session_core.specs.Streams.{LogState, SourceState, fresh_log}
+use Rattle.session_core.specs.Streams.{LogState, LoggedReaderState, fresh_log}
 use Rattle.session_core.specs.Reading.{ReadsFresh}
 use Rattle.session_core.specs.Closing.{LeavesAll, session_of}
 use Rattle.session_core.specs.Served.{SessionState, ComesTo, Serves}
@@ -35,13 +35,13 @@ unserved from base reads writes answers unread unwritten none always = record {
 }
 
 -- what was read is answered, and the session is left
-pub served : (always : Bool) (from to : SourceState) (begin base : Option (List ℕ)) (old mid new : OutputState) (found : Over) (left : Left) (s : SessionState)
+pub served : (always : Bool) (from to : LoggedReaderState) (begin base : Option (List ℕ)) (old mid new : OutputState) (found : Over) (left : LeftSession) (s : SessionState)
     → from ≡ record { remaining = begin; log = fresh_log } → old ≡ fresh_output base → to.log.calls ≤ READS_MAX → ReadsFresh from to old mid found → LeavesAll mid new found left
     → session_of to new left ≡ s → s.reads.interruptions ≤ INTERRUPTIONS_MAX → s.writes.interruptions ≤ INTERRUPTIONS_MAX → (always ≡ true → s.writes.refusals ≡ 0)
     → Serves always begin base s
 served always from to begin base old mid new found left s unread fresh few all leaves same few_reads few_writes through =
     let r = all base fresh in
-    let begins : from.remaining ≡ begin = ap (λ (source : SourceState). source.remaining) unread in
+    let begins : from.remaining ≡ begin = ap (λ (source : LoggedReaderState). source.remaining) unread in
     record {
       input = r.input;
       consumes = subst (λ (known : Option (List ℕ)). Consumes known s.remaining r.input) begins (subst (λ (x : SessionState). Consumes from.remaining x.remaining r.input) same r.consumes);

@@ -11,7 +11,7 @@ use Rattle.system_lock.specs.Kernel.{IsOpening, IsWanting, IsError, OpensFor, Op
 use Rattle.session_core.specs.declared.told.Told.{Told}
 use Rattle.session_core.specs.declared.told.Told.TheVariants as told
 use Rattle.session_core.specs.declared.stage.Stage.TheVariants as stage
-use Rattle.session_core.specs.declared.stage.Why.{Why}
+use Rattle.session_core.specs.declared.stage.LeaveCause.{LeaveCause}
 use Rattle.session_core.specs.declared.stage.Over.TheVariants as over
 use Rattle.session_core.specs.declared.stage.Turn.TheVariants as turn
 use Rattle.session_core.specs.Answers.{answers_text, receipts_of}
@@ -131,7 +131,7 @@ is_unopened next handled old new refusal is_opening wants none empty put = recor
 no_receipts : (next : Request) (handled : List Request) (answers : List Told) (refusal : Refusal) → IsUnopened (handled ++ next ∷ []) answers refusal → receipts_of answers ≡ []
 no_receipts next handled answers refusal h = ap receipts_of h.answers_are
 
-refused_by : (base : Option (List ℕ)) (next : Request) (handled : List Request) (o : OutputState) (refusal : Refusal) (found : Why) → WhyRefused refusal found → Holds base o → IsUnopened (handled ++ next ∷ []) o.answers refusal
+refused_by : (base : Option (List ℕ)) (next : Request) (handled : List Request) (o : OutputState) (refusal : Refusal) (found : LeaveCause) → WhyRefused refusal found → Holds base o → IsUnopened (handled ++ next ∷ []) o.answers refusal
     → LeavesBy base handled next o stage.Opening found
 refused_by base next handled o refusal.NoMemory found e holds h = subst (LeavesBy base handled next o stage.Opening) (sym e) (
   holds,
@@ -144,7 +144,7 @@ refused_by base next handled o refusal.Waiting found e holds h = absurd e
 refused_by base next handled o refusal.NotHere found e holds h = absurd e
 refused_by base next handled o (refusal.Foreign seen len) found e holds h = absurd e
 
-pub unopened : (next : Request) (old new : OutputState) (refusal : Refusal) (found : Why) → IsOpening next → PutsGivenUp old new refusal found → TakesUp stage.Opening next old new (turn.Over (over.Leaves stage.Opening found))
+pub unopened : (next : Request) (old new : OutputState) (refusal : Refusal) (found : LeaveCause) → IsOpening next → PutsGivenUp old new refusal found → TakesUp stage.Opening next old new (turn.Over (over.Leaves stage.Opening found))
 unopened next old new refusal found is_opening (inl h) base handled holds talking =
     refused_by base next handled new refusal found h.0 (h.1.holds base holds) (is_unopened next handled old new refusal is_opening (wanting refusal found h.0) talking.0 talking.1 h.1)
 unopened next old new refusal found is_opening (inr h) base handled holds talking =

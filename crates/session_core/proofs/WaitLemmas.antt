@@ -16,7 +16,7 @@ use Rattle.system_lock.specs.Kernel.{Adds, Exits, IsWanting}
 use Rattle.session_core.specs.declared.told.Told.{Told}
 use Rattle.session_core.specs.declared.told.Told.TheVariants as told
 use Rattle.session_core.specs.declared.stage.Stage.TheVariants as stage
-use Rattle.session_core.specs.declared.stage.Why.{Why}
+use Rattle.session_core.specs.declared.stage.LeaveCause.{LeaveCause}
 use Rattle.session_core.specs.declared.stage.Over.TheVariants as over
 use Rattle.session_core.specs.declared.stage.Turn.TheVariants as turn
 use Rattle.session_core.specs.Answers.{receipt_of, receipts_of}
@@ -112,14 +112,14 @@ exits_with seat spent old new h e same = record {
   act_is = h.1.act_is;
 }
 
-pub wanting : (refusal : Refusal) (found : Why) → WhyRefused refusal found → IsWanting refusal
+pub wanting : (refusal : Refusal) (found : LeaveCause) → WhyRefused refusal found → IsWanting refusal
 wanting refusal.NoMemory found h = tt
 wanting refusal.RunFull found h = tt
 wanting refusal.Waiting found h = absurd h
 wanting refusal.NotHere found h = absurd h
 wanting (refusal.Foreign seen len) found h = absurd h
 
-ended_with : (base : Option (List ℕ)) (requests : List Request) (o : OutputState) (spent : SeatState) (refusal : Refusal) (found : Why) → WhyRefused refusal found → Holds base o → HasExited spent o.answers → IsCut requests o.answers (Some refusal)
+ended_with : (base : Option (List ℕ)) (requests : List Request) (o : OutputState) (spent : SeatState) (refusal : Refusal) (found : LeaveCause) → WhyRefused refusal found → Holds base o → HasExited spent o.answers → IsCut requests o.answers (Some refusal)
     → EndedBy base requests o spent found
 ended_with base requests o spent refusal.NoMemory found e holds exited cut = subst (EndedBy base requests o spent) (sym e) (holds, exited, (Some refusal.NoMemory, cut))
 ended_with base requests o spent refusal.RunFull found e holds exited cut = subst (EndedBy base requests o spent) (sym e) (holds, exited, cut)
@@ -127,7 +127,7 @@ ended_with base requests o spent refusal.Waiting found e holds exited cut = absu
 ended_with base requests o spent refusal.NotHere found e holds exited cut = absurd e
 ended_with base requests o spent (refusal.Foreign seen len) found e holds exited cut = absurd e
 
-pub ended_by : (base : Option (List ℕ)) (handled : List Request) (call : Call) (seat spent : SeatState) (old new : OutputState) (refusal : Refusal) (found : Why) → PutsGivenUp old new refusal found → IsWaitingAt base handled call seat old → Exits seat spent
+pub ended_by : (base : Option (List ℕ)) (handled : List Request) (call : Call) (seat spent : SeatState) (old new : OutputState) (refusal : Refusal) (found : LeaveCause) → PutsGivenUp old new refusal found → IsWaitingAt base handled call seat old → Exits seat spent
     → EndedBy base (handled ++ request.Call call ∷ []) new spent found
 ended_by base handled call seat spent old new refusal found (inl h) w exits =
     ended_with base (handled ++ request.Call call ∷ []) new spent refusal found h.0 (h.1.holds base w.holds)

@@ -6,20 +6,20 @@ use Rattle.session_core.specs.declared.end.End.{End}
 use Rattle.session_core.specs.declared.end.End.TheVariants as end
 use Rattle.session_core.specs.declared.told.Told.{Told}
 use Rattle.session_core.specs.declared.told.Told.TheVariants as told
-use Rattle.session_core.specs.Stages.{Stage, Over, Left}
+use Rattle.session_core.specs.Stages.{Stage, Over, LeftSession}
 use Rattle.session_core.specs.declared.stage.Stage.TheVariants as stage
-use Rattle.session_core.specs.declared.stage.Why.{Why}
-use Rattle.session_core.specs.declared.stage.Why.TheVariants as why
+use Rattle.session_core.specs.declared.stage.LeaveCause.{LeaveCause}
+use Rattle.session_core.specs.declared.stage.LeaveCause.TheVariants as why
 use Rattle.session_core.specs.declared.stage.Over.TheVariants as over
 use Rattle.session_core.specs.declared.stream.TheConstants.{INTERRUPTIONS_MAX}
 use Rattle.session_core.specs.Output.{OutputState, SendsAll, FailsToSend}
 use Rattle.session_core.specs.Pieces.{IsOver}
 use Rattle.session_core.specs.Reading.{IsMet}
 use Rattle.session_core.specs.Served.{SessionState, ComesTo}
-use Rattle.session_core.specs.Streams.{SourceState, LogState}
+use Rattle.session_core.specs.Streams.{LoggedReaderState, LogState}
 
 -- the end of a session that has written all its answers
-abbrev pub end_of : Why → End
+abbrev pub end_of : LeaveCause → End
 end_of why.Closed = end.Closed
 end_of why.ReadFault = end.ReadFault
 end_of why.Malformed = end.Malformed
@@ -27,7 +27,7 @@ end_of why.RunFull = end.RunFull
 end_of why.NoMemory = end.NoMemory
 
 -- the last answers are written, and the end is that one; or the writer has failed
-abbrev pub SendsLast : OutputState → OutputState → Why → End → Type 0
+abbrev pub SendsLast : OutputState → OutputState → LeaveCause → End → Type 0
 SendsLast old new why found = (SendsAll old new × (found ≡ end_of why)) ⊎ (FailsToSend old new × (found ≡ end.WriteFault new.sent))
 
 -- the exit of a process is recorded, and its session has the wanted end; or the kernel does not know the seat
@@ -53,7 +53,7 @@ pub record IsTaken (o : OutputState) (last : Option Receipted) (answers : List T
   pub few : log.interruptions ≤ INTERRUPTIONS_MAX
 
 -- the session that is left
-abbrev pub session_of : SourceState → OutputState → Left → SessionState
+abbrev pub session_of : LoggedReaderState → OutputState → LeftSession → SessionState
 session_of source o left = record {
   remaining = source.remaining;
   reads = source.log;
@@ -65,16 +65,16 @@ session_of source o left = record {
 }
 
 -- a session that is over is left
-abbrev pub LeavesAll : OutputState → OutputState → Over → Left → Type 0
+abbrev pub LeavesAll : OutputState → OutputState → Over → LeftSession → Type 0
 LeavesAll old new found left =
-    (base : Option (List ℕ)) (input : List ℕ) (source : SourceState) → IsOver base input old found → IsMet source found → ComesTo input base (session_of source new left)
+    (base : Option (List ℕ)) (input : List ℕ) (source : LoggedReaderState) → IsOver base input old found → IsMet source found → ComesTo input base (session_of source new left)
 
 -- a process is hung up
-abbrev pub HangsUpSeat : SeatState → Left → Type 0
+abbrev pub HangsUpSeat : SeatState → LeftSession → Type 0
 HangsUpSeat seat left = (wanted : End) × (spent : SeatState) × (left.seat ≡ Some spent) × HangsUp seat wanted spent left.end
 
 -- what becomes of the seat of a session that is over: a process that still is there is hung up
-abbrev pub KeepsSeat : Over → Left → Type 0
+abbrev pub KeepsSeat : Over → LeftSession → Type 0
 KeepsSeat (over.Leaves stage.Opening why) left = left.seat ≡ None
 KeepsSeat (over.Leaves (stage.Ready seat) why) left = HangsUpSeat seat left
 KeepsSeat (over.Unwritten stage.Opening) left = left.seat ≡ None

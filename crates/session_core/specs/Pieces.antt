@@ -7,7 +7,7 @@ use Rattle.frame_codec.specs.Requests.{SpellsRequest}
 use Rattle.frame_codec.specs.declared.decoder.Progress.{Progress}
 use Rattle.frame_codec.specs.declared.decoder.Progress.TheVariants as progress
 use Rattle.session_core.specs.Stages.{Stage, Over, Turn}
-use Rattle.session_core.specs.declared.stage.Why.TheVariants as why
+use Rattle.session_core.specs.declared.stage.LeaveCause.TheVariants as why
 use Rattle.session_core.specs.declared.stage.Over.TheVariants as over
 use Rattle.session_core.specs.declared.stage.Turn.TheVariants as turn
 use Rattle.session_core.specs.Output.{OutputState, Holds, Broke}

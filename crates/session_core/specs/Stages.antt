@@ -4,7 +4,7 @@ use Rattle.session_core.specs.declared.stage.Stage.{Stage as StageOf}
 use Rattle.session_core.specs.declared.stage.Over.{Over as OverOf}
 use Rattle.session_core.specs.declared.stage.Turn.{Turn as TurnOf}
 use Rattle.session_core.specs.declared.stage.Waited.{Waited as WaitedOf}
-use Rattle.session_core.specs.declared.closing.Left.{Left as LeftOf}
+use Rattle.session_core.specs.declared.closing.LeftSession.{LeftSession as LeftOf}
 
 abbrev pub Stage : Type 0
 Stage = StageOf SeatState
@@ -18,5 +18,5 @@ Turn = TurnOf SeatState SeatState
 abbrev pub Waited : Type 0
 Waited = WaitedOf SeatState SeatState
 
-abbrev pub Left : Type 0
-Left = LeftOf SeatState
+abbrev pub LeftSession : Type 0
+LeftSession = LeftOf SeatState

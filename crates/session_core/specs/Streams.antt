@@ -44,12 +44,12 @@ abbrev pub IsReadNoMore : LogState → Type 0
 IsReadNoMore log = IsBroken log ⊎ (READS_MAX ≤ log.calls)
 
 -- what a reader has left, where that is known, and its log
-pub record SourceState : Type 0 where
+pub record LoggedReaderState : Type 0 where
   pub remaining : Option (List ℕ)
   pub log : LogState
 
 -- what a writer holds, where that is known, and its log
-pub record SinkState : Type 0 where
+pub record LoggedWriterState : Type 0 where
   pub contents : Option (List ℕ)
   pub log : LogState
 
@@ -67,7 +67,7 @@ Gives old new buffer gave.Interrupted = Consumes old new []
 Gives old new buffer gave.Failed = Consumes old new []
 
 -- one read
-pub record ReadsOnce (old new : SourceState) (buffer : List ℕ) (found : Gave) : Type 0 where
+pub record ReadsOnce (old new : LoggedReaderState) (buffer : List ℕ) (found : Gave) : Type 0 where
   pub gives : Gives old.remaining new.remaining buffer found
   pub log : new.log ≡ noted old.log found
 
@@ -85,7 +85,7 @@ TakesSome old new bytes gave.Interrupted = Keeps old new
 TakesSome old new bytes gave.Failed = Keeps old new
 
 -- one write
-pub record WritesOnce (old new : SinkState) (bytes : List ℕ) (found : Gave) : Type 0 where
+pub record WritesOnce (old new : LoggedWriterState) (bytes : List ℕ) (found : Gave) : Type 0 where
   pub takes : TakesSome old.contents new.contents bytes found
   pub log : new.log ≡ noted old.log found
 
@@ -95,6 +95,6 @@ pub record WritesFront (old new : Option (List ℕ)) (bytes : List ℕ) (count :
   pub appends : Appends old new (take count bytes)
 
 -- nothing was written, and the writer is broken
-pub record WritesNone (old new : SinkState) : Type 0 where
+pub record WritesNone (old new : LoggedWriterState) : Type 0 where
   pub keeps : Keeps old.contents new.contents
   pub broken : IsBroken new.log

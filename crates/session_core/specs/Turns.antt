@@ -7,7 +7,7 @@ use Rattle.call_types.specs.declared.request.Request.{Request}
 use Rattle.call_types.specs.declared.request.Request.TheVariants as request
 use Rattle.record_book.specs.Seat.{Receipted, SeatState}
 use Rattle.system_lock.specs.Kernel.{Ended, EndsBy, IsError}
-use Rattle.system_lock.specs.declared.kernel.Why.{Why as EndedWhy}
+use Rattle.system_lock.specs.declared.kernel.Why.{Why}
 use Rattle.system_lock.specs.declared.kernel.Why.TheVariants as ended_why
 use Rattle.session_core.specs.declared.told.Told.{Told}
 use Rattle.session_core.specs.declared.told.Told.TheVariants as told
@@ -17,8 +17,8 @@ use Rattle.session_core.specs.Talk.{IsCut, IsUnopened, Converses, Talked, Waits}
 use Rattle.session_core.specs.Served.{HasExited, IsRefusedOpening}
 use Rattle.session_core.specs.Stages.{Stage, Over, Turn, Waited}
 use Rattle.session_core.specs.declared.stage.Stage.TheVariants as stage
-use Rattle.session_core.specs.declared.stage.Why.{Why}
-use Rattle.session_core.specs.declared.stage.Why.TheVariants as why
+use Rattle.session_core.specs.declared.stage.LeaveCause.{LeaveCause}
+use Rattle.session_core.specs.declared.stage.LeaveCause.TheVariants as why
 use Rattle.session_core.specs.declared.stage.Over.TheVariants as over
 use Rattle.session_core.specs.declared.stage.Turn.TheVariants as turn
 use Rattle.session_core.specs.declared.stage.Waited.TheVariants as waited
@@ -43,14 +43,14 @@ HasReceipts stage.Opening answers = receipts_of answers ≡ []
 HasReceipts (stage.Ready seat) answers = seat.receipts ≡ receipts_of answers
 
 -- a session that leaves off at the last of its requests so far
-abbrev pub LeavesBy : Option (List ℕ) → List Request → Request → OutputState → Stage → Why → Type 0
+abbrev pub LeavesBy : Option (List ℕ) → List Request → Request → OutputState → Stage → LeaveCause → Type 0
 LeavesBy base handled next o stage why.Malformed = Holds base o × IsTalking handled o.answers stage × IsOutOfPlace stage next
 LeavesBy base handled next o stage why.NoMemory = Holds base o × HasReceipts stage o.answers × Converses (handled ++ next ∷ []) o.answers
 LeavesBy base handled next o stage why.RunFull = Holds base o × HasReceipts stage o.answers × IsUnopened (handled ++ next ∷ []) o.answers refusal.RunFull
 LeavesBy base handled next o stage other = ⊥
 
 -- a process that has ended in the call that it waited in
-abbrev pub EndedBy : Option (List ℕ) → List Request → OutputState → SeatState → Why → Type 0
+abbrev pub EndedBy : Option (List ℕ) → List Request → OutputState → SeatState → LeaveCause → Type 0
 EndedBy base requests o seat why.RunFull = Holds base o × HasExited seat o.answers × IsCut requests o.answers (Some refusal.RunFull)
 EndedBy base requests o seat why.NoMemory = Holds base o × HasExited seat o.answers × ((given_up : Option Refusal) × IsCut requests o.answers given_up)
 EndedBy base requests o seat other = ⊥
@@ -96,13 +96,13 @@ abbrev pub TakesUp : Stage → Request → OutputState → OutputState → Turn 
 TakesUp stage next old new turn = (base : Option (List ℕ)) (handled : List Request) → Holds base old → IsTalking handled old.answers stage → TurnBy base handled next new turn
 
 -- the end that a refusal brings
-abbrev pub WhyRefused : Refusal → Why → Type 0
+abbrev pub WhyRefused : Refusal → LeaveCause → Type 0
 WhyRefused refusal.NoMemory found = found ≡ why.NoMemory
 WhyRefused refusal.RunFull found = found ≡ why.RunFull
 WhyRefused other found = ⊥
 
 -- a refusal is answered and brings its end; or memory runs out for the answer, and that is the end
-abbrev pub PutsGivenUp : OutputState → OutputState → Refusal → Why → Type 0
+abbrev pub PutsGivenUp : OutputState → OutputState → Refusal → LeaveCause → Type 0
 PutsGivenUp old new refusal found = (WhyRefused refusal found × Puts old new (told.Refused refusal)) ⊎ ((found ≡ why.NoMemory) × (new ≡ old))
 
 -- the receipt that was put is the one of the seat
@@ -140,7 +140,7 @@ GivesUp ended old new found =
     (base : Option (List ℕ)) (handled : List Request) (call : Call) (seat : SeatState) → IsWaitingAt base handled call seat old → EndsBy seat ended.seat ended.why → OverBy base handled (request.Call call) new found
 
 -- what is answered of a process that has ended in the call that it waited in
-abbrev pub TellsWhy : EndedWhy → OutputState → OutputState → Over → Type 0
+abbrev pub TellsWhy : Why → OutputState → OutputState → Over → Type 0
 TellsWhy ended_why.NoMemory old new (over.Ended seat why) = PutsGivenUp old new refusal.NoMemory why
 TellsWhy ended_why.RunFull old new (over.Ended seat why) = PutsGivenUp old new refusal.RunFull why
 TellsWhy ended_why.Lost old new (over.Lost seat) = new ≡ old

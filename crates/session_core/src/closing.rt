@@ -7,36 +7,36 @@ ghost use Rattle.session_core.specs.declared.stage.Over.TheVariants as over;
 use crate::end::End;
 use crate::gate::Gate;
 use crate::output::Output;
-use crate::stage::{Over, OverOf, Stage, StageOf, Why};
+use crate::stage::{LeaveCause, Over, OverOf, Stage, StageOf};
 use byte_ledger::ledgers::Ledgers;
 use record_book::seat::{Receipt, Seat, SpentSeat};
 use std::io::Write;
 use std::sync::Wait;
-use system_lock::kernel::{Kernel, Why as EndedWhy};
+use system_lock::kernel::{Kernel, Why};
 
 /// A session that is left: its spent seat, of the kind `P`; its end; and, if its last answer is not written, the receipt of that answer.
 #[derive(Drop)]
-pub(crate) struct Left<P> {
+pub(crate) struct LeftSession<P> {
     pub(crate) seat: Option<P>,
     pub(crate) end: End,
     pub(crate) last: Option<Receipt>,
 }
 
 /// The end of a session that has written all its answers.
-fn end_of(why: Why) -> End
+fn end_of(why: LeaveCause) -> End
     ensures { result ≡ end_of why }
 {
     match why {
-        Why::Closed => End::Closed,
-        Why::ReadFault => End::ReadFault,
-        Why::Malformed => End::Malformed,
-        Why::RunFull => End::RunFull,
-        Why::NoMemory => End::NoMemory,
+        LeaveCause::Closed => End::Closed,
+        LeaveCause::ReadFault => End::ReadFault,
+        LeaveCause::Malformed => End::Malformed,
+        LeaveCause::RunFull => End::RunFull,
+        LeaveCause::NoMemory => End::NoMemory,
     }
 }
 
 /// Writes the answers that are not written yet, and tells the end of the session.
-fn send_last<W: Write, G: Gate>(output: &mut Output<W, G>, why: Why) -> End
+fn send_last<W: Write, G: Gate>(output: &mut Output<W, G>, why: LeaveCause) -> End
     ensures { SendsLast output.old output.new why result }
 {
     match output.flush() {
@@ -58,7 +58,7 @@ fn hang_up<Rt: Wait, L: Ledgers, K: Kernel<Seat<L>, SpentSeat<L>>>(
 {
     let ended = kernel.hang_up(rt, seat);
     match ended.why {
-        EndedWhy::Foreign => (ended.seat, End::Foreign),
+        Why::Foreign => (ended.seat, End::Foreign),
         _ => (ended.seat, end),
     }
 }
@@ -69,12 +69,12 @@ fn leave<Rt: Wait, L: Ledgers, K: Kernel<Seat<L>, SpentSeat<L>>>(
     kernel: &K,
     stage: StageOf<L>,
     end: End,
-) -> Left<SpentSeat<L>>
+) -> LeftSession<SpentSeat<L>>
     ensures seat { LeavesWith stage end result.seat result.end }
     ensures last { result.last ≡ None }
 {
     match stage {
-        Stage::Opening => Left {
+        Stage::Opening => LeftSession {
             seat: None,
             end,
             last: None,
@@ -84,11 +84,11 @@ fn leave<Rt: Wait, L: Ledgers, K: Kernel<Seat<L>, SpentSeat<L>>>(
 }
 
 /// A session with this seat and end.
-fn left_by<P: Drop>(ended: (P, End), last: Option<Receipt>) -> Left<P>
+fn left_by<P: Drop>(ended: (P, End), last: Option<Receipt>) -> LeftSession<P>
     ensures { result ≡ record { seat = Some ended.0; end = ended.1; last = last } }
 {
     let (seat, end) = ended;
-    Left {
+    LeftSession {
         seat: Some(seat),
         end,
         last,
@@ -103,7 +103,7 @@ fn leave_untold<Rt: Wait, W: Write, G: Gate, L: Ledgers, K: Kernel<Seat<L>, Spen
     kernel: &K,
     seat: Seat<L>,
     receipt: Receipt,
-) -> Left<SpentSeat<L>>
+) -> LeftSession<SpentSeat<L>>
     ensures all { LeavesAll output.old output.new (over.Untold seat receipt) result }
     ensures seat { HangsUpSeat seat result }
 {
@@ -124,7 +124,7 @@ pub(crate) fn leave_all<Rt: Wait, W: Write, G: Gate, L: Ledgers, K: Kernel<Seat<
     output: &mut Output<W, G>,
     kernel: &K,
     over: OverOf<L>,
-) -> Left<SpentSeat<L>>
+) -> LeftSession<SpentSeat<L>>
     ensures all { LeavesAll output.old output.new over result }
     ensures seat { KeepsSeat over result }
 {
@@ -143,11 +143,11 @@ pub(crate) fn leave_all<Rt: Wait, W: Write, G: Gate, L: Ledgers, K: Kernel<Seat<
         Over::RefusalUntold(seat) => left_by((seat, End::NoMemory), None),
         Over::Untold { seat, receipt } => leave_untold(rt, output, kernel, seat, receipt),
         Over::Refused(seat) => {
-            let end = send_last(output, Why::Closed);
+            let end = send_last(output, LeaveCause::Closed);
             left_by((seat, end), None)
         }
         Over::Lost(seat) => {
-            let end = send_last(output, Why::Closed);
+            let end = send_last(output, LeaveCause::Closed);
             left_by((seat, end), None)
         }
         Over::Ended { seat, why } => {

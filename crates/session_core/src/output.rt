@@ -6,7 +6,7 @@ ghost use Rattle.session_core.specs.Output.{fresh_output, Passes, Puts, Flushes,
 ghost use Rattle.session_core.specs.Closing.{IsTaken};
 
 use crate::gate::Gate;
-use crate::stream::{Sink, StreamLog, WriterFailed};
+use crate::stream::{LoggedWriter, StreamLog, WriterFailed};
 use crate::told::Told;
 use call_types::refusal::Refusal;
 use frame_codec::encode::{encode_recorded, encode_refused};
@@ -18,7 +18,7 @@ use std::marker::Model;
 /// The answers of a session, and those bytes of them that are not written yet. There is always room for one answer more.
 #[derive(Drop)]
 pub(crate) struct Output<W: Write, G: Gate> {
-    sink: Sink<W>,
+    sink: LoggedWriter<W>,
     gate: G,
     /// The number of the session.
     session: u64,
@@ -62,7 +62,7 @@ fn seen_with(answer: &Told, seen: u64) -> u64 {
 /// Asks a gate for answers, one after another, as long as they are let through: whether all were, and how many records the session's
 /// process has seen by then.
 fn let_all<W: Write, G: Gate>(
-    sink: &mut Sink<W>,
+    sink: &mut LoggedWriter<W>,
     gate: &G,
     session: u64,
     seen: u64,
@@ -93,7 +93,7 @@ impl<W: Write, G: Gate> Output<W, G> {
     {
         match Vec::with_capacity(alloc, 1) {
             Ok(answers) => Ok(Output {
-                sink: Sink::new(writer),
+                sink: LoggedWriter::new(writer),
                 gate,
                 session,
                 let_through: 0,

@@ -4,11 +4,11 @@ ghost use Rattle.session_core.specs.Pieces.{TakesPiece};
 
 use crate::gate::Gate;
 use crate::output::Output;
-use crate::stage::{Over, StageOf, Turn, TurnOf, Why};
+use crate::stage::{LeaveCause, Over, StageOf, Turn, TurnOf};
 use crate::turns::take_all;
 use byte_ledger::ledgers::Ledgers;
 use frame_codec::decoder::{Decoder, Progress};
-use frame_codec::kind::Requests;
+use frame_codec::frame_kind::Requests;
 use frame_codec::laws::cuts_do_not_matter;
 use record_book::seat::{Seat, SpentSeat};
 use std::io::Write;
@@ -32,7 +32,7 @@ pub(crate) fn take_piece<Rt: Wait, W: Write, G: Gate, L: Ledgers, K: Kernel<Seat
         Err(_) => {
             return Turn::Over(Over::Leaves {
                 stage,
-                why: Why::NoMemory,
+                why: LeaveCause::NoMemory,
             });
         }
     };
@@ -49,7 +49,7 @@ pub(crate) fn take_piece<Rt: Wait, W: Write, G: Gate, L: Ledgers, K: Kernel<Seat
         Progress::More => Turn::GoesOn(stage),
         _ => Turn::Over(Over::Leaves {
             stage,
-            why: Why::Malformed,
+            why: LeaveCause::Malformed,
         }),
     }
 }

@@ -10,11 +10,11 @@ ghost use Rattle.session_core.specs.Streams.{fresh_log};
 use crate::gate::Gate;
 use crate::output::Output;
 use crate::pieces::take_piece;
-use crate::stage::{Over, OverOf, Stage, StageOf, Turn, TurnOf, Why};
-use crate::stream::{Gave, INTERRUPTIONS_MAX, READS_MAX, Source};
+use crate::stage::{LeaveCause, Over, OverOf, Stage, StageOf, Turn, TurnOf};
+use crate::stream::{Gave, INTERRUPTIONS_MAX, LoggedReader, READS_MAX};
 use byte_ledger::ledgers::Ledgers;
 use frame_codec::decoder::Decoder;
-use frame_codec::kind::Requests;
+use frame_codec::frame_kind::Requests;
 use frame_codec::laws::cuts_do_not_matter;
 use record_book::seat::{Seat, SpentSeat};
 use std::alloc::Global;
@@ -26,7 +26,7 @@ use system_lock::kernel::Kernel;
 const PIECE: usize = 65_536;
 
 /// A session that leaves off where it is.
-fn leaves<S: Drop, P: Drop>(stage: Stage<S>, why: Why) -> Turn<S, P>
+fn leaves<S: Drop, P: Drop>(stage: Stage<S>, why: LeaveCause) -> Turn<S, P>
     ensures { result ≡ turn.Over (over.Leaves stage why) }
 {
     Turn::Over(Over::Leaves { stage, why })
@@ -35,7 +35,7 @@ fn leaves<S: Drop, P: Drop>(stage: Stage<S>, why: Why) -> Turn<S, P>
 /// Reads once more, and takes up what that gives.
 fn read_on<Rt: Wait, R: Read, W: Write, G: Gate, L: Ledgers, K: Kernel<Seat<L>, SpentSeat<L>>>(
     rt: &Rt,
-    source: &mut Source<R>,
+    source: &mut LoggedReader<R>,
     output: &mut Output<W, G>,
     kernel: &K,
     decoder: &mut Decoder<Requests>,
@@ -53,22 +53,22 @@ fn read_on<Rt: Wait, R: Read, W: Write, G: Gate, L: Ledgers, K: Kernel<Seat<L>, 
             let (piece, _) = buffer.split_at(count);
             take_piece(rt, output, kernel, decoder, stage, piece)
         }
-        Gave::Nothing => leaves(stage, Why::Closed),
+        Gave::Nothing => leaves(stage, LeaveCause::Closed),
         Gave::Interrupted => {
             if source.log().interruptions() < INTERRUPTIONS_MAX {
                 Turn::GoesOn(stage)
             } else {
-                leaves(stage, Why::ReadFault)
+                leaves(stage, LeaveCause::ReadFault)
             }
         }
-        Gave::Failed => leaves(stage, Why::ReadFault),
+        Gave::Failed => leaves(stage, LeaveCause::ReadFault),
     }
 }
 
 /// Reads as often as a session may, and takes up what that gives, until the session is over.
 fn read_often<Rt: Wait, R: Read, W: Write, G: Gate, L: Ledgers, K: Kernel<Seat<L>, SpentSeat<L>>>(
     rt: &Rt,
-    source: &mut Source<R>,
+    source: &mut LoggedReader<R>,
     output: &mut Output<W, G>,
     kernel: &K,
     decoder: &mut Decoder<Requests>,
@@ -90,7 +90,7 @@ fn read_often<Rt: Wait, R: Read, W: Write, G: Gate, L: Ledgers, K: Kernel<Seat<L
     }
     Over::Leaves {
         stage,
-        why: Why::ReadFault,
+        why: LeaveCause::ReadFault,
     }
 }
 
@@ -105,7 +105,7 @@ pub(crate) fn read_all<
 >(
     rt: &Rt,
     alloc: Global,
-    source: &mut Source<R>,
+    source: &mut LoggedReader<R>,
     output: &mut Output<W, G>,
     kernel: &K,
 ) -> OverOf<L>
@@ -118,7 +118,7 @@ pub(crate) fn read_all<
         Err(_) => {
             return Over::Leaves {
                 stage: Stage::Opening,
-                why: Why::NoMemory,
+                why: LeaveCause::NoMemory,
             };
         }
     };

@@ -8,7 +8,7 @@ use crate::end::End;
 use crate::gate::Gate;
 use crate::output::Output;
 use crate::reading::read_all;
-use crate::stream::{Source, StreamLog};
+use crate::stream::{LoggedReader, StreamLog};
 use crate::told::Told;
 use byte_ledger::ledgers::Ledgers;
 use record_book::seat::{Seat, SpentSeat};
@@ -61,7 +61,7 @@ pub fn serve<Rt: Wait, R: Read, W: Write, G: Gate, L: Ledgers, K: Kernel<Seat<L>
         Ok(output) => output,
         Err(writer) => return unserved(alloc, reader, writer),
     };
-    let mut source = Source::new(reader);
+    let mut source = LoggedReader::new(reader);
     let over = read_all(rt, alloc, &mut source, &mut output, kernel);
     let left = leave_all(rt, &mut output, kernel, over);
     let (reader, reads) = source.into_parts();

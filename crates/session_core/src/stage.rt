@@ -13,7 +13,7 @@ pub(crate) enum Stage<S> {
 
 /// Why a session leaves off.
 #[derive(Clone, Copy, Debug, PartialEq, Eq)]
-pub(crate) enum Why {
+pub(crate) enum LeaveCause {
     Closed,
     ReadFault,
     Malformed,
@@ -25,7 +25,7 @@ pub(crate) enum Why {
 #[derive(Drop)]
 pub(crate) enum Over<S, P> {
     /// It leaves off where it is. Its process, if it has one, is still to be hung up.
-    Leaves { stage: Stage<S>, why: Why },
+    Leaves { stage: Stage<S>, why: LeaveCause },
     /// Its writer has failed. Its process, if it has one, is still to be hung up.
     Unwritten(Stage<S>),
     /// Memory ran out for the answer of its opening. Nothing was answered, and its process is still to be hung up.
@@ -40,7 +40,7 @@ pub(crate) enum Over<S, P> {
     Lost(P),
     /// The process has ended in the call that it waited in, since memory ran out or the run was full. That was answered, unless memory ran
     /// out for the answer.
-    Ended { seat: P, why: Why },
+    Ended { seat: P, why: LeaveCause },
     /// The kernel knows no such seat.
     Foreign(P),
 }

@@ -130,25 +130,25 @@ fn gave_of(told: io::Result<usize>, none: Gave) -> Gave
 
 /// The reader of a session.
 #[derive(Drop)]
-pub(crate) struct Source<R: Read> {
+pub(crate) struct LoggedReader<R: Read> {
     reader: R,
     log: StreamLog,
 }
 
-impl<R: Read> Model for Source<R> {
-    ghost use Rattle.session_core.specs.Streams.{SourceState};
+impl<R: Read> Model for LoggedReader<R> {
+    ghost use Rattle.session_core.specs.Streams.{LoggedReaderState};
 
-    ghost Value = { SourceState };
+    ghost Value = { LoggedReaderState };
 
     ghost view = { λ s. record { remaining = R.remaining s.reader; log = s.log } };
 }
 
-impl<R: Read> Source<R> {
+impl<R: Read> LoggedReader<R> {
     /// A reader that was not read yet.
     pub(crate) fn new(reader: R) -> Self
         ensures { result ≡ record { remaining = R.remaining reader; log = fresh_log } }
     {
-        Source {
+        LoggedReader {
             reader,
             log: StreamLog::new(),
         }
@@ -191,25 +191,25 @@ pub(crate) struct WriterFailed;
 
 /// The writer of a session.
 #[derive(Drop)]
-pub(crate) struct Sink<W: Write> {
+pub(crate) struct LoggedWriter<W: Write> {
     writer: W,
     log: StreamLog,
 }
 
-impl<W: Write> Model for Sink<W> {
-    ghost use Rattle.session_core.specs.Streams.{SinkState};
+impl<W: Write> Model for LoggedWriter<W> {
+    ghost use Rattle.session_core.specs.Streams.{LoggedWriterState};
 
-    ghost Value = { SinkState };
+    ghost Value = { LoggedWriterState };
 
     ghost view = { λ s. record { contents = W.contents s.writer; log = s.log } };
 }
 
-impl<W: Write> Sink<W> {
+impl<W: Write> LoggedWriter<W> {
     /// A writer to which nothing was written yet.
     pub(crate) fn new(writer: W) -> Self
         ensures { result ≡ record { contents = W.contents writer; log = fresh_log } }
     {
-        Sink {
+        LoggedWriter {
             writer,
             log: StreamLog::new(),
         }

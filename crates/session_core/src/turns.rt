@@ -9,7 +9,7 @@ ghost use Rattle.session_core.specs.Talk.{goes_on};
 
 use crate::gate::Gate;
 use crate::output::Output;
-use crate::stage::{Over, OverOf, Stage, StageOf, Turn, TurnOf, Waited, WaitedOf, Why};
+use crate::stage::{LeaveCause, Over, OverOf, Stage, StageOf, Turn, TurnOf, Waited, WaitedOf};
 use byte_ledger::ledgers::Ledgers;
 use call_types::call::Call;
 use call_types::outcome::Outcome;
@@ -20,7 +20,7 @@ use record_book::seat::{Receipt, Seat, SpentSeat};
 use std::alloc::AllocError;
 use std::io::Write;
 use std::sync::Wait;
-use system_lock::kernel::{EndedIn, Finished, FinishedIn, Kernel, Why as EndedWhy};
+use system_lock::kernel::{EndedIn, Finished, FinishedIn, Kernel, Why};
 
 /// Answers an opening by the one receipt that there is.
 fn put_first<W: Write, G: Gate>(
@@ -39,13 +39,13 @@ fn put_first<W: Write, G: Gate>(
 }
 
 /// Answers that memory ran out or the run is full, and says why the session ends. Where memory runs out for the answer, that is why.
-fn put_given_up<W: Write, G: Gate>(output: &mut Output<W, G>, refusal: Refusal) -> Why
+fn put_given_up<W: Write, G: Gate>(output: &mut Output<W, G>, refusal: Refusal) -> LeaveCause
     requires { IsWanting refusal }
     ensures { PutsGivenUp output.old output.new refusal result }
 {
     match (output.put_refused(refusal), refusal) {
-        (Ok(()), Refusal::RunFull) => Why::RunFull,
-        _ => Why::NoMemory,
+        (Ok(()), Refusal::RunFull) => LeaveCause::RunFull,
+        _ => LeaveCause::NoMemory,
     }
 }
 
@@ -97,17 +97,17 @@ fn give_up<W: Write, G: Gate, L: Ledgers>(output: &mut Output<W, G>, ended: Ende
 {
     let seat = ended.seat;
     match ended.why {
-        EndedWhy::NoMemory => Over::Ended {
+        Why::NoMemory => Over::Ended {
             seat,
             why: put_given_up(output, Refusal::NoMemory),
         },
-        EndedWhy::RunFull => Over::Ended {
+        Why::RunFull => Over::Ended {
             seat,
             why: put_given_up(output, Refusal::RunFull),
         },
-        EndedWhy::Lost => Over::Lost(seat),
-        EndedWhy::Foreign => Over::Foreign(seat),
-        EndedWhy::HungUp => unreachable!(),
+        Why::Lost => Over::Lost(seat),
+        Why::Foreign => Over::Foreign(seat),
+        Why::HungUp => unreachable!(),
     }
 }
 
@@ -189,7 +189,7 @@ fn take_call<Rt: Wait, W: Write, G: Gate, L: Ledgers, K: Kernel<Seat<L>, SpentSe
                 Ok(()) => Turn::GoesOn(Stage::Ready(seat)),
                 Err(_) => Turn::Over(Over::Leaves {
                     stage: Stage::Ready(seat),
-                    why: Why::NoMemory,
+                    why: LeaveCause::NoMemory,
                 }),
             };
         }
@@ -220,7 +220,7 @@ fn take_up<Rt: Wait, W: Write, G: Gate, L: Ledgers, K: Kernel<Seat<L>, SpentSeat
         (Stage::Ready(seat), Request::Call(call)) => take_call(rt, output, kernel, seat, call),
         (stage, _) => Turn::Over(Over::Leaves {
             stage,
-            why: Why::Malformed,
+            why: LeaveCause::Malformed,
         }),
     }
 }

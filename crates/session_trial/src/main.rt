@@ -8,14 +8,13 @@
 //! `tests/sessions.py`, at the top of the repository, compares it with a model of its own.
 #![tactic(auto)]
 
-mod ended;
 mod job;
 mod shown;
 mod stranger;
 mod trial;
+mod trial_fault;
 
 use byte_ledger::ledgers::Blanks;
-use ended::Ended;
 use job::job_of;
 use std::io;
 use std::io::{ErrorKind, Read, Write};
@@ -23,35 +22,36 @@ use std::marker::Brand;
 use std::process::ExitCode;
 use std::sync::Wait;
 use trial::tried;
+use trial_fault::TrialFault;
 
 /// The words of the command line.
-fn words_of(rt: &HostRuntime) -> Result<Vec<String>, Ended> {
+fn words_of(rt: &HostRuntime) -> Result<Vec<String>, TrialFault> {
     match std::env::args(rt) {
         Ok(words) => Ok(words.collect(rt.alloc())?),
-        Err(error) if error.kind() == ErrorKind::InvalidData => Err(Ended::Usage),
-        Err(_) => Err(Ended::NoMemory),
+        Err(error) if error.kind() == ErrorKind::InvalidData => Err(TrialFault::Usage),
+        Err(_) => Err(TrialFault::NoMemory),
     }
 }
 
 /// Reads all that there is.
-fn read_input(rt: &HostRuntime) -> Result<Vec<u8>, Ended> {
+fn read_input(rt: &HostRuntime) -> Result<Vec<u8>, TrialFault> {
     let mut input = Vec::new(rt.alloc());
     match rt.reader().read_to_end(&mut input) {
         Ok(_) => Ok(input),
-        Err(error) if error.kind() == ErrorKind::OutOfMemory => Err(Ended::NoMemory),
-        Err(_) => Err(Ended::CannotRead),
+        Err(error) if error.kind() == ErrorKind::OutOfMemory => Err(TrialFault::NoMemory),
+        Err(_) => Err(TrialFault::CannotRead),
     }
 }
 
 /// Serves the session on standard input, and prints what came of it.
-fn run<R: Wait>(rt: &HostRuntime, waiting: &R) -> Result<(), Ended> {
+fn run<R: Wait>(rt: &HostRuntime, waiting: &R) -> Result<(), TrialFault> {
     let words = words_of(rt)?;
     let job = job_of(rt.alloc(), words.as_slice())?;
     let input = read_input(rt)?;
     let lines = tried::<R, Brand>(waiting, rt.alloc(), job, input, Blanks::new())?;
     let mut out = io::writer(rt);
     if out.write_all(lines.as_slice()).is_err() || out.flush().is_err() {
-        return Err(Ended::CannotWrite);
+        return Err(TrialFault::CannotWrite);
     }
     Ok(())
 }

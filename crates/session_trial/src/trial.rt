@@ -2,10 +2,10 @@
 
 ghost use Rattle.std.specs.Prelude.{◌≡◌};
 
-use crate::ended::Ended;
 use crate::job::Job;
 use crate::shown::{put_log, put_number, put_word, put_written};
 use crate::stranger::Stranger;
+use crate::trial_fault::TrialFault;
 use byte_ledger::ledgers::{Blanks, Ledgers};
 use byte_ledger::tallies::Sums;
 use record_book::book::Book;
@@ -83,7 +83,7 @@ pub(crate) fn tried<Rt: Wait, L: Ledgers>(
     job: Job,
     input: Vec<u8>,
     blanks: Blanks,
-) -> Result<Vec<u8>, Ended>
+) -> Result<Vec<u8>, TrialFault>
     requires { blanks ≡ L.names }
 {
     let book = Book::<L>::new(alloc, job.limits, blanks)?;

@@ -5,10 +5,10 @@ ghost use Rattle.posix_model.specs.Attach.{attach};
 use call_types::errno::Errno;
 use call_types::outcome::Reply;
 use posix_model::change::{Decided, ProcessEdit, acts, refused};
-use posix_model::reader::Reader;
+use posix_model::reader::WorldReader;
 
 /// What an attach comes to: ESRCH, or a child that has its connection.
-pub fn decide_attach<R: Reader>(state: &R, process: usize) -> Decided
+pub fn decide_attach<R: WorldReader>(state: &R, process: usize) -> Decided
     ensures { result ≡ decided_by (attach (R.world state.now) process) }
 {
     if !state.awaits(process) {

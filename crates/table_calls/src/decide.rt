@@ -27,18 +27,18 @@ use file_calls::read::decide_read;
 use file_calls::write::decide_write;
 use pipe_calls::resume::decide_resume;
 use posix_model::change::Decided;
-use posix_model::reader::Reader;
+use posix_model::reader::WorldReader;
 use std::alloc::{AllocError, Global};
 
 /// Whether a process may make a call: it is live and attached, and waits in none.
-pub fn can_call<R: Reader>(state: &R, process: usize) -> bool
+pub fn can_call<R: WorldReader>(state: &R, process: usize) -> bool
     ensures { result ≡ can_call (slot (R.world state.now).processes process) }
 {
     state.is_here(process) && state.parked(process).is_none()
 }
 
 /// What a call comes to, by its page. An error says that memory ran out.
-pub fn decide_call<R: Reader>(
+pub fn decide_call<R: WorldReader>(
     state: &R,
     alloc: Global,
     bounds: Bounds,
@@ -80,7 +80,7 @@ pub fn decide_call<R: Reader>(
 /// What an act comes to, or nothing where the rules record none: a join under another number than the next, a call of a
 /// process that may make none, a resume of one that waits in no call that is ready, an exit of a process that is not live,
 /// and a closing by another than the house or of a run that is closed. An error says that memory ran out.
-pub fn decide<R: Reader>(
+pub fn decide<R: WorldReader>(
     state: &R,
     alloc: Global,
     bounds: Bounds,
@@ -105,7 +105,7 @@ pub fn decide<R: Reader>(
 }
 
 /// How many processes a call is to add.
-pub fn call_adds<R: Reader>(state: &R, call: &Call) -> usize
+pub fn call_adds<R: WorldReader>(state: &R, call: &Call) -> usize
     ensures exact { result ≡ adds (R.world state.now) (Act.Call call.now) }
     ensures one_at_most { result ≤ 1 }
 {
@@ -116,7 +116,7 @@ pub fn call_adds<R: Reader>(state: &R, call: &Call) -> usize
 }
 
 /// How many processes a join is to add.
-pub fn join_adds<R: Reader>(state: &R) -> usize
+pub fn join_adds<R: WorldReader>(state: &R) -> usize
     ensures exact { result ≡ adds (R.world state.now) Act.Join }
     ensures one_at_most { result ≤ 1 }
 {

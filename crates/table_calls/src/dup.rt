@@ -6,10 +6,10 @@ ghost use Rattle.posix_model.specs.Dup.{dup};
 use call_types::errno::Errno;
 use call_types::outcome::Reply;
 use posix_model::change::{Decided, FileEdit, TableEdit, does, refused};
-use posix_model::reader::Reader;
+use posix_model::reader::WorldReader;
 
 /// What dup comes to: EBADF, EMFILE, or one more descriptor of the same open file description (page of dup).
-pub fn decide_dup<R: Reader>(state: &R, process: usize, fd: i32) -> Decided
+pub fn decide_dup<R: WorldReader>(state: &R, process: usize, fd: i32) -> Decided
     ensures { result ≡ on_open (opened (R.world state.now) process fd) (dup (R.world state.now) process) }
 {
     let Some(descriptor) = state.opened(process, fd) else {

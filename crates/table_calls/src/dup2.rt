@@ -7,7 +7,7 @@ use call_types::errno::Errno;
 use call_types::limits::OPEN_MAX;
 use call_types::outcome::Reply;
 use posix_model::change::{Decided, FileEdit, TableEdit, does, refused, tells};
-use posix_model::reader::Reader;
+use posix_model::reader::WorldReader;
 
 /// Whether a number can be no descriptor: it is negative, or 32 (OPEN_MAX) or more.
 fn is_no_descriptor(to: i32) -> bool
@@ -17,7 +17,7 @@ fn is_no_descriptor(to: i32) -> bool
 }
 
 /// What dup2 comes to: EBADF, or one more descriptor of the same open file description, under the number that is asked (page of dup2).
-pub fn decide_dup2<R: Reader>(state: &R, process: usize, fd: i32, to: i32) -> Decided
+pub fn decide_dup2<R: WorldReader>(state: &R, process: usize, fd: i32, to: i32) -> Decided
     ensures { result ≡ on_open (opened (R.world state.now) process fd) (dup2 process to) }
 {
     let Some(descriptor) = state.opened(process, fd) else {

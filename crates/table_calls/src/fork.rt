@@ -7,12 +7,12 @@ use crate::join::is_full;
 use call_types::errno::Errno;
 use call_types::outcome::Reply;
 use posix_model::change::{Decided, ProcessEdit, acts, refused};
-use posix_model::reader::Reader;
+use posix_model::reader::WorldReader;
 use std::alloc::{AllocError, Global};
 
 /// What fork comes to: EAGAIN, or a child with the same descriptors under the next number (page of fork). An error says that
 /// memory for its descriptors ran out.
-pub fn decide_fork<R: Reader>(
+pub fn decide_fork<R: WorldReader>(
     state: &R,
     alloc: Global,
     process: usize,

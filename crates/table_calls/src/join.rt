@@ -6,19 +6,19 @@ use call_types::errno::Errno;
 use call_types::limits::PROCESSES_MAX;
 use call_types::outcome::Reply;
 use posix_model::change::{Decided, ProcessEdit, acts, refused};
-use posix_model::reader::Reader;
+use posix_model::reader::WorldReader;
 use process_table::table::DescriptorTable;
 use std::alloc::{AllocError, Global};
 
 /// Whether there may be no further process: there are too many, or the run is closed.
-pub fn is_full<R: Reader>(state: &R) -> bool
+pub fn is_full<R: WorldReader>(state: &R) -> bool
     ensures { result ≡ is_full (R.world state.now) }
 {
     state.is_closed() || state.live_processes() >= PROCESSES_MAX
 }
 
 /// What a join comes to: EAGAIN, or a new process under the next number. An error says that memory for one ran out.
-pub fn decide_join<R: Reader>(state: &R, alloc: Global) -> Result<Decided, AllocError>
+pub fn decide_join<R: WorldReader>(state: &R, alloc: Global) -> Result<Decided, AllocError>
     ensures page { IfOk result (λ d. d ≡ decided_by (join (R.world state.now))) }
     ensures needed { OnErr result (is_full (R.world state.now) ≡ false) }
 {

@@ -8,11 +8,11 @@ use call_types::limits::LINK_MAX;
 use call_types::outcome::Reply;
 use file_calls::opening::{name_fault, names_full};
 use posix_model::change::{Decided, FileEdit, TableEdit, does, refused};
-use posix_model::reader::Reader;
+use posix_model::reader::WorldReader;
 use std::alloc::AllocError;
 
 /// The first refusal of the file that the old name leads to, and of the new name: ENOENT, EEXIST, EMLINK or ENOSPC.
-fn linked_fault<R: Reader>(state: &R, new: &[u8], found: Option<usize>) -> Option<Errno>
+fn linked_fault<R: WorldReader>(state: &R, new: &[u8], found: Option<usize>) -> Option<Errno>
     ensures { result ≡ first_fault (linked_faults (R.world state.now) new.now found) }
 {
     if found.is_none() {
@@ -31,7 +31,12 @@ fn linked_fault<R: Reader>(state: &R, new: &[u8], found: Option<usize>) -> Optio
 }
 
 /// The first refusal of a link of an old name that leads to `found`.
-fn link_fault<R: Reader>(state: &R, old: &Name, new: &Name, found: Option<usize>) -> Option<Errno>
+fn link_fault<R: WorldReader>(
+    state: &R,
+    old: &Name,
+    new: &Name,
+    found: Option<usize>,
+) -> Option<Errno>
     ensures { result ≡ first_fault (link_at (R.world state.now) old.now new.now found).faults }
 {
     let (old, new) = (old.as_slice(), new.as_slice());
@@ -40,7 +45,7 @@ fn link_fault<R: Reader>(state: &R, old: &Name, new: &Name, found: Option<usize>
 
 /// What link comes to: the faults of the old name and of the new one, ENOENT, EEXIST, EMLINK, ENOSPC, or one more name of the
 /// file (page of link). An error says that memory for the name ran out.
-pub fn decide_link<R: Reader>(state: &R, old: &Name, new: &Name) -> Result<Decided, AllocError>
+pub fn decide_link<R: WorldReader>(state: &R, old: &Name, new: &Name) -> Result<Decided, AllocError>
     ensures page { IfOk result (λ d. d ≡ decided_by (link (R.world state.now) old.now new.now)) }
     ensures needed { OnErr result (first_fault (link (R.world state.now) old.now new.now).faults ≡ None) }
 {

@@ -7,11 +7,11 @@ use call_types::errno::Errno;
 use call_types::outcome::Reply;
 use file_calls::opening::{name_fault, names_full};
 use posix_model::change::{Decided, FileEdit, TableEdit, does, refused};
-use posix_model::reader::Reader;
+use posix_model::reader::WorldReader;
 use std::alloc::AllocError;
 
 /// The first refusal of a name that may be taken: EEXIST or ENOSPC.
-fn new_name_fault<R: Reader>(state: &R, name: &[u8]) -> Option<Errno>
+fn new_name_fault<R: WorldReader>(state: &R, name: &[u8]) -> Option<Errno>
     ensures { result ≡ first_fault (new_name_faults (R.world state.now) name.now) }
 {
     if state.file_of(name).is_some() {
@@ -24,7 +24,7 @@ fn new_name_fault<R: Reader>(state: &R, name: &[u8]) -> Option<Errno>
 }
 
 /// The first refusal of a mkfifo.
-fn mkfifo_fault<R: Reader>(state: &R, name: &[u8]) -> Option<Errno>
+fn mkfifo_fault<R: WorldReader>(state: &R, name: &[u8]) -> Option<Errno>
     ensures { result ≡ first_fault (mkfifo (R.world state.now) name.now).faults }
 {
     name_fault(name).or(new_name_fault(state, name))
@@ -32,7 +32,7 @@ fn mkfifo_fault<R: Reader>(state: &R, name: &[u8]) -> Option<Errno>
 
 /// What mkfifo comes to: a fault of the name, EEXIST, ENOSPC, or a FIFO that has this name (page of mkfifo). An error says that
 /// memory for the name ran out.
-pub fn decide_mkfifo<R: Reader>(state: &R, name: &Name) -> Result<Decided, AllocError>
+pub fn decide_mkfifo<R: WorldReader>(state: &R, name: &Name) -> Result<Decided, AllocError>
     ensures page { IfOk result (λ d. d ≡ decided_by (mkfifo (R.world state.now) name.now)) }
     ensures needed { OnErr result (first_fault (mkfifo (R.world state.now) name.now).faults ≡ None) }
 {

@@ -6,10 +6,10 @@ use call_types::errno::Errno;
 use call_types::limits::DESCRIPTIONS_MAX;
 use call_types::outcome::Reply;
 use posix_model::change::{Decided, FileEdit, TableEdit, does, refused};
-use posix_model::reader::Reader;
+use posix_model::reader::WorldReader;
 
 /// What pipe comes to: EMFILE, ENFILE, or the two ends of a new pipe, under the two lowest free descriptors (page of pipe).
-pub fn decide_pipe<R: Reader>(state: &R, process: usize) -> Decided
+pub fn decide_pipe<R: WorldReader>(state: &R, process: usize) -> Decided
     ensures { result ≡ decided_by (pipe (R.world state.now) process) }
 {
     let (reading, writing) = match state.two_lowest_free(process) {

@@ -7,11 +7,11 @@ use call_types::errno::Errno;
 use call_types::outcome::Reply;
 use file_calls::opening::name_fault;
 use posix_model::change::{Decided, FileEdit, TableEdit, does, refused};
-use posix_model::reader::Reader;
+use posix_model::reader::WorldReader;
 use std::alloc::AllocError;
 
 /// The first refusal of an unlink: of the name, or ENOENT.
-fn unlink_fault<R: Reader>(state: &R, name: &[u8]) -> Option<Errno>
+fn unlink_fault<R: WorldReader>(state: &R, name: &[u8]) -> Option<Errno>
     ensures { result ≡ first_fault (unlink_faults (R.world state.now) name.now) }
 {
     let missing = match state.file_of(name) {
@@ -23,7 +23,7 @@ fn unlink_fault<R: Reader>(state: &R, name: &[u8]) -> Option<Errno>
 
 /// What unlink comes to: a fault of the name, ENOENT, or one name less (page of unlink). An error says that memory for the name
 /// ran out.
-pub fn decide_unlink<R: Reader>(state: &R, name: &Name) -> Result<Decided, AllocError>
+pub fn decide_unlink<R: WorldReader>(state: &R, name: &Name) -> Result<Decided, AllocError>
     ensures page { IfOk result (λ d. d ≡ decided_by (unlink (R.world state.now) name.now)) }
     ensures needed { OnErr result (first_fault (unlink_faults (R.world state.now) name.now) ≡ None) }
 {

@@ -6,7 +6,7 @@ use call_types::errno::Errno;
 use call_types::flags::OpenFlags;
 use call_types::limits::Limits;
 use call_types::outcome::{Outcome, Reply};
-use call_types::part::Part;
+use call_types::span::Span;
 use plain_world::history::empty_world;
 use plain_world::step::{StepFault, plain_step, step_in_place};
 use posix_model::world::World;
@@ -29,9 +29,9 @@ fn error(outcome: &Outcome) -> Option<Errno> {
 
 fn data(outcome: &Outcome) -> Option<&[u8]> {
     match outcome {
-        Outcome::Reply(Reply::Data(content)) => match content.part() {
-            Part::Slice(bytes) => Some(bytes),
-            Part::Same { .. } => None,
+        Outcome::Reply(Reply::Data(content)) => match content.span() {
+            Span::Slice(bytes) => Some(bytes),
+            Span::Same { .. } => None,
         },
         _ => None,
     }

@@ -6,4 +6,4 @@ abbrev pub decreases-loop-stop : goal.decreases-loop-stop
 decreases-loop-stop g l = length l.bytes - l.used
 
 abbrev pub invariant-loop-stop : goal.invariant-loop-stop
-invariant-loop-stop g l = ReadSoFar g.K.Kind.spells g.K.Kind.most l.bytes l.fn.values.items l.values.items l.used
+invariant-loop-stop g l = ReadSoFar g.K.FrameKind.spells g.K.FrameKind.most l.bytes l.fn.values.items l.values.items l.used

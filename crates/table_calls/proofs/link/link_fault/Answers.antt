@@ -6,6 +6,6 @@ use Rattle.table_calls.proofs.link.link_fault.Goals as goal
 
 pub returns : goal.returns
 returns g c =
-    let later = linked_faults (g.R.Reader.world c.args.state.now) c.args.new.now c.args.found in
+    let later = linked_faults (g.R.WorldReader.world c.args.state.now) c.args.new.now c.args.found in
     let new = name_faults c.args.new.now in
     rw (first_of_both (name_faults c.args.old.now) (new ++ later), first_of_both new later) (search rules)

@@ -7,4 +7,4 @@ use Rattle.table_calls.proofs.mkfifo.mkfifo_fault.Goals as goal
 pub returns : goal.returns
 returns g c =
     let name = c.args.name.now in
-    rw (first_of_both (name_faults name) (new_name_faults (g.R.Reader.world c.args.state.now) name)) (search rules)
+    rw (first_of_both (name_faults name) (new_name_faults (g.R.WorldReader.world c.args.state.now) name)) (search rules)

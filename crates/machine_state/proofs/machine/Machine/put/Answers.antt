@@ -1,5 +1,5 @@
 use Rattle.std.proofs.Common.{sym, ap, ◌∙◌, length, take, length-take-le, arith}
-use Rattle.call_types.specs.Stored.{part_bytes}
+use Rattle.call_types.specs.Stored.{span_bytes}
 use Rattle.posix_model.specs.Change.{after_those, rest_of}
 use Rattle.process_table.specs.Processes.{parked_of}
 use Rattle.slots.specs.Slots.{slot}
@@ -16,10 +16,10 @@ put-requires-clause-room c =
     let there = rw (← c.self.view_is) at c.requires.there in
     let holds = rw (← c.self.view_is) at c.requires.holds in
     let given = rw c.in-Act.is at c.requires.given in
-    omega (arith, ap length c.cut.ensures, length-take-le c.args.count (part_bytes c.args.bytes), fits_ring (stored_in c.self.inside) c.self.invariant c.args.pipe c.args.count there holds)
+    omega (arith, ap length c.cut.ensures, length-take-le c.args.count (span_bytes c.args.bytes), fits_ring (stored_in c.self.inside) c.self.invariant c.args.pipe c.args.count there holds)
 
 pub invariant_of-self : goal.invariant_of-self
-invariant_of-self c = rw (c.put.ensures.slots, c.cut.ensures) (after_written (stored_in c.self.inside) c.self.invariant c.args.pipe (after_those (take c.args.count (part_bytes c.args.bytes))))
+invariant_of-self c = rw (c.put.ensures.slots, c.cut.ensures) (after_written (stored_in c.self.inside) c.self.invariant c.args.pipe (after_those (take c.args.count (span_bytes c.args.bytes))))
 
 pub put_parked-requires-clause-there : goal.put_parked-requires-clause-there
 put_parked-requires-clause-there c = sym (pipes_there c.self.inside.pipes.0 c.args.pipe) ∙ (rw (← c.self.view_is) at c.requires.there)
@@ -37,7 +37,7 @@ invariant_of-self-in-Parked c =
 
 pub returns-in-Act-clause-world : goal.returns-in-Act-clause-world
 returns-in-Act-clause-world c =
-    rw (← c.self.view_is, c.put.ensures.slots, c.cut.ensures, c.in-Act.is) (written_world (stored_in c.self.inside) c.self.invariant c.args.pipe (after_those (take c.args.count (part_bytes c.args.bytes))))
+    rw (← c.self.view_is, c.put.ensures.slots, c.cut.ensures, c.in-Act.is) (written_world (stored_in c.self.inside) c.self.invariant c.args.pipe (after_those (take c.args.count (span_bytes c.args.bytes))))
 
 pub returns-in-Parked-clause-world : goal.returns-in-Parked-clause-world
 returns-in-Parked-clause-world c =

@@ -4,7 +4,7 @@ use Rattle.frame_codec.specs.ReadingAnswers.{answer_at}
 use Rattle.frame_codec.proofs.Steps.{are_bytes}
 use Rattle.frame_codec.proofs.AnswerReads.{answer_reads}
 use Rattle.frame_codec.proofs.KindLaws.{gives_value}
-use Rattle.frame_codec.proofs.kind.AnswersKind.value.Goals as goal
+use Rattle.frame_codec.proofs.frame_kind.AnswersFrameKind.value.Goals as goal
 
 pub returns : goal.returns
 returns c =

@@ -1,7 +1,7 @@
 -- So many bytes were written so far.
 use Rattle.std.proofs.Common.{◌≡◌, length, ◌-◌}
 use Rattle.session_core.specs.Streams.{WritesFront}
-use Rattle.session_core.proofs.stream.Sink.write_all.Given as goal
+use Rattle.session_core.proofs.stream.LoggedWriter.write_all.Given as goal
 
 abbrev pub invariant-loop-written : goal.invariant-loop-written
 invariant-loop-written g l = record {

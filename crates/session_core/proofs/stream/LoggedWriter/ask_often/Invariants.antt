@@ -1,6 +1,6 @@
 -- Each refusal is counted, and nothing is written.
 use Rattle.std.proofs.Common.{◌≡◌, ◌-◌, true}
-use Rattle.session_core.proofs.stream.Sink.ask_often.Given as goal
+use Rattle.session_core.proofs.stream.LoggedWriter.ask_often.Given as goal
 
 abbrev pub invariant-loop-self : goal.invariant-loop-self
 invariant-loop-self g l = record {

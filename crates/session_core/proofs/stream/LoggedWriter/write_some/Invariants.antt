@@ -1,7 +1,7 @@
 -- An interrupted write takes nothing, and is counted.
 use Rattle.std.proofs.Common.{◌≡◌, ◌-◌}
 use Rattle.std.specs.Io.KnownBytes.{Keeps}
-use Rattle.session_core.proofs.stream.Sink.write_some.Given as goal
+use Rattle.session_core.proofs.stream.LoggedWriter.write_some.Given as goal
 
 abbrev pub invariant-loop-self : goal.invariant-loop-self
 invariant-loop-self g l = record {

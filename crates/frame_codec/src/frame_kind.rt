@@ -17,7 +17,7 @@ use std::alloc::Global;
 pub const REQUEST_LENGTH_MAX: usize = 65_792;
 
 /// What the payloads of a stream spell, and how long they may be.
-pub trait Kind {
+pub trait FrameKind {
     ghost use Rattle.std.specs.Prelude.{ℕ, List};
 
     /// What a payload spells.
@@ -39,7 +39,7 @@ pub trait Kind {
 /// The requests that clients send.
 pub struct Requests;
 
-impl Kind for Requests {
+impl FrameKind for Requests {
     ghost use Rattle.frame_codec.specs.Requests.{SpellsRequest};
 
     type Value = Request;
@@ -60,7 +60,7 @@ impl Kind for Requests {
 /// The answers that clients are sent.
 pub struct Answers;
 
-impl Kind for Answers {
+impl FrameKind for Answers {
     ghost use Rattle.frame_codec.specs.Answers.{SpellsAnswer};
 
     type Value = Answer;
@@ -81,7 +81,7 @@ impl Kind for Answers {
 /// The records of a run, as a trace has them.
 pub struct Records;
 
-impl Kind for Records {
+impl FrameKind for Records {
     ghost use Rattle.frame_codec.specs.Records.{SpellsRecord};
 
     type Value = Record;

@@ -1,6 +1,6 @@
 use Rattle.std.proofs.Common.{◌∙◌}
 use Rattle.session_core.proofs.OutputLemmas.{wrote_some}
-use Rattle.session_core.proofs.stream.Sink.write_all.Goals as goal
+use Rattle.session_core.proofs.stream.LoggedWriter.write_all.Goals as goal
 
 pub loop-written-preserved : goal.loop-written-preserved
 loop-written-preserved g c = record {

@@ -8,7 +8,7 @@ use std::fmt;
 
 /// How a replay ended.
 #[derive(Clone, Copy, Debug, PartialEq, Eq)]
-pub enum Ended {
+pub enum JobEnd {
     /// The script was run, and all its lines were written.
     Done,
     /// A line of the script is no act; line and column are counted from 1. Nothing was written.
@@ -31,22 +31,22 @@ pub enum Ended {
     Disagree { place: u64 },
 }
 
-impl Ended {
+impl JobEnd {
     /// The exit status of the program.
     pub fn status(self) -> u8
         ensures { result ≡ ended_status self }
     {
         match self {
-            Ended::Done => 0,
-            Ended::BadLine { .. } | Ended::TooLong => 3,
-            Ended::CannotRead | Ended::CannotWrite | Ended::CannotListen => 4,
-            Ended::NoMemory | Ended::NoThread => 5,
-            Ended::MissingShare | Ended::Disagree { .. } => 6,
+            JobEnd::Done => 0,
+            JobEnd::BadLine { .. } | JobEnd::TooLong => 3,
+            JobEnd::CannotRead | JobEnd::CannotWrite | JobEnd::CannotListen => 4,
+            JobEnd::NoMemory | JobEnd::NoThread => 5,
+            JobEnd::MissingShare | JobEnd::Disagree { .. } => 6,
         }
     }
 }
 
-impl fmt::Display for Ended {
+impl fmt::Display for JobEnd {
     ghost use Rattle.std.specs.Prelude.{Some};
     ghost use Rattle.fdref.specs.Replay.{ended_text};
 
@@ -54,44 +54,44 @@ impl fmt::Display for Ended {
 
     fn fmt<W: fmt::Write>(&self, f: &mut fmt::Formatter<W>) -> fmt::Result {
         match self {
-            Ended::Done => Ok(()),
-            Ended::BadLine { line, column } => {
+            JobEnd::Done => Ok(()),
+            JobEnd::BadLine { line, column } => {
                 write!(f, "line {line} column {column}: not an act\n")
             }
-            Ended::TooLong => f.write_str("script too long\n"),
-            Ended::CannotRead => f.write_str("cannot read\n"),
-            Ended::CannotWrite => f.write_str("cannot write\n"),
-            Ended::NoMemory => f.write_str("no memory\n"),
-            Ended::CannotListen => f.write_str("cannot listen\n"),
-            Ended::NoThread => f.write_str("no thread\n"),
-            Ended::MissingShare => f.write_str("missing share\n"),
-            Ended::Disagree { place } => write!(f, "disagree at {place}\n"),
+            JobEnd::TooLong => f.write_str("script too long\n"),
+            JobEnd::CannotRead => f.write_str("cannot read\n"),
+            JobEnd::CannotWrite => f.write_str("cannot write\n"),
+            JobEnd::NoMemory => f.write_str("no memory\n"),
+            JobEnd::CannotListen => f.write_str("cannot listen\n"),
+            JobEnd::NoThread => f.write_str("no thread\n"),
+            JobEnd::MissingShare => f.write_str("missing share\n"),
+            JobEnd::Disagree { place } => write!(f, "disagree at {place}\n"),
         }
     }
 }
 
-impl From<AllocError> for Ended {
+impl From<AllocError> for JobEnd {
     ghost use Rattle.std.specs.Prelude.{◌≡◌};
-    ghost use Rattle.fdref.specs.declared.ended.Ended.TheVariants.{NoMemory};
+    ghost use Rattle.fdref.specs.declared.job_end.JobEnd.TheVariants.{NoMemory};
 
     ghost from_gives = { λ _ ended. ended ≡ NoMemory };
 
-    fn from(_error: AllocError) -> Ended {
-        Ended::NoMemory
+    fn from(_error: AllocError) -> JobEnd {
+        JobEnd::NoMemory
     }
 }
 
-impl From<ScriptFault> for Ended {
+impl From<ScriptFault> for JobEnd {
     ghost use Rattle.std.specs.Prelude.{◌≡◌};
     ghost use Rattle.fdref.specs.Replay.{ended_by};
 
     ghost from_gives = { λ fault ended. ended ≡ ended_by fault };
 
-    fn from(fault: ScriptFault) -> Ended {
+    fn from(fault: ScriptFault) -> JobEnd {
         match fault {
-            ScriptFault::BadLine { line, column } => Ended::BadLine { line, column },
-            ScriptFault::TooLong => Ended::TooLong,
-            ScriptFault::NoMemory => Ended::NoMemory,
+            ScriptFault::BadLine { line, column } => JobEnd::BadLine { line, column },
+            ScriptFault::TooLong => JobEnd::TooLong,
+            ScriptFault::NoMemory => JobEnd::NoMemory,
         }
     }
 }

@@ -4,7 +4,7 @@ use std::fmt;
 
 /// Why a trial has no lines.
 #[derive(Clone, Copy, Debug, PartialEq, Eq)]
-pub enum Ended {
+pub enum TrialFault {
     /// A piece was refused for want of memory, and so it was when it was given again.
     RefusedTwice,
     /// The words are none that the program takes.
@@ -17,34 +17,34 @@ pub enum Ended {
     NoMemory,
 }
 
-impl Ended {
+impl TrialFault {
     /// The exit status of the program; 1 says that the decoder is at fault.
     pub fn status(self) -> u8 {
         match self {
-            Ended::RefusedTwice => 1,
-            Ended::Usage => 2,
-            Ended::CannotRead | Ended::CannotWrite => 4,
-            Ended::NoMemory => 5,
+            TrialFault::RefusedTwice => 1,
+            TrialFault::Usage => 2,
+            TrialFault::CannotRead | TrialFault::CannotWrite => 4,
+            TrialFault::NoMemory => 5,
         }
     }
 }
 
-impl fmt::Display for Ended {
+impl fmt::Display for TrialFault {
     fn fmt<W: fmt::Write>(&self, f: &mut fmt::Formatter<W>) -> fmt::Result {
         match self {
-            Ended::RefusedTwice => f.write_str("a piece was refused twice\n"),
-            Ended::Usage => f.write_str(
+            TrialFault::RefusedTwice => f.write_str("a piece was refused twice\n"),
+            TrialFault::Usage => f.write_str(
                 "usage: frame_trial show|decode|encode requests|answers|records N M\n",
             ),
-            Ended::CannotRead => f.write_str("cannot read\n"),
-            Ended::CannotWrite => f.write_str("cannot write\n"),
-            Ended::NoMemory => f.write_str("no memory\n"),
+            TrialFault::CannotRead => f.write_str("cannot read\n"),
+            TrialFault::CannotWrite => f.write_str("cannot write\n"),
+            TrialFault::NoMemory => f.write_str("no memory\n"),
         }
     }
 }
 
-impl From<AllocError> for Ended {
-    fn from(_error: AllocError) -> Ended {
-        Ended::NoMemory
+impl From<AllocError> for TrialFault {
+    fn from(_error: AllocError) -> TrialFault {
+        TrialFault::NoMemory
     }
 }

@@ -4,7 +4,7 @@ use Rattle.frame_codec.specs.ReadingRecords.{record_at}
 use Rattle.frame_codec.proofs.Steps.{are_bytes}
 use Rattle.frame_codec.proofs.RecordReads.{record_reads}
 use Rattle.frame_codec.proofs.KindLaws.{gives_value}
-use Rattle.frame_codec.proofs.kind.RecordsKind.value.Goals as goal
+use Rattle.frame_codec.proofs.frame_kind.RecordsFrameKind.value.Goals as goal
 
 pub returns : goal.returns
 returns c =

@@ -4,7 +4,7 @@ use Rattle.frame_codec.specs.ReadingRequests.{request_at}
 use Rattle.frame_codec.proofs.Steps.{are_bytes}
 use Rattle.frame_codec.proofs.RequestReads.{request_reads}
 use Rattle.frame_codec.proofs.KindLaws.{gives_value}
-use Rattle.frame_codec.proofs.kind.RequestsKind.value.Goals as goal
+use Rattle.frame_codec.proofs.frame_kind.RequestsFrameKind.value.Goals as goal
 
 pub returns : goal.returns
 returns c =
