@@ -30,8 +30,8 @@ pub fn read_values_are_spelled()
     ensures records { (r : Record) (payload : List ℕ) → AreBytes payload → payload_at record_at payload ≡ Some r → SpellsRecord r payload }
 {}
 
-/// A decoder takes the frame of each record in range of which the act is a read, if the outcome is data. The frame of a long write with
-/// an outcome of long data would be too long.
+/// A decoder takes the frame of each record in range, if no act but a read, or a resume, is answered with data. The frame of a long
+/// write that is answered with long data would be too long.
 pub fn records_have_frames()
     ensures { (r : Record) → RecordFits r → DataIsRead r.act r.outcome → IsFrame SpellsRecord 66048 r (frame (record_bytes r)) }
 {}
