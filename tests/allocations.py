@@ -1,5 +1,5 @@
 #!/usr/bin/env python3
-"""Does the program stay right where any of its allocations is refused? (10 minutes)
+"""Does the program stay right where any of its allocations is refused? (a minute)
 
 usage: tests/allocations.py [--program PATH] [--trial PATH] [--stride N]
 

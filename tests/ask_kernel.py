@@ -1,5 +1,5 @@
 #!/usr/bin/env python3
-"""Does the kernel of this system do what fdref says, but for reasons that are known? (5 minutes)
+"""Does the kernel of this system do what fdref says, but for reasons that are known? (a minute)
 
 usage: tests/ask_kernel.py [--program PATH] [--scripts N]
 

@@ -1,5 +1,5 @@
 #!/usr/bin/env python3
-"""Are streams of frames decoded and encoded as docs/FORMATS.md says, wherever they are cut? (2 minutes)
+"""Are streams of frames decoded and encoded as docs/FORMATS.md says, wherever they are cut? (a minute)
 
 usage: tests/frames.py [--trial PATH] [--seed WORD] [--streams N]
 

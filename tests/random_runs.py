@@ -1,5 +1,5 @@
 #!/usr/bin/env python3
-"""Does the program print what a plain model prints, on random scripts? (2 minutes for 4,000)
+"""Does the program print what a plain model prints, on random scripts? (a minute)
 
 usage: tests/random_runs.py [--seed S] [--scripts N] [--program PATH] [--jobs J]
 

@@ -1,5 +1,5 @@
 #!/usr/bin/env python3
-"""Does the live server answer its clients rightly, many at once and hostile ones? (2 minutes)
+"""Does the live server answer its clients rightly, many at once and hostile ones? (a minute)
 
 usage: tests/serve.py [--program PATH] [--seed WORD] [--runs N] [--crowds N] [--calls N] [--only WORD]
 

@@ -1,5 +1,5 @@
 #!/usr/bin/env python3
-"""Are sessions served as a plain model serves them, whatever fails on the way? (5 minutes)
+"""Are sessions served as a plain model serves them, whatever fails on the way? (a minute)
 
 usage: tests/sessions.py [--trial PATH] [--seed WORD] [--sessions N]
 
