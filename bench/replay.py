@@ -497,7 +497,7 @@ def main() -> None:
     given = parser.parse_args()
     program = given.program
     if not os.access(program, os.X_OK):
-        sys.exit(f"{program} is not there: ./fdref --version builds it")
+        sys.exit(f"{program} is not there: './fdref build' makes it")
     with tempfile.TemporaryDirectory() as folder:
         table(program, given.runs, folder)
 

@@ -35,6 +35,7 @@ from support.frames import (
     CALLS,
     COUNT,
     DATA,
+    ERRORS,
     FD,
     FLAGS,
     HOUSE,
@@ -149,7 +150,7 @@ def outcome_payload(pick: random.Random, byte: int) -> bytes:
         5: lambda: (
             bytes([pick.randrange(3)]) + u64(pick.choice([0, 1_048_576, 2**64 - 1])) + u32(pick.choice(COUNTS))
         ),
-        6: lambda: bytes([pick.randint(1, 16)]),
+        6: lambda: bytes([pick.randint(1, len(ERRORS))]),
         7: lambda: u32(pick.choice(COUNTS)),
         8: lambda: u32(pick.choice(COUNTS)),
     }
@@ -182,7 +183,8 @@ def every_request(pick: random.Random) -> bytes:
 
 def every_answer(pick: random.Random) -> bytes:
     """An answer of each kind."""
-    outcomes = [outcome_payload(pick, byte) for byte in range(1, 9)] + [bytes([6, number]) for number in range(1, 17)]
+    errors = [bytes([6, number]) for number in range(1, len(ERRORS) + 1)]
+    outcomes = [outcome_payload(pick, byte) for byte in range(1, 9)] + errors
     refusals = [bytes([2, byte]) + (u64(3) + u64(2) if byte == 21 else b"") for byte in REFUSALS]
     return framed(*(b"\x01" + u64(number) + text for number, text in enumerate(outcomes)), *refusals)
 
@@ -213,9 +215,9 @@ WRITTEN_OUT = [
     ("a base that is none", "requests", "0000000e1600000000000000000000000003", ["malformed 0"]),
     ("a fault after a join", "requests", "00000001010000000103", ["join", "malformed 5"]),
     ("what a fault follows is not read", "requests", "000000000000000101", ["malformed 0"]),
-    ("an error that is none", "answers", "0000000b0100000000000000000611", ["malformed 0"]),
+    ("an error that is none", "answers", "0000000b01000000000000000006ff", ["malformed 0"]),
     ("error 0", "answers", "0000000b0100000000000000000600", ["malformed 0"]),
-    ("a refusal that is none", "answers", "000000020216", ["malformed 0"]),
+    ("a refusal that is none", "answers", "0000000202ff", ["malformed 0"]),
     (
         "what fstat tells",
         "answers",

@@ -34,7 +34,7 @@ def is_missing(path: str, what: str = "program") -> bool:
     """Whether a program is not there, which is told."""
     if os.path.exists(path):
         return False
-    advice = ": ./fdref build makes it" if what == "program" else ""
+    advice = ": './fdref build' makes it" if what == "program" else ""
     print(f"no {what} at {path}{advice}")
     return True
 

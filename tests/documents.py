@@ -1,0 +1,141 @@
+#!/usr/bin/env python3
+"""Are the documents short, do their links lead somewhere, and is there what they name? (a few seconds)
+
+usage: tests/documents.py
+
+README has few lines and words, no line of a Markdown file is too long, and all together are short enough. Each link
+leads to a file, and to a heading of it where it names one. Each path in backquotes is there, and each name in
+backquotes stands somewhere in the sources. The last line is `N passed, M failed`.
+"""
+
+import re
+import sys
+from collections.abc import Iterator
+from functools import partial
+from pathlib import Path
+
+from support.counting import Count, require
+from support.places import TOP
+
+README = TOP / "README.md"
+README_LINES, README_WIDTH, README_WORDS = 100, 100, 700
+WIDTH = 120
+WORDS = 25_000
+
+# Where names have to stand that a document has in backquotes, and the endings of such files.
+SOURCES = ("crates", "tests", "tools", "clients", "bench", "examples", ".ci")
+ENDINGS = {".rt", ".antt", ".py", ".c", ".edit", ".script", ""}
+
+# Names that a document may have though no source has them: of an example, of scripts, of other programs and crates, of
+# the prover.
+FREE = re.compile(
+    r"\w*dupfd\w*|lowest_from|Dupfd\.antt|fcntl|pN|x[0-9a-f]+|cat|diff|slab|smallvec|Lts|Proof|Rattle\.core",
+    re.IGNORECASE,
+)
+NAME = re.compile(r"[A-Za-z_][\w]*(?:(?:::|\.)[A-Za-z_]\w*)*(?:\(\))?")
+PATH = re.compile(r"(?:crates|tests|tools|clients|bench|docs|examples|\.ci)/[\w./-]+")
+
+
+def pages() -> list[str]:
+    """All Markdown files, by their paths from the top folder."""
+    return sorted(str(file.relative_to(TOP)) for file in [README, *(TOP / "docs").rglob("*.md")])
+
+
+def text_of(page: str) -> str:
+    """What stands in a page."""
+    return (TOP / page).read_text()
+
+
+def is_narrow(page: str, width: int) -> None:
+    """Fails at the first line of a page that has too many characters."""
+    for number, line in enumerate(text_of(page).splitlines(), 1):
+        require(len(line) <= width, f"line {number} has {len(line)} characters")
+
+
+def is_at_most(most: int, count: int) -> None:
+    """Fails unless there are at most so many."""
+    require(count <= most, f"{count}, and at most {most} are wanted")
+
+
+def words(page: str) -> int:
+    """How many words a page has."""
+    return len(text_of(page).split())
+
+
+def headings(page: str) -> set[str]:
+    """The anchors of a page's headings."""
+    titles = re.findall(r"^#+ (.*)$", text_of(page), re.MULTILINE)
+    return {re.sub(r"[^\w\- ]", "", title.lower()).replace(" ", "-") for title in titles}
+
+
+def links(page: str) -> Iterator[str]:
+    """Where the links of a page lead, but for those out of the tree."""
+    yield from (link for link in re.findall(r"\]\(([^)\s]+)\)", text_of(page)) if "://" not in link)
+
+
+def leads_somewhere(page: str, link: str) -> None:
+    """Fails unless a link leads to a file of the tree and, where it names one, to a heading of it."""
+    path, _, anchor = link.partition("#")
+    file = ((TOP / page).parent / path).resolve() if path else TOP / page
+    require(file.exists(), f"{link} leads nowhere")
+    if anchor:
+        require(anchor in headings(str(file.relative_to(TOP))), f"{link} names no heading")
+
+
+def quoted(page: str) -> Iterator[str]:
+    """What a page has in backquotes, but for its blocks of code."""
+    outside = re.sub(r"^```.*?^```", "", text_of(page), flags=re.MULTILINE | re.DOTALL)
+    yield from re.findall(r"`([^`\n]+)`", outside)
+
+
+def sources() -> set[str]:
+    """All words of the sources, and the names of all files."""
+    found: set[str] = set()
+    for folder in SOURCES:
+        for file in (TOP / folder).rglob("*"):
+            if "out" in file.parts or not file.is_file():
+                continue
+            found.update((file.name, file.stem, *Path(file.relative_to(TOP)).parts))
+            if file.suffix in ENDINGS:
+                found.update(re.findall(r"\w+", file.read_text(errors="replace")))
+    return found
+
+
+def is_named(name: str, known: set[str]) -> None:
+    """Fails unless each part of a name stands in the sources, or the whole of it is a file."""
+    parts = re.findall(r"\w+", name)
+    require(name in known or all(part in known for part in parts), f"nothing is called {name}")
+
+
+def is_there(path: str) -> None:
+    """Fails unless a path leads to something; a part in capitals or a star stands for any."""
+    if re.search(r"/[A-Z]+(/|$)|\*", path):
+        return
+    require((TOP / path.rstrip("/.")).exists() or bool(re.search(r"(^|/)out(/|$)", path)), f"there is no {path}")
+
+
+def check_names(count: Count, page: str, known: set[str]) -> None:
+    """Looks for what a page names in backquotes."""
+    for name in sorted(set(quoted(page))):
+        if PATH.fullmatch(name):
+            count.check(page, partial(is_there, name))
+        elif NAME.fullmatch(name) and not FREE.fullmatch(name):
+            count.check(page, partial(is_named, name, known))
+
+
+def main() -> int:
+    count = Count()
+    count.check("lines of README", partial(is_at_most, README_LINES, len(README.read_text().splitlines())))
+    count.check("words of README", partial(is_at_most, README_WORDS, words("README.md")))
+    count.check("words of README and docs", partial(is_at_most, WORDS, sum(map(words, pages()))))
+    known = sources()
+    for page in pages():
+        count.check(f"width of {page}", partial(is_narrow, page, README_WIDTH if page == "README.md" else WIDTH))
+        for link in links(page):
+            count.check(page, partial(leads_somewhere, page, link))
+        check_names(count, page, known)
+    return count.end()
+
+
+if __name__ == "__main__":
+    sys.exit(main())
