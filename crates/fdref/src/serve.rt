@@ -14,13 +14,13 @@ use run_core::source::Source;
 use script_text::lines::write_totals;
 use session_core::gate::OpenGate;
 use std::alloc::{AllocError, Global};
-use std::io::Write;
+use std::io::{Read, Write};
 use std::marker::Brand;
 use std::sync::Wait;
 use std::thread::Threads;
 
 /// The line of a report.
-fn line_of<R, V>(alloc: Global, report: &Report<R, V>) -> Result<Vec<u8>, AllocError>
+fn line_of<R: Read, V: Write>(alloc: Global, report: &Report<R, V>) -> Result<Vec<u8>, AllocError>
     ensures { IfOk result (λ line. line.items ≡ report_line (vec_len report.now.ends) report.now.records report.now.bytes_in report.now.bytes_out) }
 {
     let sessions = report.ends.len();

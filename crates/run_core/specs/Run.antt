@@ -15,7 +15,10 @@ use Rattle.byte_ledger.specs.declared.tallies.GatherFault.{GatherFault}
 use Rattle.byte_ledger.specs.declared.tallies.GatherFault.TheVariants as gathered
 use Rattle.run_core.specs.declared.closing.CloseFault.{CloseFault}
 use Rattle.run_core.specs.declared.closing.CloseFault.TheVariants as fault
+use Rattle.session_core.specs.declared.end.End.{End}
+use Rattle.session_core.specs.declared.told.Told.{Told}
 use Rattle.session_core.specs.Served.{SessionState, Serves}
+use Rattle.session_core.specs.Streams.{LogState}
 use Rattle.run_core.specs.declared.report.RunFault.{RunFault}
 use Rattle.run_core.specs.declared.report.RunFault.TheVariants as run_fault
 use Rattle.run_core.specs.declared.report.Shortage.{Shortage}
@@ -29,15 +32,29 @@ held_in s = record { pid = s.pid; receipts = s.receipts }
 abbrev pub IsOf : Option SeatState → Option Held → Type 0
 IsOf seat process = process ≡ option_map held_in seat
 
--- a session kept what is promised of one, under a gate that always says yes or under any, whatever its reader gave and its writer held before
+-- a session was served, under a gate that always says yes or under any other, whatever its reader had and its writer held at its start
 abbrev pub IsServed : Bool → SessionState → Type 0
 IsServed always s = (from base : Option (List ℕ)) × Serves always from base s
 
--- the same, of a session of which its process is left in place of its seat
-abbrev pub IsServedBy : Bool → (Option SeatState → SessionState) → Option Held → Type 0
-IsServedBy always session process = (seat : Option SeatState) × IsOf seat process × IsServed always (session seat)
+-- a session of a report: a session that is over, with its process in place of its seat
+pub record ReportedSession : Type 0 where
+  pub remaining : Option (List ℕ)
+  pub reads : LogState
+  pub contents : Option (List ℕ)
+  pub writes : LogState
+  pub process : Option Held
+  pub answers : List Told
+  pub end_is : End
 
--- how many times a source has failed, where this is what a run was short of: once more where it gave no connection
+-- the same session with this seat in place of its process
+abbrev pub with_seat : Option SeatState → ReportedSession → SessionState
+with_seat seat s = record { remaining = s.remaining; reads = s.reads; contents = s.contents; writes = s.writes; seat = seat; answers = s.answers; end_is = s.end_is }
+
+-- a session of a report was served with some seat, and its process is that of this seat
+abbrev pub IsServedBy : Bool → ReportedSession → Type 0
+IsServedBy always s = (seat : Option SeatState) × IsOf seat s.process × IsServed always (with_seat seat s)
+
+-- how many times a source has failed by the end of a run that was short of this: once more where it gave no connection
 abbrev pub failures_after : ℕ → Option Shortage → ℕ
 failures_after before (Some shortage.NoConnection) = before + 1
 failures_after before other = before
@@ -52,7 +69,7 @@ pub record IsClosedRun (limits : Limits) (records taken given : ℕ) : Type 0 wh
   pub taken_is : taken ≡ bytes_in book.limits.bounds book.history
   pub given_is : given ≡ bytes_out book.limits.bounds book.history
 
--- so much is counted by these shares, of which as many are there as the book has given out
+-- these shares count so much, and they are as many as the book has given out
 pub record IsGathered (b : BookState) (shares : List Counted) (records taken given : ℕ) : Type 0 where
   pub whole : length shares ≡ seats_given b
   pub records_are : records ≡ sum (map (λ s. s.records) shares)
@@ -72,7 +89,7 @@ pub record AreAllWithHouse (h : List Record) (held : List Held) : Type 0 where
 abbrev pub IsLeast : List Record → List Held → ℕ → Type 0
 IsLeast h held place = (IsSound h held place → ⊥) × ((p : ℕ) → p < place → IsSound h held p)
 
--- the sums of a legal run within these limits that is closed, gathered from all shares, of which each record stands in one receipt of
+-- the sums of a legal run within these limits that is closed, gathered from all shares; each of its records stands in one receipt of
 -- these holders or of the house
 pub record IsRunOf (limits : Limits) (records taken given : ℕ) (held : List Held) : Type 0 where
   pub run : IsClosedRun limits records taken given
@@ -86,7 +103,7 @@ abbrev pub close_fault_of : GatherFault → CloseFault
 close_fault_of gathered.NoMemory = fault.NoMemory
 close_fault_of (gathered.Missing missing) = fault.Missing missing
 
--- what it is for a run of sessions
+-- what a fault of gathering is for a run of sessions
 abbrev pub run_fault_of : GatherFault → RunFault
 run_fault_of gathered.NoMemory = run_fault.NoMemory
 run_fault_of (gathered.Missing missing) = run_fault.Missing

@@ -10,6 +10,7 @@ use session_core::end::End;
 use session_core::stream::StreamLog;
 use session_core::told::Told;
 use std::alloc::AllocError;
+use std::io::{Read, Write};
 use std::marker::Model;
 use thiserror::Error;
 
@@ -45,10 +46,10 @@ impl Process {
     }
 }
 
-/// A session that is over, and whose shares are gathered.
+/// A session that is over, without its seat. Contracts see it as a `ReportedSession`.
 #[derive(Drop)]
-pub struct Session<R, W> {
-    /// Its process, if it opened one or was refused one in the record.
+pub struct Session<R: Read, W: Write> {
+    /// Its process, if it opened one, or was refused one in the record.
     pub process: Option<Process>,
     /// What it told its client, in order.
     pub answers: Vec<Told>,
@@ -61,7 +62,15 @@ pub struct Session<R, W> {
     pub writes: StreamLog,
 }
 
-impl<R, W> HasReceipts for Session<R, W> {
+impl<R: Read, W: Write> Model for Session<R, W> {
+    ghost use Rattle.run_core.specs.Run.{ReportedSession};
+
+    ghost Value = { ReportedSession };
+
+    ghost view = { λ s. record { remaining = R.remaining s.reader; reads = s.reads; contents = W.contents s.writer; writes = s.writes; process = s.process; answers = s.answers.items; end_is = s.end } };
+}
+
+impl<R: Read, W: Write> HasReceipts for Session<R, W> {
     ghost held = { λ s. held_by s.process };
 
     fn pid(&self) -> u32 {
@@ -81,10 +90,10 @@ impl<R, W> HasReceipts for Session<R, W> {
 
 /// A run that is over: all its sessions have ended, and it is closed.
 #[derive(Drop)]
-pub struct Report<R, W> {
-    /// How many records there are, gathered from the seats of all sessions and of the house.
+pub struct Report<R: Read, W: Write> {
+    /// How many records there are, summed over the seats of all sessions and of the house.
     pub records: u64,
-    /// How many bytes were written, and how many were read, by the calls of all processes, gathered in the same way.
+    /// How many bytes the calls of all processes wrote, and how many they read, summed in the same way.
     pub bytes_in: u64,
     pub bytes_out: u64,
     /// The sessions that were started, in the order in which they were accepted.

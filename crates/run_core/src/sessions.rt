@@ -49,7 +49,7 @@ pub(crate) struct Serving<R: Read, W: Write, G: Gate> {
 impl<R: Read, W: Write, G: Gate, L: Ledgers> Promise<Served<R, W, L>> for Serving<R, W, G> {
     ghost use Rattle.session_core.specs.Served.{Serves};
 
-    ghost kept_by = { λ p served. Serves G.is_open (R.remaining p.reader.value) (W.contents p.writer.value) (record { left = R.remaining served.reader; reads = served.reads; held = W.contents served.writer; writes = served.writes; seat = served.seat; answers = served.answers.items; end_is = served.end }) };
+    ghost kept_by = { λ p served. Serves G.is_open (R.remaining p.reader.value) (W.contents p.writer.value) served };
 }
 
 impl<R: Read, W: Write, G: Gate> Serving<R, W, G> {
@@ -79,7 +79,7 @@ fn serve_connection<Rt: Wait, S: Source, G: Gate, L: Ledgers>(
     writer: S::Writer,
     session: u64,
 ) -> Served<S::Reader, S::Writer, L>
-    ensures { Serves G.is_open (S.Reader.Read.remaining reader) (S.Writer.Write.contents writer) (record { left = S.Reader.Read.remaining result.reader; reads = result.reads; held = S.Writer.Write.contents result.writer; writes = result.writes; seat = result.seat; answers = result.answers.items; end_is = result.end }) }
+    ensures { Serves G.is_open (S.Reader.Read.remaining reader) (S.Writer.Write.contents writer) result }
 {
     let served = serve(rt, alloc, reader, writer, lock, session, gate);
     S::hang_up(&served.reader, &served.writer);
@@ -140,14 +140,14 @@ fn next_session<
     }
 }
 
-/// The sessions that were started, and why there are no more, if there are fewer than there were to be.
+/// The sessions that were started, and why there are fewer than there were to be, if there are.
 #[derive(Drop)]
 struct Started<R: Read, W: Write, G: Gate, L: Ledgers> {
     running: Vec<Running<R, W, G, L>>,
     shortage: Option<Shortage>,
 }
 
-/// Accepts so many connections, for which there is room, and serves each in a thread of its own.
+/// Accepts so many connections, and serves each in a thread of its own. There is room for them.
 fn start_all<
     Rt: Threads + Wait + Copy + Send + 'static,
     S: Source + Send + 'static,
@@ -188,17 +188,17 @@ fn start_all<
 
 /// The sessions of a run that is over, and the shares of their seats.
 #[derive(Drop)]
-struct Parted<R, W, L: Ledgers> {
+struct Parted<R: Read, W: Write, L: Ledgers> {
     sessions: Vec<Session<R, W>>,
     shares: Vec<Shares<L>>,
 }
 
-/// A session under this kind of gate without its seat, and the shares of the seat.
+/// A session without its seat, and the shares of the seat.
 fn part<R: Read + Drop, W: Write + Drop, G: Gate, L: Ledgers>(
     served: Served<R, W, L>,
 ) -> (Session<R, W>, Option<Shares<L>>)
-    requires { IsServed G.is_open (record { left = R.remaining served.reader; reads = served.reads; held = W.contents served.writer; writes = served.writes; seat = served.seat; answers = served.answers.items; end_is = served.end }) }
-    ensures { IsServedBy G.is_open (λ seat. record { left = R.remaining result.0.reader; reads = result.0.reads; held = W.contents result.0.writer; writes = result.0.writes; seat = seat; answers = result.0.answers.items; end_is = result.0.end }) result.0.process }
+    requires { IsServed G.is_open served }
+    ensures { IsServedBy G.is_open result.0 }
 {
     let Served {
         seat,
@@ -238,7 +238,7 @@ fn join_all<Rt: Threads, R: Read + Drop, W: Write + Drop, G: Gate, L: Ledgers>(
     requires sessions { vec_len room.sessions + vec_len running ≤ vec_capacity room.sessions }
     requires shares { vec_len room.shares + vec_len running ≤ vec_capacity room.shares }
     requires empty { vec_len room.sessions ≡ 0 }
-    ensures served { All (λ s. IsServedBy G.is_open (λ seat. record { left = R.remaining s.reader; reads = s.reads; held = W.contents s.writer; writes = s.writes; seat = seat; answers = s.answers.items; end_is = s.end }) s.process) result.sessions.items }
+    ensures served { All (IsServedBy G.is_open) result.sessions.items }
     ensures all { vec_len result.sessions ≡ vec_len running }
 {
     let Parted {
@@ -255,7 +255,7 @@ fn join_all<Rt: Threads, R: Read + Drop, W: Write + Drop, G: Gate, L: Ledgers>(
     Parted { sessions, shares }
 }
 
-/// What the sessions of a run share that has no records yet.
+/// What the sessions of a new run share.
 fn shared_by<G: Gate, L: Ledgers>(
     alloc: Global,
     limits: Limits,
@@ -271,8 +271,9 @@ fn shared_by<G: Gate, L: Ledgers>(
     })
 }
 
-/// Runs so many sessions, each in a thread of its own and each of its answers written once the gate lets it through, closes the run when all have ended, and gathers what their seats counted. Where
-/// accepting fails, or a thread cannot be started, those that were started are served to their end.
+/// Runs so many sessions, each in a thread of its own. An answer is written once the gate lets it through. When all sessions have ended,
+/// the run is closed, and what their seats counted is gathered. Where accepting fails, or a thread cannot be started, the sessions that
+/// were started are served to their end.
 pub fn run_sessions<
     Rt: Threads + Wait + Copy + Send + 'static,
     S: Source + Send + 'static,
@@ -295,7 +296,7 @@ pub fn run_sessions<
     ensures few { IfOk result (λ report. vec_len report.ends ≤ sessions) }
     ensures all { IfOk result (λ report. report.shortage ≡ None → vec_len report.ends ≡ sessions) }
     ensures short { IfOk result (λ report. IfSome report.shortage (λ _. vec_len report.ends < sessions)) }
-    ensures served { IfOk result (λ report. All (λ s. IsServedBy G.is_open (λ seat. record { left = S.Reader.Read.remaining s.reader; reads = s.reads; held = S.Writer.Write.contents s.writer; writes = s.writes; seat = seat; answers = s.answers.items; end_is = s.end }) s.process) report.ends.items) }
+    ensures served { IfOk result (λ report. All (IsServedBy G.is_open) report.ends.items) }
 {
     let shared: Shared<G, L> = shared_by(alloc, limits, blanks, gate)?;
     let room = Vec::with_capacity(alloc, sessions)?;

@@ -110,12 +110,12 @@ fn report_of<
 }
 
 /// Whether a session has ended well, with two answers.
-fn is_whole<R, W>(session: &Session<R, W>) -> bool {
+fn is_whole<R: Read, W: Write>(session: &Session<R, W>) -> bool {
     session.end == End::Closed && session.answers.len() == 2
 }
 
 /// Whether two sessions of two requests each have ended well: two joins, two calls, two exits and the closing.
-fn are_whole<R, W>(report: &Report<R, W>) -> bool {
+fn are_whole<R: Read, W: Write>(report: &Report<R, W>) -> bool {
     match report.ends.as_slice() {
         [one, other] => report.records == 7 && is_whole(one) && is_whole(other),
         _ => false,

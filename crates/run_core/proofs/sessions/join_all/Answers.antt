@@ -20,8 +20,7 @@ loop-thread-preserved-in-Some-counted g c =
       count = let all = before.count in omega arith;
       room = let room = before.room in omega arith;
       shares_room = let room = before.shares_room in omega arith;
-      served = rw c.push_reserved.ensures.items
-          (All-push (λ s. IsServedBy g.G.Gate.is_open (λ seat. record { left = g.R.Read.remaining s.reader; reads = s.reads; held = g.W.Write.contents s.writer; writes = s.writes; seat = seat; answers = s.answers.items; end_is = s.end }) s.process) c.loop-thread.sessions.items c.part-session.result.0 before.served c.part-session.ensures);
+      served = rw c.push_reserved.ensures.items (All-push (IsServedBy g.G.Gate.is_open) c.loop-thread.sessions.items c.part-session.result.0 before.served c.part-session.ensures);
       goes = search rules;
       ends = search rules;
     }
@@ -36,8 +35,7 @@ loop-thread-preserved g c =
       count = let all = before.count in omega arith;
       room = let room = before.room in omega arith;
       shares_room = let room = before.shares_room in omega arith;
-      served = rw c.push_reserved.ensures.items
-          (All-push (λ s. IsServedBy g.G.Gate.is_open (λ seat. record { left = g.R.Read.remaining s.reader; reads = s.reads; held = g.W.Write.contents s.writer; writes = s.writes; seat = seat; answers = s.answers.items; end_is = s.end }) s.process) c.loop-thread.sessions.items c.part-session.result.0 before.served c.part-session.ensures);
+      served = rw c.push_reserved.ensures.items (All-push (IsServedBy g.G.Gate.is_open) c.loop-thread.sessions.items c.part-session.result.0 before.served c.part-session.ensures);
       goes = search rules;
       ends = search rules;
     }

@@ -9,7 +9,7 @@ invariant-loop-thread g l = record {
   count : vec_len l.sessions + into_iter_len l.thread-iterator ≡ vec_len l.fn.running;
   room : vec_len l.sessions + into_iter_len l.thread-iterator ≤ vec_capacity l.sessions;
   shares_room : vec_len l.shares + into_iter_len l.thread-iterator ≤ vec_capacity l.shares;
-  served : All (λ s. IsServedBy g.G.Gate.is_open (λ seat. record { left = g.R.Read.remaining s.reader; reads = s.reads; held = g.W.Write.contents s.writer; writes = s.writes; seat = seat; answers = s.answers.items; end_is = s.end }) s.process) l.sessions.items;
+  served : All (IsServedBy g.G.Gate.is_open) l.sessions.items;
   goes : (goal.iterator-loop-thread g).can_next l.thread-iterator;
   ends : (goal.iterator-loop-thread g).is_finite l.thread-iterator;
 }
