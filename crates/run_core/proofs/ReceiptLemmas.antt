@@ -1,4 +1,4 @@
--- What is good of seats, one after another.
+-- Which receipts of seats are good, one seat after another.
 use Rattle.std.proofs.Common.{◌≡◌, ℕ, ◌+◌, ◌<◌, ◌≤◌, ◌⊎◌, List, [], ◌∷◌, ◌++◌, map, Option, None, Some, length, refl, sym, ap, subst, ◌∙◌, arith, IfSome, inl, inr}
 use Rattle.std.specs.List.{slice_index}
 use Rattle.std.proofs.lemmas.List.{append-nil, get_or_past}
@@ -15,7 +15,7 @@ pub none_left : (h : List Record) (p : ℕ) (left : List Held) → length left �
 none_left h p [] none = tt
 none_left h p (s ∷ ss) none = absurd (omega (arith, none))
 
--- with one of good receipts before good ones all are
+-- one whose receipts are good, before good ones
 pub good_before : (h : List Record) (p : ℕ) (s : Held) (rest left : List Held) (pid : ℕ) (receipts : List Receipted) → left ≡ s ∷ rest → pid ≡ s.pid → receipts ≡ s.receipts → GoodFrom h pid p None receipts → GoodAt h p rest → GoodAt h p left
 good_before h p s rest left pid receipts is who given good others = rw is (rw (sym who, sym given) good, others)
 
@@ -30,7 +30,7 @@ pub good_joined : (h : List Record) (p : ℕ) (xs ys : List Held) → GoodAt h p
 good_joined h p [] ys front back = back
 good_joined h p (x ∷ xs) ys front back = (front.0, good_joined h p xs ys front.1 back)
 
--- of good ones those in front are good, and those behind
+-- where all are good, the first are, and those after them
 pub good_parted : (h : List Record) (p : ℕ) (xs ys : List Held) → GoodAt h p (xs ++ ys) → GoodAt h p xs × GoodAt h p ys
 good_parted h p [] ys all = (tt, all)
 good_parted h p (x ∷ xs) ys all = let others = good_parted h p xs ys all.1 in ((all.0, others.0), others.1)
@@ -47,7 +47,7 @@ neither_holds (Some q) other result P Q R N first second (inl is) not_one not_ot
 neither_holds one None result P Q R N first second (inr is) not_one not_other = rw is.0 tt
 neither_holds one (Some q) result P Q R N first second (inr is) not_one not_other = rw is.0 (λ all. not_other (second q all))
 
--- a receipt of a place above names it not
+-- a receipt of a place above does not name it
 pub not_named : (p place : ℕ) (r : Receipted) (rest left : List Receipted) → left ≡ r ∷ rest → place ≡ r.place → p < place → names p left ≡ names p rest
 not_named p place r rest left is given above = rw is (grind (arith, given, above))
 

@@ -11,7 +11,7 @@ pub record Held : Type 0 where
   pub pid : ℕ
   pub receipts : List Receipted
 
--- what is held by one who has no process
+-- what is held of a process; nothing where there is none
 abbrev pub held_by : Option Held → Held
 held_by None = record { pid = 0; receipts = [] }
 held_by (Some held) = held
@@ -25,19 +25,18 @@ abbrev pub IsAbove : Option ℕ → ℕ → Type 0
 IsAbove None place = Unit {0}
 IsAbove (Some before) place = before < place
 
--- a receipt tells the record that stands at its place, which is one of its seat's process, and its place is above that of the receipt
--- before
+-- a receipt is good: it tells the record at its place, that is a record of this process, and its place is above the one before
 pub record IsGood (h : List Record) (pid : ℕ) (before : Option ℕ) (r : Receipted) : Type 0 where
   pub stands : slice_get h r.place ≡ Some r.record_is
   pub own : IsOwn pid r.record_is
   pub above : IsAbove before r.place
 
--- of receipts, those that name this place are good
+-- the receipts that name this place are good
 abbrev pub GoodFrom : List Record → ℕ → ℕ → Option ℕ → List Receipted → Type 0
 GoodFrom h pid p before [] = Unit {0}
 GoodFrom h pid p before (r ∷ rs) = (r.place ≡ p → IsGood h pid before r) × GoodFrom h pid p (Some r.place) rs
 
--- of all seats, those receipts that name this place are good
+-- the receipts of all seats that name this place are good
 abbrev pub GoodAt : List Record → ℕ → List Held → Type 0
 GoodAt h p [] = Unit {0}
 GoodAt h p (s ∷ ss) = GoodFrom h s.pid p None s.receipts × GoodAt h p ss

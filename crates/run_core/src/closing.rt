@@ -19,7 +19,7 @@ use std::slice;
 use std::sync::{Arc, Wait};
 use thiserror::Error;
 
-/// What an `Arc` holds, once nobody else holds it too: it waits for that.
+/// Waits until nobody else holds an `Arc`, and returns what it holds.
 pub(crate) fn unshared<Rt: Wait, T>(rt: &Rt, shared: Arc<T>) -> T
     ensures { result ≡ arc_value shared }
 {
@@ -36,9 +36,9 @@ pub(crate) fn unshared<Rt: Wait, T>(rt: &Rt, shared: Arc<T>) -> T
 /// What a run comes to.
 #[derive(Drop)]
 pub struct Totals {
-    /// How many records there are, gathered from the shares of all seats.
+    /// How many records there are, summed over the shares of all seats.
     pub records: u64,
-    /// How many bytes were written, and how many were read, by the calls of all processes, gathered in the same way.
+    /// How many bytes the calls of all processes wrote, and how many they read, summed in the same way.
     pub bytes_in: u64,
     pub bytes_out: u64,
     /// The receipts of each seat, in the order of the seats.
@@ -81,7 +81,7 @@ impl From<GatherFault> for CloseFault {
     }
 }
 
-/// Seats by their receipts and their shares.
+/// Seats that were parted into their receipts and their shares.
 #[derive(Drop)]
 struct Parted<L: Ledgers> {
     receipts: Vec<Vec<Receipt>>,
@@ -143,9 +143,10 @@ fn compare_and_part<L: Ledgers>(
     Ok(Checked { least, parted })
 }
 
-/// Brings the seats of a run together, that of the house among them, which closed it: the sums of what they counted, and their receipts.
-/// These are the records of the book, each of them once, in a seat of its process; else the least place that differs is told. Missing
-/// seats are told first. It takes time in proportion to the records and the receipts.
+/// Brings all seats of a run together: the sums of what they counted, and their receipts. The seat of the house, which closed the run, is
+/// among them. The receipts are the records of the book, each of them once, in a seat of its process. Where seats are missing, that is
+/// the fault. Otherwise, where receipts and records differ, the fault is the least place at which they do. It takes time in proportion to
+/// the records and the receipts.
 pub fn close_run<L: Ledgers>(
     alloc: Global,
     book: Book<L>,
@@ -183,7 +184,8 @@ struct Closed<L: Ledgers> {
     shares: Vec<Shares<L>>,
 }
 
-/// Closes a run and compares its records with the receipts of these holders and of the house; the shares of the house are put after the others.
+/// Closes a run and compares its records with the receipts of these holders and of the house. The shares of the house are put after the
+/// others.
 fn close_and_compare<L: Ledgers, T: HasReceipts>(
     alloc: Global,
     book: &mut Book<L>,
@@ -210,7 +212,7 @@ fn close_and_compare<L: Ledgers, T: HasReceipts>(
 }
 
 /// Closes a run whose seats are parted into holders of their receipts and shares, compares the receipts with the records, and gathers
-/// the shares: the sums of the records and of the bytes that they took and gave.
+/// the shares: the number of the records, and of the bytes that they took and gave.
 pub(crate) fn end_run<L: Ledgers, T: HasReceipts>(
     alloc: Global,
     book: Book<L>,

@@ -85,7 +85,7 @@ fn lowest(one: Option<u64>, other: Option<u64>) -> Option<u64>
     }
 }
 
-/// Whether a receipt tells the record at its place, which is one of this process, and its place is above the one before.
+/// Whether a receipt is good: it tells the record at its place, that is a record of this process, and its place is above the one before.
 fn is_good<L: Ledgers>(book: &Book<L>, pid: u32, before: Option<u64>, receipt: &Receipt) -> bool
     ensures { (result ≡ true) ↔ IsGood book.now.history pid before receipt.now }
 {
@@ -96,7 +96,7 @@ fn is_good<L: Ledgers>(book: &Book<L>, pid: u32, before: Option<u64>, receipt: &
     stands && is_own(pid, receipt.record()) && is_above(before, receipt.place())
 }
 
-/// The least place that a receipt names which is not good.
+/// The least place that is named by a receipt which is not good.
 fn least_bad<L: Ledgers>(book: &Book<L>, pid: u32, receipts: &[Receipt]) -> Option<u64>
     ensures good { (p : ℕ) → IsBefore p result → GoodFrom book.now.history pid p None receipts.now }
     ensures bad { IfSome result (λ p. GoodFrom book.now.history pid p None receipts.now → ⊥) }
@@ -114,7 +114,7 @@ fn least_bad<L: Ledgers>(book: &Book<L>, pid: u32, receipts: &[Receipt]) -> Opti
     least
 }
 
-/// The least place that a receipt of theirs names which is not good.
+/// The least place that is named by a receipt of these holders which is not good.
 fn least_bad_of<L: Ledgers, T: HasReceipts>(book: &Book<L>, holders: &[T]) -> Option<u64>
     ensures good { (p : ℕ) → IsBefore p result → GoodAt book.now.history p (map T.held holders.now) }
     ensures bad { IfSome result (λ p. GoodAt book.now.history p (map T.held holders.now) → ⊥) }
@@ -143,8 +143,8 @@ fn mark_one(marks: &mut [u8], place: u64) -> bool
     false
 }
 
-/// Marks the places that receipts name. It tells the least of those that were marked already or have no record, and of the one that was
-/// told so far.
+/// Marks the places that receipts name. It returns the least of those that were marked already or have no record, or the least so far, if
+/// that is lower.
 fn mark(marks: &mut [u8], least: Option<u64>, receipts: &[Receipt]) -> Option<u64>
     ensures len { length marks.new ≡ length marks.old }
     ensures ones { ((p : ℕ) → slice_index marks.old p ≤ 1) → (p : ℕ) → slice_index marks.new p ≤ 1 }
@@ -164,8 +164,8 @@ fn mark(marks: &mut [u8], least: Option<u64>, receipts: &[Receipt]) -> Option<u6
     least
 }
 
-/// Marks the places that receipts of theirs name. It tells the least of those that were marked already or have no record, and of the one
-/// that was told so far.
+/// Marks the places that receipts of these holders name. It returns the least of those that were marked already or have no record, or the
+/// least so far, if that is lower.
 fn mark_all<T: HasReceipts>(marks: &mut [u8], least: Option<u64>, holders: &[T]) -> Option<u64>
     ensures len { length marks.new ≡ length marks.old }
     ensures ones { ((p : ℕ) → slice_index marks.old p ≤ 1) → (p : ℕ) → slice_index marks.new p ≤ 1 }
@@ -195,7 +195,7 @@ fn unmarked(marks: &[u8]) -> Option<u64>
     None
 }
 
-/// The least place that other than one receipt names, or other than none where there is no record. No place is marked yet.
+/// The least place that has a record and is not named by exactly one receipt, or has none and is named. No place is marked yet.
 fn uncovered<T: HasReceipts, U: HasReceipts>(
     marks: &mut [u8],
     holders: &[T],
@@ -210,8 +210,9 @@ fn uncovered<T: HasReceipts, U: HasReceipts>(
     lowest(twice, unmarked(marks))
 }
 
-/// The least place that is not sound: where the record does not stand, the same, in exactly one receipt of all holders, or where a
-/// receipt that names it is no good one. The records are a legal run, as those of a book are. It takes time in proportion to the receipts and the records, and a byte of memory for each record.
+/// The least place that is not sound: one whose record is not in exactly one receipt of all holders, or that a receipt names which is not
+/// good. The records are a legal run, as those of a book are. It takes time in proportion to the receipts and the records, and a byte of
+/// memory for each record.
 pub fn compare<L: Ledgers, T: HasReceipts, U: HasReceipts>(
     alloc: Global,
     book: &Book<L>,
