@@ -10,7 +10,7 @@ use Rattle.frame_codec.specs.declared.decoder.Progress.TheVariants as progress
 use Rattle.frame_codec.specs.Fields.{number_bytes}
 use Rattle.frame_codec.specs.Frames.{frame, told_length, told_payload, IsFrame, IsShort, IsTooLong, AreFrames, StopsWith}
 use Rattle.frame_codec.specs.Decoding.{DecoderState, fresh, told_place, told_progress, AreValues, GoesFrom, GoesOn, StaysSo, FeedsFrom, FeedsAll}
-use Rattle.frame_codec.specs.Laws.{OneForm, CutsDoNotMatter, OneReading, LongestReading, FrontReads}
+use Rattle.frame_codec.specs.Laws.{OneForm, CutsDoNotMatter, OneReading, LongestReading, FrontReads, NoFrameThere, HasGiven, Gave, PiecesGoOn}
 use Rattle.frame_codec.proofs.ReadingOn.{stays_malformed, stays_too_long}
 
 -- ---- a frame tells its payload, whatever follows it
@@ -89,6 +89,16 @@ one_stop Spells most bytes stops.Malformed stops.TooLong h k = absurd (omega (ar
 one_stop Spells most bytes stops.TooLong stops.Short h k = absurd (short_few most bytes k h)
 one_stop Spells most bytes stops.TooLong stops.Malformed h k = absurd (omega (arith, k.few, h.1))
 one_stop Spells most bytes stops.TooLong stops.TooLong h k = refl
+
+pub no_frame_there : {A : Type 0} (Spells : A → List ℕ → Type 0) (most : ℕ) → most < 2 ^ 32 → NoFrameThere Spells most
+no_frame_there Spells most small = λ value first more f h.
+    elim h [
+      | inl short ↦ not_stopped Spells most value first more (first ++ more) stops.Short small f refl short
+      | inr fault ↦ elim fault [
+        | inl malformed ↦ not_stopped Spells most value first more (first ++ more) stops.Malformed small f refl malformed
+        | inr long ↦ not_stopped Spells most value first more (first ++ more) stops.TooLong small f refl long
+      ]
+    ]
 
 -- ---- one reading
 
@@ -262,3 +272,36 @@ front_reads Spells most small one = λ all values read left told f h.
     longest Spells most small one (read ++ left) all values progress.More h.text (h.rest ++ left) (all_read Spells most all (read ++ left) f) h.frames
     (ap (λ (front : List ℕ). front ++ left) h.is ∙ append_assoc h.text h.rest left) in
     (is_more told (no_fault Spells most small one all values read left told f h), more.0, more.1)
+
+-- ---- what was given so far
+
+-- what was given of a stream, by why it stops
+gave_so : {A : Type 0} (Spells : A → List ℕ → Type 0) (most : ℕ) (stream : List ℕ) (values : List A) (new : DecoderState) (told : Progress) (text rest : List ℕ) (stop : Stop) (before : ℕ)
+    → stream ≡ text ++ rest → AreFrames Spells most values text → StopsWith Spells most rest stop → GoesFrom new before rest stop → told_place before ≡ told_place (length text)
+    → new.progress ≡ told → told ≡ told_progress (told_place before) stop → Gave Spells most stream values new told
+gave_so Spells most stream values new told text rest stops.Short before is frames short goes place stays tells =
+    subst (λ (p : Progress). Gave Spells most stream values new p) (sym tells) (record {
+      text = text;
+      is = is ∙ ap (λ (left : List ℕ). text ++ left) (sym goes.1);
+      frames = frames;
+      short = subst (λ (left : List ℕ). IsShort most left) (sym goes.1) short;
+      before = goes.0 ∙ place;
+      goes_on = stays ∙ tells;
+    })
+gave_so Spells most stream values new told text rest stops.Malformed before is frames malformed goes place stays tells =
+    subst (λ (p : Progress). Gave Spells most stream values new p) (sym tells) (record { text = text; rest = rest; is = is; frames = frames; fault = (malformed, place) })
+gave_so Spells most stream values new told text rest stops.TooLong before is frames long goes place stays tells =
+    subst (λ (p : Progress). Gave Spells most stream values new p) (sym tells) (record { text = text; rest = rest; is = is; frames = frames; fault = (long, place) })
+
+gave_more : {A : Type 0} (Spells : A → List ℕ → Type 0) (most : ℕ) (stream piece : List ℕ) (values more : List A) (old new : DecoderState) (told : Progress)
+    → HasGiven Spells most stream values old → GoesOn Spells most old new piece more told → Gave Spells most (stream ++ piece) (values ++ more) new told
+gave_more Spells most stream piece values more old new told h k =
+    let is : stream ++ piece ≡ (h.text ++ k.are.text) ++ k.are.rest =
+    ap (λ (front : List ℕ). front ++ piece) h.is ∙ append_assoc h.text old.held piece ∙ ap (λ (rest : List ℕ). h.text ++ rest) k.are.is ∙ sym (append_assoc h.text k.are.text k.are.rest) in
+    let place : told_place (old.before + length k.are.text) ≡ told_place (length (h.text ++ k.are.text)) = omega (arith, h.before, length-append h.text k.are.text) in
+    gave_so Spells most (stream ++ piece) (values ++ more) new told (h.text ++ k.are.text) k.are.rest k.are.stop (old.before + length k.are.text) is
+    (frames_join Spells most values more h.text k.are.text h.frames k.are.frames) k.are.stops k.holds place k.stays k.are.tells
+
+pub pieces_go_on : {A : Type 0} (Spells : A → List ℕ → Type 0) (most : ℕ) → PiecesGoOn Spells most
+pieces_go_on Spells most = λ stream piece values more old new told h k.
+    gave_more Spells most stream piece values more old new told h (subst (λ (p : Progress). FeedsFrom Spells most p old new piece more told) h.goes_on k)

@@ -1,10 +1,10 @@
 -- What holds of streams of frames, whatever they carry (own).
-use Rattle.std.specs.Prelude.{◌≡◌, ℕ, List, ◌++◌}
+use Rattle.std.specs.Prelude.{◌≡◌, ℕ, ◌⊎◌, List, ◌++◌, length}
 use Rattle.std.specs.List.{concat}
 use Rattle.frame_codec.specs.declared.decoder.Progress.{Progress}
 use Rattle.frame_codec.specs.declared.decoder.Progress.TheVariants as progress
-use Rattle.frame_codec.specs.Frames.{IsFrame, AreFrames}
-use Rattle.frame_codec.specs.Decoding.{DecoderState, fresh, AreValues, FeedsAll}
+use Rattle.frame_codec.specs.Frames.{IsFrame, IsShort, IsTooLong, IsMalformed, AreFrames}
+use Rattle.frame_codec.specs.Decoding.{DecoderState, fresh, told_place, AreValues, Feeds, FeedsAll}
 
 -- no value's frame begins that of another, so what was written is read again, whatever follows it
 abbrev pub OneForm : {A : Type 0} → (A → List ℕ → Type 0) → ℕ → Type 0
@@ -30,3 +30,42 @@ abbrev pub FrontReads : {A : Type 0} → (A → List ℕ → Type 0) → ℕ →
 FrontReads {A} Spells most =
     (all values : List A) (read left : List ℕ) (told : Progress) → AreFrames Spells most all (read ++ left) → AreValues Spells most 0 read values told
     → (told ≡ progress.More) × (more : List A) × (all ≡ values ++ more)
+
+-- bytes that are too few for a frame, or that begin with one at fault, do not begin with a value's frame
+abbrev pub NoFrameThere : {A : Type 0} → (A → List ℕ → Type 0) → ℕ → Type 0
+NoFrameThere {A} Spells most =
+    (value : A) (first more : List ℕ) → IsFrame Spells most value first → IsShort most (first ++ more) ⊎ (IsMalformed Spells most (first ++ more) ⊎ IsTooLong most (first ++ more)) → ⊥
+
+-- a decoder without a fault gave these values of a stream, and holds the bytes after their frames
+pub record HasGiven {A : Type 0} (Spells : A → List ℕ → Type 0) (most : ℕ) (stream : List ℕ) (values : List A) (decoder : DecoderState) : Type 0 where
+  pub text : List ℕ
+  pub is : stream ≡ text ++ decoder.held
+  pub frames : AreFrames Spells most values text
+  pub short : IsShort most decoder.held
+  pub before : decoder.before ≡ told_place (length text)
+  pub goes_on : decoder.progress ≡ progress.More
+
+-- the fault with which bytes begin, before which there were so many
+abbrev pub IsFault : {A : Type 0} → (A → List ℕ → Type 0) → ℕ → List ℕ → ℕ → Progress → Type 0
+IsFault Spells most bytes before progress.More = ⊥
+IsFault Spells most bytes before (progress.Malformed at) = IsMalformed Spells most bytes × (at ≡ told_place before)
+IsFault Spells most bytes before (progress.TooLong at) = IsTooLong most bytes × (at ≡ told_place before)
+
+-- these values of a stream are given, and after their frames comes the fault that is told
+pub record HasEnded {A : Type 0} (Spells : A → List ℕ → Type 0) (most : ℕ) (stream : List ℕ) (values : List A) (told : Progress) : Type 0 where
+  pub text : List ℕ
+  pub rest : List ℕ
+  pub is : stream ≡ text ++ rest
+  pub frames : AreFrames Spells most values text
+  pub fault : IsFault Spells most rest (length text) told
+
+-- what a decoder gave of a stream, by what it tells
+abbrev pub Gave : {A : Type 0} → (A → List ℕ → Type 0) → ℕ → List ℕ → List A → DecoderState → Progress → Type 0
+Gave Spells most stream values decoder progress.More = HasGiven Spells most stream values decoder
+Gave Spells most stream values decoder fault = HasEnded Spells most stream values fault
+
+-- a decoder that gave the values of a stream gives those of the stream and a piece more
+abbrev pub PiecesGoOn : {A : Type 0} → (A → List ℕ → Type 0) → ℕ → Type 0
+PiecesGoOn {A} Spells most =
+    (stream piece : List ℕ) (values more : List A) (old new : DecoderState) (told : Progress) → HasGiven Spells most stream values old → Feeds Spells most old new piece more told
+    → Gave Spells most (stream ++ piece) (values ++ more) new told

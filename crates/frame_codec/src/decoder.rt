@@ -240,6 +240,13 @@ impl<K: FrameKind> Decoder<K> {
         }
     }
 
+    /// How many bytes it holds: those after the last whole frame, where there is no fault.
+    pub fn held_len(&self) -> usize
+        ensures { result ≡ length self.now.held }
+    {
+        self.held.len()
+    }
+
     /// Takes a piece of a stream without a fault so far.
     fn go_on(&mut self, piece: &[u8]) -> Result<Fed<K::Value>, AllocError>
         requires { self.old.progress ≡ progress.More }

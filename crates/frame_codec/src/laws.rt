@@ -14,7 +14,9 @@ ghost use Rattle.frame_codec.specs.ReadingRequests.{request_at};
 ghost use Rattle.frame_codec.specs.ReadingAnswers.{answer_at};
 ghost use Rattle.frame_codec.specs.ReadingRecords.{record_at};
 ghost use Rattle.frame_codec.specs.FrameRows.{FrameRows};
-ghost use Rattle.frame_codec.specs.Laws.{OneForm, CutsDoNotMatter, OneReading, LongestReading, FrontReads};
+ghost use Rattle.frame_codec.specs.Laws.{OneForm, CutsDoNotMatter, OneReading, LongestReading, FrontReads, NoFrameThere, PiecesGoOn};
+
+use crate::frame_kind::FrameKind;
 
 /// Every request, answer and record in range is read again from its payload.
 pub fn written_values_are_read()
@@ -65,6 +67,18 @@ pub fn fronts_are_read()
     ensures requests { FrontReads SpellsRequest 65792 }
     ensures answers { FrontReads SpellsAnswer 66048 }
     ensures records { FrontReads SpellsRecord 66048 }
+{}
+
+/// Where bytes are too few for a frame, or the first frame is at fault, no value's frame begins.
+pub fn stops_are_no_frames()
+    ensures requests { NoFrameThere SpellsRequest 65792 }
+    ensures answers { NoFrameThere SpellsAnswer 66048 }
+    ensures records { NoFrameThere SpellsRecord 66048 }
+{}
+
+/// What a decoder gave of a stream, and what it holds or where the fault is, goes on with each piece.
+pub fn pieces_go_on<K: FrameKind>()
+    ensures { PiecesGoOn K.spells K.most }
 {}
 
 /// A frame of each request and of each kind of answer, and those of some records, byte by byte: what is read and what is written both
