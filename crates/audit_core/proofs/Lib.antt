@@ -1,0 +1,5 @@
+pub mod JudgeLemmas
+pub mod TraceLemmas
+pub mod TakingLemmas
+pub mod AuditLemmas
+pub mod LawLemmas

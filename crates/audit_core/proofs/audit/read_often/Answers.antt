@@ -1,0 +1,38 @@
+use Rattle.std.proofs.Common.{◌∙◌, arith}
+use Rattle.std.proofs.lemmas.Result.{err_from_is_err_and}
+use Rattle.audit_core.proofs.AuditLemmas as laws
+use Rattle.audit_core.proofs.audit.read_often.Goals as goal
+
+pub loop-turn-init : goal.loop-turn-init
+loop-turn-init g c = record {
+  room = c.requires.room;
+  reads = c.requires.unread.0;
+  few = omega (arith, c.requires.unread.1);
+  has_read = λ bounds e. laws.none_read bounds c.args.reader.now c.args.trace.now c.requires.unread e;
+}
+
+pub returns-in_err-verdict-clause-audits : goal.returns-in_err-verdict-clause-audits
+returns-in_err-verdict-clause-audits g c bounds e =
+    let p = err_from_is_err_and c.from_residual.result c.from_residual.ensures.1 in
+    rw (p.1, p.2) (laws.read_fault bounds c.args.reader.now c.loop-turn.reader c.read_on.new.reader c.loop-turn.trace c.read_on.new.trace c.loop-turn._turn c.in_err-verdict.field-0.0
+    (omega (arith, c.loop-turn-test.true)) (c.loop-turn.invariant.has_read bounds e) c.in_err-verdict.ensures.reads)
+
+pub returns-in-Some-clause-audits : goal.returns-in-Some-clause-audits
+returns-in-Some-clause-audits g c bounds e =
+    laws.read_over bounds c.args.reader.now c.loop-turn.reader c.read_on.new.reader c.loop-turn.trace c.read_on.new.trace c.loop-turn._turn c.in-Some.verdict
+    (omega (arith, c.loop-turn-test.true)) (c.loop-turn.invariant.has_read bounds e) (rw c.in-Some.is at c.in_ok-verdict.ensures.reads)
+
+pub loop-turn-preserved : goal.loop-turn-preserved
+loop-turn-preserved g c =
+    let on = rw c.in_default.is at c.in_ok-verdict.ensures.reads in
+    record {
+      room = c.read_on.ensures.long ∙ c.loop-turn.invariant.room;
+      reads = laws.one_more c.loop-turn.reader.reads c.loop-turn._turn c.read_on.new.reader.reads (omega (arith, c.loop-turn-test.true)) c.loop-turn.invariant.reads c.read_on.ensures.reads.reads;
+      few = on.may;
+      has_read = λ bounds e. laws.read_more bounds c.args.reader.now c.loop-turn.reader c.read_on.new.reader c.loop-turn.trace c.read_on.new.trace c.loop-turn._turn
+          (omega (arith, c.loop-turn-test.true)) (c.loop-turn.invariant.has_read bounds e) on;
+    }
+
+pub returns-clause-audits : goal.returns-clause-audits
+returns-clause-audits g c bounds e =
+    laws.read_enough bounds c.args.reader.now c.loop-turn.reader c.loop-turn.trace c.loop-turn._turn (omega (arith, c.loop-turn-test.false)) (c.loop-turn.invariant.has_read bounds e)

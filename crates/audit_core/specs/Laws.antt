@@ -1,0 +1,38 @@
+-- What holds of verdicts (own).
+use Rattle.std.specs.Prelude.{◌≡◌, ℕ, List, ◌++◌, length}
+use Rattle.call_types.specs.declared.act.Record.{Record}
+use Rattle.call_types.specs.declared.limits.Bounds.{Bounds}
+use Rattle.posix_model.specs.History.{legal}
+use Rattle.audit_core.specs.Trace.{text, HaveFrames}
+use Rattle.audit_core.specs.Verdict.{IsVerdict}
+use Rattle.audit_core.specs.declared.verdict.Verdict.{Verdict}
+use Rattle.audit_core.specs.declared.verdict.Verdict.TheVariants.{Legal}
+
+-- bytes have one verdict
+abbrev pub OneVerdict : Type 0
+OneVerdict = (bounds : Bounds) (bytes : List ℕ) (v u : Verdict) → IsVerdict bounds bytes v → IsVerdict bounds bytes u → v ≡ u
+
+-- the text of a legal history is legal, with all its records and no rest
+abbrev pub TextIsLegal : Type 0
+TextIsLegal = (bounds : Bounds) (h : List Record) → legal bounds h → HaveFrames h → IsVerdict bounds (text h) (Legal (length h) 0)
+
+-- a verdict that is legal, with as many records as are whole in a front of a history's text
+pub record TellsFront (h : List Record) (v : Verdict) : Type 0 where
+  pub whole : List Record
+  pub more : List Record
+  pub rest : ℕ
+  pub front : h ≡ whole ++ more
+  pub verdict : v ≡ Legal (length whole) rest
+
+-- whatever front of the text of a legal history was written, its verdict is that it is legal
+abbrev pub FrontIsLegal : Type 0
+FrontIsLegal = (bounds : Bounds) (h : List Record) (bytes left : List ℕ) (v : Verdict) → legal bounds h → HaveFrames h → text h ≡ bytes ++ left → IsVerdict bounds bytes v → TellsFront h v
+
+-- a verdict that tells a fault
+abbrev pub TellsFault : Verdict → Type 0
+TellsFault (Legal records rest) = ⊥
+TellsFault other = Unit {0}
+
+-- a fault stays, whatever bytes come after it
+abbrev pub FaultStays : Type 0
+FaultStays = (bounds : Bounds) (bytes more : List ℕ) (v : Verdict) → TellsFault v → IsVerdict bounds bytes v → IsVerdict bounds (bytes ++ more) v

@@ -1,0 +1,8 @@
+pub mod Trace
+pub mod Judging
+pub mod Verdict
+pub mod Inside
+pub mod Taking
+pub mod Reads
+pub mod Audited
+pub mod Laws

@@ -1,0 +1,46 @@
+-- Traces, version 1: a header, and after it the frames of the records of a run, from the first one on (own).
+use Rattle.std.specs.Prelude.{◌≡◌, ◌≢◌, ℕ, ◌≤◌, ◌<◌, ◌⊎◌, List, [], ◌∷◌, ◌++◌, length, take}
+use Rattle.call_types.specs.declared.act.Record.{Record}
+use Rattle.call_types.specs.declared.limits.TheConstants.{RECORD_LENGTH_MAX}
+use Rattle.frame_codec.specs.Frames.{frame, IsShort, IsTooLong, IsMalformed}
+use Rattle.frame_codec.specs.Records.{record_bytes, RecordFits, SpellsRecord}
+use Rattle.frame_codec.specs.Trace.{trace_header}
+
+-- the frames of records, one after another
+abbrev pub frames_of : List Record → List ℕ
+frames_of [] = []
+frames_of (r ∷ h) = frame (record_bytes r) ++ frames_of h
+
+-- the text of a history: the header, and the frames of its records in their order
+abbrev pub text : List Record → List ℕ
+text h = trace_header ++ frames_of h
+
+-- a record that a frame can tell: its fields are in range, and its payload is not too long
+abbrev pub HasFrame : Record → Type 0
+HasFrame r = RecordFits r × (length (record_bytes r) ≤ RECORD_LENGTH_MAX)
+
+-- records of which a frame can tell each
+abbrev pub HaveFrames : List Record → Type 0
+HaveFrames [] = Unit {0}
+HaveFrames (r ∷ h) = HasFrame r × HaveFrames h
+
+-- bytes that begin with the text of these records, and after it have this rest
+pub record Begins (bytes : List ℕ) (h : List Record) (rest : List ℕ) : Type 0 where
+  pub is : bytes ≡ text h ++ rest
+  pub framed : HaveFrames h
+
+-- a rest that is too short for a frame: one may be on the way
+abbrev pub IsUnfinished : List ℕ → Type 0
+IsUnfinished rest = IsShort RECORD_LENGTH_MAX rest
+
+-- a rest that begins with a frame at fault: its payload spells no record, or is longer than is allowed
+abbrev pub IsAtFault : List ℕ → Type 0
+IsAtFault rest = IsMalformed SpellsRecord RECORD_LENGTH_MAX rest ⊎ IsTooLong RECORD_LENGTH_MAX rest
+
+-- bytes that end within the header
+abbrev pub EndsInHeader : List ℕ → Type 0
+EndsInHeader bytes = (length bytes < length trace_header) × (bytes ≡ take (length bytes) trace_header)
+
+-- bytes of which one stands where the header has another: so many of them, and no more than the header has, are not its front
+abbrev pub HasNoHeader : List ℕ → Type 0
+HasNoHeader bytes = (count : ℕ) × (count ≤ length trace_header) × (count ≤ length bytes) × (take count bytes ≢ take count trace_header)

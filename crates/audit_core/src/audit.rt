@@ -1,0 +1,96 @@
+//! An audit: a trace is read to its end, or to the first fault.
+
+ghost use Rattle.std.specs.Prelude.{◌≡◌, ◌<◌, ◌≤◌, length};
+ghost use Rattle.call_types.specs.declared.limits.Bounds.{Bounds as Limits};
+ghost use Rattle.audit_core.specs.Audited.{version_1, Audits, ReadsOn};
+ghost use Rattle.audit_core.specs.Reads.{IsUnread};
+ghost use Rattle.audit_core.specs.Taking.{fresh_trace};
+
+use crate::reader::{Gave, INTERRUPTIONS_MAX, READ_LENGTH, READS_MAX, TraceReader};
+use crate::trace::TraceAudit;
+use crate::verdict::Verdict;
+use call_types::limits::Bounds;
+use std::alloc::{AllocError, Global};
+use std::io::Read;
+
+/// Why an audit has no verdict.
+#[derive(Clone, Copy, Debug, PartialEq, Eq)]
+pub enum AuditFault {
+    /// The reader failed, was interrupted sixteen times in a row, or was not at its end after 16,777,216 reads.
+    Read,
+    /// Memory ran out, or the machine had no number left for what is new.
+    NoMemory,
+}
+
+impl From<AllocError> for AuditFault {
+    ghost use Rattle.std.specs.Prelude.{◌≡◌};
+    ghost use Rattle.audit_core.specs.declared.audit.AuditFault.TheVariants.{NoMemory};
+
+    ghost from_gives = { λ _ fault. fault ≡ NoMemory };
+
+    fn from(_error: AllocError) -> AuditFault {
+        AuditFault::NoMemory
+    }
+}
+
+/// Reads once more, and takes what that gives.
+fn read_on<R: Read>(
+    alloc: Global,
+    reader: &mut TraceReader<R>,
+    trace: &mut TraceAudit,
+    buffer: &mut [u8],
+) -> Result<Option<Verdict>, AuditFault>
+    requires room { 0 < length buffer.old }
+    requires short { length buffer.old ≤ READ_LENGTH }
+    requires few { reader.old.interruptions < INTERRUPTIONS_MAX }
+    ensures reads { ReadsOn reader.old reader.new trace.old trace.new result }
+    ensures long { length buffer.new ≡ length buffer.old }
+{
+    match reader.read(buffer) {
+        Gave::Bytes(count) => {
+            let (piece, _) = buffer.split_at(count);
+            Ok(trace.take(alloc, piece)?)
+        }
+        Gave::Nothing => Ok(Some(trace.end())),
+        Gave::Interrupted => {
+            if reader.interruptions() < INTERRUPTIONS_MAX {
+                Ok(None)
+            } else {
+                Err(AuditFault::Read)
+            }
+        }
+        Gave::Failed => Err(AuditFault::Read),
+    }
+}
+
+/// Reads as often as an audit may, and takes what that gives, until there is a verdict.
+fn read_often<R: Read>(
+    alloc: Global,
+    reader: &mut TraceReader<R>,
+    trace: &mut TraceAudit,
+    buffer: &mut [u8],
+) -> Result<Verdict, AuditFault>
+    requires room { length buffer.old ≡ READ_LENGTH }
+    requires unread { IsUnread reader.old }
+    ensures few { reader.new.reads ≤ READS_MAX }
+    ensures audits { (bounds : Limits) → trace.old ≡ fresh_trace bounds → Audits bounds reader.old reader.new result }
+{
+    for _turn in 0..READS_MAX {
+        if let Some(verdict) = read_on(alloc, reader, trace, buffer)? {
+            return Ok(verdict);
+        }
+    }
+    Err(AuditFault::Read)
+}
+
+/// Audits the trace that a reader gives, of version 1. What comes after a record that is not what the model gives, or after a frame at
+/// fault, need not be read. Nothing is kept of the records but the state that they led to, and one frame at a time.
+pub fn audit<R: Read>(alloc: Global, reader: &mut TraceReader<R>) -> Result<Verdict, AuditFault>
+    requires { IsUnread reader.old }
+    ensures few { reader.new.reads ≤ READS_MAX }
+    ensures audits { Audits version_1 reader.old reader.new result }
+{
+    let mut buffer = vec![in alloc; 0u8; READ_LENGTH]?;
+    let mut trace = TraceAudit::new(alloc, Bounds::standard());
+    read_often(alloc, reader, &mut trace, buffer.as_mut_slice())
+}

@@ -1,0 +1,135 @@
+//! What judges records one after another, over a machine that is changed in place.
+
+ghost use Rattle.std.specs.Prelude.{◌≡◌, ◌≤◌, Some, IfOk, OnErr};
+ghost use Rattle.call_types.specs.declared.limits.TheConstants.{OFFSET_MAX};
+ghost use Rattle.posix_model.specs.Step.{given, comes_to, stepped};
+ghost use Rattle.audit_core.specs.Judging.{fresh_judge, one_more, Judges, CanMake};
+ghost use Rattle.audit_core.specs.Verdict.{JudgesAll};
+
+use call_types::act::{Act, Record};
+use call_types::limits::Bounds;
+use call_types::outcome::Outcome;
+use machine_state::machine::Machine;
+use posix_model::change::Decided;
+use posix_model::laws::{acts_are_sound, numbers_rise};
+use std::alloc::{AllocError, Global};
+use std::marker::Model;
+use table_calls::decide::decide;
+use table_calls::given::given;
+
+/// A judge of records: the machine that those so far led to, and how many they were. It keeps none of them.
+#[derive(Drop)]
+pub struct Judge {
+    machine: Machine,
+    bounds: Bounds,
+    place: u64,
+}
+
+impl Model for Judge {
+    ghost use Rattle.audit_core.specs.Judging.{JudgeState};
+
+    ghost Value = { JudgeState };
+
+    ghost use Rattle.audit_core.specs.Inside.{state_of, IsJudge};
+
+    ghost view = { state_of };
+
+    ghost invariant = { IsJudge };
+}
+
+/// What is said of a record.
+#[derive(Drop)]
+pub enum Judged {
+    /// It is what the model gives.
+    Same,
+    /// The model gives another outcome of its act, or none where the rules record nothing there.
+    Differs { expected: Option<Outcome> },
+}
+
+impl Judge {
+    /// A judge before the first record of a run with these limits. It takes no memory.
+    pub fn new(alloc: Global, bounds: Bounds) -> Self
+        requires { bounds.file_size ≤ OFFSET_MAX }
+        ensures { result ≡ fresh_judge bounds }
+    {
+        Judge {
+            machine: Machine::new(alloc, bounds.pipe_capacity as usize),
+            bounds,
+            place: 0,
+        }
+    }
+
+    /// How many records were what the model gives: the place of the next one. The greatest number stands for those past it too.
+    pub fn place(&self) -> u64
+        ensures { result ≡ self.now.place }
+    {
+        self.place
+    }
+
+    /// What an act comes to, or nothing where the rules record none. An error says that memory ran out.
+    fn comes_to(&self, alloc: Global, actor: u32, act: &Act) -> Result<Option<Decided>, AllocError>
+        ensures { IfOk result (λ d. d ≡ comes_to self.now.bounds self.now.world actor act.now) }
+    {
+        decide(&self.machine, alloc, self.bounds, actor as usize, act)
+    }
+
+    /// What an act comes to can be made. It does nothing.
+    fn can_make(&self, actor: u32, act: &Act, decided: &Decided)
+        requires { comes_to self.now.bounds self.now.world actor act.now ≡ Some decided.now }
+        ensures { CanMake self.now act.now decided.now }
+    {
+        let _actor = actor;
+        let _act = act;
+        let _decided = decided;
+        let _machine = &self.machine;
+        numbers_rise();
+        acts_are_sound();
+    }
+
+    /// Makes what an act comes to. An error says that memory ran out, or that the machine has no number left for what is new: all is as
+    /// it was.
+    fn make(&mut self, act: &Act, decided: Decided) -> Result<(), AllocError>
+        requires { CanMake self.old act.now decided }
+        ensures ok { IfOk result (λ _. self.new ≡ one_more self.old (stepped self.old.world (given act.now) decided).world) }
+        ensures err { OnErr result (self.new ≡ self.old) }
+    {
+        self.machine.reserve_for(&decided.change)?;
+        self.machine.apply(given(act), decided.change);
+        self.place = self.place.saturating_add(1);
+        Ok(())
+    }
+
+    /// Judges the next record. Where it is what the model gives, the world goes on, else all is as it was. An error says that memory
+    /// ran out, or that the machine has no number left for what is new: all is as it was, and the record can be judged again.
+    pub fn judge(&mut self, alloc: Global, told: &Record) -> Result<Judged, AllocError>
+        ensures judged { IfOk result (λ judged. Judges self.old self.new told.now judged) }
+        ensures err { OnErr result (self.new ≡ self.old) }
+    {
+        let Some(decided) = self.comes_to(alloc, told.actor, &told.act)? else {
+            return Ok(Judged::Differs { expected: None });
+        };
+        if !decided.outcome.is_same(&told.outcome) {
+            return Ok(Judged::Differs {
+                expected: Some(decided.outcome),
+            });
+        }
+        self.can_make(told.actor, &told.act, &decided);
+        self.make(&told.act, decided)?;
+        Ok(Judged::Same)
+    }
+
+    /// Judges records in their order, up to the first that is not what the model gives. An error is as in `judge`; those before the
+    /// record that it was met at are judged.
+    pub fn judge_all(&mut self, alloc: Global, records: &[Record]) -> Result<Judged, AllocError>
+        ensures { IfOk result (λ judged. JudgesAll self.old self.new records.now judged) }
+    {
+        let mut left = records;
+        while let Some((told, rest)) = left.split_first() {
+            match self.judge(alloc, told)? {
+                Judged::Same => left = rest,
+                Judged::Differs { expected } => return Ok(Judged::Differs { expected }),
+            }
+        }
+        Ok(Judged::Same)
+    }
+}

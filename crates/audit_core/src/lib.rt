@@ -1,0 +1,9 @@
+//! Whether a trace tells what the model gives.
+#![tactic(auto)]
+
+pub mod audit;
+pub mod judge;
+pub mod laws;
+pub mod reader;
+pub mod trace;
+pub mod verdict;
