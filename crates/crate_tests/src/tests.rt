@@ -1,4 +1,5 @@
-//! Tests of books, by seats, of tallies, of the tables of names, of descriptions and of processes, and of the plain program.
+//! Tests of audits, of books, by seats, of tallies, of the tables of names, of descriptions and of processes, and of the plain program.
+mod audits;
 mod books;
 mod descriptions;
 mod names;
