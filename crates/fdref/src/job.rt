@@ -170,7 +170,7 @@ fn serve_error(alloc: Global, option: &str, text: &str, most: u64) -> Result<Err
 
 /// The limits that the text of `--records` gives.
 fn limits_of(text: &str) -> Option<Limits>
-    ensures given { IfSome result (λ limits. IsNumber RECORDS_MAX (Some text.now) limits.records × (limits.bounds ≡ standard)) }
+    ensures number { IfSome result (λ limits. IsNumber RECORDS_MAX (Some text.now) limits.records × (limits.bounds ≡ standard)) }
     ensures refused { result ≡ None → IsNoNumber RECORDS_MAX (Some text.now) }
 {
     let records = text.parse::<u64>().ok()?;
@@ -186,7 +186,7 @@ fn default_limits() -> Limits
 
 /// The number of sessions that the text of `--sessions` gives.
 fn sessions_of(text: &str) -> Option<u8>
-    ensures given { IfSome result (λ sessions. IsNumber SESSIONS_MAX (Some text.now) sessions) }
+    ensures number { IfSome result (λ sessions. IsNumber SESSIONS_MAX (Some text.now) sessions) }
     ensures refused { result ≡ None → IsNoNumber SESSIONS_MAX (Some text.now) }
 {
     let sessions = text.parse::<u8>().ok()?;
@@ -223,7 +223,7 @@ fn replay_job(alloc: Global, matches: &ArgMatches<'_>) -> Result<Job, JobFault>
 }
 
 /// The text of an option that is given.
-fn given<'a>(matches: &ArgMatches<'a>, option: &str) -> &'a str
+fn text_of<'a>(matches: &ArgMatches<'a>, option: &str) -> &'a str
     requires there { is_some (first_value (found_of matches.now) option.now) ≡ true }
     ensures { first_value (found_of matches.now) option.now ≡ Some result.now }
 {
@@ -239,7 +239,7 @@ fn serve_job(alloc: Global, matches: &ArgMatches<'_>) -> Result<Job, JobFault>
     ensures job { IfOk result (λ job. IsJobOf (Some (codes "serve")) (first_value (found_of matches.now)) job) }
     ensures fault { IfErr result (λ fault. RefusesNumber (Some (codes "serve")) (first_value (found_of matches.now)) fault) }
 {
-    let text = given(matches, "sessions");
+    let text = text_of(matches, "sessions");
     let sessions = match sessions_of(text) {
         Some(sessions) => sessions,
         None => {
@@ -247,12 +247,12 @@ fn serve_job(alloc: Global, matches: &ArgMatches<'_>) -> Result<Job, JobFault>
             return Err(JobFault::Usage(error));
         }
     };
-    let text = given(matches, "records");
+    let text = text_of(matches, "records");
     let limits = match limits_of(text) {
         Some(limits) => limits,
         None => return Err(JobFault::Usage(serve_error(alloc, "records", text, RECORDS_MAX)?)),
     };
-    let socket = String::from_str(alloc, given(matches, "socket"))?;
+    let socket = String::from_str(alloc, text_of(matches, "socket"))?;
     Ok(Job::Serve {
         socket,
         sessions,

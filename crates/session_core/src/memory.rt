@@ -45,7 +45,7 @@ impl Manner {
 #[derive(Drop)]
 pub struct MemoryReader {
     bytes: Vec<u8>,
-    given: usize,
+    handed: usize,
     calls: u64,
     manner: Manner,
 }
@@ -56,9 +56,9 @@ impl Model for MemoryReader {
 
     ghost Value = { ReaderState };
 
-    ghost view = { λ r. record { rest = drop r.given r.bytes.items; calls = r.calls; manner = r.manner } };
+    ghost view = { λ r. record { rest = drop r.handed r.bytes.items; calls = r.calls; manner = r.manner } };
 
-    ghost invariant = { λ r. r.given ≤ vec_len r.bytes };
+    ghost invariant = { λ r. r.handed ≤ vec_len r.bytes };
 }
 
 impl MemoryReader {
@@ -68,7 +68,7 @@ impl MemoryReader {
     {
         MemoryReader {
             bytes,
-            given: 0,
+            handed: 0,
             calls: 0,
             manner,
         }
@@ -86,11 +86,11 @@ impl MemoryReader {
         ensures gives { GivesFront self.old self.new buffer.new result }
         ensures long { length buffer.new ≡ length buffer.old }
     {
-        let (_, rest) = self.bytes.as_slice().split_at(self.given);
+        let (_, rest) = self.bytes.as_slice().split_at(self.handed);
         let count = buffer.len().min(self.manner.most.max(1)).min(rest.len());
         let (front, _) = rest.split_at(count);
         buffer[..count].copy_from_slice(front);
-        self.given += count;
+        self.handed += count;
         count
     }
 }
