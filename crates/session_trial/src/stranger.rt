@@ -11,7 +11,7 @@ use call_types::request::Request;
 use record_book::opening::OpenedIn;
 use record_book::seat::{Receipt, Seat, SpentSeat};
 use std::sync::Wait;
-use system_lock::kernel::{EndedIn, Finished, FinishedIn, Kernel, TrialFault, Why};
+use system_lock::kernel::{Ended, EndedIn, Finished, FinishedIn, Kernel, Why};
 use system_lock::one_book::OneBook;
 
 /// What it does not know.
@@ -48,7 +48,7 @@ fn foreign<L: Ledgers>(seat: Seat<L>) -> EndedIn<L>
     ensures seat { result.seat ≡ seat }
     ensures why { result.why ≡ Why.Foreign }
 {
-    TrialFault {
+    Ended {
         seat: SpentSeat::of(seat),
         why: Why::Foreign,
     }
@@ -67,7 +67,7 @@ impl<L: Ledgers> Kernel<Seat<L>, SpentSeat<L>> for Stranger<L> {
         ensures { FinishesBy seat result }
     {
         match self.forgets {
-            Forgets::WhoWaits => Finished::TrialFault(foreign(seat)),
+            Forgets::WhoWaits => Finished::Ended(foreign(seat)),
             _ => self.book.finish(rt, seat),
         }
     }
