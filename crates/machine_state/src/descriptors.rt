@@ -43,6 +43,7 @@ pub(crate) fn pipe_of_fifo(fifo: Option<Fifo>) -> Option<usize>
 
 impl Machine {
     /// Gives a description another offset, in bytes.
+    #[inline(always)]
     pub(crate) fn set_offset(&mut self, number: usize, offset: u64)
         requires { IsThere self.old.world.descriptions number }
         ensures world { self.new.world ≡ with_offset self.old.world number offset }
@@ -52,6 +53,7 @@ impl Machine {
     }
 
     /// Lets a free descriptor refer to a new description.
+    #[inline(always)]
     pub(crate) fn open(&mut self, process: usize, fd: usize, description: Description)
         requires fits { CanOpen self.old.world process fd description }
         requires few { live self.old.world.descriptions < DESCRIPTIONS_MAX }
@@ -145,6 +147,7 @@ impl Machine {
 
     /// Lets a descriptor refer to a description that is there, or frees it. The description that it referred to before
     /// goes with its last use, and so do the pipe and the file of that one.
+    #[inline(always)]
     pub(crate) fn set_entry(&mut self, process: usize, fd: usize, entry: Option<usize>)
         requires fits { CanSet self.old.world process fd entry }
         requires theirs { EndsAreTheirs self.old.world }

@@ -23,6 +23,7 @@ use std::alloc::AllocError;
 
 impl Machine {
     /// Makes room for `len` bytes in all in a file. An error says that memory ran out.
+    #[inline(always)]
     pub(crate) fn reserve_bytes(&mut self, file: usize, len: usize) -> Result<(), AllocError>
         requires { is_regular_file (slot self.old.world.files file) ≡ true }
         ensures world { self.new.world ≡ self.old.world }
@@ -34,6 +35,7 @@ impl Machine {
     }
 
     /// Writes bytes into a file from the byte `start` on.
+    #[inline(always)]
     pub(crate) fn write_bytes(&mut self, file: usize, start: usize, bytes: Span<'_>)
         requires there { is_regular_file (slot self.old.world.files file) ≡ true }
         requires room { start + length (span_bytes bytes) ≤ slice_index self.old.room.bytes file }
@@ -44,6 +46,7 @@ impl Machine {
     }
 
     /// Gives a file its length, in bytes: its first bytes, and zeros where there were fewer.
+    #[inline(always)]
     pub(crate) fn set_len(&mut self, file: usize, len: usize)
         requires there { is_regular_file (slot self.old.world.files file) ≡ true }
         requires room { len ≤ slice_index self.old.room.bytes file }
@@ -54,6 +57,7 @@ impl Machine {
     }
 
     /// Gives a new name to a file that is there.
+    #[inline(always)]
     pub(crate) fn link(&mut self, name: Name, file: usize)
         requires new { file_of name self.old.world.names ≡ None }
         requires there { IsThere self.old.world.files file }
@@ -80,6 +84,7 @@ impl Machine {
     }
 
     /// Gives a new name to a new file, which knows no pipe.
+    #[inline(always)]
     pub(crate) fn create(&mut self, name: Name, body: FileBody)
         requires new { file_of name self.old.world.names ≡ None }
         requires few { length self.old.world.names < NAMES_MAX }

@@ -13,6 +13,7 @@ use posix_model::change::DataSource;
 
 impl Machine {
     /// Puts so many bytes of the act, or of a call that waits, into a pipe (page of write).
+    #[inline(always)]
     pub(crate) fn put(&mut self, bytes: Span<'_>, pipe: usize, source: DataSource, count: usize)
         requires there { IsThere self.old.world.pipes pipe }
         requires given { count ≤ length (bytes_from self.old.world (span_bytes bytes) source) }
@@ -29,6 +30,7 @@ impl Machine {
     }
 
     /// Takes so many bytes out of a pipe, or all that it holds (page of read).
+    #[inline(always)]
     pub(crate) fn take(&mut self, pipe: usize, count: usize)
         requires { IsThere self.old.world.pipes pipe }
         ensures world { self.new.world ≡ record self.old.world { pipes = edited pipe (drop count) self.old.world.pipes } }

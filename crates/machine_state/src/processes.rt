@@ -22,6 +22,7 @@ use process_table::table::DescriptorTable;
 
 impl Machine {
     /// Adds a process whose descriptors refer to what is there.
+    #[inline(always)]
     pub(crate) fn add_process(&mut self, table: DescriptorTable, attached: bool)
         requires fits { CanAdd self.old.world table }
         requires few { live self.old.world.processes < PROCESSES_MAX }
@@ -34,6 +35,7 @@ impl Machine {
     }
 
     /// Gives a process its connection.
+    #[inline(always)]
     pub(crate) fn attach(&mut self, process: usize)
         requires { IsThere self.old.world.processes process }
         ensures world { self.new.world ≡ with_processes self.old.world (on_process.Attach process) }
@@ -43,6 +45,7 @@ impl Machine {
     }
 
     /// Lets a process wait in a call.
+    #[inline(always)]
     pub(crate) fn park(&mut self, process: usize, parked: Parked)
         requires { IsThere self.old.world.processes process }
         ensures world { self.new.world ≡ with_processes self.old.world (on_process.Park process parked) }
@@ -52,6 +55,7 @@ impl Machine {
     }
 
     /// The call that a process waits in has moved so many bytes in all.
+    #[inline(always)]
     pub(crate) fn set_moved(&mut self, process: usize, moved: u32)
         requires { IsThere self.old.world.processes process }
         ensures world { self.new.world ≡ with_processes self.old.world (on_process.Total process moved) }
@@ -61,6 +65,7 @@ impl Machine {
     }
 
     /// A process waits in no call any more.
+    #[inline(always)]
     pub(crate) fn unpark(&mut self, process: usize)
         requires { IsThere self.old.world.processes process }
         ensures world { self.new.world ≡ with_processes self.old.world (on_process.Unpark process) }

@@ -448,6 +448,7 @@ pub(crate) fn room_of_call(call: &Call) -> usize
 
 /// Appends a call, after its process.
 #[tactic(auto)]
+#[inline(always)]
 pub(crate) fn put_call(out: &mut Vec<u8>, call: &Call)
     requires { HasRoom out.old (call_room call.now) }
     ensures text { out.new.items ≡ out.old.items ++ (call_text call.now) }

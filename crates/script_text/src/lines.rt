@@ -20,6 +20,7 @@ const LINE_ROOM: usize = 64;
 const TOTALS_ROOM: usize = 96;
 
 /// Room in which an act can be written.
+#[inline(always)]
 fn room_of_act(act: &Act) -> usize
     ensures enough { act_room act.now ≤ result }
     ensures small { result < 2 ^ 32 }
@@ -31,6 +32,7 @@ fn room_of_act(act: &Act) -> usize
 }
 
 /// Appends an act, after its actor.
+#[inline(always)]
 fn put_act(out: &mut Vec<u8>, act: &Act)
     requires { HasRoom out.old (act_room act.now) }
     ensures text { out.new.items ≡ out.old.items ++ act_text act.now }

@@ -111,6 +111,7 @@ fn put_moved(out: &mut Vec<u8>, word: &[u8], moved: u32)
 }
 
 /// Room in which an outcome can be written.
+#[inline(always)]
 pub(crate) fn room_of_outcome(outcome: &Outcome) -> usize
     ensures enough { outcome_room outcome.now ≤ result }
     ensures small { result < 2 ^ 32 }
@@ -122,6 +123,7 @@ pub(crate) fn room_of_outcome(outcome: &Outcome) -> usize
 }
 
 /// Appends an outcome.
+#[inline(always)]
 pub(crate) fn put_outcome(out: &mut Vec<u8>, outcome: &Outcome)
     requires { HasRoom out.old (outcome_room outcome.now) }
     ensures text { out.new.items ≡ out.old.items ++ (outcome_text outcome.now) }

@@ -38,6 +38,7 @@ pub fn can_call<R: WorldReader>(state: &R, process: usize) -> bool
 }
 
 /// What a call comes to, by its page. An error says that memory ran out.
+#[inline(always)]
 pub fn decide_call<R: WorldReader>(
     state: &R,
     alloc: Global,
