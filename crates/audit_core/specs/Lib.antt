@@ -3,6 +3,5 @@ pub mod Judging
 pub mod Verdict
 pub mod Inside
 pub mod Taking
-pub mod Reads
 pub mod Audited
 pub mod Laws

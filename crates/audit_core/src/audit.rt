@@ -3,15 +3,22 @@
 ghost use Rattle.std.specs.Prelude.{◌≡◌, ◌<◌, ◌≤◌, length};
 ghost use Rattle.call_types.specs.declared.limits.Bounds.{Bounds as Limits};
 ghost use Rattle.audit_core.specs.Audited.{version_1, Audits, ReadsOn};
-ghost use Rattle.audit_core.specs.Reads.{IsUnread};
+ghost use Rattle.logged_streams.specs.Streams.{fresh_log};
 ghost use Rattle.audit_core.specs.Taking.{fresh_trace};
 
-use crate::reader::{Gave, INTERRUPTIONS_MAX, READ_LENGTH, READS_MAX, TraceReader};
 use crate::trace::TraceAudit;
 use crate::verdict::Verdict;
 use call_types::limits::Bounds;
+use logged_streams::reader::LoggedReader;
+use logged_streams::stream_log::{Gave, INTERRUPTIONS_MAX};
 use std::alloc::{AllocError, Global};
 use std::io::Read;
+
+/// How many reads an audit has.
+pub const READS_MAX: u32 = 16_777_216;
+
+/// How many bytes a read asks for.
+pub const READ_LENGTH: usize = 65_536;
 
 /// Why an audit has no verdict.
 #[derive(Clone, Copy, Debug, PartialEq, Eq)]
@@ -36,13 +43,13 @@ impl From<AllocError> for AuditFault {
 /// Reads once more, and takes what that gives.
 fn read_on<R: Read>(
     alloc: Global,
-    reader: &mut TraceReader<R>,
+    reader: &mut LoggedReader<R>,
     trace: &mut TraceAudit,
     buffer: &mut [u8],
 ) -> Result<Option<Verdict>, AuditFault>
     requires room { 0 < length buffer.old }
     requires short { length buffer.old ≤ READ_LENGTH }
-    requires few { reader.old.interruptions < INTERRUPTIONS_MAX }
+    requires few { reader.old.log.interruptions < INTERRUPTIONS_MAX }
     ensures reads { ReadsOn reader.old reader.new trace.old trace.new result }
     ensures long { length buffer.new ≡ length buffer.old }
 {
@@ -53,7 +60,7 @@ fn read_on<R: Read>(
         }
         Gave::Nothing => Ok(Some(trace.end())),
         Gave::Interrupted => {
-            if reader.interruptions() < INTERRUPTIONS_MAX {
+            if reader.log().interruptions() < INTERRUPTIONS_MAX {
                 Ok(None)
             } else {
                 Err(AuditFault::Read)
@@ -66,13 +73,13 @@ fn read_on<R: Read>(
 /// Reads as often as an audit may, and takes what that gives, until there is a verdict.
 fn read_often<R: Read>(
     alloc: Global,
-    reader: &mut TraceReader<R>,
+    reader: &mut LoggedReader<R>,
     trace: &mut TraceAudit,
     buffer: &mut [u8],
 ) -> Result<Verdict, AuditFault>
     requires room { length buffer.old ≡ READ_LENGTH }
-    requires unread { IsUnread reader.old }
-    ensures few { reader.new.reads ≤ READS_MAX }
+    requires unread { reader.old.log ≡ fresh_log }
+    ensures few { reader.new.log.calls ≤ READS_MAX }
     ensures audits { (bounds : Limits) → trace.old ≡ fresh_trace bounds → Audits bounds reader.old reader.new result }
 {
     for _turn in 0..READS_MAX {
@@ -85,9 +92,9 @@ fn read_often<R: Read>(
 
 /// Audits the trace that a reader gives, of version 1. What comes after a record that is not what the model gives, or after a frame at
 /// fault, need not be read. Nothing is kept of the records but the state that they led to, and one frame at a time.
-pub fn audit<R: Read>(alloc: Global, reader: &mut TraceReader<R>) -> Result<Verdict, AuditFault>
-    requires { IsUnread reader.old }
-    ensures few { reader.new.reads ≤ READS_MAX }
+pub fn audit<R: Read>(alloc: Global, reader: &mut LoggedReader<R>) -> Result<Verdict, AuditFault>
+    requires { reader.old.log ≡ fresh_log }
+    ensures few { reader.new.log.calls ≤ READS_MAX }
     ensures audits { Audits version_1 reader.old reader.new result }
 {
     let mut buffer = vec![in alloc; 0u8; READ_LENGTH]?;

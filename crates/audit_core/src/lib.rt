@@ -4,6 +4,5 @@
 pub mod audit;
 pub mod judge;
 pub mod laws;
-pub mod reader;
 pub mod trace;
 pub mod verdict;

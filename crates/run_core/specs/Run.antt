@@ -18,7 +18,7 @@ use Rattle.run_core.specs.declared.closing.CloseFault.TheVariants as fault
 use Rattle.session_core.specs.declared.end.End.{End}
 use Rattle.session_core.specs.declared.told.Told.{Told}
 use Rattle.session_core.specs.Served.{SessionState, Serves}
-use Rattle.session_core.specs.Streams.{LogState}
+use Rattle.logged_streams.specs.Streams.{LogState}
 use Rattle.run_core.specs.declared.report.RunFault.{RunFault}
 use Rattle.run_core.specs.declared.report.RunFault.TheVariants as run_fault
 use Rattle.run_core.specs.declared.report.Shortage.{Shortage}

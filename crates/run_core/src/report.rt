@@ -5,9 +5,9 @@ ghost use Rattle.run_core.specs.Receipts.{held_by};
 
 use crate::comparison::HasReceipts;
 use byte_ledger::tallies::GatherFault;
+use logged_streams::stream_log::StreamLog;
 use record_book::seat::Receipt;
 use session_core::end::End;
-use session_core::stream::StreamLog;
 use session_core::told::Told;
 use std::alloc::AllocError;
 use std::io::{Read, Write};

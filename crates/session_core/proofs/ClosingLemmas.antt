@@ -22,7 +22,7 @@ use Rattle.session_core.specs.declared.stage.LeaveCause.TheVariants as why
 use Rattle.session_core.specs.declared.stage.Over.TheVariants as over
 use Rattle.session_core.specs.Answers.{answers_text, told_bytes, receipts_of, IsFrontWritten}
 use Rattle.session_core.specs.Output.{OutputState, Holds, Broke, SendsAll, FailsToSend}
-use Rattle.session_core.specs.Streams.{LogState, LoggedReaderState}
+use Rattle.logged_streams.specs.Streams.{LogState, LoggedReaderState}
 use Rattle.session_core.specs.Talk.{IsCut, IsUnopened, AreAnswered, Converses}
 use Rattle.session_core.specs.Served.{Begins, AreRequests, IsMisplaced, AnswersFirst, AnswersAll, AnswersToCut, HasExited, HasUntold, IsRefusedOpening, IsSeatOf, IsSeated, IsWritten, EndsFor, ComesTo}
 use Rattle.session_core.specs.Turns.{IsTalking, IsOutOfPlace, HasReceipts, LeavesBy, EndedBy, IsUntoldOpening}

@@ -1,44 +1,13 @@
--- What was written so far.
-use Rattle.std.proofs.Common.{◌≡◌, ℕ, ◌+◌, ◌-◌, ◌≤◌, List, [], ◌++◌, Option, None, Some, Result, Ok, Err, OnOk, OnErr, length, length-append, length-take-le, take-append-drop, take, drop, length-drop, arith, refl, sym, ◌∙◌, ap, subst, inl, inr}
-use Rattle.std.proofs.lemmas.List.{append-nil, append_assoc}
-use Rattle.std.proofs.Math.Seq.{take-add, drop-length}
+-- What is answered, and what of it was written.
+use Rattle.std.proofs.Common.{◌≡◌, ℕ, ◌+◌, ◌≤◌, List, [], ◌++◌, Option, None, Some, Result, Ok, Err, OnOk, OnErr, length, length-append, length-take-le, take-append-drop, take, drop, arith, refl, sym, ◌∙◌, ap, subst, inl, inr}
+use Rattle.std.proofs.lemmas.List.{append_assoc}
+use Rattle.std.proofs.Math.Seq.{drop-length}
 use Rattle.std.proofs.KnownBytes.{Appends-nil, Appends-trans}
-use Rattle.std.specs.Io.KnownBytes.{Appends, Keeps}
+use Rattle.std.specs.Io.KnownBytes.{Appends}
 use Rattle.frame_codec.specs.Decoding.{told_place}
 use Rattle.session_core.specs.Answers.{answers_text, IsFrontWritten}
 use Rattle.session_core.specs.Output.{OutputState, Holds, Passes, SendsAll, FailsToSend, fresh_output}
-use Rattle.session_core.specs.declared.stream.Gave.{Gave}
-use Rattle.session_core.specs.declared.stream.Gave.TheVariants as gave
-use Rattle.session_core.specs.Streams.{LogState, IsBroken, SomeWritten, WritesFront, noted}
-
--- what was kept and then grew has grown by the same
-pub kept_appends : (a b c : Option (List ℕ)) (bs : List ℕ) → Keeps a b → Appends b c bs → Appends a c bs
-kept_appends None b c bs p q = tt
-kept_appends (Some x) None c bs p q = absurd p
-kept_appends (Some x) (Some y) None bs p q = absurd q
-kept_appends (Some x) (Some y) (Some z) bs p q = q ∙ ap (λ l. l ++ bs) p
-
--- nothing was added to what was kept
-pub keeps_none : (a b : Option (List ℕ)) → Keeps a b → Appends a b []
-keeps_none None b p = tt
-keeps_none (Some x) None p = absurd p
-keeps_none (Some x) (Some y) p = p ∙ sym (append-nil x)
-
--- after some bytes, more of the rest were written
-pub wrote_more : (a b c : Option (List ℕ)) (bytes : List ℕ) (n more : ℕ) → Appends a b (take n bytes) → Appends b c (take more (drop n bytes)) → Appends a c (take (n + more) bytes)
-wrote_more a b c bytes n more so_far next = subst (Appends a c) (sym (take-add n more bytes)) (Appends-trans a b c (take n bytes) (take more (drop n bytes)) so_far next)
-
-pub wrote_some : (a b c : Option (List ℕ)) (bytes rest : List ℕ) (n more : ℕ) → WritesFront a b bytes n → rest ≡ drop n bytes → SomeWritten b c rest more → WritesFront a c bytes (n + more)
-wrote_some a b c bytes rest n more so_far e next = record {
-  within =
-      let left : length rest ≡ length bytes - n = ap length e ∙ length-drop n bytes in
-      let fits : more ≤ length bytes - n = subst (λ (m : ℕ). more ≤ m) left next.within in
-      let old = so_far.within in
-      omega arith;
-  appends = wrote_more a b c bytes n more so_far.appends (subst (λ (l : List ℕ). Appends b c (take more l)) e next.appends);
-}
-
--- ---- what is answered and what is written
+use Rattle.logged_streams.specs.Streams.{IsBroken, WritesFront}
 
 given_ok : {T E : Type 0} (r : Result T E) {P Q : Type 0} → (P → Q) → OnOk r P → OnOk r Q
 given_ok (Ok x) f p = f p
@@ -136,13 +105,6 @@ failed_after r old mid new p = given_err r (λ (f : FailsToSend mid new). record
   answers = f.answers ∙ p.answers;
   breaks = λ (base : Option (List ℕ)) (h : Holds base old). f.breaks base (passes_holds old mid p base h);
 })
-
--- a call on a stream says nothing of a gate
-pub noted_gate : (log : LogState) (found : Gave) → (noted log found).refusals ≡ log.refusals
-noted_gate log (gave.Bytes count) = refl
-noted_gate log gave.Nothing = refl
-noted_gate log gave.Interrupted = refl
-noted_gate log gave.Failed = refl
 
 -- nothing was written
 pub holds_fresh : (base : Option (List ℕ)) → Holds base (fresh_output base)

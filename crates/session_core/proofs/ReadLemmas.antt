@@ -13,11 +13,12 @@ use Rattle.session_core.specs.declared.stage.Stage.TheVariants as stage
 use Rattle.session_core.specs.declared.stage.LeaveCause.TheVariants as why
 use Rattle.session_core.specs.declared.stage.Over.TheVariants as over
 use Rattle.session_core.specs.declared.stage.Turn.TheVariants as turn
-use Rattle.session_core.specs.declared.stream.TheConstants.{INTERRUPTIONS_MAX, READS_MAX}
+use Rattle.logged_streams.specs.declared.stream_log.TheConstants.{INTERRUPTIONS_MAX}
+use Rattle.session_core.specs.declared.reading.TheConstants.{READS_MAX}
 use Rattle.session_core.specs.Output.{OutputState, fresh_output}
-use Rattle.session_core.specs.declared.stream.Gave.{Gave}
-use Rattle.session_core.specs.declared.stream.Gave.TheVariants as gave
-use Rattle.session_core.specs.Streams.{LogState, LoggedReaderState, fresh_log, one_more, noted, ReadsOnce, IsReadNoMore}
+use Rattle.logged_streams.specs.declared.stream_log.Gave.{Gave}
+use Rattle.logged_streams.specs.declared.stream_log.Gave.TheVariants as gave
+use Rattle.logged_streams.specs.Streams.{LogState, LoggedReaderState, fresh_log, one_more, noted, ReadsOnce, IsReadNoMore}
 use Rattle.session_core.specs.Turns.{OverBy}
 use Rattle.session_core.specs.Pieces.{IsServing, IsAnswered, LeavesPiece, LeavesOff, PieceBy, TakesPiece}
 use Rattle.session_core.specs.Reading.{IsMet, MayRead, ReadBy, ReadsOn, HasRead, ReadsAll}
@@ -55,7 +56,7 @@ closed law from to decoder at o none calls met = record {
   goes = λ (base : Option (List ℕ)) (input : List ℕ) (h : IsServing base input decoder o at). (inr (is_answered law base (input ++ []) decoder o at (with_none base input decoder o at h)), met);
 }
 
-pub failed : CutsDoNotMatter SpellsRequest 65792 → (from to : LoggedReaderState) (decoder : DecoderState) (at : Stage) (o : OutputState) → Consumes from.remaining to.remaining [] → to.log.calls ≡ one_more from.log.calls → IsReadNoMore to.log
+pub failed : CutsDoNotMatter SpellsRequest 65792 → (from to : LoggedReaderState) (decoder : DecoderState) (at : Stage) (o : OutputState) → Consumes from.remaining to.remaining [] → to.log.calls ≡ one_more from.log.calls → IsReadNoMore READS_MAX to.log
     → ReadsOn from to decoder decoder at o o (turn.Over (over.Leaves at why.ReadFault))
 failed law from to decoder at o none calls worn = record {
   piece = [];
@@ -153,7 +154,7 @@ read_over from mid to base decoder after at o new found h k = record {
 }
 
 -- the reader was read as often as a session may
-pub read_enough : CutsDoNotMatter SpellsRequest 65792 → (from to : LoggedReaderState) (base : Option (List ℕ)) (decoder : DecoderState) (at : Stage) (o : OutputState) → HasRead from to base decoder at o → IsReadNoMore to.log → ReadsAll from to base o (over.Leaves at why.ReadFault)
+pub read_enough : CutsDoNotMatter SpellsRequest 65792 → (from to : LoggedReaderState) (base : Option (List ℕ)) (decoder : DecoderState) (at : Stage) (o : OutputState) → HasRead from to base decoder at o → IsReadNoMore READS_MAX to.log → ReadsAll from to base o (over.Leaves at why.ReadFault)
 read_enough law from to base decoder at o h worn = record {
   input = h.input;
   consumes = h.consumes;

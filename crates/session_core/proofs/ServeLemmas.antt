@@ -4,11 +4,12 @@ use Rattle.std.specs.Io.KnownBytes.{Appends, Consumes}
 use Rattle.std.proofs.KnownBytes.{Appends-nil, Consumes-nil}
 use Rattle.session_core.specs.declared.end.End.TheVariants as end
 use Rattle.session_core.specs.Stages.{Over, LeftSession}
-use Rattle.session_core.specs.declared.stream.TheConstants.{INTERRUPTIONS_MAX, READS_MAX}
+use Rattle.logged_streams.specs.declared.stream_log.TheConstants.{INTERRUPTIONS_MAX}
+use Rattle.session_core.specs.declared.reading.TheConstants.{READS_MAX}
 use Rattle.session_core.specs.declared.told.Told.{Told}
 use Rattle.session_core.specs.Answers.{answers_text, receipts_of}
 use Rattle.session_core.specs.Output.{OutputState, fresh_output}
-use Rattle.session_core.specs.Streams.{LogState, LoggedReaderState, fresh_log}
+use Rattle.logged_streams.specs.Streams.{LogState, LoggedReaderState, fresh_log}
 use Rattle.session_core.specs.Reading.{ReadsFresh}
 use Rattle.session_core.specs.Closing.{LeavesAll, session_of}
 use Rattle.session_core.specs.Served.{SessionState, ComesTo, Serves}

@@ -11,12 +11,12 @@ use Rattle.session_core.specs.declared.stage.Stage.TheVariants as stage
 use Rattle.session_core.specs.declared.stage.LeaveCause.{LeaveCause}
 use Rattle.session_core.specs.declared.stage.LeaveCause.TheVariants as why
 use Rattle.session_core.specs.declared.stage.Over.TheVariants as over
-use Rattle.session_core.specs.declared.stream.TheConstants.{INTERRUPTIONS_MAX}
+use Rattle.logged_streams.specs.declared.stream_log.TheConstants.{INTERRUPTIONS_MAX}
 use Rattle.session_core.specs.Output.{OutputState, SendsAll, FailsToSend}
 use Rattle.session_core.specs.Pieces.{IsOver}
 use Rattle.session_core.specs.Reading.{IsMet}
 use Rattle.session_core.specs.Served.{SessionState, ComesTo}
-use Rattle.session_core.specs.Streams.{LoggedReaderState, LogState}
+use Rattle.logged_streams.specs.Streams.{LoggedReaderState, LogState}
 
 -- the end of a session that has written all its answers
 abbrev pub end_of : LeaveCause → End

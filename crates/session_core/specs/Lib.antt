@@ -1,5 +1,4 @@
 pub mod Answers
-pub mod Streams
 pub mod Output
 pub mod Talk
 pub mod Served

@@ -3,7 +3,7 @@ use Rattle.std.specs.Prelude.{◌≡◌, ℕ, List, [], ◌∷◌, ◌++◌, Opt
 use Rattle.std.specs.Io.KnownBytes.{Appends}
 use Rattle.frame_codec.specs.Decoding.{told_place}
 use Rattle.session_core.specs.Answers.{answers_text, IsFrontWritten}
-use Rattle.session_core.specs.Streams.{LoggedWriterState, fresh_log, IsWrittenNoMore}
+use Rattle.logged_streams.specs.Streams.{LoggedWriterState, fresh_log, IsWrittenNoMore}
 use Rattle.session_core.specs.declared.told.Told.{Told}
 
 -- the writer; the bytes that are not written yet; how many were, as it is told; and the answers

@@ -2,19 +2,20 @@
 use Rattle.std.specs.Prelude.{◌≡◌, ℕ, ◌<◌, List, ◌++◌, Option}
 use Rattle.std.specs.Io.KnownBytes.{Consumes, IsAtEnd}
 use Rattle.frame_codec.specs.Decoding.{DecoderState}
-use Rattle.session_core.specs.declared.stream.TheConstants.{INTERRUPTIONS_MAX}
+use Rattle.logged_streams.specs.declared.stream_log.TheConstants.{INTERRUPTIONS_MAX}
+use Rattle.session_core.specs.declared.reading.TheConstants.{READS_MAX}
 use Rattle.session_core.specs.Stages.{Stage, Over, Turn}
 use Rattle.session_core.specs.declared.stage.LeaveCause.TheVariants as why
 use Rattle.session_core.specs.declared.stage.Over.TheVariants as over
 use Rattle.session_core.specs.declared.stage.Turn.TheVariants as turn
 use Rattle.session_core.specs.Output.{OutputState, fresh_output}
 use Rattle.session_core.specs.Pieces.{IsServing, IsOver}
-use Rattle.session_core.specs.Streams.{LoggedReaderState, one_more, IsReadNoMore}
+use Rattle.logged_streams.specs.Streams.{LoggedReaderState, one_more, IsReadNoMore}
 
 -- a session is closed only at the end of its bytes, and has a read fault only where its reader is read no more
 abbrev pub IsMet : LoggedReaderState → Over → Type 0
 IsMet source (over.Leaves at why.Closed) = IsAtEnd source.remaining
-IsMet source (over.Leaves at why.ReadFault) = IsReadNoMore source.log
+IsMet source (over.Leaves at why.ReadFault) = IsReadNoMore READS_MAX source.log
 IsMet source other = Unit {0}
 
 -- a session goes on while its reader may be read

@@ -13,13 +13,14 @@ use Rattle.frame_codec.specs.declared.decoder.Progress.{Progress}
 use Rattle.frame_codec.specs.declared.decoder.Progress.TheVariants as progress
 use Rattle.record_book.specs.Seat.{Receipted, SeatState}
 use Rattle.system_lock.specs.Kernel.{IsOpening, IsError}
-use Rattle.session_core.specs.declared.stream.TheConstants.{INTERRUPTIONS_MAX, READS_MAX}
+use Rattle.logged_streams.specs.declared.stream_log.TheConstants.{INTERRUPTIONS_MAX}
+use Rattle.session_core.specs.declared.reading.TheConstants.{READS_MAX}
 use Rattle.session_core.specs.declared.end.End.{End}
 use Rattle.session_core.specs.declared.end.End.TheVariants as end
 use Rattle.session_core.specs.declared.told.Told.{Told}
 use Rattle.session_core.specs.declared.told.Told.TheVariants as told
 use Rattle.session_core.specs.Answers.{answers_text, receipts_of, IsFrontWritten}
-use Rattle.session_core.specs.Streams.{LogState, IsWrittenNoMore, IsReadNoMore}
+use Rattle.logged_streams.specs.Streams.{LogState, IsWrittenNoMore, IsReadNoMore}
 use Rattle.session_core.specs.Talk.{AreAnswered, Converses, IsCut}
 
 -- ---- what was read
@@ -176,7 +177,7 @@ IsRunFull input answers = (answers ≡ told.Refused refusal.RunFull ∷ []) ⊎ 
 -- why a session ends. Nothing is said here of want of memory, and of a seat that the kernel does not know
 abbrev pub EndsFor : List ℕ → SessionState → End → Type 0
 EndsFor input s end.Closed = IsClosed input s
-EndsFor input s end.ReadFault = IsReadNoMore s.reads × AnswersAll input s.answers
+EndsFor input s end.ReadFault = IsReadNoMore READS_MAX s.reads × AnswersAll input s.answers
 EndsFor input s (end.WriteFault sent) = IsWrittenNoMore s.writes
 EndsFor input s end.Malformed = AnswersToFault input s.answers ⊎ AnswersToMisplaced input s.answers
 EndsFor input s end.RunFull = IsRunFull input s.answers

@@ -1,6 +1,7 @@
 //! One session: requests as bytes in, answers as bytes out, over any reader, writer and kernel.
 #![tactic(auto)]
 
+mod asking;
 mod closing;
 pub mod end;
 pub mod gate;
@@ -10,6 +11,5 @@ mod pieces;
 mod reading;
 pub mod serve;
 mod stage;
-pub mod stream;
 pub mod told;
 mod turns;

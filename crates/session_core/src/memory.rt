@@ -4,7 +4,7 @@ ghost use Rattle.std.specs.Prelude.{◌≡◌, ◌+◌, ◌≤◌, ◌⊎◌, []
 ghost use Rattle.std.specs.Io.{ReadsAtMost, WritesAtMost};
 ghost use Rattle.std.specs.Io.KnownBytes.{ReadConsumes, WriteAppends, Keeps};
 ghost use Rattle.std.specs.IoError.{error_kind};
-ghost use Rattle.session_core.specs.Streams.{one_more};
+ghost use Rattle.logged_streams.specs.Streams.{one_more};
 ghost use Rattle.session_core.specs.Memory.{fault_of, fails_now, given_count, GivesFront};
 
 use std::alloc::Global;

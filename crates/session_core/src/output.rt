@@ -5,11 +5,13 @@ ghost use Rattle.session_core.specs.declared.told.Told.TheVariants as told;
 ghost use Rattle.session_core.specs.Output.{fresh_output, Passes, Puts, Flushes, SendsAll, FailsToSend};
 ghost use Rattle.session_core.specs.Closing.{IsTaken};
 
+use crate::asking::ask_often;
 use crate::gate::Gate;
-use crate::stream::{LoggedWriter, StreamLog, WriterFailed};
 use crate::told::Told;
 use call_types::refusal::Refusal;
 use frame_codec::encode::{encode_recorded, encode_refused};
+use logged_streams::stream_log::StreamLog;
+use logged_streams::writer::{LoggedWriter, WriterFailed};
 use record_book::seat::Receipt;
 use std::alloc::{AllocError, Global};
 use std::io::Write;
@@ -74,7 +76,7 @@ fn let_all<W: Write, G: Gate>(
 {
     let mut seen = seen;
     for answer in answers {
-        if !sink.ask_often(gate, session, place_of(answer, seen)) {
+        if !ask_often(sink, gate, session, place_of(answer, seen)) {
             return (false, seen);
         }
         seen = seen_with(answer, seen);

@@ -5,22 +5,26 @@ ghost use Rattle.frame_codec.specs.Decoding.{fresh};
 ghost use Rattle.session_core.specs.Reading.{ReadsOn, ReadsFresh};
 ghost use Rattle.session_core.specs.declared.stage.Over.TheVariants as over;
 ghost use Rattle.session_core.specs.declared.stage.Turn.TheVariants as turn;
-ghost use Rattle.session_core.specs.Streams.{fresh_log};
+ghost use Rattle.logged_streams.specs.Streams.{fresh_log};
 
 use crate::gate::Gate;
 use crate::output::Output;
 use crate::pieces::take_piece;
 use crate::stage::{LeaveCause, Over, OverOf, Stage, StageOf, Turn, TurnOf};
-use crate::stream::{Gave, INTERRUPTIONS_MAX, LoggedReader, READS_MAX};
 use byte_ledger::ledgers::Ledgers;
 use frame_codec::decoder::Decoder;
 use frame_codec::frame_kind::Requests;
 use frame_codec::laws::cuts_do_not_matter;
+use logged_streams::reader::LoggedReader;
+use logged_streams::stream_log::{Gave, INTERRUPTIONS_MAX};
 use record_book::seat::{Seat, SpentSeat};
 use std::alloc::Global;
 use std::io::{Read, Write};
 use std::sync::Wait;
 use system_lock::kernel::Kernel;
+
+/// How many reads a session has.
+pub(crate) const READS_MAX: u32 = 1_048_576;
 
 /// How many bytes a read asks for.
 const PIECE: usize = 65_536;

@@ -1,6 +1,6 @@
 //! Words, numbers and bytes as lines.
 use itoa::Buffer;
-use session_core::stream::StreamLog;
+use logged_streams::stream_log::StreamLog;
 use std::alloc::AllocError;
 
 /// Appends a word.

@@ -3,7 +3,6 @@
 ghost use Rattle.std.specs.Prelude.{◌≡◌, ◌≤◌, length};
 
 use audit_core::audit::{AuditFault, audit};
-use audit_core::reader::TraceReader;
 use audit_core::verdict::Verdict;
 use call_types::outcome::{Outcome, Reply};
 use std::alloc::Global;
@@ -52,7 +51,7 @@ fn expected_at(place: u64, expected: &Option<Outcome>) -> Said {
 
 /// What is said of what a reader gives.
 fn said_of<R: Read + Drop>(alloc: Global, reader: R) -> Said {
-    let mut reader = TraceReader::new(reader);
+    let mut reader = LoggedReader::new(reader);
     match audit(alloc, &mut reader) {
         Ok(Verdict::Legal { records, rest }) => Said::Legal(records, rest),
         Ok(Verdict::Illegal { place, expected }) => expected_at(place, &expected),
@@ -224,15 +223,15 @@ fn trace_is_read_in_any_pieces(rt: HostRuntime) -> Result<(), Fail> {
 
 #[test]
 fn reads_are_counted(rt: HostRuntime) -> Result<(), Fail> {
-    let mut reader = TraceReader::new(SlowReader::new(99, 15));
+    let mut reader = LoggedReader::new(SlowReader::new(99, 15));
     assert!(rt; audit(rt.alloc(), &mut reader).is_ok());
-    assert_eq!(rt; reader.reads(), 55 * 16);
-    assert_eq!(rt; reader.interruptions(), 0);
-    assert!(rt; !reader.has_failed());
-    assert_eq!(rt; reader.into_inner().given, 54);
-    let mut reader = TraceReader::new(SlowReader::new(0, 0));
+    assert_eq!(rt; reader.log().calls(), 55 * 16);
+    assert_eq!(rt; reader.log().interruptions(), 0);
+    assert!(rt; !reader.log().has_failed());
+    assert_eq!(rt; reader.into_parts().0.given, 54);
+    let mut reader = LoggedReader::new(SlowReader::new(0, 0));
     assert!(rt; audit(rt.alloc(), &mut reader).is_err());
-    assert_eq!(rt; reader.reads(), 1);
-    assert!(rt; reader.has_failed());
+    assert_eq!(rt; reader.log().calls(), 1);
+    assert!(rt; reader.log().has_failed());
     Ok(())
 }

@@ -1,13 +1,14 @@
-use Rattle.std.proofs.Common.{◌∙◌, arith}
+use Rattle.std.proofs.Common.{◌∙◌, ap, arith}
 use Rattle.std.proofs.lemmas.Result.{err_from_is_err_and}
+use Rattle.logged_streams.specs.Streams.{LogState}
 use Rattle.audit_core.proofs.AuditLemmas as laws
 use Rattle.audit_core.proofs.audit.read_often.Goals as goal
 
 pub loop-turn-init : goal.loop-turn-init
 loop-turn-init g c = record {
   room = c.requires.room;
-  reads = c.requires.unread.0;
-  few = omega (arith, c.requires.unread.1);
+  reads = ap (λ (log : LogState). log.calls) c.requires.unread;
+  few = omega (arith, ap (λ (log : LogState). log.interruptions) c.requires.unread);
   has_read = λ bounds e. laws.none_read bounds c.args.reader.now c.args.trace.now c.requires.unread e;
 }
 
@@ -27,7 +28,7 @@ loop-turn-preserved g c =
     let on = rw c.in_default.is at c.in_ok-verdict.ensures.reads in
     record {
       room = c.read_on.ensures.long ∙ c.loop-turn.invariant.room;
-      reads = laws.one_more c.loop-turn.reader.reads c.loop-turn._turn c.read_on.new.reader.reads (omega (arith, c.loop-turn-test.true)) c.loop-turn.invariant.reads c.read_on.ensures.reads.reads;
+      reads = laws.counted_more c.loop-turn.reader.log.calls c.loop-turn._turn c.read_on.new.reader.log.calls (omega (arith, c.loop-turn-test.true)) c.loop-turn.invariant.reads c.read_on.ensures.reads.reads;
       few = on.may;
       has_read = λ bounds e. laws.read_more bounds c.args.reader.now c.loop-turn.reader c.read_on.new.reader c.loop-turn.trace c.read_on.new.trace c.loop-turn._turn
           (omega (arith, c.loop-turn-test.true)) (c.loop-turn.invariant.has_read bounds e) on;

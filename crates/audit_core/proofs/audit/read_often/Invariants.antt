@@ -3,13 +3,14 @@ use Rattle.std.proofs.Common.{◌≡◌, ◌<◌, length}
 use Rattle.call_types.specs.declared.limits.Bounds.{Bounds}
 use Rattle.audit_core.specs.Audited.{HasRead}
 use Rattle.audit_core.specs.Taking.{fresh_trace}
-use Rattle.audit_core.specs.declared.reader.TheConstants.{INTERRUPTIONS_MAX, READ_LENGTH}
+use Rattle.audit_core.specs.declared.audit.TheConstants.{READ_LENGTH}
+use Rattle.logged_streams.specs.declared.stream_log.TheConstants.{INTERRUPTIONS_MAX}
 use Rattle.audit_core.proofs.audit.read_often.Given as goal
 
 abbrev pub invariant-loop-turn : goal.invariant-loop-turn
 invariant-loop-turn g l = record {
   room : length l.buffer ≡ READ_LENGTH;
-  reads : l.reader.reads ≡ l._turn;
-  few : l.reader.interruptions < INTERRUPTIONS_MAX;
+  reads : l.reader.log.calls ≡ l._turn;
+  few : l.reader.log.interruptions < INTERRUPTIONS_MAX;
   has_read : (bounds : Bounds) → l.fn.trace ≡ fresh_trace bounds → HasRead bounds l.fn.reader l.reader l.trace l._turn;
 }

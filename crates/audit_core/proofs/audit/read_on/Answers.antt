@@ -1,5 +1,5 @@
 use Rattle.std.proofs.Common.{ℕ, ◌≤◌, sym, subst}
-use Rattle.audit_core.specs.declared.reader.TheConstants.{READ_LENGTH}
+use Rattle.audit_core.specs.declared.audit.TheConstants.{READ_LENGTH}
 use Rattle.audit_core.proofs.AuditLemmas.{bytes_read}
 use Rattle.audit_core.proofs.audit.read_on.Goals as goal
 

@@ -1,5 +1,5 @@
 use Rattle.std.proofs.Common.{ℕ, ◌<◌, arith, inr, ap, subst, sym}
-use Rattle.session_core.specs.Streams.{LogState}
+use Rattle.logged_streams.specs.Streams.{LogState}
 use Rattle.session_core.proofs.ReadLemmas as laws
 use Rattle.session_core.proofs.reading.read_often.Goals as goal
 

@@ -1,12 +1,12 @@
 -- So many bytes were written so far.
 use Rattle.std.proofs.Common.{◌≡◌, length, ◌-◌}
-use Rattle.session_core.specs.Streams.{WritesFront}
-use Rattle.session_core.proofs.stream.LoggedWriter.write_all.Given as goal
+use Rattle.logged_streams.specs.Streams.{WritesFront}
+use Rattle.logged_streams.proofs.writer.LoggedWriter.write_all.Given as goal
 
 abbrev pub invariant-loop-written : goal.invariant-loop-written
 invariant-loop-written g l = record {
   front : WritesFront l.fn.self.contents l.self.contents l.bytes l.written;
-  gate : l.self.log.refusals ≡ l.fn.self.log.refusals;
+  leave : l.self.log.refusals ≡ l.fn.self.log.refusals;
 }
 
 abbrev pub decreases-loop-written : goal.decreases-loop-written

@@ -1,12 +1,12 @@
 -- An interrupted write takes nothing, and is counted.
 use Rattle.std.proofs.Common.{◌≡◌, ◌-◌}
 use Rattle.std.specs.Io.KnownBytes.{Keeps}
-use Rattle.session_core.proofs.stream.LoggedWriter.write_some.Given as goal
+use Rattle.logged_streams.proofs.writer.LoggedWriter.write_some.Given as goal
 
 abbrev pub invariant-loop-self : goal.invariant-loop-self
 invariant-loop-self g l = record {
   keeps : Keeps l.fn.self.contents l.self.contents;
-  gate : l.self.log.refusals ≡ l.fn.self.log.refusals;
+  leave : l.self.log.refusals ≡ l.fn.self.log.refusals;
 }
 
 abbrev pub decreases-loop-self : goal.decreases-loop-self

@@ -1,0 +1,6 @@
+//! Readers and writers, each with a log of what became of the calls on it.
+#![tactic(auto)]
+
+pub mod reader;
+pub mod stream_log;
+pub mod writer;
