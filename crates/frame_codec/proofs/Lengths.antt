@@ -12,6 +12,7 @@ use Rattle.frame_codec.specs.declared.answer.Answer.TheVariants as answers
 use Rattle.frame_codec.specs.Fields.{number_bytes, field_bytes, fields_bytes}
 use Rattle.frame_codec.specs.Requests.{frame_parts, call_bytes, request_bytes}
 use Rattle.frame_codec.specs.Answers.{outcome_bytes, answer_bytes}
+use Rattle.frame_codec.specs.Frames.{frame}
 use Rattle.frame_codec.specs.Records.{act_bytes, record_bytes}
 
 field_long : (k : FieldKind) (v : Value k) → length (field_bytes k v) ≡ field_length k v
@@ -44,6 +45,9 @@ short_number n = refl
 long_number : (n : ℕ) → length (number_bytes w64 n) ≡ 8
 unfolding number_bytes
 long_number n = refl
+
+pub frame_length : (payload : List ℕ) → length (frame payload) ≡ 4 + length payload
+frame_length payload = omega (arith, length-append (number_bytes w32 (length payload)) payload, short_number (length payload))
 
 pub recorded_length : (place : ℕ) (outcome : Outcome) → length (answer_bytes (answers.Recorded place outcome)) ≡ 9 + length (outcome_bytes outcome)
 unfolding answer_bytes

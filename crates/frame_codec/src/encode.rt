@@ -214,12 +214,26 @@ fn act_length(act: &Act) -> u32
     }
 }
 
+/// How many bytes the frame of a record has at most: 8, and those of the longest act and of the longest outcome. No record of a run
+/// has both.
+pub const RECORD_FRAME_MAX: usize = 131_266;
+
 /// How many bytes a record's payload has.
 #[tactic(auto, using(crate::proofs::Lengths::record_length))]
 fn record_length(record: &Record) -> u32
-    ensures { result ≡ length (record_bytes «record».now) }
+    ensures exact { result ≡ length (record_bytes «record».now) }
+    ensures few { result ≤ 131262 }
 {
     4 + act_length(&record.act) + outcome_length(&record.outcome)
+}
+
+/// How many bytes the frame has that `encode_record` writes of a record.
+#[tactic(auto, using(crate::proofs::Lengths::frame_length))]
+pub fn record_frame_length(record: &Record) -> usize
+    ensures exact { result ≡ length (frame (record_bytes «record».now)) }
+    ensures few { result ≤ RECORD_FRAME_MAX }
+{
+    HEAD + record_length(record) as usize
 }
 
 /// Appends an act.
@@ -252,11 +266,11 @@ fn put_record(out: &mut Vec<u8>, record: &Record) -> Result<(), AllocError>
 /// written too, as a closing by another actor than `HOUSE`: `records_have_frames` says which are taken.
 #[tactic(auto, using(crate::proofs::Fronts::keeps, crate::proofs::Fronts::keeps_after))]
 pub fn encode_record(out: &mut Vec<u8>, record: &Record) -> Result<(), AllocError>
-    ensures { Appends result out.old.items out.new.items (frame (record_bytes «record».now)) }
+    ensures appends { Appends result out.old.items out.new.items (frame (record_bytes «record».now)) }
+    ensures few { length (frame (record_bytes «record».now)) ≤ RECORD_FRAME_MAX }
 {
-    let length = record_length(record);
-    out.reserve(HEAD + length as usize)?;
-    put_u32(out, length)?;
+    out.reserve(record_frame_length(record))?;
+    put_u32(out, record_length(record))?;
     put_record(out, record)?;
     Ok(())
 }
