@@ -5,6 +5,7 @@ ghost use Rattle.std.specs.Prelude.{◌≡◌, ◌≤◌, length};
 use audit_core::audit::{AuditFault, audit};
 use audit_core::verdict::Verdict;
 use call_types::outcome::{Outcome, Reply};
+use logged_streams::reader::LoggedReader;
 use std::alloc::Global;
 use std::io;
 use std::io::{Error, ErrorKind, Read};
