@@ -10,11 +10,11 @@ use Rattle.frame_codec.specs.Fields.{number_bytes}
 use Rattle.frame_codec.specs.Frames.{frame, IsFrame, AreFrames}
 use Rattle.frame_codec.specs.Laws.{HasGiven, Gave, PiecesGoOn}
 use Rattle.frame_codec.specs.Records.{record_bytes, SpellsRecord}
-use Rattle.frame_codec.specs.Trace.{trace_header}
+use Rattle.frame_codec.specs.Trace.{trace_header, frames_of}
 use Rattle.frame_codec.specs.declared.decoder.Progress.{Progress}
 use Rattle.frame_codec.specs.declared.decoder.Progress.TheVariants as progress
 use Rattle.audit_core.specs.Judging.{JudgeState, HasJudged}
-use Rattle.audit_core.specs.Trace.{frames_of, HasFrame, HaveFrames, Begins, IsAtFault}
+use Rattle.audit_core.specs.Trace.{HasFrame, HaveFrames, Begins, IsAtFault}
 use Rattle.audit_core.specs.Verdict.{BreaksAt, IsIllegal, IsMalformedAt, JudgesAll}
 use Rattle.audit_core.specs.declared.judge.Judged.TheVariants as judged
 

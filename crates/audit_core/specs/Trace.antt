@@ -1,19 +1,10 @@
--- Traces, version 1: a header, and after it the frames of the records of a run, from the first one on (own).
+-- How bytes begin that are to be a trace (own).
 use Rattle.std.specs.Prelude.{◌≡◌, ◌≢◌, ℕ, ◌≤◌, ◌<◌, ◌⊎◌, List, [], ◌∷◌, ◌++◌, length, take}
 use Rattle.call_types.specs.declared.act.Record.{Record}
 use Rattle.call_types.specs.declared.limits.TheConstants.{RECORD_LENGTH_MAX}
-use Rattle.frame_codec.specs.Frames.{frame, IsShort, IsTooLong, IsMalformed}
+use Rattle.frame_codec.specs.Frames.{IsShort, IsTooLong, IsMalformed}
 use Rattle.frame_codec.specs.Records.{record_bytes, RecordFits, SpellsRecord}
-use Rattle.frame_codec.specs.Trace.{trace_header}
-
--- the frames of records, one after another
-abbrev pub frames_of : List Record → List ℕ
-frames_of [] = []
-frames_of (r ∷ h) = frame (record_bytes r) ++ frames_of h
-
--- the text of a history: the header, and the frames of its records in their order
-abbrev pub text : List Record → List ℕ
-text h = trace_header ++ frames_of h
+use Rattle.frame_codec.specs.Trace.{trace_header, text}
 
 -- a record that a frame can tell: its fields are in range, and its payload is not too long
 abbrev pub HasFrame : Record → Type 0

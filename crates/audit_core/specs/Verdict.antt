@@ -5,7 +5,8 @@ use Rattle.call_types.specs.declared.act.Record.{Record}
 use Rattle.call_types.specs.declared.outcome.Outcome.{Outcome}
 use Rattle.frame_codec.specs.Decoding.{told_place}
 use Rattle.posix_model.specs.History.{world_of, legal}
-use Rattle.audit_core.specs.Trace.{text, Begins, IsUnfinished, IsAtFault, EndsInHeader, HasNoHeader}
+use Rattle.frame_codec.specs.Trace.{text}
+use Rattle.audit_core.specs.Trace.{Begins, IsUnfinished, IsAtFault, EndsInHeader, HasNoHeader}
 use Rattle.audit_core.specs.Judging.{JudgeState, outcome_of, HasJudged}
 use Rattle.audit_core.specs.declared.judge.Judged.{Judged}
 use Rattle.audit_core.specs.declared.judge.Judged.TheVariants as judged
