@@ -101,5 +101,5 @@ read_enough bounds from to trace turns enough h = record {
   input = h.input;
   consumes = h.consumes;
   answers = tt;
-  met = inr (inr (omega (arith, enough, h.reads)));
+  met = inr (omega (arith, enough, h.reads));
 }
