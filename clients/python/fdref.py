@@ -28,7 +28,20 @@ What a call can end in:
     that is broken off in any other way, by KeyboardInterrupt or by what `on_wait` raises;
   - OverflowError or ValueError, where an argument has no place in a request. Nothing was sent.
 
-docs/FORMATS.md has the bytes of requests and answers, and docs/PROFILE.md what each call does.
+`write_trace` and `read_trace` need no server. An emulator that has run calls of its own writes them as a
+trace, which `fdref audit FILE` judges:
+
+    records = [
+        fdref.Record(0, "join", (), 0),
+        fdref.Record(0, "open", ("a", os.O_RDWR | os.O_CREAT), 0),
+        fdref.Record(0, "write", (0, b"hello"), 5),
+        fdref.Record(0, "read", (7, 5), fdref.Error("EBADF")),
+        fdref.Record(0, "exit"),
+        fdref.CLOSE_RUN,
+    ]
+    fdref.write_trace("trace", records)
+
+docs/FORMATS.md has the bytes of requests, answers and traces, and docs/PROFILE.md what each call does.
 """
 
 from __future__ import annotations
@@ -39,16 +52,24 @@ import socket
 import stat
 import struct
 import time
-from collections.abc import Callable
+from collections.abc import Callable, Iterable, Sequence
+from dataclasses import dataclass
 from typing import Any, NamedTuple
 
 # The flags of an open that reads neither nor writes, which is EINVAL. (O_RDONLY is 0, so no flag at
 # all asks to read.)
 O_NEITHER = os.O_WRONLY | os.O_RDWR
 
+# The greatest lengths in bytes: of the data of a call, of what a read gives, of a name, and of the payload of an answer
+# or a record.
 DATA_MOST = 65_700
+TRANSFER_MOST = 65_536
 NAME_MOST = 255
-ANSWER_MOST = 66_048
+ANSWER_MOST = RECORD_MOST = 66_048
+
+TRACE_HEADER = b"FDTRACE1"
+# The `pid` of the record that closes a run, which no process makes.
+HOUSE = 2**32 - 1
 
 ERRORS = (
     "EBADF EINVAL ESPIPE EFBIG EOVERFLOW ENOENT EEXIST EMLINK "
@@ -56,6 +77,7 @@ ERRORS = (
 ).split()
 REFUSALS = {17: "NoMemory", 18: "RunFull", 19: "Waiting", 20: "NotHere", 21: "Foreign"}
 KINDS = ("regular", "fifo", "pipe")
+BASES = (os.SEEK_SET, os.SEEK_CUR, os.SEEK_END)
 MODES = {os.O_RDONLY: 1, os.O_WRONLY: 2, os.O_RDWR: 3, O_NEITHER: 0}
 FLAGS = {os.O_CREAT: 4, os.O_EXCL: 8, os.O_TRUNC: 16, os.O_APPEND: 32, os.O_NONBLOCK: 64}
 
@@ -150,65 +172,68 @@ class Process:
         `flags` are O_RDONLY, O_WRONLY, O_RDWR or O_NEITHER, with any of O_CREAT, O_EXCL, O_TRUNC, O_APPEND and
         O_NONBLOCK.
         """
-        return self._ask(b"\x10" + bytes([_flags(flags)]) + _name(name))
+        return self._call("open", name, flags)
 
     def mkfifo(self, name: str | bytes) -> None:
-        return self._ask(b"\x1b" + _name(name))
+        return self._call("mkfifo", name)
 
     def link(self, src: str | bytes, dst: str | bytes) -> None:
-        return self._ask(b"\x1c" + _name(src) + _name(dst))
+        return self._call("link", src, dst)
 
     def unlink(self, name: str | bytes) -> None:
-        return self._ask(b"\x1d" + _name(name))
+        return self._call("unlink", name)
 
     # -- bytes and offsets
 
     def read(self, fd: int, n: int) -> bytes:
         """Reads at most n bytes; from an empty pipe that somebody can write to it waits."""
-        return self._ask(b"\x12" + _fd(fd) + _number(n, 4))
+        return self._call("read", fd, n)
 
     def write(self, fd: int, data: bytes) -> int:
         """Writes, and returns how many bytes; where a pipe has no room it waits."""
-        return self._ask(b"\x13" + _fd(fd) + _data(data))
+        return self._call("write", fd, data)
 
     def pread(self, fd: int, n: int, offset: int) -> bytes:
-        return self._ask(b"\x14" + _fd(fd) + _offset(offset) + _number(n, 4))
+        return self._call("pread", fd, n, offset)
 
     def pwrite(self, fd: int, data: bytes, offset: int) -> int:
-        return self._ask(b"\x15" + _fd(fd) + _offset(offset) + _data(data))
+        return self._call("pwrite", fd, data, offset)
 
     def lseek(self, fd: int, pos: int, how: int) -> int:
         """Moves the offset; `how` is SEEK_SET, SEEK_CUR or SEEK_END of `os`."""
-        bases = (os.SEEK_SET, os.SEEK_CUR, os.SEEK_END)
-        return self._ask(b"\x16" + _fd(fd) + _offset(pos) + bytes([bases.index(how)]))
+        return self._call("lseek", fd, pos, how)
 
     def ftruncate(self, fd: int, length: int) -> None:
-        return self._ask(b"\x17" + _fd(fd) + _offset(length))
+        return self._call("ftruncate", fd, length)
 
     # -- descriptors and processes
 
     def close(self, fd: int) -> None:
         """Closes a descriptor (`exit` closes the connection)."""
-        return self._ask(b"\x11" + _fd(fd))
+        return self._call("close", fd)
 
     def dup(self, fd: int) -> int:
-        return self._ask(b"\x18" + _fd(fd))
+        return self._call("dup", fd)
 
     def dup2(self, fd: int, fd2: int) -> int:
-        return self._ask(b"\x19" + _fd(fd) + _fd(fd2))
+        return self._call("dup2", fd, fd2)
 
     def pipe(self) -> tuple[int, int]:
         """Makes a pipe, and returns the descriptors of its reading and its writing end."""
-        return self._ask(b"\x1a")
+        return self._call("pipe")
 
     def fstat(self, fd: int) -> Stat:
-        return self._ask(b"\x1e" + _fd(fd))
+        return self._call("fstat", fd)
 
     def fork(self) -> int:
         """Makes a child that has the same open descriptors, and returns its number; `attach` lets it make calls."""
-        return self._ask(b"\x1f")
+        return self._call("fork")
 
     # -- requests and answers
+
+    def _call(self, name: str, *values: Any) -> Any:
+        """Asks a call by its name."""
+        return self._ask(_call_bytes(name, values))
 
     def _ask(self, request: bytes) -> Any:
         """Asks. A call that is broken off ends the process, since the next call would be given its answers."""
@@ -255,29 +280,89 @@ class Process:
         """Whether an answer tells that the call waits, and its value."""
         if answer[0] == 2:
             raise Refused(REFUSALS[answer[1]])
-        record, self.place, kind = struct.unpack(">BQB", answer[:10])
+        record, self.place = struct.unpack(">BQ", answer[:9])
         if record != 1:
             raise KeyError(record)
-        rest = answer[10:]
-        if kind in (7, 8):
-            return True, struct.unpack(">I", rest)[0]
-        return False, self._read_reply(kind, rest)
+        outcome = _read_outcome(answer[9:])
+        if isinstance(outcome, Error):
+            raise CallError(outcome.name, self.place)
+        if isinstance(outcome, Parked | Part):
+            return True, outcome.moved
+        return False, outcome
 
-    def _read_reply(self, kind: int, rest: bytes) -> Any:
-        if kind == 1:
-            return None
-        if kind == 2:
-            return struct.unpack(">Q", rest)[0]
-        if kind == 3:
-            return struct.unpack(f">I{len(rest) - 4}s", rest)[1]
-        if kind == 4:
-            return struct.unpack(">II", rest)
-        if kind == 5:
-            number, size, links = struct.unpack(">BQI", rest)
-            return Stat(KINDS[number], stat.S_IFIFO if number else stat.S_IFREG, size, links)
-        if kind == 6:
-            raise CallError(ERRORS[rest[0] - 1], self.place)
-        raise KeyError(kind)
+
+# -- outcomes
+
+
+@dataclass(frozen=True)
+class Error:
+    """An error number as the outcome of a record, by its name, such as "EBADF"."""
+
+    name: str
+
+
+@dataclass(frozen=True)
+class Parked:
+    """The outcome of a call that has to wait, and how many bytes it has moved before."""
+
+    moved: int = 0
+
+
+@dataclass(frozen=True)
+class Part:
+    """The outcome of a resume after which a write still waits, and how many bytes it has moved in all."""
+
+    moved: int
+
+
+def _outcome(value: Any) -> bytes:
+    """An outcome, as a record has it."""
+    if value is None:
+        return b"\x01"
+    if isinstance(value, int):
+        return b"\x02" + _number(value, 8)
+    if isinstance(value, bytes | bytearray | memoryview):
+        return b"\x03" + _data(value, TRANSFER_MOST)
+    if isinstance(value, Stat):
+        numbers = _number(value.st_size, 8) + _number(value.st_nlink, 4)
+        return bytes([5, _place_in(KINDS, value.kind, "kind of file")]) + numbers
+    if isinstance(value, Error | OSError):
+        name = value.name if isinstance(value, Error) else errno.errorcode.get(value.errno or 0)
+        return bytes([6, _place_in(ERRORS, name, "error") + 1])
+    if isinstance(value, Parked | Part):
+        return (b"\x07" if isinstance(value, Parked) else b"\x08") + _number(value.moved, 4)
+    if isinstance(value, tuple) and len(value) == 2:
+        return b"\x04" + _number(value[0], 4) + _number(value[1], 4)
+    raise ValueError(f"no call has the outcome {value!r}")
+
+
+def _read_outcome(some: bytes) -> Any:
+    """The value of an outcome, which is all of these bytes. A fault is struct.error, IndexError or KeyError."""
+    kind, rest = some[0], some[1:]
+    if kind == 1 and not rest:
+        return None
+    if kind == 2:
+        return struct.unpack(">Q", rest)[0]
+    if kind == 3:
+        count, data = struct.unpack(f">I{len(rest) - 4}s", rest)
+        if count != len(data) or count > TRANSFER_MOST:
+            raise KeyError(count)
+        return data
+    if kind == 4:
+        return struct.unpack(">II", rest)
+    if kind == 5:
+        number, size, links = struct.unpack(">BQI", rest)
+        return Stat(KINDS[number], stat.S_IFIFO if number else stat.S_IFREG, size, links)
+    if kind == 6:
+        (number,) = struct.unpack(">B", rest)
+        return Error(dict(enumerate(ERRORS, 1))[number])
+    if kind in (7, 8):
+        (moved,) = struct.unpack(">I", rest)
+        return Parked(moved) if kind == 7 else Part(moved)
+    raise KeyError(kind)
+
+
+# -- the fields of calls
 
 
 def _number(value: int, size: int, signed: bool = False) -> bytes:
@@ -288,8 +373,16 @@ def _fd(fd: int) -> bytes:
     return _number(fd, 4, signed=True)
 
 
+def _count(count: int) -> bytes:
+    return _number(count, 4)
+
+
 def _offset(offset: int) -> bytes:
     return _number(offset, 8, signed=True)
+
+
+def _how(how: int) -> bytes:
+    return bytes([_place_in(BASES, how, "place to seek from")])
 
 
 def _name(name: str | bytes) -> bytes:
@@ -299,14 +392,14 @@ def _name(name: str | bytes) -> bytes:
     return bytes([len(name)]) + name
 
 
-def _data(data: bytes) -> bytes:
+def _data(data: bytes | bytearray | memoryview, most: int = DATA_MOST) -> bytes:
     data = bytes(data)
-    if len(data) > DATA_MOST:
-        raise ValueError(f"{len(data)} bytes, and a request holds {DATA_MOST}")
+    if len(data) > most:
+        raise ValueError(f"{len(data)} bytes, and at most {most} have a place here")
     return _number(len(data), 4) + data
 
 
-def _flags(flags: int) -> int:
+def _flags(flags: int) -> bytes:
     """The flags of an open, as a request has them."""
     byte = MODES[flags & O_NEITHER]
     flags &= ~O_NEITHER
@@ -316,4 +409,259 @@ def _flags(flags: int) -> int:
             flags &= ~flag
     if flags:
         raise ValueError(f"flags that no request holds: {flags:#o}")
-    return byte
+    return bytes([byte])
+
+
+def _place_in(values: Sequence[Any], value: Any, what: str) -> int:
+    """The place of a value among those that there are."""
+    if value not in values:
+        raise ValueError(f"{value!r} is no {what}")
+    return values.index(value)
+
+
+class _Reader:
+    """Bytes that are read from left to right. A fault is IndexError or KeyError."""
+
+    def __init__(self, some: bytes, at: int = 0) -> None:
+        self.some = some
+        self.at = at
+
+    def take(self, count: int) -> bytes:
+        """So many bytes."""
+        start, self.at = self.at, self.at + count
+        if self.at > len(self.some):
+            raise IndexError(count)
+        return self.some[start : self.at]
+
+    def number(self, size: int, signed: bool = False) -> int:
+        """A number of so many bytes."""
+        return int.from_bytes(self.take(size), "big", signed=signed)
+
+    def fd(self) -> int:
+        return self.number(4, signed=True)
+
+    def count(self) -> int:
+        return self.number(4)
+
+    def offset(self) -> int:
+        return self.number(8, signed=True)
+
+    def how(self) -> int:
+        return BASES[self.number(1)]
+
+    def name(self) -> str:
+        return os.fsdecode(self.take(self.number(1)))
+
+    def data(self) -> bytes:
+        count = self.number(4)
+        if count > DATA_MOST:
+            raise IndexError(count)
+        return self.take(count)
+
+    def flags(self) -> int:
+        """The flags of an open, as `os` has them."""
+        byte = self.number(1)
+        if byte > 127:
+            raise KeyError(byte)
+        mode = next(flag for flag, bits in MODES.items() if bits == byte & 3)
+        return mode | sum(flag for flag, bit in FLAGS.items() if byte & bit)
+
+
+class _Field(NamedTuple):
+    """How a field is written and read."""
+
+    write: Callable[[Any], bytes]
+    read: Callable[[_Reader], Any]
+
+
+_FD = _Field(_fd, _Reader.fd)
+_COUNT = _Field(_count, _Reader.count)
+_OFFSET = _Field(_offset, _Reader.offset)
+_HOW = _Field(_how, _Reader.how)
+_NAME = _Field(_name, _Reader.name)
+_DATA = _Field(_data, _Reader.data)
+_FLAGS = _Field(_flags, _Reader.flags)
+
+
+class _Form(NamedTuple):
+    """The byte of a call, its fields in the order of a frame, and where each stands among its arguments."""
+
+    byte: int
+    fields: tuple[_Field, ...] = ()
+    places: tuple[int, ...] = ()
+
+
+_CALLS = {
+    "open": _Form(16, (_FLAGS, _NAME), (1, 0)),
+    "close": _Form(17, (_FD,), (0,)),
+    "read": _Form(18, (_FD, _COUNT), (0, 1)),
+    "write": _Form(19, (_FD, _DATA), (0, 1)),
+    "pread": _Form(20, (_FD, _OFFSET, _COUNT), (0, 2, 1)),
+    "pwrite": _Form(21, (_FD, _OFFSET, _DATA), (0, 2, 1)),
+    "lseek": _Form(22, (_FD, _OFFSET, _HOW), (0, 1, 2)),
+    "ftruncate": _Form(23, (_FD, _OFFSET), (0, 1)),
+    "dup": _Form(24, (_FD,), (0,)),
+    "dup2": _Form(25, (_FD, _FD), (0, 1)),
+    "pipe": _Form(26),
+    "mkfifo": _Form(27, (_NAME,), (0,)),
+    "link": _Form(28, (_NAME, _NAME), (0, 1)),
+    "unlink": _Form(29, (_NAME,), (0,)),
+    "fstat": _Form(30, (_FD,), (0,)),
+    "fork": _Form(31),
+}
+_CALLS_BY_BYTE = {form.byte: name for name, form in _CALLS.items()}
+
+
+def _call_bytes(name: str, values: Sequence[Any]) -> bytes:
+    """A call, as requests and records have it."""
+    form = _CALLS[name]
+    if len(values) != len(form.places):
+        raise ValueError(f"{name} takes {len(form.places)} arguments, and {len(values)} are given")
+    fields = (field.write(values[place]) for field, place in zip(form.fields, form.places, strict=True))
+    return bytes([form.byte]) + b"".join(fields)
+
+
+def _read_call(byte: int, reader: _Reader) -> tuple[str, tuple[Any, ...]]:
+    """The name of a call, of which the first byte was read, and its arguments."""
+    name = _CALLS_BY_BYTE[byte]
+    form = _CALLS[name]
+    values = dict(zip(form.places, (field.read(reader) for field in form.fields), strict=True))
+    return name, tuple(values[place] for place in range(len(values)))
+
+
+# -- traces
+
+
+class Record(NamedTuple):
+    """What a process has done, and what came of it.
+
+    `pid` is the number of the process. `act` is "join", "attach", "resume", "exit", "close-run", or the name of a call,
+    whose arguments `args` are those of its method, in their order. `outcome` is
+
+      - what the method returns: None, a number, bytes, a pair of descriptors, or a Stat;
+      - Error, or an OSError with an `errno`, where the call failed;
+      - Parked where it has to wait; its reply is then the outcome of a later "resume";
+      - Part where it waits on after a resume.
+
+    A join has the number of the new process as its outcome and as its `pid`. A trace holds any of these, right or
+    wrong, and so may a record that no run can have.
+    """
+
+    pid: int
+    act: str
+    args: tuple[Any, ...] = ()
+    outcome: Any = None
+
+
+CLOSE_RUN = Record(HOUSE, "close-run")
+"""The record with which a run is closed. After it there are only calls and exits of processes that are still there."""
+
+
+class Trace(NamedTuple):
+    """What a file holds: its whole records, and the bytes after them, which are fewer than a record needs."""
+
+    records: list[Record]
+    rest: bytes
+
+
+class Malformed(ValueError):
+    """A file that is no trace. `at` is where its fault is, in bytes from its start, as `fdref audit` tells it, and
+    `records` are those before it."""
+
+    def __init__(self, at: int, records: Sequence[Record] = ()) -> None:
+        super().__init__(f"no record at byte {at}" if at else "the first bytes are not those of a trace")
+        self.at = at
+        self.records = list(records)
+
+
+def write_trace(path: str | os.PathLike[str], records: Iterable[Record]) -> int:
+    """Writes records as a trace, over what is at the path, and returns how many they are.
+
+    It holds no record back, so `records` may be of any length and may still come while it writes. A record that has no
+    place in a trace is a ValueError which tells the place of the record, counted from 0, and why: an unknown act, too
+    many or too few arguments, a number out of its range, a name of more than 255 bytes, data of more than 65,700 bytes
+    in a call or 65,536 in an outcome, flags that fdref does not know, an error that is none of fdref's, or a close-run
+    of another `pid` than HOUSE. The file then has the records before it.
+    """
+    count = 0
+    with open(path, "wb") as file:
+        file.write(TRACE_HEADER)
+        for record in records:
+            file.write(_record_frame(record, count))
+            count += 1
+    return count
+
+
+def read_trace(path: str | os.PathLike[str]) -> Trace:
+    """Reads a trace: its whole records, and what is left over, which a writer that was stopped may leave behind.
+
+    Names come as `os.fsdecode` gives them. Whether the records are right is not asked: `fdref audit` tells that. A file
+    that is no trace is a ValueError, Malformed.
+    """
+    with open(path, "rb") as file:
+        some = file.read()
+    head = some[: len(TRACE_HEADER)]
+    if not TRACE_HEADER.startswith(head):
+        raise Malformed(0)
+    if head != TRACE_HEADER:
+        return Trace([], some)
+    records: list[Record] = []
+    at = len(TRACE_HEADER)
+    while len(some) - at >= 4:
+        length = int.from_bytes(some[at : at + 4], "big")
+        end = at + 4 + length
+        if end > len(some) and length <= RECORD_MOST:
+            break
+        try:
+            records.append(_read_record(some[at + 4 : end], length))
+        except (struct.error, IndexError, KeyError):
+            raise Malformed(at, records) from None
+        at = end
+    return Trace(records, some[at:])
+
+
+# The acts of a record that are no calls.
+_ACTS = {"join": 1, "attach": 2, "resume": 3, "exit": 4, "close-run": 5}
+_ACTS_BY_BYTE = {byte: act for act, byte in _ACTS.items()}
+
+
+def _record_frame(record: Record, place: int) -> bytes:
+    """The frame of the record at a place."""
+    try:
+        payload = _record_bytes(*record)
+    except OverflowError:
+        why = "a number is out of its range"
+    except (TypeError, AttributeError):
+        why = "a value is of the wrong kind"
+    except ValueError as fault:
+        why = str(fault)
+    else:
+        return _number(len(payload), 4) + payload
+    raise ValueError(f"record {place}: {why}")
+
+
+def _record_bytes(pid: int, act: str, args: Sequence[Any] = (), outcome: Any = None) -> bytes:
+    """The payload of a record."""
+    if act in _CALLS:
+        middle = _call_bytes(act, args)
+    elif act not in _ACTS:
+        raise ValueError(f"{act!r} is no act")
+    elif args:
+        raise ValueError(f"{act} takes no arguments")
+    elif act == "close-run" and pid != HOUSE:
+        raise ValueError(f"a close-run has the pid {HOUSE}")
+    else:
+        middle = bytes([_ACTS[act]])
+    return _number(pid, 4) + middle + _outcome(outcome)
+
+
+def _read_record(some: bytes, length: int) -> Record:
+    """The record of a payload. A fault is struct.error, IndexError or KeyError."""
+    if length > RECORD_MOST:
+        raise IndexError(length)
+    reader = _Reader(some)
+    pid, byte = reader.number(4), reader.number(1)
+    act, args = (_ACTS_BY_BYTE[byte], ()) if byte in _ACTS_BY_BYTE else _read_call(byte, reader)
+    if act == "close-run" and pid != HOUSE:
+        raise KeyError(pid)
+    return Record(pid, act, args, _read_outcome(some[reader.at :]))
