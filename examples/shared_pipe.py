@@ -4,8 +4,8 @@
 usage: examples/shared_pipe.py --socket PATH
        examples/shared_pipe.py --program PROGRAM
 
-PATH is where `fdref serve --socket PATH --sessions 2 --records 100` listens. With PROGRAM, which is the
-built program or `./fdref`, the example starts a server of its own and ends when that has ended.
+PATH is where `fdref serve --socket PATH --trace FILE --sessions 2 --records 100` listens. With PROGRAM,
+which is the built program or `./fdref`, the example starts a server of its own and ends when that has ended.
 
 A parent makes a pipe and forks. The child reads it and waits, since nothing is there. The parent writes
 more than the child has asked for, and then reads what is left. Each line has the place of its record.
@@ -85,7 +85,8 @@ def main(words: Sequence[str]) -> int:
         return 0
     with tempfile.TemporaryDirectory() as folder:
         path = os.path.join(folder, "socket")
-        serve = [args.program, "serve", "--socket", path, "--sessions", "2", "--records", "100"]
+        trace = os.path.join(folder, "trace")
+        serve = [args.program, "serve", "--socket", path, "--trace", trace, "--sessions", "2", "--records", "100"]
         with subprocess.Popen(serve) as server:
             try:
                 with fdref.join(path, within=SECONDS) as parent:

@@ -464,7 +464,7 @@ def flood(program: str, count: int, records: int, gone: Callable[[Client], objec
         require(bool(left) == (count > 10_000), f"{len(left)} bytes were not taken")
         gone(client)
         status, stdout, stderr = outcome_of(server.process)
-        given = re.fullmatch(rb"sessions 1 records (\d+) in 0 out 0\n", stdout)
+        given = re.fullmatch(rb"sessions 1 records (\d+) in 0 out 0 trace \1\n", stdout)
         if status != 0 or not given or stderr:
             raise Failure(f"status {status}, {stdout!r}, {stderr[:200]!r}")
         most = min(records, 2 + count + 2)
@@ -630,7 +630,7 @@ def mistakes(program: str) -> Iterator[Case]:
     """Command lines that are refused."""
     with tempfile.TemporaryDirectory(prefix="fdref-") as folder:
         path = os.path.join(folder, "socket")
-        right = {"--socket": path, "--sessions": "1", "--records": "100"}
+        right = {"--socket": path, "--trace": os.path.join(folder, "trace"), "--sessions": "1", "--records": "100"}
         for option in right:
             words = [word for pair in right.items() if pair[0] != option for word in pair]
             yield f"no {option}", partial(mistake, program, words, option, folder)
@@ -656,8 +656,13 @@ def mistake(program: str, words: Sequence[str], part: str, folder: str) -> None:
 
 
 def cannot_listen(program: str, path: str) -> None:
-    """A path at which no socket can be made."""
-    refused(program, ["serve", "--socket", path, "--sessions", "1", "--records", "9"], 4, is_text(b"cannot listen\n"))
+    """A path at which no socket can be made. The trace is made before, and what it held is gone."""
+    with tempfile.NamedTemporaryFile(prefix="fdref-") as trace:
+        trace.write(b"mine")
+        trace.flush()
+        words = serve_words(program, path, 1, 9, trace.name)
+        refused(program, words[1:], 4, is_text(b"cannot listen\n"))
+        require(os.path.getsize(trace.name) == 0, "the trace is not empty")
 
 
 def at_a_file(program: str) -> None:
@@ -698,7 +703,7 @@ def at_a_long_path(program: str, length: int, is_fit: bool) -> None:
             cannot_listen(program, path)
             require(not os.listdir(folder), "something was made")
             return
-        process = started(serve_words(program, path, 1, 9))
+        process = started(serve_words(program, path, 1, 9, os.path.join(folder, "trace")))
         client = Client(path, process)
         client.vanish()
         require(outcome_of(process) == (0, report(1, 1), b""), "a path that fits is refused")

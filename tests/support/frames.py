@@ -15,6 +15,9 @@ MOST = {"requests": 65_792, "answers": 66_048, "records": 66_048}
 # The actor of the closing.
 HOUSE = 2**32 - 1
 
+# The first bytes of a trace.
+TRACE_HEADER = b"FDTRACE1"
+
 FLAG_WORDS = ("creat", "excl", "trunc", "append", "nonblock")
 MODES = ("-", "r", "w", "rw")
 BASES = ("set", "cur", "end")
@@ -168,14 +171,18 @@ def attach_frame(number: int) -> bytes:
     return framed(b"\x02" + u32(number))
 
 
-def call_frame(line: str) -> bytes:
-    """The frame of a call that a line of a script spells."""
-    act = plain_model.read_act(line.encode())
+def call_bytes(act: plain_model.Act) -> bytes:
+    """A call, as requests and records have it."""
     byte = next(byte for byte, form in CALLS.items() if form.word == act.word)
     # an open has its flags first
     values = act.fields[::-1] if act.word == "open" else act.fields
     fields = zip(CALLS[byte].fields, values, strict=True)
-    return framed(bytes([byte]) + b"".join(field.write(value) for field, value in fields))
+    return bytes([byte]) + b"".join(field.write(value) for field, value in fields)
+
+
+def call_frame(line: str) -> bytes:
+    """The frame of a call that a line of a script spells."""
+    return framed(call_bytes(plain_model.read_act(line.encode())))
 
 
 def request_frame(request: str) -> bytes:
@@ -220,6 +227,24 @@ def recorded(place: int, outcome: str) -> bytes:
 def refused(reason: str) -> bytes:
     """The payload of an answer that has none, for each reason but Foreign, which has two numbers more."""
     return bytes([2, next(byte for byte, word in REFUSALS.items() if word == reason)])
+
+
+# ---- records and traces, written
+
+
+def record_frame(line: str) -> bytes:
+    """The frame of the record that a line of a run tells, with its place or without."""
+    actor, word, rest = line.removeprefix(line[: line.index(" ") + 1] if line[0].isdigit() else "").split(" ", 2)
+    number = HOUSE if actor == "house" else int(actor.removeprefix("p"))
+    fields, _, outcome = f" {rest}".rpartition(" = ")
+    byte = next((byte for byte, act in ACTS.items() if act == word), None)
+    middle = bytes([byte]) if byte else call_bytes(plain_model.read_act(f"p0 {word}{fields}".encode()))
+    return framed(u32(number) + middle + outcome_bytes(outcome))
+
+
+def trace_of(lines: Iterable[str]) -> bytes:
+    """The trace of the records that these lines tell."""
+    return TRACE_HEADER + b"".join(map(record_frame, lines))
 
 
 # ---- requests and answers, read

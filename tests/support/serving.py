@@ -26,7 +26,7 @@ Process = subprocess.Popen[bytes]
 
 
 class Server:
-    """The program as it serves, at a socket in a folder of its own."""
+    """The program as it serves, at a socket in a folder of its own, where its trace is too unless another is named."""
 
     def __init__(
         self,
@@ -35,11 +35,13 @@ class Server:
         records: int = 10_000,
         stdout: int | IO[bytes] = subprocess.PIPE,
         env: Mapping[str, str] | None = None,
+        trace: str | None = None,
     ) -> None:
         self.folder = tempfile.TemporaryDirectory(prefix="fdref-")
         self.path = os.path.join(self.folder.name, "socket")
+        self.trace = trace or os.path.join(self.folder.name, "trace")
         self.clients: list[Client] = []
-        self.process = started(serve_words(program, self.path, count, records), stdout, env)
+        self.process = started(serve_words(program, self.path, count, records, self.trace), stdout, env)
 
     def __enter__(self) -> Self:
         return self
@@ -86,9 +88,10 @@ def started(
     )
 
 
-def serve_words(program: str, path: str, count: int, records: int) -> list[str]:
-    """The command that serves so many sessions at a path."""
-    return [program, "serve", "--socket", path, "--sessions", str(count), "--records", str(records)]
+def serve_words(program: str, path: str, count: int, records: int, trace: str) -> list[str]:
+    """The command that serves so many sessions at a path, and writes a trace."""
+    options = {"--socket": path, "--trace": trace, "--sessions": str(count), "--records": str(records)}
+    return [program, "serve", *(word for option in options.items() for word in option)]
 
 
 def outcome_of(process: Process) -> Ran:
@@ -113,9 +116,12 @@ def is_listening(path: str) -> bool:
         return any(line.endswith(f" {path}\n") and int(line.split()[3], 16) & 0x10000 for line in listed)
 
 
-def report(count: int, records: int, bytes_in: int = 0, bytes_out: int = 0) -> bytes:
-    """The line that the server prints."""
-    return f"sessions {count} records {records} in {bytes_in} out {bytes_out}\n".encode()
+def report(
+    count: int, records: int, bytes_in: int = 0, bytes_out: int = 0, traced: int | None = None
+) -> bytes:
+    """The line that the server prints; all records are in the trace where it is not told how many."""
+    whole = records if traced is None else traced
+    return f"sessions {count} records {records} in {bytes_in} out {bytes_out} trace {whole}\n".encode()
 
 
 # ---- clients

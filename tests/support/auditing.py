@@ -1,0 +1,141 @@
+"""A plain auditor of traces, written from docs/FORMATS.md and docs/PROFILE.md alone.
+
+`audited(trace)` gives what `fdref audit` has to give for a file that holds these bytes, and `shown(trace)` what `fdref
+show` has to. It judges the records by the plain model, one after another, and knows nothing of the program.
+"""
+
+from collections.abc import Iterable, Iterator
+
+from support import plain_model
+from support.frames import MOST, TRACE_HEADER, Malformed, line_of
+from support.running import Ran
+from support.runs import line_of as run_line_of
+
+# More records than any trace has.
+NO_LIMIT = 2**64
+
+
+class Judge(plain_model.Run):
+    """The model beside the records of a trace: what it records for each act, of whoever it is."""
+
+    def __init__(self) -> None:
+        super().__init__(NO_LIMIT)
+
+    def outcome_of(self, act: plain_model.Act) -> str | None:
+        """The outcome that an act has now, or None where the model records nothing for it."""
+        process = self.world.processes.get(act.actor) if isinstance(act.actor, int) else None
+        if act.word == "join" and act.actor != self.world.next_number:
+            return None
+        if act.word == "exit" and process:
+            # that of a child which nobody has attached is a record, too: the closing makes it
+            self.end(process)
+        elif act.word == "close-run" and not self.world.is_closed:
+            # the children without a connection have exits of their own before it, or live on
+            self.world.is_closed = True
+            self.record(act, "ok")
+        else:
+            self.take(act)
+        line = run_line_of(self.lines.pop().rstrip("\n"))
+        return None if line.place == "-" else line.outcome
+
+
+def act_of(text: str) -> plain_model.Act:
+    """The act of a record's line, with its actor."""
+    actor, word = text.split(" ")[:2]
+    if word == "close-run":
+        return plain_model.Act("house", word)
+    if word == "join":
+        return plain_model.Act(int(actor[1:]), word)
+    return plain_model.read_act(text.encode())
+
+
+class Frames:
+    """The whole records of a trace as lines, and what ends them: a rest, or a fault and where it is."""
+
+    def __init__(self, trace: bytes) -> None:
+        self.lines: list[str] = []
+        self.fault: int | None = None
+        head = trace[: len(TRACE_HEADER)]
+        at = len(TRACE_HEADER) if head == TRACE_HEADER else 0
+        if not TRACE_HEADER.startswith(head):
+            self.fault = 0
+        elif at:
+            at = self.read(trace, at)
+        self.rest = len(trace) - at
+
+    def read(self, trace: bytes, at: int) -> int:
+        """Reads frames from a place on, and gives where it ends."""
+        while len(trace) - at >= 4:
+            length = int.from_bytes(trace[at : at + 4], "big")
+            end = at + 4 + length
+            if end > len(trace) and length <= MOST["records"]:
+                break
+            try:
+                if length > MOST["records"]:
+                    raise Malformed
+                self.lines.append(line_of("records", trace[at + 4 : end], len(self.lines)))
+            except Malformed:
+                self.fault = at
+                break
+            at = end
+        return at
+
+
+class Audit:
+    """The audit of a trace: its verdict, as `fdref audit` gives it, and the model after the records that are legal."""
+
+    def __init__(self, trace: bytes) -> None:
+        self.frames = Frames(trace)
+        self.judge = Judge()
+        self.verdict = self.judged()
+
+    def judged(self) -> Ran:
+        """The verdict, which the first record decides that is not the model's, and else the end of the trace."""
+        for place, text in enumerate(self.frames.lines):
+            line = run_line_of(text)
+            wanted = self.judge.outcome_of(act_of(line.act))
+            if wanted != line.outcome:
+                return illegal(place, wanted)
+        if self.frames.fault is not None:
+            return Ran(8, b"malformed %d\n" % self.frames.fault, b"")
+        return legal(len(self.frames.lines), self.frames.rest)
+
+
+def legal(records: int, rest: int = 0) -> Ran:
+    """The verdict on a trace of so many records, all right, and so many bytes after them."""
+    return Ran(0, b"legal %d rest %d\n" % (records, rest), b"")
+
+
+def illegal(place: int, wanted: str | None) -> Ran:
+    """The verdict on a trace whose record at a place is wrong, with the outcome that it should have, or None."""
+    return Ran(7, f"illegal {place} expected {wanted or 'none'}\n".encode(), b"")
+
+
+def audited(trace: bytes) -> Ran:
+    """What `fdref audit` gives for a trace."""
+    return Audit(trace).verdict
+
+
+def script_lines(lines: Iterable[str]) -> Iterator[str]:
+    """The lines of a script that asks for the acts of some records. None asks for the exit of a child that was never
+    attached, which the closing makes."""
+    children: set[str] = set()
+    for text in lines:
+        line = run_line_of(text)
+        actor, word = line.act.split(" ")[:2]
+        if word == "fork" and line.outcome.isdigit():
+            children.add(f"p{line.outcome}")
+        if word != "exit" or actor not in children:
+            yield word if word in ("join", "close-run") else line.act
+        if word == "exit" or (word == "attach" and line.outcome == "ok"):
+            children.discard(actor)
+
+
+def shown(trace: bytes, acts: bool = False) -> Ran:
+    """What `fdref show` gives for a trace, or `fdref show --acts`: its whole records, and what is left over."""
+    frames = Frames(trace)
+    lines = script_lines(frames.lines) if acts else frames.lines
+    text = "".join(f"{line}\n" for line in lines).encode()
+    if frames.fault is not None:
+        return Ran(8, text, b"malformed %d\n" % frames.fault)
+    return Ran(0, text, b"rest %d\n" % frames.rest if frames.rest else b"")
