@@ -4,10 +4,8 @@
 usage: tests/acceptance.py [PROGRAM]
 
 PROGRAM is crates/fdref/out/fdref where none is given. Each folder of tests/rows is a run of
-`fdref replay`: `script` is its standard input, `args` (if there) its words after `replay`, one a
-line, `stdout` what it must write on standard output, `stderr` (if there) the text that it must
-write on standard error, without the end of its last line, and `status` (0 where it is missing) its
-exit status. Each function marked `case` below is a case as well.
+`fdref replay`, with its standard input `script` and its words `args`, or of `fdref audit`, with the
+file `trace.hex`; tests/support/rows.py tells more. Each function marked `case` below is a case as well.
 
 A failure is told in one line. The last line is `N passed, M failed`, and the exit status is 1
 where M is above 0.
@@ -26,7 +24,7 @@ from typing import IO, Any
 from support.counting import Case, Count, Failure
 from support.options import absolute, end_without
 from support.places import FDREF, ROWS
-from support.rows import Row, rows
+from support.rows import Row, audits, rows
 from support.running import SECONDS, Ran, Word
 from support.running import run as run_program
 from support.texts import difference, shown
@@ -93,6 +91,14 @@ def is_row(program: str, row: Row) -> None:
     expect(replay(program, row.script(), row.words()), *row.wanted())
 
 
+def is_audit(program: str, row: Row) -> None:
+    """The audit that a folder is gives what its files say."""
+    with tempfile.NamedTemporaryFile(prefix="fdref-") as file:
+        file.write(row.trace())
+        file.flush()
+        expect(run(program, ["audit", file.name]), *row.wanted())
+
+
 # ---- the command line
 
 
@@ -142,6 +148,9 @@ def is_version(program: str, text: str, *words: str) -> None:
 
 @case("help", "Usage: fdref <COMMAND>", "--help")
 @case("help of replay", "--records <N>", "replay", "--help")
+@case("help of serve", "--trace <FILE>", "serve", "--help")
+@case("help of audit", "<FILE>", "audit", "--help")
+@case("help of show", "--acts", "show", "--help")
 def is_shown(program: str, part: str, *words: str) -> None:
     """A text with a part."""
     ran = run(program, words)
@@ -271,6 +280,7 @@ def output_is_full(program: str, script: bytes) -> None:
 
 @case("a full device for help", "--help")
 @case("a full device for the help of serve", "serve", "--help")
+@case("a full device for the help of audit", "audit", "--help")
 @case("a full device for the version", "--version")
 def text_is_not_taken(program: str, *words: str) -> None:
     """An output that takes no help."""
@@ -316,6 +326,7 @@ def reader_leaves(program: str) -> None:
 def cases(program: str) -> Iterator[Case]:
     """The rows, and the cases that are written out here."""
     yield from ((row.name, partial(is_row, program, row)) for row in rows())
+    yield from ((row.name, partial(is_audit, program, row)) for row in audits())
     yield from ((name, partial(check, program)) for name, check in CASES)
 
 

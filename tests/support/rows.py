@@ -1,8 +1,9 @@
-"""The rows: each folder of tests/rows is a run of `fdref replay`, with what it has to give.
+"""The rows: each folder of tests/rows is a run of `fdref replay` or of `fdref audit`, with what it has to give.
 
-`script` is its standard input, `args` (if there) its words after `replay`, one a line, `stdout` what it must write on
-standard output, `stderr` (if there) the text that it must write on standard error, without the end of its last line,
-and `status` (0 where it is missing) its exit status.
+A run of `replay` has `script`, its standard input, and `args` (if there), its words after `replay`, one a line. A run
+of `audit` has `trace.hex`, the bytes of its file in hexadecimal, in which line ends have no meaning. In both `stdout`
+is what it must write on standard output, `stderr` (if there) the text that it must write on standard error, without the
+end of its last line, and `status` (0 where it is missing) its exit status.
 """
 
 from pathlib import Path
@@ -30,6 +31,10 @@ class Row:
         """The standard input of the run."""
         return (self.folder / "script").read_bytes()
 
+    def trace(self) -> bytes:
+        """The bytes of the file that is audited."""
+        return bytes.fromhex((self.folder / "trace.hex").read_text())
+
     def words(self) -> list[str]:
         """The words after `replay`."""
         return self.read("args", b"").decode().splitlines()
@@ -42,5 +47,15 @@ class Row:
 
 
 def rows() -> list[Row]:
+    """All runs of `replay`, in the order of their names."""
+    return [row for row in all_rows() if row.has("script")]
+
+
+def audits() -> list[Row]:
+    """All runs of `audit`, in the order of their names."""
+    return [row for row in all_rows() if row.has("trace.hex")]
+
+
+def all_rows() -> list[Row]:
     """All rows, in the order of their names."""
     return [Row(folder) for folder in sorted(ROWS.iterdir()) if folder.is_dir()]
