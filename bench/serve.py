@@ -68,7 +68,8 @@ class Bench:
         """Requests a second of fdref, which is started for it."""
         path = os.path.join(self.folder, "socket")
         count = connections + (mode == "sleepers")
-        with subprocess.Popen(serve_words(self.program, path, count, RECORDS_MOST), stdout=subprocess.PIPE) as server:
+        words = serve_words(self.program, path, count, RECORDS_MOST, os.path.join(self.folder, "trace"))
+        with subprocess.Popen(words, stdout=subprocess.PIPE) as server:
             try:
                 while not is_listening(path) and server.poll() is None:
                     time.sleep(0.01)

@@ -1,5 +1,6 @@
 """Where things are: the top folder of the tree, and the programs that are built in it."""
 
+import os
 from pathlib import Path
 
 TOP = Path(__file__).resolve().parents[2]
@@ -21,3 +22,6 @@ FDREF = built("fdref")
 MEMORY_TRIAL = built("memory_trial")
 FRAME_TRIAL = built("frame_trial")
 SESSION_TRIAL = built("session_trial")
+
+# Where short-lived files are made quickly: in memory, where the system has a folder for that.
+SCRATCH = "/dev/shm" if os.access("/dev/shm", os.W_OK) else None

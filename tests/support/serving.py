@@ -7,12 +7,13 @@ import socket
 import subprocess
 import tempfile
 import time
-from collections.abc import Mapping, Sequence
+from collections.abc import Callable, Mapping, Sequence
 from types import TracebackType
 from typing import IO, Self
 
 from support import frames
 from support.counting import Failure, require
+from support.places import SCRATCH
 from support.running import Ran, StillRunning
 
 SECONDS = 10
@@ -36,12 +37,13 @@ class Server:
         stdout: int | IO[bytes] = subprocess.PIPE,
         env: Mapping[str, str] | None = None,
         trace: str | None = None,
+        before: Callable[[], None] | None = None,
     ) -> None:
-        self.folder = tempfile.TemporaryDirectory(prefix="fdref-")
+        self.folder = tempfile.TemporaryDirectory(prefix="fdref-", dir=SCRATCH)
         self.path = os.path.join(self.folder.name, "socket")
         self.trace = trace or os.path.join(self.folder.name, "trace")
         self.clients: list[Client] = []
-        self.process = started(serve_words(program, self.path, count, records, self.trace), stdout, env)
+        self.process = started(serve_words(program, self.path, count, records, self.trace), stdout, env, before)
 
     def __enter__(self) -> Self:
         return self
@@ -74,9 +76,12 @@ class Server:
 
 
 def started(
-    words: Sequence[str], stdout: int | IO[bytes] = subprocess.PIPE, env: Mapping[str, str] | None = None
+    words: Sequence[str],
+    stdout: int | IO[bytes] = subprocess.PIPE,
+    env: Mapping[str, str] | None = None,
+    before: Callable[[], None] | None = None,
 ) -> Process:
-    """A process in a group of its own, so that what it leaves can be seen."""
+    """A process in a group of its own, so that what it leaves can be seen. `before` is called in it at its start."""
     return subprocess.Popen(
         words,
         stdin=subprocess.DEVNULL,
@@ -85,6 +90,7 @@ def started(
         cwd="/",
         env=env,
         start_new_session=True,
+        preexec_fn=before,
     )
 
 
