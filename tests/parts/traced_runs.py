@@ -1,0 +1,276 @@
+"""Random runs of a live server that writes a trace: what its clients are told is what the trace holds."""
+
+import os
+import re
+import signal
+import tempfile
+import time
+from typing import NamedTuple
+
+from support import plain_model
+from support.auditing import Audit, legal, shown
+from support.counting import require, same
+from support.frames import TRACE_HEADER
+from support.places import SCRATCH
+from support.running import Ran, run
+from support.runs import ALL_RECORDS, Settled
+from support.serving import SECONDS, Client, Server, outcome_of, report
+from support.sources import source
+from support.texts import difference
+from support.walks import walked
+
+SESSIONS_MOST = 64
+A_WHILE = 0.3
+
+
+# ---- a plan: the acts of a script that clients can make
+
+
+class Plan:
+    """The acts of a script that clients of a server can make, chosen beside a run of the model.
+
+    The server itself resumes calls and closes the run, and a client that waits makes no call. At the end calls that
+    still wait are waked as far as somebody can, and all processes exit that can.
+    """
+
+    def __init__(self, lines: list[bytes]) -> None:
+        self.run = Settled()
+        self.world = self.run.world
+        self.acts: list[plain_model.Act] = []
+        self.sessions = 0
+        for line in lines:
+            self.take(plain_model.read_act(line))
+        self.wake_all()
+        while awake := self.awake():
+            self.take(plain_model.Act(awake[0].number, "exit"))
+        self.sessions = max(self.sessions, 1)
+
+    def take(self, act: plain_model.Act) -> None:
+        """Plans an act, if a client can make it."""
+        if self.is_possible(act):
+            self.sessions += act.word in ("join", "attach")
+            self.acts.append(act)
+            self.run.take(act)
+
+    def is_possible(self, act: plain_model.Act) -> bool:
+        """Whether a client can make an act now."""
+        if act.word in ("join", "attach"):
+            return self.sessions < SESSIONS_MOST
+        return act.word not in ("resume", "close-run") and act.actor in [it.number for it in self.awake()]
+
+    def awake(self) -> list[plain_model.Process]:
+        """The processes that can make a call."""
+        return [it for it in self.world.processes.values() if it.attached and not it.waits]
+
+    def waiting(self) -> list[plain_model.Process]:
+        """The processes whose call waits."""
+        return [it for it in self.world.processes.values() if it.waits]
+
+    def wake_all(self) -> None:
+        """Wakes one process after another, as long as there is one that somebody can wake."""
+        while wakers := [act for it in self.waiting() if (act := self.waker(it))]:
+            self.take(wakers[0])
+
+    def waker(self, sleeper: plain_model.Process) -> plain_model.Act | None:
+        """An act of another process that lets the call of a process go on."""
+        call = sleeper.waits
+        for process in self.awake():
+            for fd, at in process.table.items():
+                if isinstance(call, plain_model.WaitingRead) and at.pipe is call.pipe and at.mode == "w":
+                    return plain_model.Act(process.number, "write", (fd, b"!"))
+                if isinstance(call, plain_model.WaitingWrite) and at.pipe is call.pipe and at.mode == "r":
+                    return plain_model.Act(process.number, "read", (fd, plain_model.TRANSFER_MAX))
+            if isinstance(call, plain_model.WaitingOpen) and len(process.table) < plain_model.OPEN_MAX:
+                for name in (name for name, file in self.world.names.items() if file is call.fifo):
+                    return plain_model.Act(process.number, "open", (name, f"{call.other},nonblock"))
+        return None
+
+
+# ---- a run of a plan
+
+
+class Player:
+    """A client that is a process, with the act for which it still waits to be told more, if any."""
+
+    def __init__(self, client: Client, number: int) -> None:
+        self.client = client
+        self.number = number
+        self.waits = False
+
+
+class LiveRun:
+    """A plan that clients carry out, and what they were told: for each place the line that a run has there."""
+
+    def __init__(self, server: Server) -> None:
+        self.server = server
+        self.players: dict[int, Player] = {}
+        self.told: dict[int, str] = {}
+        self.goes_as_planned = True
+
+    def take(self, act: plain_model.Act) -> None:
+        """Lets a client make an act and waits until that is done, or until its call waits."""
+        if act.word in ("join", "attach"):
+            return self.open(act)
+        player = self.players.get(act.actor) if isinstance(act.actor, int) else None
+        if player is None or not self.is_awake(player):
+            # another one got what it waits for, or the run is full
+            self.goes_as_planned = False
+        elif act.word == "exit":
+            self.end(player)
+        else:
+            text = plain_model.act_text(act)
+            player.client.ask(text.partition(" ")[2])
+            self.hear(player, text)
+
+    def open(self, act: plain_model.Act) -> None:
+        """A client connects and joins, or attaches."""
+        client = self.server.client()
+        client.ask("join" if act.word == "join" else f"attach {act.actor}")
+        place, _, outcome = client.answer().partition(" ")
+        number = act.actor
+        if act.word == "join":
+            number = int(outcome) if outcome.isdigit() else None
+        if place != "-":
+            who = "p[0-9]+" if number is None else f"p{number}"
+            self.keep(place, f"{who} {act.word} = {outcome}")
+        if isinstance(number, int) and (outcome == "ok" or outcome.isdigit()):
+            self.players[number] = Player(client, number)
+        else:
+            client.vanish()
+
+    def hear(self, player: Player, text: str) -> None:
+        """Hears the next answer to a client, which is that of the act with this text."""
+        place, _, outcome = player.client.answer().partition(" ")
+        if place != "-":
+            self.keep(place, re.escape(f"{text} = {outcome}"))
+        elif player.waits:
+            # the session ends where its resume is refused
+            del self.players[player.number]
+        player.waits = outcome.startswith(("parked ", "part "))
+
+    def keep(self, place: str, line: str) -> None:
+        """Keeps what was told of a place."""
+        require(int(place) not in self.told, f"place {place} is told twice")
+        self.told[int(place)] = line
+
+    def is_awake(self, player: Player, seconds: float = A_WHILE) -> bool:
+        """Whether a client need not wait, after it has waited for a while at most."""
+        while player.waits and player.client.has_answer(seconds):
+            self.hear(player, f"p{player.number} resume")
+        return not player.waits and player.number in self.players
+
+    def end(self, player: Player) -> None:
+        """Ends a process, and waits until the server has hung up, which is when its exit is recorded."""
+        del self.players[player.number]
+        player.client.stop()
+        require(player.client.is_hung_up(SECONDS), "the server does not hang up")
+
+    def close(self, plan: Plan) -> bool:
+        """Ends what is left, and connects as often as the server awaits: whether it ends by itself."""
+        for _ in range(plan.sessions - len(self.server.clients)):
+            self.server.client().stop()
+        stuck = {process.number for process in plan.waiting()}
+        while awake := [it for it in self.left() if self.is_awake(it, 0 if it.number in stuck else A_WHILE)]:
+            # who exits may wake others
+            self.end(awake[0])
+        for player in self.left():
+            player.client.vanish()
+        return not self.players
+
+    def left(self) -> list[Player]:
+        """The clients that are there still."""
+        return list(self.players.values())
+
+
+# ---- what a trace must be
+
+
+class Checked(NamedTuple):
+    """What a run was: the records of its trace, and whether the server ended by itself."""
+
+    records: int
+    has_ended: bool
+
+
+def checked(program: str, seed: str, number: int) -> Checked:
+    """Makes the run with a number of a seed, and checks its trace."""
+    pick = source(seed, number)
+    records = pick.choice([ALL_RECORDS] * 7 + [pick.randrange(4, 80)])
+    plan = Plan(walked(pick, ALL_RECORDS, pick.choice([5, 10, 20, 40, 60, 100])))
+    with Server(program, plan.sessions, records) as server:
+        live = LiveRun(server)
+        for act in plan.acts:
+            live.take(act)
+        has_ended = live.close(plan)
+        is_as_planned = has_ended or plan.waiting() or not live.goes_as_planned
+        require(is_as_planned, "a call waits that the model does not let wait")
+        said = ended(server, has_ended, len(live.told))
+        with open(server.trace, "rb") as file:
+            trace = file.read()
+    audit = Audit(trace)
+    lines = audit.frames.lines
+    if has_ended:
+        world = audit.judge.world
+        same((0, report(plan.sessions, len(lines), world.bytes_in, world.bytes_out), b""), said)
+    is_told(lines, live.told, has_ended)
+    same(legal(len(lines), 0 if has_ended else audit.frames.rest), audit.verdict)
+    is_read(program, trace, audit)
+    return Checked(len(lines), has_ended)
+
+
+def ended(server: Server, by_itself: bool, told: int) -> Ran | None:
+    """The end of a server: by itself, or by a signal once the trace holds as many records as were told."""
+    if by_itself:
+        return outcome_of(server.process)
+    until = time.monotonic() + SECONDS
+    while records_in(server.trace) < told:
+        require(time.monotonic() < until, f"the trace lacks records that were told {SECONDS} seconds ago")
+        time.sleep(0.002)
+    os.killpg(server.process.pid, signal.SIGKILL)
+    server.process.wait()
+    return None
+
+
+def records_in(path: str) -> int:
+    """How many whole records a trace has."""
+    with open(path, "rb") as file:
+        some = file.read()
+    at, count = len(TRACE_HEADER), 0
+    while len(some) - at >= 4:
+        at += 4 + int.from_bytes(some[at : at + 4], "big")
+        count += at <= len(some)
+    return count
+
+
+def is_told(lines: list[str], told: dict[int, str], has_ended: bool) -> None:
+    """Each record was told to a client as it is in the trace, but for exits and the closing."""
+    for place, line in enumerate(lines):
+        wanted = told.pop(place, r"p[0-9]+ exit = ok|house close-run = ok")
+        require(re.fullmatch(f"{place} ({wanted})", line), f"a client was told {place} {wanted}, the trace has {line}")
+    require(not told, f"records that were told are not in the trace: {told}")
+    if has_ended:
+        same(f"{len(lines) - 1} house close-run = ok", lines[-1])
+        came = sum(re.search(r" (join|fork) = [0-9]+$", line) is not None for line in lines)
+        same(came, sum(line.endswith(" exit = ok") for line in lines))
+
+
+def is_read(program: str, trace: bytes, audit: Audit) -> None:
+    """The program audits the trace as the plain auditor does, shows its lines, and replays its acts."""
+    with tempfile.NamedTemporaryFile(prefix="fdref-", dir=SCRATCH) as file:
+        file.write(trace)
+        file.flush()
+        same(audit.verdict, run([program, "audit", file.name]))
+        is_shown(shown(trace), run([program, "show", file.name]))
+        script = shown(trace, acts=True)
+        is_shown(script, run([program, "show", "--acts", file.name]))
+    again = run([program, "replay", "--records", str(ALL_RECORDS)], script.stdout)
+    world = audit.judge.world
+    totals = f"records {len(audit.frames.lines)} in {world.bytes_in} out {world.bytes_out}"
+    text = "".join(f"{line}\n" for line in [*audit.frames.lines, totals]).encode()
+    is_shown(Ran(0, text, b""), again)
+
+
+def is_shown(wanted: Ran, given: Ran) -> None:
+    """Fails unless two runs are the same, and tells where they are not."""
+    same((wanted.status, wanted.stderr), (given.status, given.stderr))
+    require(wanted.stdout == given.stdout, difference(wanted.stdout, given.stdout))
