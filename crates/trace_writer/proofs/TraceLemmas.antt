@@ -1,0 +1,175 @@
+-- A trace that goes on.
+use Rattle.std.proofs.Common.{◌≡◌, ℕ, ◌+◌, ◌-◌, ◌*◌, ◌≤◌, ◌<◌, ◌^◌, ◌⊎◌, Bool, true, false, List, [], ◌∷◌, ◌++◌, Option, None, Some, length, take, drop, length-append, length-take-le, take-append-drop, add-one, arith, refl, sym, ◌∙◌, ap, subst, inl, inr}
+use Rattle.std.specs.Prelude.{nat_le}
+use Rattle.std.proofs.lemmas.List.{append-nil, append_assoc}
+use Rattle.std.proofs.lemmas.Bool.Decides.{nat_tests}
+use Rattle.std.proofs.Math.Seq.{drop-length}
+use Rattle.std.proofs.KnownBytes.{Appends-nil, Appends-trans}
+use Rattle.call_types.specs.declared.act.Record.{Record}
+use Rattle.call_types.specs.declared.limits.TheConstants.{RECORDS_MAX}
+use Rattle.frame_codec.specs.declared.encode.TheConstants.{RECORD_FRAME_MAX}
+use Rattle.frame_codec.specs.Frames.{frame}
+use Rattle.frame_codec.specs.Records.{record_bytes}
+use Rattle.frame_codec.specs.Trace.{trace_header, frames_of, text}
+use Rattle.logged_streams.specs.Streams.{WritesFront}
+use Rattle.trace_writer.specs.TracerState.{Writes}
+use Rattle.trace_writer.specs.Traces.{whole_in, Tells}
+use Rattle.trace_writer.specs.Tracing.{MakesFrame}
+use Rattle.trace_writer.specs.declared.traced.TraceFault.{TraceFault}
+use Rattle.trace_writer.specs.declared.traced.TraceFault.TheVariants as faults
+
+frames_push : (rs : List Record) (r : Record) → frames_of (rs ++ r ∷ []) ≡ frames_of rs ++ frame (record_bytes r)
+frames_push [] r = append-nil (frame (record_bytes r))
+frames_push (x ∷ xs) r = ap (λ (l : List ℕ). frame (record_bytes x) ++ l) (frames_push xs r) ∙ sym (append_assoc (frame (record_bytes x)) (frames_of xs) (frame (record_bytes r)))
+
+text_push : (rs : List Record) (r : Record) → text (rs ++ r ∷ []) ≡ text rs ++ frame (record_bytes r)
+text_push rs r = ap (λ (l : List ℕ). trace_header ++ l) (frames_push rs r) ∙ sym (append_assoc trace_header (frames_of rs) (frame (record_bytes r)))
+
+-- ---- what the sink counts
+
+-- what a sink counts is the same where memory runs out
+counts_none : (before after : ℕ) → after ≡ before → Tells (Some faults.NoMemory) before after
+counts_none before after e = (omega arith, omega arith)
+
+made_tells : (fault fault' : Option TraceFault) (before after : ℕ) → (fault' ≡ fault) ⊎ ((fault ≡ None) × (fault' ≡ Some faults.NoMemory)) → Tells fault before after → Tells fault' before after
+made_tells fault fault' before after (inl e) t = subst (λ f. Tells f before after) (sym e) t
+made_tells fault fault' before after (inr e) t =
+    subst (λ f. Tells f before after) (sym e.1) (counts_none before after (subst (λ f. Tells f before after) e.0 t))
+
+made_unsynced : (fault fault' : Option TraceFault) → (fault' ≡ fault) ⊎ ((fault ≡ None) × (fault' ≡ Some faults.NoMemory)) → (fault ≡ Some faults.Sync → ⊥) → fault' ≡ Some faults.Sync → ⊥
+made_unsynced fault fault' (inl e) never is = never (sym e ∙ is)
+made_unsynced fault fault' (inr e) never is = let no : Some faults.NoMemory ≡ Some faults.Sync = sym e.1 ∙ is in cc
+
+-- ---- no record yet
+
+-- nothing was written, and what is not written yet is the header, unless memory ran out
+pub writes_first : (base : Option (List ℕ)) (before : ℕ) (unsent : List ℕ) (fault : Option TraceFault) (sound : Bool)
+    → (fault ≡ None) × (unsent ≡ trace_header) ⊎ (fault ≡ Some faults.NoMemory) → before + 1 < 2 ^ 64 → sound ≡ true → Writes base base before before unsent 0 [] fault false sound
+writes_first base before unsent fault sound begun few still = record {
+  front = [];
+  rest = trace_header;
+  appends = Appends-nil base;
+  is = sym (append-nil trace_header);
+  written_is = refl;
+  unsent_is = λ none. first_unsent begun none;
+  never_synced = λ is. first_unsynced begun is;
+  tells = first_tells begun;
+  torn = λ is. cc;
+  long = λ _. omega arith;
+  few = omega arith;
+  few_failures = few;
+  sound = λ _. still;
+}
+  where
+    first_unsent : (fault ≡ None) × (unsent ≡ trace_header) ⊎ (fault ≡ Some faults.NoMemory) → fault ≡ None → unsent ≡ trace_header
+    first_unsent (inl h) none = h.1
+    first_unsent (inr e) none = let no : Some faults.NoMemory ≡ None = sym e ∙ none in cc
+
+    first_unsynced : (fault ≡ None) × (unsent ≡ trace_header) ⊎ (fault ≡ Some faults.NoMemory) → fault ≡ Some faults.Sync → ⊥
+    first_unsynced (inl h) is = let no : None ≡ Some faults.Sync = sym h.0 ∙ is in cc
+    first_unsynced (inr e) is = let no : Some faults.NoMemory ≡ Some faults.Sync = sym e ∙ is in cc
+
+    first_tells : (fault ≡ None) × (unsent ≡ trace_header) ⊎ (fault ≡ Some faults.NoMemory) → Tells fault before before
+    first_tells (inl h) = subst (λ f. Tells f before before) (sym h.0) refl
+    first_tells (inr e) = subst (λ f. Tells f before before) (sym e) (counts_none before before refl)
+
+-- ---- a record more
+
+-- the text is not long
+text_long : (rs : List Record) (r : Record) → length (text rs) ≤ length trace_header + RECORD_FRAME_MAX * length rs → length (frame (record_bytes r)) ≤ RECORD_FRAME_MAX
+    → length (text (rs ++ r ∷ [])) ≤ length trace_header + RECORD_FRAME_MAX * length (rs ++ r ∷ [])
+text_long rs r was short =
+    let longer : length (text (rs ++ r ∷ [])) ≡ length (text rs) + length (frame (record_bytes r)) = ap length (text_push rs r) ∙ length-append (text rs) (frame (record_bytes r)) in
+    let more : length (rs ++ r ∷ []) ≡ length rs + 1 = length-append rs (r ∷ []) in
+    omega (arith, longer, more, was, short)
+
+-- a record more was kept
+pub writes_kept : (base now : Option (List ℕ)) (before after : ℕ) (unsent unsent' : List ℕ) (written : ℕ) (rs : List Record) (fault fault' : Option TraceFault) (torn sound : Bool) (r : Record)
+    → Writes base now before after unsent written rs fault torn sound → torn ≡ false → length rs < RECORDS_MAX → MakesFrame unsent unsent' fault fault' (frame (record_bytes r))
+    → Writes base now before after unsent' written (rs ++ r ∷ []) fault' torn sound
+writes_kept base now before after unsent unsent' written rs fault fault' torn sound r w whole few m = record {
+  front = w.front;
+  rest = w.rest ++ frame (record_bytes r);
+  appends = w.appends;
+  is = sym (append_assoc w.front w.rest (frame (record_bytes r))) ∙ ap (λ (l : List ℕ). l ++ frame (record_bytes r)) w.is ∙ sym (text_push rs r);
+  written_is = w.written_is;
+  unsent_is = λ none. (m.made none).1 ∙ ap (λ (l : List ℕ). l ++ frame (record_bytes r)) (w.unsent_is (m.made none).0);
+  never_synced = made_unsynced fault fault' m.told w.never_synced;
+  tells = made_tells fault fault' before after m.told w.tells;
+  torn = λ is. absurd (let e : true ≡ false = sym is ∙ whole in cc);
+  long = λ none. text_long rs r (w.long (m.made none).0) (m.few none);
+  few = let more : length (rs ++ r ∷ []) ≡ length rs + 1 = length-append rs (r ∷ []) in omega (arith, more, few);
+  few_failures = w.few_failures;
+  sound = λ none. w.sound (m.made none).0;
+}
+
+-- ---- what was not written yet is written
+
+-- no more is written than the text has
+pub writes_few : (base now now' : Option (List ℕ)) (before after : ℕ) (unsent : List ℕ) (written : ℕ) (rs : List Record) (fault : Option TraceFault) (torn sound : Bool) (count : ℕ)
+    → Writes base now before after unsent written rs fault torn sound → fault ≡ None → WritesFront now now' unsent count → written + count < 2 ^ 64
+writes_few base now now' before after unsent written rs fault torn sound count w none f =
+    let all : length w.front + length w.rest ≡ length (text rs) = sym (length-append w.front w.rest) ∙ ap length w.is in
+    let left : length unsent ≡ length w.rest = ap length (w.unsent_is none) in
+    let long = w.long none in
+    let few = w.few in
+    let within = f.within in
+    let was = w.written_is in
+    omega arith
+
+-- a front of what was not written was
+fronted : (base now now' : Option (List ℕ)) (before after after' : ℕ) (unsent : List ℕ) (written : ℕ) (rs : List Record) (fault fault' : Option TraceFault) (torn sound sound' : Bool) (count : ℕ)
+    → Writes base now before after unsent written rs fault torn sound → fault ≡ None → WritesFront now now' unsent count → (fault' ≡ None → [] ≡ drop count unsent) → (fault' ≡ Some faults.Sync → ⊥) → Tells fault' before after'
+    → (fault' ≡ None → sound' ≡ true) → Writes base now' before after' [] (written + count) rs fault' torn sound'
+fronted base now now' before after after' unsent written rs fault fault' torn sound sound' count w none f all never tells still = record {
+  front = w.front ++ take count unsent;
+  rest = drop count unsent;
+  appends = Appends-trans base now now' w.front (take count unsent) w.appends f.appends;
+  is = append_assoc w.front (take count unsent) (drop count unsent) ∙ ap (λ (l : List ℕ). w.front ++ l) (take-append-drop count unsent ∙ w.unsent_is none) ∙ w.is;
+  written_is =
+      let long : length (w.front ++ take count unsent) ≡ length w.front + count = length-append w.front (take count unsent) ∙ ap (λ (m : ℕ). length w.front + m) (length-take-le count unsent f.within) in
+      let was = w.written_is in
+      omega (arith, long, was);
+  unsent_is = all;
+  never_synced = never;
+  tells = tells;
+  torn = λ is. absurd (let e : None ≡ Some faults.NoMemory = sym none ∙ w.torn is in cc);
+  long = λ _. w.long none;
+  few = w.few;
+  few_failures = w.few_failures;
+  sound = still;
+}
+
+-- all that was not written was
+pub flushed : (base now now' : Option (List ℕ)) (before after after' : ℕ) (unsent : List ℕ) (written : ℕ) (rs : List Record) (fault : Option TraceFault) (torn sound sound' : Bool) (count : ℕ)
+    → Writes base now before after unsent written rs fault torn sound → fault ≡ None → WritesFront now now' unsent count → count ≡ length unsent → after' ≡ after → sound' ≡ true
+    → Writes base now' before after' [] (written + count) rs fault torn sound'
+flushed base now now' before after after' unsent written rs fault torn sound sound' count w none f whole same still =
+    fronted base now now' before after after' unsent written rs fault fault torn sound sound' count w none f
+    (λ _. sym (ap (λ (n : ℕ). drop n unsent) whole ∙ drop-length unsent)) w.never_synced
+    (subst (λ (n : ℕ). Tells fault before n) (sym same) w.tells) (λ _. still)
+
+-- the sink failed in the middle
+pub broken : (base now now' : Option (List ℕ)) (before after after' : ℕ) (unsent : List ℕ) (written : ℕ) (rs : List Record) (fault : Option TraceFault) (torn sound sound' : Bool) (count : ℕ)
+    → Writes base now before after unsent written rs fault torn sound → fault ≡ None → WritesFront now now' unsent count → after' ≡ after + 1
+    → Writes base now' before after' [] (written + count) rs (Some faults.Write) torn sound'
+broken base now now' before after after' unsent written rs fault torn sound sound' count w none f more =
+    let was : after ≡ before = subst (λ f. Tells f before after) none w.tells in
+    fronted base now now' before after after' unsent written rs fault (Some faults.Write) torn sound sound' count w none f (λ e. absurd (cc)) (λ e. cc) (more ∙ ap (λ (n : ℕ). n + 1) was) (λ e. absurd (cc))
+
+-- ---- what is whole
+
+-- in all bytes of their frames, all records are whole
+whole_all : (rs : List Record) → whole_in rs (length (frames_of rs)) ≡ length rs
+whole_all [] = refl
+whole_all (r ∷ rs) =
+    let all : length (frame (record_bytes r) ++ frames_of rs) ≡ length (frame (record_bytes r)) + length (frames_of rs) = length-append (frame (record_bytes r)) (frames_of rs) in
+    let fits : nat_le (length (frame (record_bytes r))) (length (frame (record_bytes r) ++ frames_of rs)) ≡ true = grind (arith, nat_tests, all) in
+    let left : length (frame (record_bytes r) ++ frames_of rs) - length (frame (record_bytes r)) ≡ length (frames_of rs) = omega (arith, all) in
+    rw (fits, left, whole_all rs) (add-one (length rs))
+
+pub whole_when_all : (rs : List Record) (written : ℕ) → written ≡ length (text rs) → whole_in rs (written - length trace_header) ≡ length rs
+whole_when_all rs written e =
+    let long : length (text rs) ≡ length trace_header + length (frames_of rs) = length-append trace_header (frames_of rs) in
+    let left : written - length trace_header ≡ length (frames_of rs) = omega (arith, e, long) in
+    rw left (whole_all rs)

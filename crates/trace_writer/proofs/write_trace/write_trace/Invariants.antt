@@ -1,0 +1,13 @@
+use Rattle.std.proofs.Common.{◌≡◌, map}
+use Rattle.std.specs.Arc.{arc_value}
+use Rattle.rtrb.specs.Ring.{received}
+use Rattle.trace_writer.specs.Tracing.{Follows}
+use Rattle.trace_writer.proofs.write_trace.write_trace.Given as goal
+
+-- the trace began with this sink, and follows what came out of the ring
+abbrev pub invariant-loop : goal.invariant-loop
+invariant-loop g l = record {
+  base : l.tracer.base ≡ g.S.Sink.contents l.fn.sink;
+  before : l.tracer.before ≡ g.S.Sink.failures l.fn.sink;
+  follows : Follows (map arc_value (received l.ring)) l.tracer;
+}

@@ -1,0 +1,4 @@
+pub mod Traces
+pub mod TracerState
+pub mod Tracing
+pub mod Memory

@@ -1,0 +1,36 @@
+-- What is known of a trace that is being written (own).
+use Rattle.std.specs.Prelude.{◌≡◌, ℕ, ◌+◌, ◌*◌, ◌≤◌, ◌<◌, ◌^◌, Bool, true, List, ◌++◌, Option, None, Some, length}
+use Rattle.std.specs.Io.KnownBytes.{Appends}
+use Rattle.call_types.specs.declared.act.Record.{Record}
+use Rattle.call_types.specs.declared.limits.TheConstants.{RECORDS_MAX}
+use Rattle.frame_codec.specs.declared.encode.TheConstants.{RECORD_FRAME_MAX}
+use Rattle.frame_codec.specs.Trace.{trace_header, text}
+use Rattle.trace_writer.specs.Traces.{Tells}
+use Rattle.trace_writer.specs.declared.traced.TraceFault.{TraceFault}
+use Rattle.trace_writer.specs.declared.traced.TraceFault.TheVariants as faults
+
+-- what the sink held at first and how many failures it had counted, what is not written yet, the records that were kept, what went wrong, and whether
+-- a record was not kept (own)
+pub record TracerState : Type 0 where
+  pub base : Option (List ℕ)
+  pub before : ℕ
+  pub unsent : List ℕ
+  pub received : List Record
+  pub fault : Option TraceFault
+  pub is_torn : Bool
+
+-- a front of the text was written, and unless something went wrong the rest is not written yet (own)
+pub record Writes (base now : Option (List ℕ)) (before after : ℕ) (unsent : List ℕ) (written : ℕ) (received : List Record) (fault : Option TraceFault) (is_torn is_sound : Bool) : Type 0 where
+  pub front : List ℕ
+  pub rest : List ℕ
+  pub appends : Appends base now front
+  pub is : front ++ rest ≡ text received
+  pub written_is : written ≡ length front
+  pub unsent_is : fault ≡ None → unsent ≡ rest
+  pub never_synced : fault ≡ Some faults.Sync → ⊥
+  pub tells : Tells fault before after
+  pub torn : is_torn ≡ true → fault ≡ Some faults.NoMemory
+  pub long : fault ≡ None → length (text received) ≤ length trace_header + RECORD_FRAME_MAX * length received
+  pub few : length received ≤ RECORDS_MAX
+  pub few_failures : before + 1 < 2 ^ 64
+  pub sound : fault ≡ None → is_sound ≡ true

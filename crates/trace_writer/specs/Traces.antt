@@ -1,0 +1,41 @@
+-- What became of a trace (own).
+use Rattle.std.specs.Prelude.{◌≡◌, ℕ, ◌+◌, ◌-◌, ◌≤◌, nat_le, Bool, true, List, [], ◌∷◌, ◌++◌, Option, None, Some, length, if◌then◌else◌}
+use Rattle.std.specs.Io.KnownBytes.{Appends}
+use Rattle.call_types.specs.declared.act.Record.{Record}
+use Rattle.frame_codec.specs.Frames.{frame}
+use Rattle.frame_codec.specs.Records.{record_bytes}
+use Rattle.frame_codec.specs.Trace.{trace_header, text}
+use Rattle.trace_writer.specs.declared.traced.TraceFault.{TraceFault}
+use Rattle.trace_writer.specs.declared.traced.TraceFault.TheVariants as faults
+
+-- how many records are whole in so many bytes of their frames (own)
+abbrev pub whole_in : List Record → ℕ → ℕ
+whole_in [] n = 0
+whole_in (r ∷ rs) n = if nat_le (length (frame (record_bytes r))) n then whole_in rs (n - length (frame (record_bytes r))) + 1 else 0
+
+-- how many failures a sink counts, where this went wrong and so many were counted before (own)
+abbrev pub Tells : Option TraceFault → ℕ → ℕ → Type 0
+Tells None before after = after ≡ before
+Tells (Some faults.Write) before after = after ≡ before + 1
+Tells (Some faults.Sync) before after = after ≡ before + 1
+Tells (Some faults.NoMemory) before after = (before ≤ after) × (after ≤ before + 1)
+
+-- What became of a trace: so many bytes of the text of the records were added to what the sink held, its first ones, and so many records
+-- are whole in them. They are all, and were synced, where nothing went wrong; where only the sync failed, they are all. What went wrong
+-- in the sink it has counted (own)
+pub record IsTrace (base now : Option (List ℕ)) (before after : ℕ) (is_synced : Bool) (whole bytes : ℕ) (fault : Option TraceFault) (received : List Record) : Type 0 where
+  pub front : List ℕ
+  pub rest : List ℕ
+  pub appends : Appends base now front
+  pub is : front ++ rest ≡ text received
+  pub bytes_is : bytes ≡ length front
+  pub whole_is : whole ≡ whole_in received (bytes - length trace_header)
+  pub all : fault ≡ None → (rest ≡ []) × (is_synced ≡ true)
+  pub unsynced : fault ≡ Some faults.Sync → rest ≡ []
+  pub tells : Tells fault before after
+
+-- of what came out of the ring all was received, unless memory ran out (own)
+pub record Receives (got received : List Record) (fault : Option TraceFault) : Type 0 where
+  pub dropped : List Record
+  pub is : got ≡ received ++ dropped
+  pub whole : (fault ≡ Some faults.NoMemory → ⊥) → dropped ≡ []
