@@ -1,4 +1,5 @@
-//! Tests of audits, of books, by seats, of tallies, of the tables of names, of descriptions and of processes, and of the plain program.
+//! Tests of audits, of traces as they are written, of books, by seats, of tallies, of the tables of names, of descriptions and of
+//! processes, and of the plain program.
 mod audits;
 mod books;
 mod descriptions;
@@ -7,3 +8,4 @@ mod plain;
 mod processes;
 mod rings;
 mod tallies;
+mod traces;

@@ -1,0 +1,175 @@
+//! Traces as they are written, to sinks that fail here and there.
+
+ghost use Rattle.std.specs.Prelude.{◌≡◌, ◌+◌, ◌<◌, ◌^◌, [], true, IfOk};
+ghost use Rattle.rtrb.specs.Ring.{received};
+
+use super::audits::TRACE;
+use call_types::act::{Act, Record};
+use call_types::call::Call;
+use call_types::outcome::{Outcome, Reply};
+use std::alloc::Global;
+use std::fs::OpenOptions;
+use std::process::Abort;
+use std::sync::{Arc, Wait};
+use std::test::Fail;
+use std::time::Clock;
+use trace_ring::trace_ring::{TraceEnd, TraceRing};
+use trace_writer::file::FileSink;
+use trace_writer::memory::{Manner, MemorySink};
+use trace_writer::sink::Sink;
+use trace_writer::traced::{TraceFault, Traced};
+use trace_writer::write_trace::write_trace;
+
+/// A record of the first process.
+fn record_of(alloc: Global, act: Act, reply: Reply) -> Result<Arc<Record>, Fail> {
+    Ok(Arc::new(
+        alloc,
+        Record {
+            actor: 0,
+            act,
+            outcome: Outcome::Reply(reply),
+        },
+    )?)
+}
+
+/// The reading end of a ring that has the records of `TRACE`, and whose writing end is finished.
+fn three_records(alloc: Global) -> Result<TraceEnd, Fail>
+    ensures { IfOk result (λ end. received end ≡ []) }
+{
+    let join = record_of(alloc, Act::Join, Reply::Number(0))?;
+    let pipe = record_of(alloc, Act::Call(Call::Pipe), Reply::Pair(0, 1))?;
+    let exit = record_of(alloc, Act::Exit, Reply::Done)?;
+    let mut ring = TraceRing::new(alloc, 3)?;
+    ring.push(join);
+    ring.push(pipe);
+    ring.push(exit);
+    let end = ring.take_end();
+    let _finished = ring.finish();
+    match end {
+        Some(end) => Ok(end),
+        None => Err("the end was not taken before")?,
+    }
+}
+
+/// What becomes of the three records in a sink over memory.
+fn traced_by<R: Wait + Clock>(
+    rt: &R,
+    alloc: Global,
+    manner: Manner,
+) -> Result<(MemorySink, Traced), Fail> {
+    let mut end = three_records(alloc)?;
+    Ok(write_trace(rt, alloc, &mut end, MemorySink::new(alloc, manner)))
+}
+
+/// What becomes of the three records in a file.
+fn traced_in<R: Wait + Clock, S: Sink + Drop>(
+    rt: &R,
+    alloc: Global,
+    sink: S,
+) -> Result<Traced, Fail>
+    requires sound { S.is_sound sink ≡ true }
+    requires few { S.failures sink + 1 < 2 ^ 64 }
+{
+    let mut end = three_records(alloc)?;
+    let (_sink, traced) = write_trace(rt, alloc, &mut end, sink);
+    Ok(traced)
+}
+
+/// How many of the three frames are whole in a front of the trace.
+fn whole_in_front(bytes: u64) -> u64 {
+    match bytes {
+        0..=25 => 0,
+        26..=43 => 1,
+        44..=53 => 2,
+        _ => 3,
+    }
+}
+
+#[test]
+fn trace_is_written_at_once_and_synced(rt: HostRuntime) -> Result<(), Fail> {
+    let (sink, traced) = traced_by(&rt, rt.alloc(), Manner::sound())?;
+    assert_eq!(rt; sink.bytes(), TRACE.as_slice());
+    assert_eq!(rt; sink.writes(), 1);
+    assert_eq!(rt; sink.failures(), 0);
+    assert_eq!(rt; traced.whole, 3);
+    assert_eq!(rt; traced.bytes, 54);
+    assert_eq!(rt; traced.fault, None);
+    assert_eq!(rt; traced.received.len(), 3);
+    Ok(())
+}
+
+#[test]
+fn sink_takes_thirty_bytes_and_fails(rt: HostRuntime) -> Result<(), Fail> {
+    let (sink, traced) = traced_by(&rt, rt.alloc(), Manner::failing_at(2, 30))?;
+    assert_eq!(rt; sink.bytes(), &TRACE[..30]);
+    assert_eq!(rt; sink.writes(), 2);
+    assert_eq!(rt; sink.failures(), 1);
+    assert_eq!(rt; traced.whole, 1);
+    assert_eq!(rt; traced.bytes, 30);
+    assert_eq!(rt; traced.fault, Some(TraceFault::Write));
+    assert_eq!(rt; traced.received.len(), 3);
+    Ok(())
+}
+
+#[test]
+fn sink_fails_at_each_byte(rt: HostRuntime) -> Result<(), Fail> {
+    for taken in 0u64..54 {
+        let (sink, traced) = traced_by(&rt, rt.alloc(), Manner::failing_at(taken + 1, 1))?;
+        assert_eq!(rt; sink.bytes(), &TRACE[..taken as usize]);
+        assert_eq!(rt; sink.writes(), taken + 1);
+        assert_eq!(rt; traced.whole, whole_in_front(taken));
+        assert_eq!(rt; traced.bytes, taken);
+        assert_eq!(rt; traced.fault, Some(TraceFault::Write));
+        assert_eq!(rt; traced.received.len(), 3);
+    }
+    let (sink, traced) = traced_by(&rt, rt.alloc(), Manner::failing_at(55, 1))?;
+    assert_eq!(rt; sink.bytes(), TRACE.as_slice());
+    assert_eq!(rt; sink.writes(), 54);
+    assert_eq!(rt; traced.whole, 3);
+    assert_eq!(rt; traced.fault, None);
+    Ok(())
+}
+
+#[test]
+fn sink_refuses_everything(rt: HostRuntime) -> Result<(), Fail> {
+    let (sink, traced) = traced_by(&rt, rt.alloc(), Manner::refusing())?;
+    assert_eq!(rt; sink.bytes().len(), 0);
+    assert_eq!(rt; sink.writes(), 1);
+    assert_eq!(rt; traced.whole, 0);
+    assert_eq!(rt; traced.bytes, 0);
+    assert_eq!(rt; traced.fault, Some(TraceFault::Write));
+    assert_eq!(rt; traced.received.len(), 3);
+    Ok(())
+}
+
+#[test]
+fn sink_fails_to_sync(rt: HostRuntime) -> Result<(), Fail> {
+    let (sink, traced) = traced_by(&rt, rt.alloc(), Manner::unsyncable())?;
+    assert_eq!(rt; sink.bytes(), TRACE.as_slice());
+    assert_eq!(rt; sink.failures(), 1);
+    assert_eq!(rt; traced.whole, 3);
+    assert_eq!(rt; traced.bytes, 54);
+    assert_eq!(rt; traced.fault, Some(TraceFault::Sync));
+    assert_eq!(rt; traced.received.len(), 3);
+    Ok(())
+}
+
+#[test]
+fn full_device_takes_no_byte(rt: HostRuntime) -> Result<(), Fail> {
+    let file = OpenOptions::new().write(true).open(&rt, "/dev/full")?;
+    let traced = traced_in(&rt, rt.alloc(), FileSink::new(file))?;
+    assert_eq!(rt; traced.whole, 0);
+    assert_eq!(rt; traced.bytes, 0);
+    assert_eq!(rt; traced.fault, Some(TraceFault::Write));
+    Ok(())
+}
+
+#[test]
+fn null_device_takes_all_and_is_not_synced(rt: HostRuntime) -> Result<(), Fail> {
+    let file = OpenOptions::new().write(true).open(&rt, "/dev/null")?;
+    let traced = traced_in(&rt, rt.alloc(), FileSink::new(file))?;
+    assert_eq!(rt; traced.whole, 3);
+    assert_eq!(rt; traced.bytes, 54);
+    assert_eq!(rt; traced.fault, Some(TraceFault::Sync));
+    Ok(())
+}
