@@ -25,7 +25,6 @@ A failure is told in one line. The last line is `N passed, M failed`, and the ex
 
 import argparse
 import concurrent.futures
-import errno
 import multiprocessing
 import os
 import random
@@ -41,29 +40,22 @@ from functools import partial
 from pathlib import Path
 from typing import NamedTuple
 
-from parts import traced_runs
+from parts import python_traces, traced_runs
+from parts.written_traces import SHORT, Named, changed_bytes, random_records, written_out
 from support import plain_model
 from support.auditing import Frames, audited, illegal, legal, shown
 from support.counting import FAULTS, Case, Count, require, same
-from support.frames import ERRORS, MOST, TRACE_HEADER, record_frame, trace_of, u32
+from support.frames import ERRORS, TRACE_HEADER, record_frame, trace_of, u32
 from support.options import add_count, add_path, add_seed, end_without
-from support.places import CLIENT, EXAMPLES, FDREF, SCRATCH
+from support.places import FDREF, SCRATCH
 from support.running import Ran, run
 from support.runs import line_of
 from support.serving import A_WHILE, SECONDS, Server, outcome_of, report, serve_words, started
 from support.sources import changed, numbered, source
 from support.texts import difference
-from support.walks import walked
-
-sys.path.insert(0, str(CLIENT))
-
-import fdref
 
 TELL_MOST = 10
 PIECE = 250
-
-# What is judged: its name, and its bytes.
-Named = tuple[str, bytes]
 
 
 # ---- many audits
@@ -95,118 +87,7 @@ def judge_all(count: Count, program: str, named: Sequence[Named], jobs: int) -> 
             )
 
 
-# ---- a trace of 54 bytes
-
-SHORT = bytes.fromhex(
-    "4644545241434531 0000000e 00000000 01 02 0000000000000000"
-    "0000000e 00000000 1a 04 00000000 00000001 00000006 00000000 04 01"
-)
-
-
-def with_byte(trace: bytes, at: int, value: int) -> bytes:
-    """A trace with another byte at a place."""
-    return trace[:at] + bytes([value]) + trace[at + 1 :]
-
-
-WRITTEN_OUT: list[tuple[str, bytes, Ran]] = [
-    ("all of it", SHORT, Ran(0, b"legal 3 rest 0\n", b"")),
-    ("its first 50 bytes", SHORT[:50], Ran(0, b"legal 2 rest 6\n", b"")),
-    ("its first 30 bytes", SHORT[:30], Ran(0, b"legal 1 rest 4\n", b"")),
-    ("another writing end", with_byte(SHORT, 43, 2), Ran(7, b"illegal 1 expected 0 1\n", b"")),
-    ("another first byte", with_byte(SHORT, 0, 0), Ran(8, b"malformed 0\n", b"")),
-    ("its first 5 bytes", SHORT[:5], Ran(0, b"legal 0 rest 5\n", b"")),
-    ("nothing", b"", Ran(0, b"legal 0 rest 0\n", b"")),
-    ("its header", SHORT[:8], Ran(0, b"legal 0 rest 0\n", b"")),
-    ("a wrong byte in half a header", SHORT[:4] + b"X", Ran(8, b"malformed 0\n", b"")),
-    ("a header of another version", b"FDTRACE2" + SHORT[8:], Ran(8, b"malformed 0\n", b"")),
-    ("a byte more", SHORT + b"\0", Ran(0, b"legal 3 rest 1\n", b"")),
-    ("a join of another process", with_byte(SHORT, 15, 1), Ran(7, b"illegal 0 expected none\n", b"")),
-    ("an exit of another process", with_byte(SHORT, 51, 1), Ran(7, b"illegal 2 expected none\n", b"")),
-    ("a resume in place of the exit", with_byte(SHORT, 52, 3), Ran(7, b"illegal 2 expected none\n", b"")),
-    ("a closing by a process", with_byte(SHORT, 52, 5), Ran(8, b"malformed 44\n", b"")),
-    ("a length that is too long", SHORT + u32(66_049), Ran(8, b"malformed 54\n", b"")),
-    ("three bytes of it", SHORT + u32(66_049)[:3], Ran(0, b"legal 3 rest 3\n", b"")),
-    ("the greatest length, not yet whole", SHORT + u32(66_048) + bytes(66_047), Ran(0, b"legal 3 rest 66051\n", b"")),
-    ("the greatest length", SHORT + u32(66_048) + bytes(66_048), Ran(8, b"malformed 54\n", b"")),
-    ("no length at all", SHORT + u32(0), Ran(8, b"malformed 54\n", b"")),
-    (
-        "what is wrong before what is malformed",
-        with_byte(SHORT, 43, 2)[:52] + b"\x80\x80",
-        Ran(7, b"illegal 1 expected 0 1\n", b""),
-    ),
-    (
-        "what is malformed before what is wrong",
-        with_byte(with_byte(SHORT, 12, 0)[:31] + b"\xff" + SHORT[32:], 43, 2),
-        Ran(7, b"illegal 1 expected none\n", b""),
-    ),
-]
-
-# Records, of which all are right, and the verdict where others come after them.
-LINES: list[tuple[str, str, str]] = [
-    (
-        "the closing while a child is left",
-        "p0 join = 0; p0 fork = 1; house close-run = ok; p1 exit = ok",
-        "legal 4 rest 0",
-    ),
-    ("an exit of a child before it", "p0 join = 0; p0 fork = 1; p1 exit = ok; house close-run = ok", "legal 4 rest 0"),
-    ("a second closing", "house close-run = ok; house close-run = ok", "illegal 1 expected none"),
-    ("a join after the closing", "house close-run = ok; p0 join = error EAGAIN", "legal 2 rest 0"),
-    ("a call of a child without a connection", "p0 join = 0; p0 fork = 1; p1 pipe = 0 1", "illegal 2 expected none"),
-    (
-        "a call while another waits",
-        "p0 join = 0; p0 pipe = 0 1; p0 read 0 1 = parked 0; p0 fork = 1",
-        "illegal 3 expected none",
-    ),
-    (
-        "an exit while a call waits",
-        "p0 join = 0; p0 pipe = 0 1; p0 read 0 1 = parked 0; p0 exit = ok",
-        "legal 4 rest 0",
-    ),
-    ("an attach of the greatest number", "p4294967295 attach = error ESRCH", "legal 1 rest 0"),
-    ("a join of the greatest number", "p4294967295 join = 4294967295", "illegal 0 expected none"),
-    ("a closing that fails", "house close-run = error EAGAIN", "illegal 0 expected ok"),
-    ("bytes in place of a number", "p0 join = 0; p0 fork = x01", "illegal 1 expected 1"),
-    (
-        "an error in place of bytes",
-        "p0 join = 0; p0 open a rw,creat = 0; p0 read 0 1 = error EBADF",
-        "illegal 2 expected x",
-    ),
-    (
-        "what fstat tells",
-        "p0 join = 0; p0 open a rw,creat = 0; p0 fstat 0 = regular 0 2",
-        "illegal 2 expected regular 0 1",
-    ),
-    (
-        "a part that is too small",
-        "p0 join = 0; p0 pipe = 0 1; p0 fork = 1; p1 attach = ok; p1 write 1 61*2000 = parked 1024; "
-        "p0 read 0 500 = 61*500; p1 resume = part 1523",
-        "illegal 6 expected part 1524",
-    ),
-    (
-        "a resume that ends nothing",
-        "p0 join = 0; p0 pipe = 0 1; p0 read 0 5 = parked 0; p0 resume = x",
-        "illegal 3 expected none",
-    ),
-    (
-        "bytes of one kind",
-        "p0 join = 0; p0 open a rw,creat = 0; p0 write 0 61*17 = 17; p0 pread 0 0 99 = 62*17",
-        "illegal 3 expected 61*17",
-    ),
-    (
-        "a full table of processes",
-        "; ".join([*(f"p{number} join = {number}" for number in range(64)), "p64 join = 64"]),
-        "illegal 64 expected error EAGAIN",
-    ),
-]
-STATUSES = {"legal": 0, "illegal": 7, "malformed": 8}
-
-
-def written_out() -> Iterator[tuple[str, bytes, Ran]]:
-    """The traces whose verdicts are written out here."""
-    yield from WRITTEN_OUT
-    for name, lines, verdict in LINES:
-        wanted = Ran(STATUSES[verdict.split(" ")[0]], f"{verdict}\n".encode(), b"")
-        yield name, trace_of(lines.split("; ")), wanted
+# ---- verdicts that are written out
 
 
 def check_written_out(count: Count, program: str) -> None:
@@ -217,23 +98,7 @@ def check_written_out(count: Count, program: str) -> None:
         count.check(name, partial(same, wanted, given))
 
 
-def changed_bytes() -> Iterator[Named]:
-    """The short trace with each byte turned to every other value, and each front of it."""
-    for at, byte in enumerate(SHORT):
-        yield from ((f"byte {at} as {value:02x}", with_byte(SHORT, at, value)) for value in range(256) if value != byte)
-    yield from ((f"the first {end} bytes", SHORT[:end]) for end in range(len(SHORT) + 1))
-
-
 # ---- traces of which one record is changed
-
-
-def random_records(pick: random.Random) -> list[str]:
-    """The records of a random script, as the model has them."""
-    run_of_model = plain_model.Run(plain_model.RECORDS_DEFAULT)
-    for line in walked(pick, plain_model.RECORDS_DEFAULT, pick.choice([5, 10, 20, 40])):
-        run_of_model.take(plain_model.read_act(line))
-    records = [line.rstrip("\n") for line in run_of_model.lines if not line.startswith("-")]
-    return records[: pick.choice([len(records), len(records), 60])]
 
 
 def other_outcome(pick: random.Random, outcome: str, others: Sequence[str]) -> str:
@@ -299,15 +164,15 @@ def check_changed(count: Count, program: str, seed: str, most: int, jobs: int) -
 # ---- what is shown
 
 # Records with every act and every kind of outcome. No run has them: what is shown is not judged.
-ANY_RECORDS = """p7 join = 7; p0 attach = ok; p4294967295 attach = error ESRCH; p1 resume = part 4294967295; p1 exit = ok
-p7 fork = 8; p7 fork = 9; p9 attach = error ESRCH; p9 exit = ok; p8 attach = ok; p8 exit = ok; p9 exit = ok
+ANY_RECORDS = """p7 join = 7; p0 attach = ok; p4294967295 attach = error ESRCH; p1 resume = part 4294967295
+p1 exit = ok; p7 fork = 8; p7 fork = 9; p9 attach = error ESRCH; p9 exit = ok; p8 attach = ok; p8 exit = ok; p9 exit = ok
 house close-run = ok; p0 open a/b%25%00%ff -,creat,excl,trunc,append,nonblock = error EINVAL; p0 open % r = 0
 p0 open x w = parked 0; p0 open y rw = 31; p0 close -2147483648 = error EBADF; p0 read 0 4294967295 = x
-p0 read 0 17 = 61*17; p0 read 0 16 = x61616161616161616161616161616161; p0 read 1 2 = parked 65536; p0 write 1 x = 0
+p0 read 0 17 = 61*17; p0 read 0 16 = x61616161616161616161616161616161; p0 read 1 2 = parked 1; p0 write 1 x = 0
 p0 write 1 00*65700 = error EINVAL; p0 write 1 x6162 = 18446744073709551615; p0 read 0 1 = ff*65536
 p0 pread 0 -9223372036854775808 5 = error EINVAL; p0 pwrite 0 9223372036854775807 x00ff = 2; p0 lseek 0 -1 set = 0
 p0 lseek 0 0 cur = 0; p0 lseek 0 1 end = error EOVERFLOW; p0 ftruncate 0 0 = ok; p0 dup 0 = 1
-p0 dup2 2147483647 -1 = 0; p0 pipe = 4294967295 0; p0 mkfifo f = ok; p0 link a b = error EEXIST; p0 unlink a = error ENOENT
+p0 dup2 2147483647 -1 = 0; p0 pipe = 4294967295 0; p0 mkfifo f = ok; p0 link a b = error EEXIST; p0 unlink a = ok
 p0 fstat 0 = regular 18446744073709551615 4294967295; p0 fstat 1 = fifo 0 0; p0 fstat 2 = pipe 1 1
 p0 fork = 4294967295"""
 
@@ -428,12 +293,6 @@ def converse(server: Server) -> None:
     client.vanish()
 
 
-def trace_of_file(path: str) -> bytes:
-    """What a file holds."""
-    with open(path, "rb") as file:
-        return file.read()
-
-
 CONVERSED = SHORT + record_frame("house close-run = ok")
 
 
@@ -445,7 +304,7 @@ def is_written(program: str) -> None:
         with Server(program, 1, trace=file.name) as server:
             converse(server)
             server.ended(report(1, 4))
-        same(CONVERSED.hex(), trace_of_file(file.name).hex())
+        same(CONVERSED.hex(), Path(file.name).read_bytes().hex())
 
 
 def disk_is_full(program: str) -> None:
@@ -469,7 +328,7 @@ def disk_is_full_at(program: str, size: int) -> None:
             converse(server)
             is_whole = size >= len(CONVERSED)
             server.ended(report(1, 4, traced=whole), 0 if is_whole else 4, b"" if is_whole else b"trace fault\n")
-        same(CONVERSED[:size].hex(), trace_of_file(trace).hex())
+        same(CONVERSED[:size].hex(), Path(trace).read_bytes().hex())
 
 
 def cannot_be_synced(program: str) -> None:
@@ -494,7 +353,7 @@ def killed(program: str, pause: float) -> None:
         second.ask("pipe")
         os.killpg(server.process.pid, signal.SIGKILL)
         server.process.wait()
-        trace = trace_of_file(server.trace)
+        trace = Path(server.trace).read_bytes()
     left = Frames(trace)
     count = len(left.lines)
     require(count in ((52, 53) if pause else range(54)), f"{count} records, and 52 were told")
@@ -529,132 +388,6 @@ def system_cases(program: str) -> Iterator[Case]:
     yield "a trace that cannot be synced", partial(cannot_be_synced, program)
     for pause in (0, A_WHILE):
         yield f"a server that is killed after {pause} seconds", partial(killed, program, pause)
-
-
-# ---- the client in Python
-
-O_ALL = os.O_CREAT | os.O_EXCL | os.O_TRUNC | os.O_APPEND | os.O_NONBLOCK
-PYTHON_RECORDS = [
-    (fdref.Record(0, "join", (), 0), "p0 join = 0"),
-    (fdref.Record(9, "attach"), "p9 attach = ok"),
-    (fdref.Record(9, "attach", (), fdref.Error("ESRCH")), "p9 attach = error ESRCH"),
-    (fdref.Record(1, "resume", (), fdref.Part(7)), "p1 resume = part 7"),
-    (fdref.Record(1, "exit"), "p1 exit = ok"),
-    (fdref.CLOSE_RUN, "house close-run = ok"),
-    (fdref.Record(1, "open", ("a", os.O_RDWR | O_ALL), 3), "p1 open a rw,creat,excl,trunc,append,nonblock = 3"),
-    (fdref.Record(1, "open", ("", os.O_RDONLY), fdref.Error("ENOENT")), "p1 open % r = error ENOENT"),
-    (fdref.Record(1, "open", ("a", fdref.O_NEITHER), fdref.Error("EINVAL")), "p1 open a - = error EINVAL"),
-    (fdref.Record(1, "open", (os.fsdecode(b"\xff"), os.O_WRONLY), fdref.Parked()), "p1 open %ff w = parked 0"),
-    (fdref.Record(1, "close", (-1,), fdref.Error("EBADF")), "p1 close -1 = error EBADF"),
-    (fdref.Record(1, "read", (0, 5), b"hello"), "p1 read 0 5 = x68656c6c6f"),
-    (fdref.Record(1, "read", (0, 9), fdref.Parked(0)), "p1 read 0 9 = parked 0"),
-    (fdref.Record(1, "write", (1, b"hi"), 2), "p1 write 1 x6869 = 2"),
-    (fdref.Record(1, "pread", (0, 5, 77), b""), "p1 pread 0 77 5 = x"),
-    (fdref.Record(1, "pwrite", (0, b"x", 77), 1), "p1 pwrite 0 77 x78 = 1"),
-    (fdref.Record(1, "lseek", (0, -5, os.SEEK_END), 0), "p1 lseek 0 -5 end = 0"),
-    (fdref.Record(1, "lseek", (0, 5, os.SEEK_CUR), 5), "p1 lseek 0 5 cur = 5"),
-    (fdref.Record(1, "lseek", (0, 5, os.SEEK_SET), 5), "p1 lseek 0 5 set = 5"),
-    (fdref.Record(1, "ftruncate", (0, 2**63 - 1), fdref.Error("EFBIG")), f"p1 ftruncate 0 {2**63 - 1} = error EFBIG"),
-    (fdref.Record(1, "dup", (0,), 1), "p1 dup 0 = 1"),
-    (fdref.Record(1, "dup2", (0, 31), 31), "p1 dup2 0 31 = 31"),
-    (fdref.Record(1, "pipe", (), (0, 1)), "p1 pipe = 0 1"),
-    (fdref.Record(1, "mkfifo", ("f",)), "p1 mkfifo f = ok"),
-    (fdref.Record(1, "link", ("a", "b")), "p1 link a b = ok"),
-    (fdref.Record(1, "unlink", ("b",)), "p1 unlink b = ok"),
-    (fdref.Record(1, "fstat", (0,), fdref.Stat("fifo", 0o010000, 5, 1)), "p1 fstat 0 = fifo 5 1"),
-    (fdref.Record(1, "fstat", (0,), fdref.Stat("regular", 0o100000, 5, 1)), "p1 fstat 0 = regular 5 1"),
-    (fdref.Record(1, "fork", (), 2), "p1 fork = 2"),
-]
-PYTHON_RECORDS += [(fdref.Record(1, "fork", (), fdref.Error(error)), f"p1 fork = error {error}") for error in ERRORS]
-PYTHON_REFUSED: list[tuple[fdref.Record, str]] = [
-    (fdref.Record(0, "opne"), "'opne' is no act"),
-    (fdref.Record(0, "join", (1,), 0), "join takes no arguments"),
-    (fdref.Record(0, "read", (0,), b""), "read takes 2 arguments, and 1 are given"),
-    (fdref.Record(-1, "join", (), 0), "a number is out of its range"),
-    (fdref.Record(2**32, "exit"), "a number is out of its range"),
-    (fdref.Record(0, "read", (2**31, 1), b""), "a number is out of its range"),
-    (fdref.Record(0, "read", (0, -1), b""), "a number is out of its range"),
-    (fdref.Record(0, "fork", (), -1), "a number is out of its range"),
-    (fdref.Record(0, "read", ("0", 1), b""), "a value is of the wrong kind"),
-    (fdref.Record(0, "lseek", (0, 0, 3), 0), "3 is no place to seek from"),
-    (fdref.Record(0, "open", ("a", os.O_SYNC), 0), f"flags that no request holds: {os.O_SYNC:#o}"),
-    (fdref.Record(0, "mkfifo", ("n" * 256,)), "a name of 256 bytes, and a request holds 255"),
-    (fdref.Record(0, "write", (0, bytes(65_701)), 0), "65701 bytes, and at most 65700 have a place here"),
-    (fdref.Record(0, "read", (0, 1), bytes(65_537)), "65537 bytes, and at most 65536 have a place here"),
-    (fdref.Record(0, "fork", (), fdref.Error("EPERM")), "'EPERM' is no error"),
-    (fdref.Record(0, "fork", (), OSError(errno.EPERM, "")), "'EPERM' is no error"),
-    (fdref.Record(0, "fstat", (0,), fdref.Stat("socket", 0, 0, 0)), "'socket' is no kind of file"),
-    (fdref.Record(0, "fork", (), 1.5), "no call has the outcome 1.5"),
-    (fdref.Record(0, "close-run"), "a close-run has the pid 4294967295"),
-]
-
-
-def python_writes(path: str, record: fdref.Record, line: str) -> None:
-    """The client writes a record as it is spelled, and reads it again."""
-    same(2, fdref.write_trace(path, [record, record]))
-    same(trace_of([line, line]).hex(), trace_of_file(path).hex())
-    same(fdref.Trace([record, record], b""), fdref.read_trace(path))
-
-
-def python_refuses(path: str, record: fdref.Record, why: str) -> None:
-    """The client says why a record has no place in a trace, and has written those before it."""
-    try:
-        fdref.write_trace(path, iter([fdref.CLOSE_RUN, record, fdref.CLOSE_RUN]))
-    except ValueError as fault:
-        same(f"record 1: {why}", str(fault))
-    else:
-        require(False, "it is not refused")
-    same(fdref.Trace([fdref.CLOSE_RUN], b""), fdref.read_trace(path))
-
-
-def python_takes_errors(path: str) -> None:
-    """An OSError is written as its number."""
-    refused_fork = fdref.Record(0, "fork", (), OSError(errno.EAGAIN, "again"))
-    fdref.write_trace(path, [refused_fork, fdref.Record(0, "pipe", (), (0, 1))])
-    same(trace_of(["p0 fork = error EAGAIN", "p0 pipe = 0 1"]).hex(), trace_of_file(path).hex())
-
-
-def python_reads(path: str, trace: bytes) -> None:
-    """The client finds as many whole records, and the same rest or fault, as the plain auditor does."""
-    Path(path).write_bytes(trace)
-    wanted = shown(trace)
-    count = wanted.stdout.count(b"\n")
-    try:
-        records, rest = fdref.read_trace(path)
-    except fdref.Malformed as fault:
-        same((8, f"malformed {fault.at}\n".encode(), count), (wanted.status, wanted.stderr, len(fault.records)))
-    else:
-        same((count, f"rest {len(rest)}\n".encode() if rest else b""), (len(records), wanted.stderr))
-        fdref.write_trace(path, records)
-        whole = trace[: len(trace) - len(rest)] if trace.startswith(TRACE_HEADER) else TRACE_HEADER
-        same(whole.hex(), trace_of_file(path).hex())
-
-
-def example(program: str, trace: str, words: Sequence[str], wanted: Ran) -> None:
-    """The example writes a trace, on which this is the verdict."""
-    same(Ran(0, b"", b""), run([sys.executable, str(EXAMPLES / "emulator_trace.py"), *words, trace]))
-    same(wanted, run([program, "audit", trace]))
-
-
-def python_cases(program: str, seed: str) -> Iterator[Case]:
-    """Traces of the client in Python."""
-    with tempfile.TemporaryDirectory(prefix="fdref-", dir=SCRATCH) as folder:
-        path = os.path.join(folder, "trace")
-        for record, line in PYTHON_RECORDS:
-            yield f"the client writes {line}", partial(python_writes, path, record, line)
-        for record, why in PYTHON_REFUSED:
-            yield f"the client refuses {record!r:.80}", partial(python_refuses, path, record, why)
-        yield "the client writes an OSError", partial(python_takes_errors, path)
-        for name, trace, _ in written_out():
-            yield f"the client reads {name}", partial(python_reads, path, trace)
-        for name, trace in changed_bytes():
-            yield f"the client reads the short trace, {name}", partial(python_reads, path, trace)
-        for number in range(100):
-            pick = source(f"{seed} read", number)
-            trace = changed(pick, trace_of(random_records(pick)))
-            yield numbered("the client reads trace", seed, number), partial(python_reads, path, trace)
-        yield "the example", partial(example, program, path, [], legal(9))
-        yield "the example with a mistake", partial(example, program, path, ["--mistake"], illegal(5, "x6c6c6f"))
 
 
 # ---- random runs of a live server
@@ -708,7 +441,7 @@ def main(words: Sequence[str]) -> int:
         ("changed records", lambda count: check_changed(count, program, args.seed, args.changed, args.jobs)),
         ("what is shown", lambda count: check_shown(count, program)),
         ("command lines and the system", lambda count: count.check_all(system_cases(program))),
-        ("the client in Python", lambda count: count.check_all(python_cases(program, args.seed))),
+        ("the client in Python", lambda count: count.check_all(python_traces.cases(program, args.seed))),
         ("a live server", lambda count: check_live(count, program, args.seed, args.runs, args.jobs)),
     ]
     total = Count()

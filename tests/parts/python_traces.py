@@ -1,0 +1,144 @@
+"""Traces that the client in Python writes and reads, and its example of an emulator."""
+
+import errno
+import os
+import sys
+import tempfile
+from collections.abc import Iterator, Sequence
+from functools import partial
+from pathlib import Path
+
+from parts.written_traces import changed_bytes, random_records, written_out
+from support.auditing import illegal, legal, shown
+from support.counting import Case, require, same
+from support.frames import ERRORS, TRACE_HEADER, trace_of
+from support.places import CLIENT, EXAMPLES, SCRATCH
+from support.running import Ran, run
+from support.sources import changed, numbered, source
+
+sys.path.insert(0, str(CLIENT))
+
+import fdref
+
+O_ALL = os.O_CREAT | os.O_EXCL | os.O_TRUNC | os.O_APPEND | os.O_NONBLOCK
+RECORDS = [
+    (fdref.Record(0, "join", (), 0), "p0 join = 0"),
+    (fdref.Record(9, "attach"), "p9 attach = ok"),
+    (fdref.Record(9, "attach", (), fdref.Error("ESRCH")), "p9 attach = error ESRCH"),
+    (fdref.Record(1, "resume", (), fdref.Part(7)), "p1 resume = part 7"),
+    (fdref.Record(1, "exit"), "p1 exit = ok"),
+    (fdref.CLOSE_RUN, "house close-run = ok"),
+    (fdref.Record(1, "open", ("a", os.O_RDWR | O_ALL), 3), "p1 open a rw,creat,excl,trunc,append,nonblock = 3"),
+    (fdref.Record(1, "open", ("", os.O_RDONLY), fdref.Error("ENOENT")), "p1 open % r = error ENOENT"),
+    (fdref.Record(1, "open", ("a", fdref.O_NEITHER), fdref.Error("EINVAL")), "p1 open a - = error EINVAL"),
+    (fdref.Record(1, "open", (os.fsdecode(b"\xff"), os.O_WRONLY), fdref.Parked()), "p1 open %ff w = parked 0"),
+    (fdref.Record(1, "close", (-1,), fdref.Error("EBADF")), "p1 close -1 = error EBADF"),
+    (fdref.Record(1, "read", (0, 5), b"hello"), "p1 read 0 5 = x68656c6c6f"),
+    (fdref.Record(1, "read", (0, 9), fdref.Parked(0)), "p1 read 0 9 = parked 0"),
+    (fdref.Record(1, "write", (1, b"hi"), 2), "p1 write 1 x6869 = 2"),
+    (fdref.Record(1, "pread", (0, 5, 77), b""), "p1 pread 0 77 5 = x"),
+    (fdref.Record(1, "pwrite", (0, b"x", 77), 1), "p1 pwrite 0 77 x78 = 1"),
+    (fdref.Record(1, "lseek", (0, -5, os.SEEK_END), 0), "p1 lseek 0 -5 end = 0"),
+    (fdref.Record(1, "lseek", (0, 5, os.SEEK_CUR), 5), "p1 lseek 0 5 cur = 5"),
+    (fdref.Record(1, "lseek", (0, 5, os.SEEK_SET), 5), "p1 lseek 0 5 set = 5"),
+    (fdref.Record(1, "ftruncate", (0, 2**63 - 1), fdref.Error("EFBIG")), f"p1 ftruncate 0 {2**63 - 1} = error EFBIG"),
+    (fdref.Record(1, "dup", (0,), 1), "p1 dup 0 = 1"),
+    (fdref.Record(1, "dup2", (0, 31), 31), "p1 dup2 0 31 = 31"),
+    (fdref.Record(1, "pipe", (), (0, 1)), "p1 pipe = 0 1"),
+    (fdref.Record(1, "mkfifo", ("f",)), "p1 mkfifo f = ok"),
+    (fdref.Record(1, "link", ("a", "b")), "p1 link a b = ok"),
+    (fdref.Record(1, "unlink", ("b",)), "p1 unlink b = ok"),
+    (fdref.Record(1, "fstat", (0,), fdref.Stat("fifo", 0o010000, 5, 1)), "p1 fstat 0 = fifo 5 1"),
+    (fdref.Record(1, "fstat", (0,), fdref.Stat("regular", 0o100000, 5, 1)), "p1 fstat 0 = regular 5 1"),
+    (fdref.Record(1, "fork", (), 2), "p1 fork = 2"),
+]
+RECORDS += [(fdref.Record(1, "fork", (), fdref.Error(error)), f"p1 fork = error {error}") for error in ERRORS]
+REFUSED: list[tuple[fdref.Record, str]] = [
+    (fdref.Record(0, "opne"), "'opne' is no act"),
+    (fdref.Record(0, "join", (1,), 0), "join takes no arguments"),
+    (fdref.Record(0, "read", (0,), b""), "read takes 2 arguments, and 1 are given"),
+    (fdref.Record(-1, "join", (), 0), "a number is out of its range"),
+    (fdref.Record(2**32, "exit"), "a number is out of its range"),
+    (fdref.Record(0, "read", (2**31, 1), b""), "a number is out of its range"),
+    (fdref.Record(0, "read", (0, -1), b""), "a number is out of its range"),
+    (fdref.Record(0, "fork", (), -1), "a number is out of its range"),
+    (fdref.Record(0, "read", ("0", 1), b""), "a value is of the wrong kind"),
+    (fdref.Record(0, "lseek", (0, 0, 3), 0), "3 is no place to seek from"),
+    (fdref.Record(0, "open", ("a", os.O_SYNC), 0), f"flags that no request holds: {os.O_SYNC:#o}"),
+    (fdref.Record(0, "mkfifo", ("n" * 256,)), "a name of 256 bytes, and a request holds 255"),
+    (fdref.Record(0, "write", (0, bytes(65_701)), 0), "65701 bytes, and at most 65700 have a place here"),
+    (fdref.Record(0, "read", (0, 1), bytes(65_537)), "65537 bytes, and at most 65536 have a place here"),
+    (fdref.Record(0, "fork", (), fdref.Error("EPERM")), "'EPERM' is no error"),
+    (fdref.Record(0, "fork", (), OSError(errno.EPERM, "")), "'EPERM' is no error"),
+    (fdref.Record(0, "fstat", (0,), fdref.Stat("socket", 0, 0, 0)), "'socket' is no kind of file"),
+    (fdref.Record(0, "fork", (), 1.5), "no call has the outcome 1.5"),
+    (fdref.Record(0, "close-run"), "a close-run has the pid 4294967295"),
+]
+
+
+def writes(path: str, record: fdref.Record, line: str) -> None:
+    """The client writes a record as it is spelled, and reads it again."""
+    same(2, fdref.write_trace(path, [record, record]))
+    same(trace_of([line, line]).hex(), Path(path).read_bytes().hex())
+    same(fdref.Trace([record, record], b""), fdref.read_trace(path))
+
+
+def refuses(path: str, record: fdref.Record, why: str) -> None:
+    """The client says why a record has no place in a trace, and has written those before it."""
+    try:
+        fdref.write_trace(path, iter([fdref.CLOSE_RUN, record, fdref.CLOSE_RUN]))
+    except ValueError as fault:
+        same(f"record 1: {why}", str(fault))
+    else:
+        require(False, "it is not refused")
+    same(fdref.Trace([fdref.CLOSE_RUN], b""), fdref.read_trace(path))
+
+
+def takes_errors(path: str) -> None:
+    """An OSError is written as its number."""
+    refused_fork = fdref.Record(0, "fork", (), OSError(errno.EAGAIN, "again"))
+    fdref.write_trace(path, [refused_fork, fdref.Record(0, "pipe", (), (0, 1))])
+    same(trace_of(["p0 fork = error EAGAIN", "p0 pipe = 0 1"]).hex(), Path(path).read_bytes().hex())
+
+
+def reads(path: str, trace: bytes) -> None:
+    """The client finds as many whole records, and the same rest or fault, as the plain auditor does."""
+    Path(path).write_bytes(trace)
+    wanted = shown(trace)
+    count = wanted.stdout.count(b"\n")
+    try:
+        records, rest = fdref.read_trace(path)
+    except fdref.Malformed as fault:
+        same((8, f"malformed {fault.at}\n".encode(), count), (wanted.status, wanted.stderr, len(fault.records)))
+    else:
+        same((count, f"rest {len(rest)}\n".encode() if rest else b""), (len(records), wanted.stderr))
+        fdref.write_trace(path, records)
+        whole = trace[: len(trace) - len(rest)] if trace.startswith(TRACE_HEADER) else TRACE_HEADER
+        same(whole.hex(), Path(path).read_bytes().hex())
+
+
+def example(program: str, trace: str, words: Sequence[str], wanted: Ran) -> None:
+    """The example writes a trace, on which this is the verdict."""
+    same(Ran(0, b"", b""), run([sys.executable, str(EXAMPLES / "emulator_trace.py"), *words, trace]))
+    same(wanted, run([program, "audit", trace]))
+
+
+def cases(program: str, seed: str) -> Iterator[Case]:
+    """Traces of the client in Python."""
+    with tempfile.TemporaryDirectory(prefix="fdref-", dir=SCRATCH) as folder:
+        path = os.path.join(folder, "trace")
+        for record, line in RECORDS:
+            yield f"the client writes {line}", partial(writes, path, record, line)
+        for record, why in REFUSED:
+            yield f"the client refuses {record!r:.80}", partial(refuses, path, record, why)
+        yield "the client writes an OSError", partial(takes_errors, path)
+        for name, trace, _ in written_out():
+            yield f"the client reads {name}", partial(reads, path, trace)
+        for name, trace in changed_bytes():
+            yield f"the client reads the short trace, {name}", partial(reads, path, trace)
+        for number in range(100):
+            pick = source(f"{seed} read", number)
+            trace = changed(pick, trace_of(random_records(pick)))
+            yield numbered("the client reads trace", seed, number), partial(reads, path, trace)
+        yield "the example", partial(example, program, path, [], legal(9))
+        yield "the example with a mistake", partial(example, program, path, ["--mistake"], illegal(5, "x6c6c6f"))
