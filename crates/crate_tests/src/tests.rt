@@ -1,6 +1,7 @@
-//! Tests of audits, of traces as they are written, of books, by seats, of tallies, of the tables of names, of descriptions and of
-//! processes, and of the plain program.
+//! Tests of audits, of traces as they are written, of books, by seats, of their rings, of tallies, of the tables of names, of
+//! descriptions and of processes, and of the plain program.
 mod audits;
+mod book_rings;
 mod books;
 mod descriptions;
 mod names;

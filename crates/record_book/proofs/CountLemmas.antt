@@ -10,13 +10,15 @@ use Rattle.call_types.specs.declared.outcome.Outcome.{Outcome}
 use Rattle.posix_model.specs.Step.{Stepped, step}
 use Rattle.posix_model.specs.Sound.{closes}
 use Rattle.posix_model.specs.Laws.{StepPlansProcesses}
-use Rattle.posix_model.specs.History.{empty_world, after_act, world_of}
+use Rattle.posix_model.specs.History.{empty_world, after_act, legal, world_of}
+use Rattle.posix_model.specs.PipeRecord.{BytesOfPipe, SmallWritesUnbroken}
 use Rattle.posix_model.specs.Turns.{took, gave}
 use Rattle.posix_model.specs.declared.world.World.{World}
 use Rattle.byte_ledger.specs.Counted.{Counted, TalliesState, counted_more}
+use Rattle.byte_ledger.specs.declared.tallies.Sums.{Sums}
 use Rattle.record_book.specs.Seat.{Receipted}
-use Rattle.record_book.specs.Book.{BookState, world_now, Appends}
-use Rattle.record_book.specs.Counting.{seats_of, seats_in, seats_given, counted_in, only_records, IsCounted}
+use Rattle.record_book.specs.Book.{BookState, world_now, exits_left, Appends}
+use Rattle.record_book.specs.Counting.{seats_of, seats_in, seats_given, counted_in, only_records, IsCounted, CountsOf}
 use Rattle.record_book.specs.Exits.{exit_record, closing_record, receipts_from}
 use Rattle.record_book.specs.Ends.{told_more, IsOrphansExit, IsShutBy}
 use Rattle.record_book.proofs.HistoryLemmas.{world_from-push, bytes_in-push, bytes_out-push}
@@ -161,3 +163,17 @@ pub house_counts : (old new : BookState) (s t : Counted) (receipts : List Receip
 house_counts old new s t receipts tallies is e more =
     let all : Some t ≡ option_map (λ rs. only_records (length rs)) (told_more (length old.history) (closing_record ∷ []) old.house) = house_more (length old.history) closing_record old.house s t is.house_is more in
     same_shares t _ (all ∙ ap (λ h. option_map (λ rs. only_records (length rs)) h) (sym e.receipts_are))
+
+-- the sums of the tallies are those of a run, of which the laws of pipes hold
+pub counts_of : BytesOfPipe → SmallWritesUnbroken → (b : BookState) (t : TalliesState) (house : Option Counted) (sums : Sums) → IsCounted b t house
+    → legal b.limits.bounds b.history → length b.history + exits_left (world_now b) ≤ b.limits.records
+    → sums.records ≡ t.counted.records → sums.bytes_in ≡ t.counted.bytes_in → sums.bytes_out ≡ t.counted.bytes_out → CountsOf b sums
+counts_of bytes small b t house sums is run reserve records_are in_are out_are = record {
+  records = records_are ∙ ap (λ c. c.records) is.counted;
+  bytes_in = in_are ∙ ap (λ c. c.bytes_in) is.counted;
+  bytes_out = out_are ∙ ap (λ c. c.bytes_out) is.counted;
+  is_legal = run;
+  pipes = bytes b.limits.bounds b.history run;
+  small_writes = small b.limits.bounds b.history run;
+  reserve = reserve;
+}

@@ -171,6 +171,7 @@ ends_as_one a b c rs s first last =
     let place : length b.history ≡ length a.history + length xs = ap length first.history ∙ length-append a.history xs in
     record {
       limits = last.limits ∙ first.limits;
+      is_traced = last.is_traced ∙ first.is_traced;
       history = last.history ∙ ap (λ h. h ++ rs) first.history ∙ append_assoc a.history xs rs;
       pid = last.pid;
       seen = last.seen;

@@ -1,5 +1,5 @@
 -- A journal with one more record is a journal.
-use Rattle.std.proofs.Common.{◌≡◌, ◌∙◌, ℕ, ◌+◌, ◌≤◌, ◌||◌, Bool, true, false, cond, None, Some, set, sym, [], ◌∷◌, ◌++◌, length, refl, ap, subst, arith, length-append, vec_capacity}
+use Rattle.std.proofs.Common.{◌≡◌, ◌∙◌, ℕ, ◌+◌, ◌≤◌, ◌||◌, Bool, true, false, cond, None, Some, set, sym, [], ◌∷◌, length, refl, ap, subst, arith, length-append}
 use Rattle.std.specs.Prelude.{not}
 use Rattle.std.proofs.lemmas.Bool.{leb-true}
 use Rattle.call_types.specs.declared.act.TheConstants.{HOUSE}
@@ -13,6 +13,7 @@ use Rattle.posix_model.specs.Sound.{adds}
 use Rattle.posix_model.specs.Laws.{Counts}
 use Rattle.posix_model.specs.declared.change.Decided.{Decided}
 use Rattle.posix_model.specs.declared.world.World.{World}
+use Rattle.trace_ring.specs.Trace.{Pushes}
 use Rattle.record_book.specs.Book.{world_now, world_after, exits_left}
 use Rattle.slots.specs.Slots.{live}
 use Rattle.record_book.specs.Exits.{exit_record, closing_record, exits_from}
@@ -27,10 +28,9 @@ use Rattle.record_book.proofs.HistoryLemmas.{world_from-push, legal_from-push}
 pub record IsGrown (b b' : Inside) (r : Record) (d : Decided) : Type 0 where
   pub planned : IsPlanned (state_of b) r.actor r.act d
   pub outcome : r.outcome ≡ d.outcome
-  pub records : records_in b' ≡ records_in b ++ r ∷ []
+  pub records : Pushes b.history b'.history r
   pub limits : b'.limits ≡ b.limits
   pub world : b'.machine.world ≡ (stepped (world_now (state_of b)) (given r.act) d).world
-  pub room : vec_capacity b'.history ≡ vec_capacity b.history
   pub capacity : b'.machine.room.capacity ≡ b.machine.room.capacity
   pub exits : b'.exits.0 ≡ exits_from 0 (stepped (world_now (state_of b)) (given r.act) d).world.processes
   pub closing : closing_of b'.house ≡ prepared_closing (stepped (world_now (state_of b)) (given r.act) d).world
@@ -73,15 +73,15 @@ journal_grows b b' r d book more =
     let w = world_now (state_of b) in
     let next = (stepped w (given r.act) d).world in
     let after : world_after (state_of b) r.actor r.act ≡ next = rw more.planned.comes_to_is refl in
-    let count : length (records_in b') ≡ length h + 1 = rw more.records (length-append h (r ∷ [])) in
+    let count : length (records_in b') ≡ length h + 1 = rw more.records.sent (length-append h (r ∷ [])) in
     let fits : (length h + 1) + exits_left next ≤ b.limits.records =
     let P : World → Type 0 = λ w. (length h + 1) + exits_left w ≤ b.limits.records in subst P after (leb-true _ _ (not_false _ more.planned.roomy)) in
     record {
-      is_legal = rw (more.records, more.limits) (legal_from-push bounds _ h r book.is_legal (rw (more.planned.comes_to_is, more.outcome) refl));
-      world = rw (more.records, more.limits, more.world) (rw (world_from-push bounds _ h r, more.planned.comes_to_is) refl);
+      is_legal = rw (more.records.sent, more.limits) (legal_from-push bounds _ h r book.is_legal (rw (more.planned.comes_to_is, more.outcome) refl));
+      world = rw (more.records.sent, more.limits, more.world) (rw (world_from-push bounds _ h r, more.planned.comes_to_is) refl);
       capacity = rw (more.capacity, more.limits) book.capacity;
       reserve = rw (more.limits, more.world, count) fits;
-      room = rw (more.limits, more.room) book.room;
+      room = rw more.limits (omega (arith, count, more.records.free, book.room));
       exits = rw more.world more.exits;
       closing = rw more.world more.closing;
       house = rw more.world more.house;
@@ -94,10 +94,9 @@ journal_grows b b' r d book more =
 
 -- a journal with the exit of a process
 pub record IsEnded (b b' : Inside) (p : ℕ) : Type 0 where
-  pub records : records_in b' ≡ records_in b ++ exit_record p ∷ []
+  pub records : Pushes b.history b'.history (exit_record p)
   pub limits : b'.limits ≡ b.limits
   pub world : b'.machine.world ≡ sweep (changed b.machine.world [] (exit p).change)
-  pub room : vec_capacity b'.history ≡ vec_capacity b.history
   pub capacity : b'.machine.room.capacity ≡ b.machine.room.capacity
   pub exits : b'.exits.0 ≡ set b.exits.0 p None
   pub closing : closing_of b'.house ≡ closing_of b.house
@@ -113,7 +112,6 @@ journal_ends b b' p book planned e =
       records = e.records;
       limits = e.limits;
       world = e.world ∙ ap (λ v. sweep (changed v [] (exit p).change)) book.world;
-      room = e.room;
       capacity = e.capacity;
       exits = e.exits ∙ ap (λ es. set es p None) (book.exits ∙ ap (λ (v : World). exits_from 0 v.processes) book.world) ∙ sym (exits_emptied 0 w.processes p);
       closing = e.closing ∙ book.closing ∙ ap prepared_closing book.world ∙ ap (λ b. cond b None (Some closing_record)) (sym (closed_same w next 1 (adds w act.Exit) false planned.counts refl));
@@ -122,10 +120,9 @@ journal_ends b b' p book planned e =
 
 -- a journal with the closing of its run
 pub record IsShut (b b' : Inside) : Type 0 where
-  pub records : records_in b' ≡ records_in b ++ closing_record ∷ []
+  pub records : Pushes b.history b'.history closing_record
   pub limits : b'.limits ≡ b.limits
   pub world : b'.machine.world ≡ sweep (changed b.machine.world [] close_run.change)
-  pub room : vec_capacity b'.history ≡ vec_capacity b.history
   pub capacity : b'.machine.room.capacity ≡ b.machine.room.capacity
   pub exits : b'.exits.0 ≡ b.exits.0
   pub house : b'.house ≡ None
@@ -138,7 +135,6 @@ journal_shuts b b' book planned e =
       records = e.records;
       limits = e.limits;
       world = e.world ∙ ap (λ v. sweep (changed v [] close_run.change)) book.world;
-      room = e.room;
       capacity = e.capacity;
       exits = e.exits ∙ book.exits ∙ ap (λ (v : World). exits_from 0 v.processes) book.world;
       closing = rw e.house refl;

@@ -1,5 +1,5 @@
 -- What contracts see of a book, and what acts do to it.
-use Rattle.std.specs.Prelude.{◌≡◌, ℕ, ◌+◌, Bool, nat_le, List, ◌∷◌, [], ◌++◌, Option, Some, length, if◌then◌else◌}
+use Rattle.std.specs.Prelude.{◌≡◌, ℕ, ◌+◌, Bool, false, nat_le, List, ◌∷◌, [], ◌++◌, Option, Some, length, if◌then◌else◌}
 use Rattle.std.specs.Option.{option_map}
 use Rattle.call_types.specs.declared.limits.Limits.{Limits}
 use Rattle.call_types.specs.declared.act.Act.{Act}
@@ -12,15 +12,17 @@ use Rattle.posix_model.specs.declared.world.World.{World}
 use Rattle.byte_ledger.specs.Counted.{counted_more}
 use Rattle.record_book.specs.Seat.{Receipted, SeatState}
 
--- the limits of a run, its records so far, and the receipts of the house, which it holds until the run is closed
+-- the limits of a run, its records so far, the receipts of the house, which it holds until the run is closed, and whether the
+-- reading end of its ring was taken
 pub record BookState : Type 0 where
   pub limits : Limits
   pub history : List Record
   pub house : Option (List Receipted)
+  pub is_traced : Bool
 
 -- a book without records
 abbrev pub new_book : Limits → BookState
-new_book limits = record { limits = limits; history = []; house = Some [] }
+new_book limits = record { limits = limits; history = []; house = Some []; is_traced = false }
 
 -- the world after the records so far
 abbrev pub world_now : BookState → World
@@ -47,6 +49,7 @@ pub record Appends (old new : BookState) (actor : ℕ) (act : Act) (receipt : Re
   pub history : new.history ≡ old.history ++ receipt.record_is ∷ []
   pub limits : new.limits ≡ old.limits
   pub house : new.house ≡ old.house
+  pub is_traced : new.is_traced ≡ old.is_traced
 
 -- the seat has one more receipt, and has seen all records up to it
 pub record Receives (old new : SeatState) (receipt : Receipted) : Type 0 where

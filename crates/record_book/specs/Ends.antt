@@ -24,6 +24,7 @@ told_more place rs house = option_map (λ receipts. receipts ++ receipts_from pl
 -- the exit of a process is recorded, and the house has its receipt
 pub record IsOrphansExit (old new : BookState) (process : ℕ) : Type 0 where
   pub limits : new.limits ≡ old.limits
+  pub is_traced : new.is_traced ≡ old.is_traced
   pub history : new.history ≡ old.history ++ exit_record process ∷ []
   pub house : new.house ≡ told_more (length old.history) (exit_record process ∷ []) old.house
   pub processes : (world_now new).processes ≡ slice_set (world_now old).processes process None
@@ -32,6 +33,7 @@ pub record IsOrphansExit (old new : BookState) (process : ℕ) : Type 0 where
 -- the closing is recorded, and the house gives its receipts away, with that of the closing
 pub record IsShutBy (old new : BookState) (receipts : List Receipted) : Type 0 where
   pub limits : new.limits ≡ old.limits
+  pub is_traced : new.is_traced ≡ old.is_traced
   pub history : new.history ≡ old.history ++ closing_record ∷ []
   pub receipts_are : Some receipts ≡ told_more (length old.history) (closing_record ∷ []) old.house
   pub given_away : new.house ≡ None
@@ -40,6 +42,7 @@ pub record IsShutBy (old new : BookState) (receipts : List Receipted) : Type 0 w
 -- receipt; and the book holds no receipts of the house any more
 pub record Ends (old new : BookState) (rs : List Record) (house : SeatState) : Type 0 where
   pub limits : new.limits ≡ old.limits
+  pub is_traced : new.is_traced ≡ old.is_traced
   pub history : new.history ≡ old.history ++ rs
   pub pid : house.pid ≡ HOUSE
   pub seen : house.seen ≡ length new.history
@@ -50,6 +53,7 @@ pub record Ends (old new : BookState) (rs : List Record) (house : SeatState) : T
 -- the exits of all processes without a connection are recorded, and the house has their receipts
 pub record OrphansEnd (old new : BookState) : Type 0 where
   pub limits : new.limits ≡ old.limits
+  pub is_traced : new.is_traced ≡ old.is_traced
   pub history : new.history ≡ old.history ++ orphans_exits (world_now old)
   pub house : new.house ≡ told_more (length old.history) (orphans_exits (world_now old)) old.house
   pub closed : (world_now new).closed ≡ (world_now old).closed

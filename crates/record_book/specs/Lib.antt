@@ -2,7 +2,9 @@ pub mod Seat
 pub mod Book
 pub mod Exits
 pub mod Counting
+pub mod Closed
 pub mod House
+pub mod History
 pub mod Refusals
 pub mod Planned
 pub mod Appended

@@ -14,10 +14,11 @@ use posix_model::reader::WorldReader;
 use std::alloc::{AllocError, Global};
 use std::sync::Arc;
 
-/// One record, shared three times: for the history, and for two receipts.
+/// One record, shared four times: for the history, for the trace, and for two receipts.
 #[derive(Drop)]
 struct Shared {
     item: Arc<Record>,
+    traced: Arc<Record>,
     receipt: Receipt,
     shared: Receipt,
 }
@@ -26,15 +27,18 @@ struct Shared {
 #[inline(always)]
 fn shared_at(alloc: Global, place: u64, entry: Record) -> Result<Shared, AllocError>
     ensures item { IfOk result (λ s. arc_value s.item ≡ entry) }
+    ensures traced { IfOk result (λ s. arc_value s.traced ≡ entry) }
     ensures place { IfOk result (λ s. s.receipt.place ≡ place) }
     ensures receipt { IfOk result (λ s. s.receipt.record_is ≡ entry) }
     ensures shared { IfOk result (λ s. s.shared ≡ s.receipt) }
 {
     let item = Arc::new(alloc, entry)?;
+    let traced = item.clone()?;
     let receipt = Receipt::new(place, item.clone()?);
     let shared = receipt.share()?;
     Ok(Shared {
         item,
+        traced,
         receipt,
         shared,
     })
@@ -93,6 +97,7 @@ impl Journal {
             &mut self.machine,
             &mut self.history,
             made.item,
+            made.traced,
             decided.change,
         );
         keep_exit(&mut self.exits, prepared);

@@ -1,8 +1,6 @@
-ghost use Rattle.std.specs.Prelude.{◌≡◌, ◌≤◌, ◌+◌, length, IfOk};
-ghost use Rattle.posix_model.specs.History.{legal};
-ghost use Rattle.posix_model.specs.Turns.{bytes_in, bytes_out};
-ghost use Rattle.posix_model.specs.PipeRecord.{KeepsBytes, KeepsSmallWhole};
-ghost use Rattle.record_book.specs.Book.{new_book, world_now, exits_left};
+ghost use Rattle.std.specs.Prelude.{◌≡◌, IfOk};
+ghost use Rattle.record_book.specs.Book.{new_book};
+ghost use Rattle.record_book.specs.Counting.{CountsOf};
 
 use crate::journal::Journal;
 use byte_ledger::ledgers::{Blanks, Ledgers};
@@ -12,9 +10,10 @@ use posix_model::pipe_laws::bytes_of_pipe;
 use std::alloc::{AllocError, Global};
 use std::marker::Model;
 
-/// The book of a run: its limits and its records, in order. Contracts see these two, and the receipts of the house, which the
-/// book holds until the run is closed. The world is the one to which the records lead in the model. The type names the ledgers by
-/// which records and bytes are counted, so the seat of another book does not fit.
+/// The book of a run: its limits and its records, in order, each of which goes into a ring for the trace too. Contracts see these two,
+/// the receipts of the house, which the book holds until the run is closed, and whether the reading end of the ring was taken. The
+/// world is the one to which the records lead in the model. The type names the ledgers by which records and bytes are counted, so the
+/// seat of another book does not fit.
 #[derive(Drop)]
 pub struct Book<L: Ledgers> {
     pub(crate) journal: Journal,
@@ -36,8 +35,8 @@ impl<L: Ledgers> Model for Book<L> {
 }
 
 impl<L: Ledgers> Book<L> {
-    /// A book without records, with room for as many as the limits allow, and with all that its closing will need. It counts by
-    /// these ledgers.
+    /// A book without records, with room for as many as the limits allow, in its ring too, and with all that its closing will need.
+    /// It counts by these ledgers.
     pub fn new(alloc: Global, limits: Limits, blanks: Blanks) -> Result<Self, AllocError>
         requires { blanks ≡ L.names }
         ensures { IfOk result (λ book. book ≡ new_book limits) }
@@ -56,13 +55,7 @@ impl<L: Ledgers> Book<L> {
     /// pipe holds the bytes that were put into it and not yet taken out, and the data of a write of at most 512 bytes (PIPE_BUF) went
     /// in unbroken (page of write).
     pub fn counts(&self) -> Sums
-        ensures records { result.records ≡ length self.now.history }
-        ensures bytes_in { result.bytes_in ≡ bytes_in self.now.limits.bounds self.now.history }
-        ensures bytes_out { result.bytes_out ≡ bytes_out self.now.limits.bounds self.now.history }
-        ensures is_legal { legal self.now.limits.bounds self.now.history }
-        ensures pipes { KeepsBytes self.now.limits.bounds self.now.history }
-        ensures small_writes { KeepsSmallWhole self.now.limits.bounds self.now.history }
-        ensures reserve { length self.now.history + exits_left (world_now self.now) ≤ self.now.limits.records }
+        ensures { CountsOf self.now result }
     {
         bytes_of_pipe();
         self.journal.is_run();

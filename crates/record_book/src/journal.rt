@@ -6,22 +6,22 @@ ghost use Rattle.process_table.specs.Processes.{awaits};
 ghost use Rattle.posix_model.specs.History.{legal};
 ghost use Rattle.record_book.specs.Book.{new_book, world_now, exits_left};
 
+use crate::history::History;
 use crate::house::House;
 use crate::prepared::Prepared;
-use call_types::act::{Act, HOUSE, Record};
+use call_types::act::{Act, HOUSE};
 use call_types::limits::{Limits, PROCESSES_MAX};
 use machine_state::machine::Machine;
 use posix_model::reader::WorldReader;
 use slots::numbered::Numbered;
 use std::alloc::{AllocError, Global};
 use std::marker::Model;
-use std::sync::Arc;
 
 /// The records of a run in order, and the machine that they led to. Contracts see the same of it as of a book.
 #[derive(Drop)]
 pub(crate) struct Journal {
     pub(crate) machine: Machine,
-    pub(crate) history: Vec<Arc<Record>>,
+    pub(crate) history: History,
     pub(crate) limits: Limits,
     pub(crate) exits: Numbered<Prepared>,
     pub(crate) house: Option<House>,
@@ -51,7 +51,7 @@ impl Journal {
         };
         Ok(Journal {
             machine: Machine::new(alloc, limits.bounds().pipe_capacity as usize),
-            history: Vec::with_capacity(alloc, records as usize)?,
+            history: History::new(alloc, records as usize)?,
             limits,
             exits: Numbered::new(alloc),
             house: Some(house),

@@ -1,55 +1,54 @@
 //! Exits and the closing in a journal. They take no memory: what they need was made before.
 
-ghost use Rattle.std.specs.Prelude.{◌≡◌, ◌+◌, ◌<◌, ◌^◌, ◌++◌, ◌∷◌, [], None, Some, true, false, is_some, length, map, slice_set, vec_len, vec_capacity};
-ghost use Rattle.std.specs.Arc.{arc_value};
+ghost use Rattle.std.specs.Prelude.{◌≡◌, ◌+◌, ◌<◌, ◌^◌, [], None, Some, true, false, is_some, length, slice_set};
 ghost use Rattle.slots.specs.Slots.{slot};
 ghost use Rattle.posix_model.specs.Exit.{exit};
 ghost use Rattle.posix_model.specs.Whole.{EachThere, IsItsFifo};
 ghost use Rattle.posix_model.specs.Change.{changed};
 ghost use Rattle.posix_model.specs.Sweep.{sweep};
+ghost use Rattle.trace_ring.specs.Trace.{Pushes};
 ghost use Rattle.record_book.specs.Book.{world_now, Appends};
 ghost use Rattle.record_book.specs.Exits.{exit_record};
 ghost use Rattle.record_book.specs.Planned.{IsPlanned};
 ghost use Rattle.record_book.specs.Refusals.{is_too_full};
 ghost use Rattle.record_book.specs.Ends.{IsOrphansExit, IsShutBy};
 
+use crate::history::History;
 use crate::journal::Journal;
 use crate::prepared::Prepared;
 use crate::seat::Receipt;
-use call_types::act::{Act, HOUSE, Record};
+use call_types::act::{Act, HOUSE};
 use machine_state::machine::Machine;
 use posix_model::change::Decided;
 use posix_model::laws::processes_are_counted;
 use posix_model::reader::WorldReader;
 use slots::numbered::Numbered;
-use std::sync::Arc;
 use table_calls::exit::{decide_close_run, decide_exit};
 
 /// Ends a process by its prepared record, and returns the receipt.
 fn end_process(
     machine: &mut Machine,
-    history: &mut Vec<Arc<Record>>,
+    history: &mut History,
     exits: &mut Numbered<Prepared>,
     process: usize,
 ) -> Receipt
     requires there { is_some (slot machine.old.world.processes process) ≡ true }
     requires prepared { slot exits.old.0 process ≡ Some (exit_record process) }
-    requires room { vec_len history.old < vec_capacity history.old }
+    requires room { 0 < history.old.free }
     requires ends { EachThere (λ description. IsItsFifo machine.old.world.files description.target) machine.old.world.descriptions }
     ensures pipes { machine.new.room.capacity ≡ machine.old.room.capacity }
     ensures world { machine.new.world ≡ sweep (changed machine.old.world [] (exit process).change) }
-    ensures history { map arc_value history.new.items ≡ map arc_value history.old.items ++ exit_record process ∷ [] }
-    ensures capacity { vec_capacity history.new ≡ vec_capacity history.old }
+    ensures history { Pushes history.old history.new (exit_record process) }
     ensures exits { exits.new.0 ≡ slice_set exits.old.0 process None }
-    ensures receipt { result ≡ record { place = length history.old.items; record_is = exit_record process } }
+    ensures receipt { result ≡ record { place = length history.old.sent; record_is = exit_record process } }
 {
     let place = history.len() as u64;
-    let (kept, told) = match exits.remove(process) {
+    let (kept, traced, told) = match exits.remove(process) {
         Some(prepared) => prepared.shares(),
         None => unreachable!(),
     };
     let Decided { change, .. } = decide_exit(process);
-    Journal::push(machine, history, kept, change);
+    Journal::push(machine, history, kept, traced, change);
     Receipt::new(place, told)
 }
 
@@ -131,10 +130,10 @@ impl Journal {
             None => unreachable!(),
         };
         let place = self.history.len() as u64;
-        let (kept, told) = house.closing.shares();
+        let (kept, traced, told) = house.closing.shares();
         let mut receipts = house.receipts;
         let Decided { change, .. } = decided;
-        Journal::push(&mut self.machine, &mut self.history, kept, change);
+        Journal::push(&mut self.machine, &mut self.history, kept, traced, change);
         receipts.push_reserved(Receipt::new(place, told));
         receipts
     }

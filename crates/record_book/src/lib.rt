@@ -7,10 +7,11 @@
 
 mod append;
 pub mod book;
+pub mod closed;
 pub mod closing;
 pub mod ending;
 mod exits;
-pub mod gathering;
+mod history;
 mod house;
 mod journal;
 mod leaving;
@@ -18,7 +19,6 @@ mod moved;
 pub mod opening;
 mod prepared;
 mod push;
-pub mod reading;
 mod recording;
 mod refusals;
 pub mod resume;
@@ -26,3 +26,4 @@ pub mod run;
 pub mod seat;
 pub mod seats;
 pub mod start;
+pub mod tracing;

@@ -9,11 +9,12 @@ use std::alloc::{AllocError, Global};
 use std::marker::Model;
 use std::sync::Arc;
 
-/// The record of an act that cannot be refused. It is made before it is due, and shared: once for the history, and once for its
-/// receipt. Contracts see the record.
+/// The record of an act that cannot be refused. It is made before it is due, and shared: once for the history, once for the trace,
+/// and once for its receipt. Contracts see the record.
 #[derive(Drop)]
 pub(crate) struct Prepared {
     kept: Arc<Record>,
+    traced: Arc<Record>,
     told: Arc<Record>,
 }
 
@@ -26,7 +27,7 @@ impl Model for Prepared {
 
     ghost view = { λ p. arc_value p.kept };
 
-    ghost invariant = { λ p. arc_value p.told ≡ arc_value p.kept };
+    ghost invariant = { λ p. (arc_value p.traced ≡ arc_value p.kept) × (arc_value p.told ≡ arc_value p.kept) };
 }
 
 impl Prepared {
@@ -42,15 +43,17 @@ impl Prepared {
                 outcome: Outcome::Reply(Reply::Done),
             },
         )?;
+        let traced = kept.clone()?;
         let told = kept.clone()?;
-        Ok(Prepared { kept, told })
+        Ok(Prepared { kept, traced, told })
     }
 
-    /// The share for the history, and the one for the receipt.
-    pub(crate) fn shares(self) -> (Arc<Record>, Arc<Record>)
+    /// The share for the history, the one for the trace, and the one for the receipt.
+    pub(crate) fn shares(self) -> (Arc<Record>, Arc<Record>, Arc<Record>)
         ensures kept { arc_value result.0 ≡ self }
-        ensures told { arc_value result.1 ≡ self }
+        ensures traced { arc_value result.1 ≡ self }
+        ensures told { arc_value result.2 ≡ self }
     {
-        (self.kept, self.told)
+        (self.kept, self.traced, self.told)
     }
 }

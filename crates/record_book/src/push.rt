@@ -1,6 +1,6 @@
 //! The one place at which records enter a history.
 
-ghost use Rattle.std.specs.Prelude.{◌≡◌, ◌<◌, ◌++◌, ◌∷◌, [], map, vec_len, vec_capacity};
+ghost use Rattle.std.specs.Prelude.{◌≡◌, ◌<◌};
 ghost use Rattle.std.specs.Arc.{arc_value};
 ghost use Rattle.posix_model.specs.Step.{given};
 ghost use Rattle.posix_model.specs.Change.{changed};
@@ -8,7 +8,9 @@ ghost use Rattle.posix_model.specs.Fits.{Fits, IsProper, PutsWithin};
 ghost use Rattle.posix_model.specs.Whole.{EachThere, IsItsFifo};
 ghost use Rattle.posix_model.specs.Sweep.{sweep};
 ghost use Rattle.machine_state.specs.Room.{HasRoom};
+ghost use Rattle.trace_ring.specs.Trace.{Pushes};
 
+use crate::history::History;
 use crate::journal::Journal;
 use call_types::act::Record;
 use machine_state::machine::Machine;
@@ -17,15 +19,17 @@ use std::sync::Arc;
 use table_calls::given::given;
 
 impl Journal {
-    /// Makes the change of an act in the machine, and appends the act's record to the history. Every record of a run enters its
-    /// history here. There is room for both, so this takes no memory and cannot fail.
+    /// Makes the change of an act in the machine, and appends the act's record to the history, which puts a share of it into the
+    /// ring of the trace. Every record of a run enters its history here. There is room for all, so this takes no memory and cannot
+    /// fail.
     // It takes two fields and not the journal, since the invariant of a journal ties what is prepared for exits to the machine, and
     // the callers change that just before or after.
     #[inline(always)]
     pub(crate) fn push(
         machine: &mut Machine,
-        history: &mut Vec<Arc<Record>>,
+        history: &mut History,
         item: Arc<Record>,
+        traced: Arc<Record>,
         change: Change,
     )
         requires fits { Fits machine.old.world (given (arc_value item).act) change }
@@ -33,13 +37,13 @@ impl Journal {
         requires machine_room { HasRoom machine.old change }
         requires holds { PutsWithin machine.old.room.capacity machine.old.world change.files }
         requires ends { EachThere (λ description. IsItsFifo machine.old.world.files description.target) machine.old.world.descriptions }
-        requires room { vec_len history.old < vec_capacity history.old }
+        requires room { 0 < history.old.free }
+        requires same { arc_value traced ≡ arc_value item }
         ensures world { machine.new.world ≡ sweep (changed machine.old.world (given (arc_value item).act) change) }
         ensures pipes { machine.new.room.capacity ≡ machine.old.room.capacity }
-        ensures history { map arc_value history.new.items ≡ map arc_value history.old.items ++ arc_value item ∷ [] }
-        ensures capacity { vec_capacity history.new ≡ vec_capacity history.old }
+        ensures history { Pushes history.old history.new (arc_value item) }
     {
         machine.apply(given(&item.act), change);
-        history.push_reserved(item);
+        history.push(item, traced);
     }
 }

@@ -75,6 +75,13 @@ impl TraceRing {
         self.consumer.take()
     }
 
+    /// Whether the reading end was taken.
+    pub fn is_taken(&self) -> bool
+        ensures { result ≡ self.now.is_taken }
+    {
+        self.consumer.is_none()
+    }
+
     /// Finishes the writing end, so that the reading end can see that nothing more will come. Returns what was put in, if the
     /// reading end is still there. It takes no memory.
     pub fn finish(self) -> Option<Finished<Arc<Record>, Global, InRun>>

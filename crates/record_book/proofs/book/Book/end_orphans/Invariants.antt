@@ -11,6 +11,7 @@ invariant-loop-process g l =
     let left = exits_ahead l.process (world_now l.self).processes in
     record {
       limits : l.self.limits ≡ l.fn.self.limits;
+      is_traced : l.self.is_traced ≡ l.fn.self.is_traced;
       history : l.self.history ++ left ≡ l.fn.self.history ++ orphans_exits (world_now l.fn.self);
       house : told_more (length l.self.history) left l.self.house ≡ told_more (length l.fn.self.history) (orphans_exits (world_now l.fn.self)) l.fn.self.house;
       closed : (world_now l.self).closed ≡ (world_now l.fn.self).closed;

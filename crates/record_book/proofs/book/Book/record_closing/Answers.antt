@@ -15,6 +15,7 @@ returns g c =
     let shut = c.record_closing-receipts.ensures in
     rw (← c.self.view_is) (record {
       limits = shut.limits;
+      is_traced = shut.is_traced;
       history = shut.history;
       pid = refl;
       seen = c.len.ensures;

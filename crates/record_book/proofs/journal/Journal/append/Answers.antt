@@ -44,10 +44,9 @@ invariant_of-self-2 c =
     journal_grows b _ r c.args.decided c.self.invariant (record {
       planned = planned;
       outcome = refl;
-      records = rw (c.push.ensures.history, item_is) refl;
+      records = rw item_is at c.push.ensures.history;
       limits = refl;
       world = rw (c.push.ensures.world, item_is, c.in_ok-reserve_for.ensures.world, c.self.invariant.world) refl;
-      room = c.push.ensures.capacity;
       capacity = c.push.ensures.pipes ∙ c.in_ok-reserve_for.ensures.capacity;
       exits = rw (c.keep_exit.ensures, prepared_is, c.in_ok-prepared.ensures.exits, c.self.invariant.exits, w_is) (sym (exits_changed w (given r.act) c.args.decided.change none));
       closing =

@@ -10,11 +10,10 @@ invariant_of-self c =
     let has : c.self.inside.house ≡ Some c.in-Some.house = sym c.take.ensures.value ∙ c.in-Some.is in
     let closing : c.in-Some.house.closing ≡ closing_record = closing_is c.in-Some.house.closing c.self.inside.machine.world (rw has at c.self.invariant.closing) stays_open in
     journal_shuts c.self.inside _ c.self.invariant (rw (← c.self.view_is, c.decide_close_run-decided.ensures) at c.is_planned.ensures) (record {
-      records = rw (c.push.ensures.history, c.shares-kept.ensures.kept, closing) refl;
+      records = rw (c.shares-kept.ensures.kept, closing) at c.push.ensures.history;
       limits = refl;
       world = rw (c.push.ensures.world, c.shares-kept.ensures.kept, closing, c.decide_close_run-decided.ensures) refl;
       capacity = c.push.ensures.pipes;
-      room = c.push.ensures.capacity;
       exits = refl;
       house = c.take.ensures.after;
     })

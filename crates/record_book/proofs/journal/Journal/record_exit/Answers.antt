@@ -15,7 +15,6 @@ invariant_of-self c = journal_ends c.self.inside _ c.args.process c.self.invaria
   records = c.end_process.ensures.history;
   limits = refl;
   world = c.end_process.ensures.world;
-  room = c.end_process.ensures.capacity;
   capacity = c.end_process.ensures.pipes;
   exits = c.end_process.ensures.exits;
   closing = refl;

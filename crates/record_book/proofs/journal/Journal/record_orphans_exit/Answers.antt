@@ -1,7 +1,5 @@
 use Rattle.std.proofs.Common.{◌≡◌, ◌∙◌, true, [], refl, sym, ap, arith}
-use Rattle.std.proofs.lemmas.List.{length-map}
 use Rattle.std.specs.Prelude.{is_some}
-use Rattle.std.specs.Arc.{arc_value}
 use Rattle.slots.specs.Slots.{slot}
 use Rattle.posix_model.specs.Exit.{exit}
 use Rattle.posix_model.specs.Change.{changed}
@@ -21,7 +19,6 @@ invariant_of-self c = journal_ends c.self.inside _ c.args.process c.self.invaria
   records = c.end_process-receipt.ensures.history;
   limits = refl;
   world = c.end_process-receipt.ensures.world;
-  room = c.end_process-receipt.ensures.capacity;
   capacity = c.end_process-receipt.ensures.pipes;
   exits = c.end_process-receipt.ensures.exits;
   closing = rw c.in-Some.is refl;
@@ -35,8 +32,9 @@ returns c =
     let now = sym book.world ∙ c.end_process-receipt.ensures.world ∙ ap (λ v. sweep (changed v [] (exit c.args.process).change)) c.self.invariant.world in
     rw (← c.self.view_is) (record {
       limits = refl;
-      history = c.end_process-receipt.ensures.history;
-      house = rw (c.push_reserved.ensures.items, c.end_process-receipt.ensures.receipt, c.in-Some.is, length-map b.history.items arc_value) refl;
+      history = c.end_process-receipt.ensures.history.sent;
+      is_traced = c.end_process-receipt.ensures.history.is_taken;
+      house = rw (c.push_reserved.ensures.items, c.end_process-receipt.ensures.receipt, c.in-Some.is) refl;
       processes = ap (λ (v : World). v.processes) now;
       closed = ap (λ (v : World). v.closed) now;
     })
