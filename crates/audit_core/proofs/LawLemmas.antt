@@ -248,7 +248,7 @@ long_stays rest more long =
     let lengths : told_length (rest ++ more) ≡ told_length rest = rw (take-append-le 4 rest more long.0) refl in
     (omega (arith, long.0, length-append rest more), rw lengths long.1)
 
-fault_stays_on : (rest more : List ℕ) → IsAtFault rest → IsAtFault (rest ++ more)
+pub fault_stays_on : (rest more : List ℕ) → IsAtFault rest → IsAtFault (rest ++ more)
 fault_stays_on rest more fault = elim fault [
   | inl malformed ↦ inl (malformed_stays rest more malformed)
   | inr long ↦ inr (long_stays rest more long)
@@ -257,7 +257,7 @@ fault_stays_on rest more fault = elim fault [
 begins_on : (bytes more : List ℕ) (h : List Record) (rest : List ℕ) → Begins bytes h rest → Begins (bytes ++ more) h (rest ++ more)
 begins_on bytes more h rest b = record { is = ap (λ (x : List ℕ). x ++ more) b.is ∙ append_assoc (text h) rest more; framed = b.framed }
 
-headless_on : (bytes more : List ℕ) → HasNoHeader bytes → HasNoHeader (bytes ++ more)
+pub headless_on : (bytes more : List ℕ) → HasNoHeader bytes → HasNoHeader (bytes ++ more)
 headless_on bytes more none = (none.0, none.1, omega (arith, none.2, length-append bytes more), λ e. none.3 (sym (take-append-le none.0 bytes more none.2) ∙ e))
 
 pub fault_stays : FaultStays

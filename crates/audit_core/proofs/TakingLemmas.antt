@@ -10,6 +10,7 @@ use Rattle.frame_codec.specs.Trace.{trace_header}
 use Rattle.audit_core.specs.Judging.{JudgeState, HasJudged}
 use Rattle.audit_core.specs.Trace.{Begins}
 use Rattle.audit_core.specs.Verdict.{IsUnbegun, IsLegal, IsIllegal, IsUnheaded, IsMalformedAt}
+use Rattle.audit_core.specs.Laws.{HeaderGoesOn, HeaderLacks}
 use Rattle.audit_core.specs.Taking.{TraceState, fresh_trace, IsTaking, IsFound, BodyGoesOn, TakesPiece, TakesRecords, TakesHeader, LacksHeader}
 use Rattle.audit_core.specs.declared.verdict.Verdict.{Verdict}
 use Rattle.audit_core.specs.declared.verdict.Verdict.TheVariants.{Legal, Illegal, Malformed}
@@ -29,24 +30,27 @@ header_front n h = omega (arith, h, length-take n trace_header)
 
 -- ---- the header
 
-pub unheaded : (bounds : Bounds) (input piece : List ℕ) (t : TraceState) → IsTaking bounds input t → LacksHeader t.header piece → IsUnheaded (input ++ piece) 0
-unheaded bounds input piece t h l = elim (order t.header 8) [
+pub header_lacks : HeaderLacks
+header_lacks met input body piece h l = elim (order met 8) [
   | inl below ↦
-      let is : input ≡ take t.header trace_header = h.is ∙ ap (λ (x : List ℕ). take t.header trace_header ++ x) (h.begun below) ∙ append-nil (take t.header trace_header) in
-      let long : length input ≡ t.header = ap length is ∙ header_front t.header h.within in
-      record {
-        none = (
-          t.header + l.count,
+      let is : input ≡ take met trace_header = h.is ∙ ap (λ (x : List ℕ). take met trace_header ++ x) (h.begun below) ∙ append-nil (take met trace_header) in
+      let long : length input ≡ met = ap length is ∙ header_front met h.within in (
+        h.begun below,
+        (
+          met + l.count,
           l.within,
           omega (arith, l.there, long, length-append input piece),
           λ e. l.differs
-              (ap (λ (x : List ℕ). take l.count x) (sym (drop_at input piece t.header long)) ∙ sym (drop-take t.header l.count (input ++ piece)) ∙ ap (λ (x : List ℕ). drop t.header x) e
-              ∙ drop-take t.header l.count trace_header),
-        );
-        at_is = refl;
-      }
+              (ap (λ (x : List ℕ). take l.count x) (sym (drop_at input piece met long)) ∙ sym (drop-take met l.count (input ++ piece)) ∙ ap (λ (x : List ℕ). drop met x) e
+              ∙ drop-take met l.count trace_header),
+        ),
+      )
   | inr whole ↦ let none : l.count ≡ 0 = omega (arith, whole, l.within) in absurd (l.differs (rw none refl))
 ]
+
+pub unheaded : (bounds : Bounds) (input piece : List ℕ) (t : TraceState) → IsTaking bounds input t → LacksHeader t.header piece → IsUnheaded (input ++ piece) 0
+unheaded bounds input piece t h l =
+    record { none = (header_lacks t.header input h.body piece (record { is = h.is; within = h.within; begun = h.begun }) l).1; at_is = refl }
 
 -- more of a list
 take_on : (n k : ℕ) (xs : List ℕ) → take (n + k) xs ≡ take n xs ++ take k (drop n xs)
@@ -89,6 +93,13 @@ body_waits header new body piece rest within begun t below =
     let less : header < 8 =
     omega (arith, below, header_front header within, header_front new t.within, ap length t.more, length-append (take header trace_header) t.front) in
     ap (λ (x : List ℕ). x ++ rest) (begun less) ∙ t.all below
+
+pub header_goes_on : HeaderGoesOn
+header_goes_on met new input body piece rest h t = record {
+  is = ap (λ (x : List ℕ). x ++ piece) h.is ∙ header_on met new body piece rest h.within h.begun t;
+  within = t.within;
+  begun = body_waits met new body piece rest h.within h.begun t;
+}
 
 whole_header : (new : ℕ) (body : List ℕ) → new ≤ 8 → (new < 8 → body ≡ []) → 0 < length body → take new trace_header ≡ trace_header
 whole_header new body within waits some = elim (order new 8) [

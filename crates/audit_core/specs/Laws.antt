@@ -1,10 +1,11 @@
--- What holds of verdicts (own).
-use Rattle.std.specs.Prelude.{◌≡◌, ℕ, List, ◌++◌, length}
+-- What holds of verdicts, and of headers (own).
+use Rattle.std.specs.Prelude.{◌≡◌, ℕ, List, [], ◌++◌, length}
 use Rattle.call_types.specs.declared.act.Record.{Record}
 use Rattle.call_types.specs.declared.limits.Bounds.{Bounds}
 use Rattle.posix_model.specs.History.{legal}
 use Rattle.frame_codec.specs.Trace.{text}
-use Rattle.audit_core.specs.Trace.{HaveFrames}
+use Rattle.audit_core.specs.Trace.{HaveFrames, HasNoHeader, IsAtFault}
+use Rattle.audit_core.specs.Taking.{IsHeaded, TakesHeader, LacksHeader}
 use Rattle.audit_core.specs.Verdict.{IsVerdict}
 use Rattle.audit_core.specs.declared.verdict.Verdict.{Verdict}
 use Rattle.audit_core.specs.declared.verdict.Verdict.TheVariants.{Legal}
@@ -37,3 +38,16 @@ TellsFault other = Unit {0}
 -- a fault stays, whatever bytes come after it
 abbrev pub FaultStays : Type 0
 FaultStays = (bounds : Bounds) (bytes more : List ℕ) (v : Verdict) → TellsFault v → IsVerdict bounds bytes v → IsVerdict bounds (bytes ++ more) v
+
+-- so much of a header was met, and a piece goes on with it
+abbrev pub HeaderGoesOn : Type 0
+HeaderGoesOn = (met new : ℕ) (input body piece rest : List ℕ) → IsHeaded met input body → TakesHeader met new piece rest → IsHeaded new (input ++ piece) (body ++ rest)
+
+-- so much of a header was met, and a piece has another byte where it goes on
+abbrev pub HeaderLacks : Type 0
+HeaderLacks = (met : ℕ) (input body piece : List ℕ) → IsHeaded met input body → LacksHeader met piece → (body ≡ []) × HasNoHeader (input ++ piece)
+
+-- bytes at fault stay so, whatever comes after them
+pub record BrokenStays : Type 0 where
+  pub frame : (rest more : List ℕ) → IsAtFault rest → IsAtFault (rest ++ more)
+  pub header : (bytes more : List ℕ) → HasNoHeader bytes → HasNoHeader (bytes ++ more)

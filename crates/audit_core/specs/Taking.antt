@@ -22,6 +22,12 @@ pub record TraceState : Type 0 where
 abbrev pub fresh_trace : Bounds → TraceState
 fresh_trace bounds = record { header = 0; decoder = fresh; judge = fresh_judge bounds }
 
+-- these bytes are so much of the header, and those after it, of which there are none before all of the header was met
+pub record IsHeaded (met : ℕ) (input body : List ℕ) : Type 0 where
+  pub is : input ≡ take met trace_header ++ body
+  pub within : met ≤ length trace_header
+  pub begun : met < length trace_header → body ≡ []
+
 -- these bytes were taken: a front of the header, or all of it and after it legal records and what is held
 pub record IsTaking (bounds : Bounds) (input : List ℕ) (t : TraceState) : Type 0 where
   pub body : List ℕ

@@ -1,6 +1,6 @@
-//! What holds of verdicts. Each function does nothing; its contract is the law.
+//! What holds of verdicts, and of headers. Each function does nothing; its contract is the law.
 
-ghost use Rattle.audit_core.specs.Laws.{OneVerdict, TextIsLegal, FrontIsLegal, FaultStays};
+ghost use Rattle.audit_core.specs.Laws.{OneVerdict, TextIsLegal, FrontIsLegal, FaultStays, HeaderGoesOn, HeaderLacks, BrokenStays};
 
 use frame_codec::laws::{no_frame_begins_another, stops_are_no_frames};
 
@@ -24,4 +24,15 @@ pub fn fronts_are_legal()
 /// A verdict that tells a fault stays, whatever bytes come after: an audit need not read on.
 pub fn faults_stay()
     ensures { FaultStays }
+{}
+
+/// What was met of a header goes on with each piece. Where a byte of it is another, the bytes so far do not begin with the header.
+pub fn headers_go_on()
+    ensures takes { HeaderGoesOn }
+    ensures lacks { HeaderLacks }
+{}
+
+/// A frame at fault, or a byte that is not the header's, is at fault whatever bytes come after it.
+pub fn broken_stays()
+    ensures { BrokenStays }
 {}

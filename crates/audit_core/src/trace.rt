@@ -39,7 +39,7 @@ impl Model for TraceAudit {
 
 /// How many bytes of the header are met with a piece, and what comes after them in it; nothing where one of them is another byte than
 /// the header's.
-fn after_header(header: usize, piece: &[u8]) -> Option<(usize, &[u8])>
+pub fn after_header(header: usize, piece: &[u8]) -> Option<(usize, &[u8])>
     requires { header ≤ length trace_header }
     ensures lacks { IfNone result (LacksHeader header piece.now) }
     ensures takes { IfSome result (λ found. TakesHeader header found.0 piece.now found.1.now) }
