@@ -5,6 +5,7 @@ ghost use Rattle.rtrb.specs.Ring.{received};
 
 use super::audits::TRACE;
 use call_types::act::{Act, Record};
+use call_types::bounded::Payload;
 use call_types::call::Call;
 use call_types::outcome::{Outcome, Reply};
 use std::alloc::Global;
@@ -32,23 +33,44 @@ fn record_of(alloc: Global, act: Act, reply: Reply) -> Result<Arc<Record>, Fail>
     )?)
 }
 
-/// The reading end of a ring that has the records of `TRACE`, and whose writing end is finished.
-fn three_records(alloc: Global) -> Result<TraceEnd, Fail>
+/// The reading end of a ring that has these records, and whose writing end is finished.
+fn ring_of(
+    alloc: Global,
+    first: Arc<Record>,
+    second: Arc<Record>,
+    third: Arc<Record>,
+) -> Result<TraceEnd, Fail>
     ensures { IfOk result (λ end. received end ≡ []) }
 {
-    let join = record_of(alloc, Act::Join, Reply::Number(0))?;
-    let pipe = record_of(alloc, Act::Call(Call::Pipe), Reply::Pair(0, 1))?;
-    let exit = record_of(alloc, Act::Exit, Reply::Done)?;
     let mut ring = TraceRing::new(alloc, 3)?;
-    ring.push(join);
-    ring.push(pipe);
-    ring.push(exit);
+    ring.push(first);
+    ring.push(second);
+    ring.push(third);
     let end = ring.take_end();
     let _finished = ring.finish();
     match end {
         Some(end) => Ok(end),
         None => Err("the end was not taken before")?,
     }
+}
+
+/// The reading end of a ring that has the records of `TRACE`.
+fn three_records(alloc: Global) -> Result<TraceEnd, Fail>
+    ensures { IfOk result (λ end. received end ≡ []) }
+{
+    let join = record_of(alloc, Act::Join, Reply::Number(0))?;
+    let pipe = record_of(alloc, Act::Call(Call::Pipe), Reply::Pair(0, 1))?;
+    let exit = record_of(alloc, Act::Exit, Reply::Done)?;
+    ring_of(alloc, join, pipe, exit)
+}
+
+/// A record of a write of 65,536 bytes, which has a frame of 65,562 bytes.
+fn long_record(alloc: Global) -> Result<Arc<Record>, Fail> {
+    let call = Call::Write {
+        fd: 3,
+        bytes: Payload::same(7, 65_536),
+    };
+    record_of(alloc, Act::Call(call), Reply::Number(65_536))
 }
 
 /// What becomes of the three records in a sink over memory.
@@ -95,6 +117,24 @@ fn trace_is_written_at_once_and_synced(rt: HostRuntime) -> Result<(), Fail> {
     assert_eq!(rt; traced.bytes, 54);
     assert_eq!(rt; traced.fault, None);
     assert_eq!(rt; traced.received.len(), 3);
+    Ok(())
+}
+
+#[test]
+fn long_records_are_written_while_others_come(rt: HostRuntime) -> Result<(), Fail> {
+    let alloc = rt.alloc();
+    let (first, second, third) = (
+        long_record(alloc)?,
+        long_record(alloc)?,
+        long_record(alloc)?,
+    );
+    let mut end = ring_of(alloc, first, second, third)?;
+    let sink = MemorySink::new(alloc, Manner::sound());
+    let (sink, traced) = write_trace(&rt, alloc, &mut end, sink);
+    assert_eq!(rt; sink.writes(), 3);
+    assert_eq!(rt; traced.whole, 3);
+    assert_eq!(rt; traced.bytes, 8 + 3 * 65_562);
+    assert_eq!(rt; traced.fault, None);
     Ok(())
 }
 
