@@ -42,7 +42,7 @@ are_frames (r ∷ h) bytes f =
       ((f.3.spelled.0, subst (λ (p : List ℕ). length p ≤ RECORD_LENGTH_MAX) f.3.spelled.1 f.3.few), rest.1),
     )
 
-frame_long : (payload : List ℕ) → length (frame payload) ≡ 4 + length payload
+pub frame_long : (payload : List ℕ) → length (frame payload) ≡ 4 + length payload
 unfolding number_bytes
 frame_long payload = omega arith
 

@@ -1,10 +1,10 @@
 -- What holds of verdicts, and of headers (own).
-use Rattle.std.specs.Prelude.{◌≡◌, ℕ, List, [], ◌++◌, length}
+use Rattle.std.specs.Prelude.{◌≡◌, ℕ, ◌-◌, List, [], ◌++◌, length}
 use Rattle.call_types.specs.declared.act.Record.{Record}
 use Rattle.call_types.specs.declared.limits.Bounds.{Bounds}
 use Rattle.posix_model.specs.History.{legal}
-use Rattle.frame_codec.specs.Trace.{text}
-use Rattle.audit_core.specs.Trace.{HaveFrames, HasNoHeader, IsAtFault}
+use Rattle.frame_codec.specs.Trace.{trace_header, text}
+use Rattle.audit_core.specs.Trace.{HaveFrames, AllInRange, whole_frames, HasNoHeader, IsAtFault}
 use Rattle.audit_core.specs.Taking.{IsHeaded, TakesHeader, LacksHeader}
 use Rattle.audit_core.specs.Verdict.{IsVerdict}
 use Rattle.audit_core.specs.declared.verdict.Verdict.{Verdict}
@@ -29,6 +29,20 @@ pub record TellsFront (h : List Record) (v : Verdict) : Type 0 where
 -- whatever front of the text of a legal history was written, its verdict is that it is legal
 abbrev pub FrontIsLegal : Type 0
 FrontIsLegal = (bounds : Bounds) (h : List Record) (bytes left : List ℕ) (v : Verdict) → legal bounds h → HaveFrames h → text h ≡ bytes ++ left → IsVerdict bounds bytes v → TellsFront h v
+
+-- a front of a legal history is legal
+abbrev pub LegalFront : Type 0
+LegalFront = (bounds : Bounds) (h more : List Record) → legal bounds (h ++ more) → legal bounds h
+
+-- a frame can tell each record of a legal history whose fields are in range
+abbrev pub LegalHaveFrames : Type 0
+LegalHaveFrames = (bounds : Bounds) (h : List Record) → legal bounds h → AllInRange h → HaveFrames h
+
+-- the verdict on whatever front of the text of a legal history was written, if its fields are in range: it is legal, with the records
+-- whose frames are whole in the bytes after the header
+abbrev pub WrittenIsLegal : Type 0
+WrittenIsLegal = (bounds : Bounds) (h : List Record) (bytes left : List ℕ) → legal bounds h → AllInRange h → text h ≡ bytes ++ left →
+    (rest : ℕ) × IsVerdict bounds bytes (Legal (whole_frames h (length bytes - length trace_header)) rest)
 
 -- a verdict that tells a fault
 abbrev pub TellsFault : Verdict → Type 0

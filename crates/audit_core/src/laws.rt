@@ -1,8 +1,9 @@
 //! What holds of verdicts, and of headers. Each function does nothing; its contract is the law.
 
-ghost use Rattle.audit_core.specs.Laws.{OneVerdict, TextIsLegal, FrontIsLegal, FaultStays, HeaderGoesOn, HeaderLacks, BrokenStays};
+ghost use Rattle.audit_core.specs.Laws.{OneVerdict, TextIsLegal, FrontIsLegal, LegalFront, LegalHaveFrames, WrittenIsLegal, FaultStays, HeaderGoesOn, HeaderLacks, BrokenStays};
 
 use frame_codec::laws::{no_frame_begins_another, stops_are_no_frames};
+use posix_model::laws::{numbers_rise, records_are_short};
 
 /// Bytes have one verdict.
 pub fn verdicts_are_one()
@@ -19,6 +20,24 @@ pub fn fronts_are_legal()
 {
     no_frame_begins_another();
     stops_are_no_frames();
+}
+
+/// Each record of a legal history has a frame, if its fields are in range (`record_is_in_range`): a closing has the actor that it is
+/// to have, and no record is too long.
+pub fn legal_records_have_frames()
+    ensures { LegalHaveFrames }
+{
+    records_are_short();
+    numbers_rise();
+}
+
+/// Whatever front of the text of a legal history was written is legal, with the records that are whole in it; and so is a front of
+/// the history itself.
+pub fn written_fronts_are_legal()
+    ensures written { WrittenIsLegal }
+    ensures front { LegalFront }
+{
+    legal_records_have_frames();
 }
 
 /// A verdict that tells a fault stays, whatever bytes come after: an audit need not read on.

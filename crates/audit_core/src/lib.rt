@@ -4,5 +4,6 @@
 pub mod audit;
 pub mod judge;
 pub mod laws;
+pub mod ranges;
 pub mod trace;
 pub mod verdict;
