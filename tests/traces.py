@@ -165,13 +165,13 @@ def check_changed(count: Count, program: str, seed: str, most: int, jobs: int) -
 
 # Records with every act and every kind of outcome. No run has them: what is shown is not judged.
 ANY_RECORDS = """p7 join = 7; p0 attach = ok; p4294967295 attach = error ESRCH; p1 resume = part 4294967295
-p1 exit = ok; p7 fork = 8; p7 fork = 9; p9 attach = error ESRCH; p9 exit = ok; p8 attach = ok; p8 exit = ok; p9 exit = ok
-house close-run = ok; p0 open a/b%25%00%ff -,creat,excl,trunc,append,nonblock = error EINVAL; p0 open % r = 0
-p0 open x w = parked 0; p0 open y rw = 31; p0 close -2147483648 = error EBADF; p0 read 0 4294967295 = x
-p0 read 0 17 = 61*17; p0 read 0 16 = x61616161616161616161616161616161; p0 read 1 2 = parked 1; p0 write 1 x = 0
-p0 write 1 00*65700 = error EINVAL; p0 write 1 x6162 = 18446744073709551615; p0 read 0 1 = ff*65536
-p0 pread 0 -9223372036854775808 5 = error EINVAL; p0 pwrite 0 9223372036854775807 x00ff = 2; p0 lseek 0 -1 set = 0
-p0 lseek 0 0 cur = 0; p0 lseek 0 1 end = error EOVERFLOW; p0 ftruncate 0 0 = ok; p0 dup 0 = 1
+p1 exit = ok; p7 fork = 8; p7 fork = 9; p9 attach = error ESRCH; p9 exit = ok; p8 attach = ok; p8 exit = ok
+p9 exit = ok; house close-run = ok; p0 open a/b%25%00%ff -,creat,excl,trunc,append,nonblock = error EINVAL
+p0 open % r = 0; p0 open x w = parked 0; p0 open y rw = 31; p0 close -2147483648 = error EBADF
+p0 read 0 4294967295 = x; p0 read 0 17 = 61*17; p0 read 0 16 = x61616161616161616161616161616161
+p0 read 1 2 = parked 1; p0 write 1 x = 0; p0 write 1 00*65700 = error EINVAL; p0 write 1 x6162 = 18446744073709551615
+p0 read 0 1 = ff*65536; p0 pread 0 -9223372036854775808 5 = error EINVAL; p0 pwrite 0 9223372036854775807 x00ff = 2
+p0 lseek 0 -1 set = 0; p0 lseek 0 0 cur = 0; p0 lseek 0 1 end = error EOVERFLOW; p0 ftruncate 0 0 = ok; p0 dup 0 = 1
 p0 dup2 2147483647 -1 = 0; p0 pipe = 4294967295 0; p0 mkfifo f = ok; p0 link a b = error EEXIST; p0 unlink a = ok
 p0 fstat 0 = regular 18446744073709551615 4294967295; p0 fstat 1 = fifo 0 0; p0 fstat 2 = pipe 1 1
 p0 fork = 4294967295"""
