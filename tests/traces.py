@@ -57,6 +57,9 @@ from support.texts import difference
 TELL_MOST = 10
 PIECE = 250
 
+# How many changed traces are made of one random script.
+OF_ONE_SCRIPT = 5
+
 
 # ---- many audits
 
@@ -125,10 +128,10 @@ class Change(NamedTuple):
     verdict: Ran
 
 
-def with_other_record(pick: random.Random) -> Change:
-    """A trace whose record at some place has another outcome or another act than the model gives there."""
+def with_other_record(pick: random.Random, right: Sequence[str]) -> Change:
+    """A trace of which these records are right, but for one that has another outcome or another act."""
     while True:
-        records = random_records(pick)
+        records = list(right)
         place = pick.randrange(len(records))
         record, other = line_of(records[place]), line_of(pick.choice(records))
         outcome = other_outcome(pick, record.outcome, [line_of(line).outcome for line in records])
@@ -145,7 +148,19 @@ def with_other_record(pick: random.Random) -> Change:
 def with_other_records(seed: str, count: int) -> Iterator[tuple[str, Change]]:
     """So many of them."""
     for number in range(count):
-        yield numbered("changed trace", seed, number), with_other_record(source(f"{seed} changed", number))
+        pick = source(f"{seed} changed", number)
+        if number % OF_ONE_SCRIPT == 0:
+            records = random_records(pick)
+        yield numbered("changed trace", seed, number), with_other_record(pick, records)
+
+
+def with_damage(seed: str, count: int) -> Iterator[Named]:
+    """So many traces of which a few bytes are changed, left out or put in."""
+    for number in range(count):
+        pick = source(f"{seed} damaged", number)
+        if number % OF_ONE_SCRIPT == 0:
+            whole = trace_of(random_records(pick))
+        yield numbered("damaged trace", seed, number), changed(pick, whole)
 
 
 def check_changed(count: Count, program: str, seed: str, most: int, jobs: int) -> None:
@@ -154,11 +169,7 @@ def check_changed(count: Count, program: str, seed: str, most: int, jobs: int) -
     for name, change in changes:
         count.check(f"{name}, by the plain auditor", partial(same, change.verdict, audited(change.trace)))
     judge_all(count, program, [(name, change.trace) for name, change in changes], jobs)
-    damaged = []
-    for number in range(most // 4):
-        pick = source(f"{seed} damaged", number)
-        damaged.append((numbered("damaged trace", seed, number), changed(pick, trace_of(random_records(pick)))))
-    judge_all(count, program, damaged, jobs)
+    judge_all(count, program, list(with_damage(seed, most // 4)), jobs)
 
 
 # ---- what is shown

@@ -22,6 +22,11 @@ from support.walks import walked
 SESSIONS_MOST = 64
 A_WHILE = 0.3
 
+# The actor of a join that is refused, who has no number.
+ANYBODY = "p?"
+# The records of which no client is told.
+UNTOLD = re.compile(r"[0-9]+ (p[0-9]+ exit|house close-run) = ok")
+
 
 # ---- a plan: the acts of a script that clients can make
 
@@ -131,7 +136,7 @@ class LiveRun:
         if act.word == "join":
             number = int(outcome) if outcome.isdigit() else None
         if place != "-":
-            who = "p[0-9]+" if number is None else f"p{number}"
+            who = ANYBODY if number is None else f"p{number}"
             self.keep(place, f"{who} {act.word} = {outcome}")
         if isinstance(number, int) and (outcome == "ok" or outcome.isdigit()):
             self.players[number] = Player(client, number)
@@ -142,7 +147,7 @@ class LiveRun:
         """Hears the next answer to a client, which is that of the act with this text."""
         place, _, outcome = player.client.answer().partition(" ")
         if place != "-":
-            self.keep(place, re.escape(f"{text} = {outcome}"))
+            self.keep(place, f"{text} = {outcome}")
         elif player.waits:
             # the session ends where its resume is refused
             del self.players[player.number]
@@ -209,10 +214,10 @@ def checked(program: str, seed: str, number: int) -> Checked:
             trace = file.read()
     audit = Audit(trace)
     lines = audit.frames.lines
+    is_told(lines, live.told, has_ended)
     if has_ended:
         world = audit.judge.world
         same((0, report(plan.sessions, len(lines), world.bytes_in, world.bytes_out), b""), said)
-    is_told(lines, live.told, has_ended)
     same(legal(len(lines), 0 if has_ended else audit.frames.rest), audit.verdict)
     is_read(program, trace, audit)
     return Checked(len(lines), has_ended)
@@ -245,9 +250,14 @@ def records_in(path: str) -> int:
 def is_told(lines: list[str], told: dict[int, str], has_ended: bool) -> None:
     """Each record was told to a client as it is in the trace, but for exits and the closing."""
     for place, line in enumerate(lines):
-        wanted = told.pop(place, r"p[0-9]+ exit = ok|house close-run = ok")
-        require(re.fullmatch(f"{place} ({wanted})", line), f"a client was told {place} {wanted}, the trace has {line}")
-    require(not told, f"records that were told are not in the trace: {told}")
+        wanted = f"{place} {told.get(place, '')}"
+        if place not in told:
+            require(UNTOLD.fullmatch(line), f"nobody was told of {line}")
+        else:
+            is_it = line.endswith(told[place].removeprefix(ANYBODY)) if ANYBODY in told[place] else line == wanted
+            require(is_it, f"a client was told {wanted}, the trace has {line}")
+    lost = [f"{place} {text}" for place, text in told.items() if place >= len(lines)]
+    require(not lost, f"clients were told what is not in the trace: {lost[:3]}")
     if has_ended:
         same(f"{len(lines) - 1} house close-run = ok", lines[-1])
         came = sum(re.search(r" (join|fork) = [0-9]+$", line) is not None for line in lines)

@@ -10,8 +10,9 @@
 - `plain_model`: the plain model of the program, with the reader and the writer of scripts
 - `walks` and `shrinking`: random scripts, and short ones that fail as a long one does
 - `runs`: the lines of a run, and a run in which calls go on by themselves
-- `frames`: the bytes of sessions, written and read
-- `serving`: a server, and clients of it whose waits are bounded
+- `frames`: the bytes of sessions and traces, written and read
+- `auditing`: a plain auditor of traces, by the plain model
+- `serving`: a server whose trace is audited, and clients of it whose waits are bounded
 - `refusing`: runs in which allocations are refused
 
 A test is a file tests/NAME.py. The first line of its docstring says what it asks and how long it takes, and

@@ -1,6 +1,7 @@
 """A server as the tests run it, and clients of it, whose waits are all bounded."""
 
 import os
+import re
 import select
 import signal
 import socket
@@ -8,11 +9,13 @@ import subprocess
 import tempfile
 import time
 from collections.abc import Callable, Mapping, Sequence
+from pathlib import Path
 from types import TracebackType
 from typing import IO, Self
 
 from support import frames
-from support.counting import Failure, require
+from support.auditing import Audit, legal
+from support.counting import Failure, require, same
 from support.places import SCRATCH
 from support.running import Ran, StillRunning
 
@@ -69,10 +72,16 @@ class Server:
         return self.process.poll() is None
 
     def ended(self, line: bytes, status: int = 0, stderr: bytes = b"") -> None:
-        """The server ends by itself, prints the line, leaves no process, and the socket is where it was."""
+        """The server ends by itself, prints the line, leaves no process, and the socket is where it was. Its trace has
+        as many records as the line says, which are right."""
         given = outcome_of(self.process)
         require(given == (status, line, stderr), f"wanted {(status, line, stderr)}, given {tuple(given)}")
         require(os.path.exists(self.path), "the socket is gone")
+        told = re.search(rb" trace (\d+)\n", line)
+        if told and os.path.isfile(self.trace):
+            audit = Audit(Path(self.trace).read_bytes())
+            same(legal(int(told[1]), audit.frames.rest), audit.verdict)
+            require(audit.frames.rest == 0 or stderr == b"trace fault\n", "the trace ends in half a record")
 
 
 def started(
