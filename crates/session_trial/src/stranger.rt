@@ -1,7 +1,7 @@
 //! A kernel that does not know its seats any more.
 
-ghost use Rattle.std.specs.Prelude.{◌≡◌};
-ghost use Rattle.system_lock.specs.Kernel.{FinishesBy, HangsUpBy};
+ghost use Rattle.std.specs.Prelude.{◌≡◌, ⊤};
+ghost use Rattle.system_lock.specs.Kernel.{FinishesBy, HangsUpBy, SaysEnded};
 
 use byte_ledger::ledgers::Ledgers;
 use byte_ledger::tallies::Sums;
@@ -55,6 +55,14 @@ fn foreign<L: Ledgers>(seat: Seat<L>) -> EndedIn<L>
 }
 
 impl<L: Ledgers> Kernel<Seat<L>, SpentSeat<L>> for Stranger<L> {
+    ghost use Rattle.std.specs.Prelude.{⊤};
+
+    ghost not_opened = { λ _ _. ⊤ };
+
+    ghost refused = { λ _ _ _. ⊤ };
+
+    ghost ended = { λ _ _. ⊤ };
+
     fn open<R: Wait>(&self, rt: &R, request: Request) -> Result<OpenedIn<L>, Refusal> {
         self.book.open(rt, request)
     }
@@ -64,7 +72,8 @@ impl<L: Ledgers> Kernel<Seat<L>, SpentSeat<L>> for Stranger<L> {
     }
 
     fn finish<R: Wait>(&self, rt: &R, seat: Seat<L>) -> FinishedIn<L>
-        ensures { FinishesBy seat result }
+        ensures finishes { FinishesBy seat result }
+        ensures ended { SaysEnded (λ _ _. ⊤) seat result }
     {
         match self.forgets {
             Forgets::WhoWaits => Finished::Ended(foreign(seat)),
@@ -73,7 +82,8 @@ impl<L: Ledgers> Kernel<Seat<L>, SpentSeat<L>> for Stranger<L> {
     }
 
     fn hang_up<R: Wait>(&self, rt: &R, seat: Seat<L>) -> EndedIn<L>
-        ensures { HangsUpBy seat result }
+        ensures hangs_up { HangsUpBy seat result }
+        ensures ended { ⊤ }
     {
         match self.forgets {
             Forgets::All => foreign(seat),

@@ -1,2 +1,3 @@
 pub mod KernelLaws
 pub mod OpeningLaws
+pub mod SaysLaws

@@ -116,6 +116,11 @@ FinishesAs as_seat as_spent old (finished.Ended ended) = EndsBy old (as_spent en
 abbrev pub FinishesBy : SeatState → Finished → Type 0
 FinishesBy old finished = FinishesAs itself itself old finished
 
+-- where a process has ended in the call that it waited in, the kernel says why
+abbrev pub SaysEnded : {S P : Type 0} → (SeatState → Why → Type 0) → SeatState → FinishedOf S P → Type 0
+SaysEnded says old (finished.Resumed seat receipt) = Unit {0}
+SaysEnded says old (finished.Ended ended) = says old ended.why
+
 -- a process that is hung up ends
 abbrev pub HangsUpAs : {P : Type 0} → (P → SeatState) → SeatState → EndedOf P → Type 0
 HangsUpAs as_spent old ended = EndsBy old (as_spent ended.seat) ended.why × IsWhyHungUp ended.why

@@ -2,3 +2,4 @@ pub mod Kernel
 pub mod Acts
 pub mod System
 pub mod Events
+pub mod Says

@@ -40,27 +40,46 @@ pub enum Finished<S, P> {
 /// What records the acts of processes, each in one book and for any thread. None of its calls says that it returns. Its seats are of the
 /// kind `S`, and of the kind `P` when they are spent; their types name the ledgers of its book.
 pub trait Kernel<S: AsSeat, P: AsSeat> {
-    ghost use Rattle.system_lock.specs.Kernel.{IsOpening, OpensAs, CallsBy, FinishesAs, HangsUpAs};
+    ghost use Rattle.std.specs.Prelude.{IfErr};
+    ghost use Rattle.call_types.specs.declared.call.Call.{Call};
+    ghost use Rattle.call_types.specs.declared.refusal.Refusal.{Refusal};
+    ghost use Rattle.call_types.specs.declared.request.Request.{Request};
+    ghost use Rattle.record_book.specs.Seat.{SeatState};
+    ghost use Rattle.system_lock.specs.declared.kernel.Why.{Why};
+    ghost use Rattle.system_lock.specs.Kernel.{IsOpening, OpensAs, CallsBy, FinishesAs, HangsUpAs, SaysEnded};
+
+    // The kernel refused this opening so, and did not record it. Where the kernel is not known, only `open` tells this.
+    ghost not_opened: { Request → Refusal → Type 0 };
+
+    // The kernel refused this call of the seat so, and did not record it. Only `call` tells this.
+    ghost refused: { SeatState → Call → Refusal → Type 0 };
+
+    // The process of this seat has ended so. Only `finish` and `hang_up` tell this.
+    ghost ended: { SeatState → Why → Type 0 };
 
     /// Opens a process: by a join a new one, by an attach a child that is not attached yet. Where the record is an error there is no process, and the
     /// spent seat has its one receipt. A `Refusal` is NoMemory or RunFull, and
     /// is not recorded. It waits for the lock alone.
     fn open<R: Wait>(&self, rt: &R, request: Request) -> Result<Opened<S, P>, Refusal>
         requires { IsOpening request }
-        ensures { OpensAs S.as_seat P.as_seat request result };
+        ensures opens { OpensAs S.as_seat P.as_seat request result }
+        ensures refused { IfErr result (λ refusal. not_opened request refusal) };
 
     /// Records a call of the seat's process: its reply, or that it waits. The seat gets the receipt too. A `Refusal` is not
     /// recorded, and leaves the seat as it was. It waits for the lock alone, and never for another process's call.
     fn call<R: Wait>(&self, rt: &R, seat: &mut S, call: Call) -> Result<Receipt, Refusal>
-        ensures { CallsBy (S.as_seat seat.old) (S.as_seat seat.new) call result };
+        ensures calls { CallsBy (S.as_seat seat.old) (S.as_seat seat.new) call result }
+        ensures refused { IfErr result (λ refusal. refused (S.as_seat seat.old) call refusal) };
 
     /// Waits until the call that the seat's process waits in can go on, and takes it up; or ends the process.
     fn finish<R: Wait>(&self, rt: &R, seat: S) -> Finished<S, P>
-        ensures { FinishesAs S.as_seat P.as_seat (S.as_seat seat) result };
+        ensures finishes { FinishesAs S.as_seat P.as_seat (S.as_seat seat) result }
+        ensures ended { SaysEnded ended (S.as_seat seat) result };
 
     /// Records the exit of the seat's process. It waits for the lock alone.
     fn hang_up<R: Wait>(&self, rt: &R, seat: S) -> Ended<P>
-        ensures { HangsUpAs P.as_seat (S.as_seat seat) result };
+        ensures hangs_up { HangsUpAs P.as_seat (S.as_seat seat) result }
+        ensures ended { ended (S.as_seat seat) result.why };
 }
 
 /// These of the seats of one book.

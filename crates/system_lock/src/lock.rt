@@ -1,7 +1,8 @@
 //! The kernel of a run: one lock round a book and the processes that sleep.
 
 ghost use Rattle.std.specs.Prelude.{◌≡◌, Some};
-ghost use Rattle.system_lock.specs.Kernel.{FinishesBy, HangsUpBy};
+ghost use Rattle.system_lock.specs.Kernel.{FinishesBy, HangsUpBy, SaysEnded};
+ghost use Rattle.system_lock.specs.Says.{IsEnded};
 
 use crate::acts::Tried;
 use crate::bells::Bells;
@@ -46,6 +47,14 @@ impl<L: Ledgers> SystemLock<L> {
 }
 
 impl<L: Ledgers> Kernel<Seat<L>, SpentSeat<L>> for SystemLock<L> {
+    ghost use Rattle.system_lock.specs.Says.{IsNotOpened, IsRefused, IsEnded};
+
+    ghost not_opened = { IsNotOpened };
+
+    ghost refused = { IsRefused };
+
+    ghost ended = { IsEnded };
+
     fn open<R: Wait>(&self, rt: &R, request: Request) -> Result<OpenedIn<L>, Refusal> {
         let mut system = self.system.lock(rt);
         system.open(self.alloc, &self.bells, request)
@@ -57,7 +66,8 @@ impl<L: Ledgers> Kernel<Seat<L>, SpentSeat<L>> for SystemLock<L> {
     }
 
     fn finish<R: Wait>(&self, rt: &R, seat: Seat<L>) -> FinishedIn<L>
-        ensures { FinishesBy seat result }
+        ensures finishes { FinishesBy seat result }
+        ensures ended { SaysEnded IsEnded seat result }
     {
         let process = seat.pid();
         let mut seat = seat;
@@ -75,7 +85,8 @@ impl<L: Ledgers> Kernel<Seat<L>, SpentSeat<L>> for SystemLock<L> {
     }
 
     fn hang_up<R: Wait>(&self, rt: &R, seat: Seat<L>) -> EndedIn<L>
-        ensures { HangsUpBy seat result }
+        ensures hangs_up { HangsUpBy seat result }
+        ensures ended { IsEnded seat result.why }
     {
         let mut system = self.system.lock(rt);
         system.hang_up(&self.bells, seat)

@@ -1,6 +1,7 @@
 //! A kernel of one thread, for tests: where a call would wait, acts of other processes are run, which stand ready.
 
-ghost use Rattle.system_lock.specs.Kernel.{FinishesBy, HangsUpBy};
+ghost use Rattle.std.specs.Prelude.{⊤};
+ghost use Rattle.system_lock.specs.Kernel.{FinishesBy, HangsUpBy, SaysEnded};
 
 use crate::acts;
 use crate::acts::Tried;
@@ -67,6 +68,14 @@ impl<L: Ledgers> OneBook<L> {
 }
 
 impl<L: Ledgers> Kernel<Seat<L>, SpentSeat<L>> for OneBook<L> {
+    ghost use Rattle.std.specs.Prelude.{⊤};
+
+    ghost not_opened = { λ _ _. ⊤ };
+
+    ghost refused = { λ _ _ _. ⊤ };
+
+    ghost ended = { λ _ _. ⊤ };
+
     fn open<R: Wait>(&self, rt: &R, request: Request) -> Result<OpenedIn<L>, Refusal> {
         let mut held = self.held.lock(rt);
         acts::open(&mut held.book, self.alloc, request)
@@ -78,14 +87,16 @@ impl<L: Ledgers> Kernel<Seat<L>, SpentSeat<L>> for OneBook<L> {
     }
 
     fn finish<R: Wait>(&self, rt: &R, seat: Seat<L>) -> FinishedIn<L>
-        ensures { FinishesBy seat result }
+        ensures finishes { FinishesBy seat result }
+        ensures ended { SaysEnded (λ _ _. ⊤) seat result }
     {
         let mut held = self.held.lock(rt);
         finish(&mut held, self.alloc, seat)
     }
 
     fn hang_up<R: Wait>(&self, rt: &R, seat: Seat<L>) -> EndedIn<L>
-        ensures { HangsUpBy seat result }
+        ensures hangs_up { HangsUpBy seat result }
+        ensures ended { ⊤ }
     {
         let mut held = self.held.lock(rt);
         acts::exit(&mut held.book, seat, Why::HungUp)

@@ -22,8 +22,8 @@ use record_book::seat::{Receipt, Seat};
 use std::alloc::{AllocError, Global};
 use std::marker::Model;
 
-/// A book, which has the limits that its type names, and the numbers of the processes that sleep until the call that they wait in is
-/// ready. None of these is ready.
+/// A book, which has the limits that its type names and whose house has no receipt, and the numbers of the processes that sleep until the
+/// call that they wait in is ready. None of these is ready.
 #[derive(Drop)]
 pub struct System<L: Ledgers> {
     book: Book<L>,
@@ -31,14 +31,14 @@ pub struct System<L: Ledgers> {
 }
 
 impl<L: Ledgers> Model for System<L> {
-    ghost use Rattle.std.specs.Prelude.{◌≡◌, Some};
+    ghost use Rattle.std.specs.Prelude.{◌≡◌, [], Some};
     ghost use Rattle.system_lock.specs.System.{SystemState, SleepsSound};
 
     ghost Value = { SystemState };
 
     ghost view = { λ s. record { book_is = s.book; asleep_are = s.asleep.items } };
 
-    ghost invariant = { λ s. SleepsSound s.book s.asleep.items × (L.limits ≡ Some s.book.limits) };
+    ghost invariant = { λ s. SleepsSound s.book s.asleep.items × (L.limits ≡ Some s.book.limits) × (s.book.house ≡ Some []) };
 }
 
 /// Whether a process that sleeps is to sleep on, since its call is not ready; else it is woken.
@@ -81,10 +81,11 @@ impl<L: Ledgers> System<L> {
         self.asleep.as_slice()
     }
 
-    /// The book.
+    /// The book. It is not closed, and its house has no receipt yet.
     pub fn into_book(self) -> Book<L>
         ensures book { result ≡ self.book_is }
         ensures limits { L.limits ≡ Some result.limits }
+        ensures house { result.house ≡ Some [] }
     {
         self.book
     }

@@ -1,0 +1,39 @@
+-- What the lock of a run says of ends and of refusals (own).
+use Rattle.std.specs.Prelude.{◌≡◌, true, is_some, Some, List, []}
+use Rattle.call_types.specs.declared.call.Call.{Call}
+use Rattle.call_types.specs.declared.refusal.Refusal.{Refusal}
+use Rattle.call_types.specs.declared.refusal.Refusal.TheVariants as refusal
+use Rattle.call_types.specs.declared.request.Request.{Request}
+use Rattle.call_types.specs.declared.request.Request.TheVariants as request
+use Rattle.record_book.specs.Seat.{SeatState}
+use Rattle.record_book.specs.Book.{BookState}
+use Rattle.record_book.specs.Refusals.{IsDue, join_refusal, attach_refusal, start_refusal, exit_refusal, resume_refusal}
+use Rattle.system_lock.specs.declared.kernel.Why.{Why}
+use Rattle.system_lock.specs.declared.kernel.Why.TheVariants as why
+
+-- a refusal of an opening that is due in this book
+abbrev pub IsNotOpenedIn : BookState → Request → Refusal → Type 0
+IsNotOpenedIn b request.Join told = IsDue (join_refusal b) told
+IsNotOpenedIn b (request.Attach process) told = IsDue (attach_refusal b process) told
+IsNotOpenedIn b (request.Call call) told = ⊥
+
+-- why a process may end in this book: it is hung up, memory is wanting, the book does not know its seat, or is full for its resume.
+-- A call is never given up
+abbrev pub IsEndIn : BookState → SeatState → Why → Type 0
+IsEndIn b s why.Foreign = is_some (exit_refusal b s) ≡ true
+IsEndIn b s why.RunFull = resume_refusal b s ≡ Some refusal.RunFull
+IsEndIn b s why.NoMemory = Unit {0}
+IsEndIn b s why.HungUp = Unit {0}
+IsEndIn b s why.Lost = ⊥
+
+-- an opening is refused: that is due in some book
+abbrev pub IsNotOpened : Request → Refusal → Type 0
+IsNotOpened request told = (b : BookState) × IsNotOpenedIn b request told
+
+-- a call is refused: that is due in some book
+abbrev pub IsRefused : SeatState → Call → Refusal → Type 0
+IsRefused s call told = (b : BookState) × IsDue (start_refusal b s call) told
+
+-- a process ends: for a reason that it may have in some book
+abbrev pub IsEnded : SeatState → Why → Type 0
+IsEnded s reason = (b : BookState) × IsEndIn b s reason
