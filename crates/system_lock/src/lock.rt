@@ -1,6 +1,7 @@
 //! The kernel of a run: one lock round a book and the processes that sleep.
 
-ghost use Rattle.std.specs.Prelude.{◌≡◌, Some};
+ghost use Rattle.std.specs.Prelude.{◌≡◌, [], Some, IfOk};
+ghost use Rattle.rtrb.specs.Ring.{received};
 ghost use Rattle.system_lock.specs.Kernel.{FinishesBy, HangsUpBy, SaysEnded};
 ghost use Rattle.system_lock.specs.Says.{IsEnded};
 
@@ -17,6 +18,7 @@ use record_book::opening::OpenedIn;
 use record_book::seat::{Receipt, Seat, SpentSeat};
 use std::alloc::{AllocError, Global};
 use std::sync::{Mutex, Wait};
+use trace_ring::trace_ring::TraceEnd;
 
 /// A system that any thread may ask: each holding of its lock is one event, of which at most one record comes. A process
 /// whose call is not ready sleeps until an event makes it ready. Its type names the ledgers and the limits of its book, so another book does not fit.
@@ -28,16 +30,25 @@ pub struct SystemLock<L: Ledgers> {
 }
 
 impl<L: Ledgers> SystemLock<L> {
-    /// The kernel of a run that has no records yet, under the limits that its type names.
-    pub fn new(alloc: Global, limits: Limits, blanks: Blanks) -> Result<Self, AllocError>
+    /// The kernel of a run that has no records yet, under the limits that its type names, and the end at which the trace of its
+    /// records is read. Nothing was read from it yet.
+    pub fn new(
+        alloc: Global,
+        limits: Limits,
+        blanks: Blanks,
+    ) -> Result<(Self, TraceEnd), AllocError>
         requires ledgers { blanks ≡ L.names }
         requires limits { L.limits ≡ Some limits }
+        ensures { IfOk result (λ pair. received pair.1 ≡ []) }
     {
-        Ok(SystemLock {
+        let bells = Bells::new(alloc)?;
+        let (system, trace) = System::new(alloc, limits, blanks)?;
+        let lock = SystemLock {
             alloc,
-            system: Mutex::new(System::new(alloc, limits, blanks)?),
-            bells: Bells::new(alloc)?,
-        })
+            system: Mutex::new(system),
+            bells,
+        };
+        Ok((lock, trace))
     }
 
     /// What stood under the lock. It takes no memory.

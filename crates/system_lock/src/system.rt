@@ -1,6 +1,7 @@
 //! A book, and the processes that sleep: what stands under the lock of a run.
 
-ghost use Rattle.std.specs.Prelude.{◌≡◌, [], Some, false, not, All, IfOk};
+ghost use Rattle.std.specs.Prelude.{◌≡◌, [], Some, false, true, not, All, IfOk};
+ghost use Rattle.rtrb.specs.Ring.{received};
 ghost use Rattle.system_lock.specs.Kernel.{IsOpening, OpensBy, CallsBy, HangsUpBy};
 ghost use Rattle.system_lock.specs.Acts.{TriesBy};
 ghost use Rattle.system_lock.specs.System.{SleepsSound, is_ready_in};
@@ -21,9 +22,10 @@ use record_book::opening::OpenedIn;
 use record_book::seat::{Receipt, Seat};
 use std::alloc::{AllocError, Global};
 use std::marker::Model;
+use trace_ring::trace_ring::TraceEnd;
 
-/// A book, which has the limits that its type names and whose house has no receipt, and the numbers of the processes that sleep until the
-/// call that they wait in is ready. None of these is ready.
+/// A book, which has the limits that its type names, whose house has no receipt, and from which the end of the trace was taken; and the
+/// numbers of the processes that sleep until the call that they wait in is ready. None of these is ready.
 #[derive(Drop)]
 pub struct System<L: Ledgers> {
     book: Book<L>,
@@ -31,14 +33,14 @@ pub struct System<L: Ledgers> {
 }
 
 impl<L: Ledgers> Model for System<L> {
-    ghost use Rattle.std.specs.Prelude.{◌≡◌, [], Some};
+    ghost use Rattle.std.specs.Prelude.{◌≡◌, [], Some, true};
     ghost use Rattle.system_lock.specs.System.{SystemState, SleepsSound};
 
     ghost Value = { SystemState };
 
     ghost view = { λ s. record { book_is = s.book; asleep_are = s.asleep.items } };
 
-    ghost invariant = { λ s. SleepsSound s.book s.asleep.items × (L.limits ≡ Some s.book.limits) × (s.book.house ≡ Some []) };
+    ghost invariant = { λ s. SleepsSound s.book s.asleep.items × (L.limits ≡ Some s.book.limits) × (s.book.house ≡ Some []) × (s.book.is_traced ≡ true) };
 }
 
 /// Whether a process that sleeps is to sleep on, since its call is not ready; else it is woken.
@@ -61,16 +63,23 @@ fn wake_ready<L: Ledgers>(asleep: &mut Vec<u32>, book: &Book<L>, bells: &Bells)
 }
 
 impl<L: Ledgers> System<L> {
-    /// A new book, in which no process sleeps.
-    pub(crate) fn new(alloc: Global, limits: Limits, blanks: Blanks) -> Result<Self, AllocError>
+    /// A new book, in which no process sleeps, and the end at which the trace of its records is read.
+    pub(crate) fn new(
+        alloc: Global,
+        limits: Limits,
+        blanks: Blanks,
+    ) -> Result<(Self, TraceEnd), AllocError>
         requires ledgers { blanks ≡ L.names }
         requires limits { L.limits ≡ Some limits }
-        ensures { IfOk result (λ system. system ≡ record { book_is = new_book limits; asleep_are = [] }) }
+        ensures system { IfOk result (λ pair. pair.0 ≡ record { book_is = record (new_book limits) { is_traced = true }; asleep_are = [] }) }
+        ensures trace { IfOk result (λ pair. received pair.1 ≡ []) }
     {
-        Ok(System {
-            book: Book::new(alloc, limits, blanks)?,
-            asleep: Vec::with_capacity(alloc, PROCESSES_MAX)?,
-        })
+        let asleep = Vec::with_capacity(alloc, PROCESSES_MAX)?;
+        let mut book = Book::new(alloc, limits, blanks)?;
+        match book.trace_end() {
+            Some(trace) => Ok((System { book, asleep }, trace)),
+            None => unreachable!(),
+        }
     }
 
     /// The processes that sleep; none of them waits in a call that is ready.
@@ -81,11 +90,12 @@ impl<L: Ledgers> System<L> {
         self.asleep.as_slice()
     }
 
-    /// The book. It is not closed, and its house has no receipt yet.
+    /// The book. Its house has no receipt yet, and the end of its trace was taken.
     pub fn into_book(self) -> Book<L>
         ensures book { result ≡ self.book_is }
         ensures limits { L.limits ≡ Some result.limits }
         ensures house { result.house ≡ Some [] }
+        ensures traced { result.is_traced ≡ true }
     {
         self.book
     }
