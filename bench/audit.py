@@ -11,8 +11,9 @@ that differ, so there are few records, and the rate is told in bytes too.
 
 A time is the median of N rounds (3), from the start of the program to its end. The growth is the cost of a
 record over its cost in the trace before: 1.00 where it does not depend on the length. The peak is what the
-system tells of the program's memory. With OLD, another fdref is timed in turns with PATH. Traces have at most
-N records (1,000,000): fewer suit a program that is slow.
+system tells of the program's memory, which cannot be less than what this script itself holds. With OLD,
+another fdref is timed in turns with PATH. Traces have at most N records (1,000,000): fewer suit a program that
+is slow.
 """
 
 import argparse
@@ -83,12 +84,17 @@ class Timed(NamedTuple):
     peak: int
 
 
-def trace_of(kind: Kind, records: int) -> bytes:
-    """A trace of a kind with so many records, as many as fit in whole bursts and the rest of one."""
+def write_trace(path: str, kind: Kind, records: int) -> int:
+    """Writes a trace of a kind with so many records, burst by burst, and gives its length in bytes."""
     first = [record_frame(line) for line in kind.first]
     burst = [record_frame(line) for line in kind.burst]
     whole, some = divmod(records - len(first), len(burst))
-    return TRACE_HEADER + b"".join([*first, b"".join(burst) * whole, *burst[:some]])
+    with open(path, "wb") as file:
+        file.write(TRACE_HEADER + b"".join(first))
+        for _ in range(whole):
+            file.write(b"".join(burst))
+        file.write(b"".join(burst[:some]))
+        return file.tell()
 
 
 def audited(program: str, path: str, records: int) -> Timed:
@@ -118,14 +124,13 @@ def measure(kind: Kind, programs: Sequence[str], rounds: int, most: int, folder:
     """Prints a line for each length of a kind of trace, and program."""
     before: list[float] = []
     for length in (length // kind.fewer for length in LENGTHS if length <= most and length // kind.fewer >= 100):
-        trace = trace_of(kind, length)
         path = os.path.join(folder, f"{kind.name} {length}")
-        Path(path).write_bytes(trace)
+        size = write_trace(path, kind, length)
         costs = []
         for number, timed in enumerate(medians(programs, path, length, rounds)):
             costs.append(timed.seconds / length)
             parts = [f"{timed.seconds * 1000:.1f} ms", f"{length / timed.seconds:.0f} records a second"]
-            parts.append(f"{len(trace) / timed.seconds / 1e6:.1f} MB/s")
+            parts.append(f"{size / timed.seconds / 1e6:.1f} MB/s")
             parts += [f"growth {costs[number] / before[number]:.2f}"] if before else []
             parts.append(f"peak {timed.peak / 2**20:.1f} MiB")
             who = "" if number == 0 else ", the other"
