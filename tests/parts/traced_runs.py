@@ -12,8 +12,9 @@ from support.auditing import Audit, legal, shown
 from support.counting import require, same
 from support.frames import TRACE_HEADER
 from support.places import SCRATCH
+from support.plain_model import RECORDS_DEFAULT
 from support.running import Ran, run
-from support.runs import ALL_RECORDS, Settled
+from support.runs import Settled
 from support.serving import SECONDS, Client, Server, outcome_of, report
 from support.sources import source
 from support.texts import difference
@@ -200,8 +201,8 @@ class Checked(NamedTuple):
 def checked(program: str, seed: str, number: int) -> Checked:
     """Makes the run with a number of a seed, and checks its trace."""
     pick = source(seed, number)
-    records = pick.choice([ALL_RECORDS] * 7 + [pick.randrange(4, 80)])
-    plan = Plan(walked(pick, ALL_RECORDS, pick.choice([5, 10, 20, 40, 60, 100])))
+    records = pick.choice([RECORDS_DEFAULT] * 7 + [pick.randrange(4, 80)])
+    plan = Plan(walked(pick, RECORDS_DEFAULT, pick.choice([5, 10, 20, 40, 60, 100])))
     with Server(program, plan.sessions, records) as server:
         live = LiveRun(server)
         for act in plan.acts:
@@ -273,7 +274,7 @@ def is_read(program: str, trace: bytes, audit: Audit) -> None:
         is_shown(shown(trace), run([program, "show", file.name]))
         script = shown(trace, acts=True)
         is_shown(script, run([program, "show", "--acts", file.name]))
-    again = run([program, "replay", "--records", str(ALL_RECORDS)], script.stdout)
+    again = run([program, "replay"], script.stdout)
     world = audit.judge.world
     totals = f"records {len(audit.frames.lines)} in {world.bytes_in} out {world.bytes_out}"
     text = "".join(f"{line}\n" for line in [*audit.frames.lines, totals]).encode()
