@@ -349,6 +349,21 @@ def cannot_be_synced(program: str) -> None:
         server.ended(report(1, 4), 4, b"trace fault\n")
 
 
+def two_faults(program: str) -> None:
+    """A trace that takes nothing, and a connection that cannot be taken: the second is told."""
+    with Server(program, 2, trace="/dev/full") as server:
+        client = server.client()
+        client.ask("join")
+        client.gets("0 0")
+        highest = max(int(fd) for fd in os.listdir(f"/proc/{server.process.pid}/fd"))
+        resource.prlimit(server.process.pid, resource.RLIMIT_NOFILE, (highest + 1,) * 2)
+        server.client()
+        client.ask("pipe")
+        client.gets("1 0 1")
+        client.vanish()
+        server.ended(report(1, 4, traced=0), 4, b"cannot listen\n")
+
+
 def killed(program: str, pause: float) -> None:
     """A server that is killed in mid-run leaves the beginning of a right trace, with all that was told long ago."""
     with Server(program, 2) as server:
@@ -397,6 +412,7 @@ def system_cases(program: str) -> Iterator[Case]:
     for size in [0, 1, 8, 9, 25, 26, 30, 53, 54, len(CONVERSED) - 1, len(CONVERSED)]:
         yield f"a trace of {size} bytes at most", partial(disk_is_full_at, program, size)
     yield "a trace that cannot be synced", partial(cannot_be_synced, program)
+    yield "a full device as the trace, and a connection that cannot be taken", partial(two_faults, program)
     for pause in (0, A_WHILE):
         yield f"a server that is killed after {pause} seconds", partial(killed, program, pause)
 

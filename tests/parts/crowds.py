@@ -6,9 +6,11 @@ import threading
 import time
 from collections.abc import Callable, Iterator
 from functools import partial
+from pathlib import Path
 
 from support import plain_model
-from support.counting import Case, Failure, require
+from support.auditing import Frames
+from support.counting import Case, Failure, require, same
 from support.serving import ALL_RECORDS, SECONDS, Server, report
 from support.sources import numbered, source
 
@@ -262,6 +264,14 @@ class Crowd:
         return len(told), bytes_in, bytes_out
 
 
+    def are_traced(self, trace: bytes) -> None:
+        """What was told is what the trace holds at these places; the exits and the closing come after it."""
+        lines = Frames(trace).lines
+        for place, act, outcome in (row for player in self.players for row in player.told):
+            who = act._replace(actor=int(outcome)) if act.word == "join" else act
+            same(f"{place} {plain_model.act_text(who)} = {outcome}", lines[place])
+
+
 def crowd(program: str, seed: str, calls: int) -> None:
     """64 clients at once."""
     with Server(program, 2 + 2 * PAIRS, ALL_RECORDS) as server:
@@ -272,6 +282,7 @@ def crowd(program: str, seed: str, calls: int) -> None:
             player.client.vanish()
         count = len(clients.players)
         server.ended(report(count, records + count + 1, bytes_in, bytes_out))
+        clients.are_traced(Path(server.trace).read_bytes())
 
 
 def cases(program: str, seed: str, count: int, calls: int) -> Iterator[Case]:
