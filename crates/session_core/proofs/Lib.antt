@@ -7,3 +7,5 @@ pub mod PieceLemmas
 pub mod ReadLemmas
 pub mod ClosingLemmas
 pub mod ServeLemmas
+pub mod SaidLemmas
+pub mod CutLemmas

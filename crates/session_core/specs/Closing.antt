@@ -69,6 +69,32 @@ abbrev pub LeavesAll : OutputState → OutputState → Over → LeftSession → 
 LeavesAll old new found left =
     (base : Option (List ℕ)) (input : List ℕ) (source : LoggedReaderState) → IsOver base input old found → IsMet source found → ComesTo input base (session_of source new left)
 
+-- the ways to be over after which a session may be closed
+abbrev pub MayClose : Over → Type 0
+MayClose (over.Leaves stage cause) = cause ≡ why.Closed
+MayClose (over.Unwritten stage) = ⊥
+MayClose (over.OpeningUntold seat) = ⊥
+MayClose (over.RefusalUntold seat) = ⊥
+MayClose (over.Untold seat receipt) = ⊥
+MayClose (over.Refused seat) = Unit {0}
+MayClose (over.Lost seat) = Unit {0}
+MayClose (over.Ended seat cause) = cause ≡ why.Closed
+MayClose (over.Foreign seat) = ⊥
+
+-- a session is closed only after one of these, and with the answers that it had by then
+abbrev pub ClosesAs : Over → OutputState → List Told → End → Type 0
+ClosesAs found old answers end.Closed = MayClose found × (answers ≡ old.answers)
+ClosesAs found old answers end.ReadFault = Unit {0}
+ClosesAs found old answers (end.WriteFault sent) = Unit {0}
+ClosesAs found old answers end.Malformed = Unit {0}
+ClosesAs found old answers end.RunFull = Unit {0}
+ClosesAs found old answers end.NoMemory = Unit {0}
+ClosesAs found old answers end.Foreign = Unit {0}
+
+-- the same of a session that is left
+abbrev pub ClosesBy : Over → OutputState → OutputState → LeftSession → Type 0
+ClosesBy found old new left = ClosesAs found old (with_last new.answers left.last) left.end
+
 -- a process is hung up
 abbrev pub HangsUpSeat : SeatState → LeftSession → Type 0
 HangsUpSeat seat left = (wanted : End) × (spent : SeatState) × (left.seat ≡ Some spent) × HangsUp seat wanted spent left.end

@@ -8,3 +8,4 @@ pub mod Pieces
 pub mod Reading
 pub mod Closing
 pub mod Memory
+pub mod Said

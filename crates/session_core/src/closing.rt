@@ -1,6 +1,7 @@
 //! How a session is closed: its last answers are written, and its process is hung up.
 
-ghost use Rattle.session_core.specs.Closing.{SendsLast, HangsUp, LeavesWith, LeavesAll, HangsUpSeat, KeepsSeat, end_of};
+ghost use Rattle.session_core.specs.Closing.{SendsLast, HangsUp, LeavesWith, LeavesAll, HangsUpSeat, KeepsSeat, ClosesBy, end_of};
+ghost use Rattle.session_core.specs.Said.{EndSaid, OverSaid};
 ghost use Rattle.std.specs.Prelude.{◌≡◌, Some, None};
 ghost use Rattle.session_core.specs.declared.stage.Over.TheVariants as over;
 
@@ -54,7 +55,8 @@ fn hang_up<Rt: Wait, L: Ledgers, K: Kernel<Seat<L>, SpentSeat<L>>>(
     seat: Seat<L>,
     end: End,
 ) -> (SpentSeat<L>, End)
-    ensures { HangsUp seat end result.0 result.1 }
+    ensures hangs_up { HangsUp seat end result.0 result.1 }
+    ensures said { EndSaid K.not_opened K.ended end → EndSaid K.not_opened K.ended result.1 }
 {
     let ended = kernel.hang_up(rt, seat);
     match ended.why {
@@ -71,6 +73,7 @@ fn leave<Rt: Wait, L: Ledgers, K: Kernel<Seat<L>, SpentSeat<L>>>(
     end: End,
 ) -> LeftSession<SpentSeat<L>>
     ensures seat { LeavesWith stage end result.seat result.end }
+    ensures said { EndSaid K.not_opened K.ended end → EndSaid K.not_opened K.ended result.end }
     ensures last { result.last ≡ None }
 {
     match stage {
@@ -106,6 +109,8 @@ fn leave_untold<Rt: Wait, W: Write, G: Gate, L: Ledgers, K: Kernel<Seat<L>, Spen
 ) -> LeftSession<SpentSeat<L>>
     ensures all { LeavesAll output.old output.new (over.Untold seat receipt) result }
     ensures seat { HangsUpSeat seat result }
+    ensures said { EndSaid K.not_opened K.ended result.end }
+    ensures closes { ClosesBy (over.Untold seat receipt) output.old output.new result }
 {
     match output.flush() {
         Ok(()) => left_by(hang_up(rt, kernel, seat, End::NoMemory), None),
@@ -127,6 +132,8 @@ pub(crate) fn leave_all<Rt: Wait, W: Write, G: Gate, L: Ledgers, K: Kernel<Seat<
 ) -> LeftSession<SpentSeat<L>>
     ensures all { LeavesAll output.old output.new over result }
     ensures seat { KeepsSeat over result }
+    ensures said { OverSaid K.not_opened K.ended over → EndSaid K.not_opened K.ended result.end }
+    ensures closes { ClosesBy over output.old output.new result }
 {
     match over {
         Over::Leaves { stage, why } => {

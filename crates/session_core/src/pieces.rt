@@ -1,6 +1,7 @@
 //! A session's bytes, piece by piece.
 
 ghost use Rattle.session_core.specs.Pieces.{TakesPiece};
+ghost use Rattle.session_core.specs.Said.{TurnSaid};
 
 use crate::gate::Gate;
 use crate::output::Output;
@@ -24,7 +25,8 @@ pub(crate) fn take_piece<Rt: Wait, W: Write, G: Gate, L: Ledgers, K: Kernel<Seat
     stage: StageOf<L>,
     piece: &[u8],
 ) -> TurnOf<L>
-    ensures { TakesPiece piece.now decoder.old decoder.new stage output.old output.new result }
+    ensures takes { TakesPiece piece.now decoder.old decoder.new stage output.old output.new result }
+    ensures said { TurnSaid K.not_opened K.ended result }
 {
     cuts_do_not_matter();
     let fed = match decoder.feed(piece) {

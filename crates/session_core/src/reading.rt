@@ -3,6 +3,7 @@
 ghost use Rattle.std.specs.Prelude.{◌≡◌, ◌<◌, ◌≤◌, length};
 ghost use Rattle.frame_codec.specs.Decoding.{fresh};
 ghost use Rattle.session_core.specs.Reading.{ReadsOn, ReadsFresh};
+ghost use Rattle.session_core.specs.Said.{OverSaid, TurnSaid};
 ghost use Rattle.session_core.specs.declared.stage.Over.TheVariants as over;
 ghost use Rattle.session_core.specs.declared.stage.Turn.TheVariants as turn;
 ghost use Rattle.logged_streams.specs.Streams.{fresh_log};
@@ -50,6 +51,7 @@ fn read_on<Rt: Wait, R: Read, W: Write, G: Gate, L: Ledgers, K: Kernel<Seat<L>, 
     requires few { source.old.log.interruptions < 16 }
     ensures reads { ReadsOn source.old source.new decoder.old decoder.new stage output.old output.new result }
     ensures long { length buffer.new ≡ length buffer.old }
+    ensures said { TurnSaid K.not_opened K.ended result }
 {
     cuts_do_not_matter();
     match source.read(buffer) {
@@ -83,6 +85,7 @@ fn read_often<Rt: Wait, R: Read, W: Write, G: Gate, L: Ledgers, K: Kernel<Seat<L
     requires unfed { decoder.old ≡ fresh }
     ensures few { source.new.log.calls ≤ 1048576 }
     ensures reads { ReadsFresh source.old source.new output.old output.new result }
+    ensures said { OverSaid K.not_opened K.ended result }
 {
     cuts_do_not_matter();
     let mut stage = Stage::Opening;
@@ -116,6 +119,7 @@ pub(crate) fn read_all<
     requires { source.old.log ≡ fresh_log }
     ensures few { source.new.log.calls ≤ 1048576 }
     ensures reads { ReadsFresh source.old source.new output.old output.new result }
+    ensures said { OverSaid K.not_opened K.ended result }
 {
     let mut buffer = match vec![in alloc; 0u8; PIECE] {
         Ok(buffer) => buffer,

@@ -1,7 +1,9 @@
 //! A session from its first byte to its end.
 
-ghost use Rattle.std.specs.Prelude.{Bool};
+ghost use Rattle.std.specs.Prelude.{◌≡◌, Bool};
+ghost use Rattle.session_core.specs.declared.end.End.TheVariants as end;
 ghost use Rattle.session_core.specs.Served.{Serves};
+ghost use Rattle.session_core.specs.Said.{ClosedSaid, EndSaid};
 
 use crate::closing::leave_all;
 use crate::end::End;
@@ -56,7 +58,9 @@ pub fn serve<Rt: Wait, R: Read, W: Write, G: Gate, L: Ledgers, K: Kernel<Seat<L>
     session: u64,
     gate: G,
 ) -> Served<R, W, L>
-    ensures { Serves G.is_open (R.remaining reader) (W.contents writer) result }
+    ensures serves { Serves G.is_open (R.remaining reader) (W.contents writer) result }
+    ensures said { EndSaid K.not_opened K.ended result.end_is }
+    ensures given_up { ClosedSaid K.ended result.answers result.end_is }
 {
     let mut output = match Output::new(alloc, writer, session, gate) {
         Ok(output) => output,
@@ -80,7 +84,8 @@ pub fn serve<Rt: Wait, R: Read, W: Write, G: Gate, L: Ledgers, K: Kernel<Seat<L>
 
 /// A session that has read nothing, since memory ran out.
 fn unserved<R: Read, W: Write, L: Ledgers>(alloc: Global, reader: R, writer: W) -> Served<R, W, L>
-    ensures { (always : Bool) → Serves always (R.remaining reader) (W.contents writer) result }
+    ensures serves { (always : Bool) → Serves always (R.remaining reader) (W.contents writer) result }
+    ensures end { result.end_is ≡ end.NoMemory }
 {
     Served {
         seat: None,

@@ -4,7 +4,8 @@ ghost use Rattle.std.specs.Prelude.{◌≡◌, [], OnOk, OnErr};
 ghost use Rattle.call_types.specs.declared.request.Request.TheVariants as request;
 ghost use Rattle.session_core.specs.declared.stage.Stage.TheVariants as stage;
 ghost use Rattle.session_core.specs.Turns.{TakesUp, PutsFirst, PutsGivenUp, IsOne, WaitsOnce, WaitsOut, GivesUp, TellsWhy, TakesAll};
-ghost use Rattle.system_lock.specs.Kernel.{IsOpening, IsWanting, IsWhyFinished, FinishesBy};
+ghost use Rattle.system_lock.specs.Kernel.{IsOpening, IsWanting, IsWhyFinished, FinishesBy, SaysEnded};
+ghost use Rattle.session_core.specs.Said.{TurnSaid, WaitedSaid};
 ghost use Rattle.session_core.specs.Talk.{goes_on};
 
 use crate::gate::Gate;
@@ -57,7 +58,8 @@ fn take_opening<Rt: Wait, W: Write, G: Gate, L: Ledgers, K: Kernel<Seat<L>, Spen
     request: Request,
 ) -> TurnOf<L>
     requires { IsOpening request }
-    ensures { TakesUp stage.Opening request output.old output.new result }
+    ensures takes { TakesUp stage.Opening request output.old output.new result }
+    ensures said { TurnSaid K.not_opened K.ended result }
 {
     match kernel.open(rt, request) {
         Ok(Opened::Seated(seat)) => match put_first(output, seat.receipts()) {
@@ -119,7 +121,8 @@ fn finish_sent<Rt: Wait, W: Write, G: Gate, L: Ledgers, K: Kernel<Seat<L>, Spent
     seat: Seat<L>,
 ) -> FinishedIn<L>
     requires { output.now.unsent ≡ [] }
-    ensures { FinishesBy seat result }
+    ensures finishes { FinishesBy seat result }
+    ensures ended { SaysEnded K.ended seat result }
 {
     let _output = output;
     kernel.finish(rt, seat)
@@ -132,7 +135,8 @@ fn wait_once<Rt: Wait, W: Write, G: Gate, L: Ledgers, K: Kernel<Seat<L>, SpentSe
     kernel: &K,
     seat: Seat<L>,
 ) -> WaitedOf<L>
-    ensures { WaitsOnce seat output.old output.new result }
+    ensures waits { WaitsOnce seat output.old output.new result }
+    ensures said { WaitedSaid K.not_opened K.ended result }
 {
     match output.flush() {
         Ok(()) => {}
@@ -159,7 +163,8 @@ fn wait_out<Rt: Wait, W: Write, G: Gate, L: Ledgers, K: Kernel<Seat<L>, SpentSea
     kernel: &K,
     seat: Seat<L>,
 ) -> TurnOf<L>
-    ensures { WaitsOut seat output.old output.new result }
+    ensures waits { WaitsOut seat output.old output.new result }
+    ensures said { TurnSaid K.not_opened K.ended result }
 {
     let mut seat = seat;
     for _ in rt.forever() {
@@ -179,7 +184,8 @@ fn take_call<Rt: Wait, W: Write, G: Gate, L: Ledgers, K: Kernel<Seat<L>, SpentSe
     seat: Seat<L>,
     call: Call,
 ) -> TurnOf<L>
-    ensures { TakesUp (stage.Ready seat) (request.Call call) output.old output.new result }
+    ensures takes { TakesUp (stage.Ready seat) (request.Call call) output.old output.new result }
+    ensures said { TurnSaid K.not_opened K.ended result }
 {
     let mut seat = seat;
     let receipt = match kernel.call(rt, &mut seat, call) {
@@ -210,7 +216,8 @@ fn take_up<Rt: Wait, W: Write, G: Gate, L: Ledgers, K: Kernel<Seat<L>, SpentSeat
     stage: StageOf<L>,
     request: Request,
 ) -> TurnOf<L>
-    ensures { TakesUp stage request output.old output.new result }
+    ensures takes { TakesUp stage request output.old output.new result }
+    ensures said { TurnSaid K.not_opened K.ended result }
 {
     match (stage, request) {
         (Stage::Opening, Request::Join) => take_opening(rt, output, kernel, Request::Join),
@@ -233,7 +240,8 @@ fn take_next<Rt: Wait, W: Write, G: Gate, L: Ledgers, K: Kernel<Seat<L>, SpentSe
     stage: StageOf<L>,
     request: Request,
 ) -> TurnOf<L>
-    ensures { TakesUp stage request output.old output.new result }
+    ensures takes { TakesUp stage request output.old output.new result }
+    ensures said { TurnSaid K.not_opened K.ended result }
 {
     match output.flush_much() {
         Ok(()) => take_up(rt, output, kernel, stage, request),
@@ -249,7 +257,8 @@ pub(crate) fn take_all<Rt: Wait, W: Write, G: Gate, L: Ledgers, K: Kernel<Seat<L
     stage: StageOf<L>,
     requests: Vec<Request>,
 ) -> TurnOf<L>
-    ensures { TakesAll stage requests.items output.old output.new result }
+    ensures takes { TakesAll stage requests.items output.old output.new result }
+    ensures said { TurnSaid K.not_opened K.ended result }
 {
     let mut stage = stage;
     for request in requests {

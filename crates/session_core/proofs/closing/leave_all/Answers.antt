@@ -1,7 +1,11 @@
-use Rattle.std.proofs.Common.{ℕ, refl, subst}
+use Rattle.std.proofs.Common.{ℕ, None, refl, sym, subst}
 use Rattle.session_core.specs.declared.end.End.TheVariants as end
 use Rattle.session_core.specs.declared.stage.Over.TheVariants as over
-use Rattle.session_core.specs.Closing.{LeavesWith}
+use Rattle.session_core.specs.declared.stage.LeaveCause.TheVariants as why
+use Rattle.session_core.specs.Stages.{Over}
+use Rattle.session_core.specs.Closing.{ClosesBy, LeavesWith, MayClose}
+use Rattle.session_core.proofs.SaidLemmas.{keeps_left, leaves_said, ended_said, closed_said, foreign_said}
+use Rattle.session_core.proofs.CutLemmas.{hung_up_closes, leaves_closes, seat_closes, unwritten_closes}
 use Rattle.session_core.proofs.ClosingLemmas as laws
 use Rattle.session_core.proofs.closing.leave_all.Goals as goal
 
@@ -19,7 +23,7 @@ returns-in-Unwritten-clause-all g c =
 pub returns-in-OpeningUntold-clause-all : goal.returns-in-OpeningUntold-clause-all
 returns-in-OpeningUntold-clause-all g c =
     laws.left_as c.args.output.now c.args.output.now c.args.over (over.OpeningUntold c.in-OpeningUntold.seat) c.left_by.result _ c.in-OpeningUntold.is c.left_by.ensures
-    (laws.opening_untold c.args.output.now c.in-OpeningUntold.seat c.hang_up.result.0 c.hang_up.result.1 c.hang_up.ensures)
+    (laws.opening_untold c.args.output.now c.in-OpeningUntold.seat c.hang_up.result.0 c.hang_up.result.1 c.hang_up.ensures.hangs_up)
 
 pub returns-in-Untold-clause-all : goal.returns-in-Untold-clause-all
 returns-in-Untold-clause-all g c =
@@ -49,3 +53,58 @@ pub returns-in-RefusalUntold-clause-all : goal.returns-in-RefusalUntold-clause-a
 returns-in-RefusalUntold-clause-all g c =
     laws.left_as c.args.output.now c.args.output.now c.args.over (over.RefusalUntold c.in-RefusalUntold.seat) c.left_by-in-RefusalUntold.result _ c.in-RefusalUntold.is c.left_by-in-RefusalUntold.ensures
     (laws.refusal_untold c.args.output.now c.in-RefusalUntold.seat)
+
+pub returns-in-Leaves-clause-said : goal.returns-in-Leaves-clause-said
+returns-in-Leaves-clause-said g c = λ said. c.leave.ensures.said (leaves_said g.K.Kernel.not_opened g.K.Kernel.ended _ _ c.args.over c.in-Leaves.stage c.in-Leaves.why c.send_last-end.result c.in-Leaves.is c.send_last-end.ensures said)
+
+pub returns-in-Refused-clause-said : goal.returns-in-Refused-clause-said
+returns-in-Refused-clause-said g c = λ said. rw c.left_by-in-Refused.ensures (closed_said g.K.Kernel.not_opened g.K.Kernel.ended _ _ c.send_last-end-in-Refused.result c.send_last-end-in-Refused.ensures)
+
+pub returns-in-Lost-clause-said : goal.returns-in-Lost-clause-said
+returns-in-Lost-clause-said g c = λ said. rw c.left_by-in-Lost.ensures (closed_said g.K.Kernel.not_opened g.K.Kernel.ended _ _ c.send_last-end-in-Lost.result c.send_last-end-in-Lost.ensures)
+
+pub returns-in-Ended-clause-said : goal.returns-in-Ended-clause-said
+returns-in-Ended-clause-said g c = λ said. rw c.left_by-in-Ended.ensures (ended_said g.K.Kernel.not_opened g.K.Kernel.ended _ _ c.args.over c.in-Ended.seat c.in-Ended.why c.send_last-end-in-Ended.result c.in-Ended.is c.send_last-end-in-Ended.ensures said)
+
+pub returns-in-Foreign-clause-said : goal.returns-in-Foreign-clause-said
+returns-in-Foreign-clause-said g c = λ said. rw c.left_by-in-Foreign.ensures (foreign_said g.K.Kernel.not_opened g.K.Kernel.ended c.args.over c.in-Foreign.seat c.in-Foreign.is said)
+
+pub returns-in-Leaves-clause-seat : goal.returns-in-Leaves-clause-seat
+returns-in-Leaves-clause-seat g c = keeps_left c.args.over c.in-Leaves.stage c.in-Leaves.why c.send_last-end.result c.leave.result c.in-Leaves.is c.leave.ensures.seat
+
+pub returns-in-Leaves-clause-closes : goal.returns-in-Leaves-clause-closes
+returns-in-Leaves-clause-closes g c =
+    leaves_closes c.args.over c.args.output.now c.send_last-end.new.output c.in-Leaves.stage c.in-Leaves.why c.send_last-end.result c.leave.result c.in-Leaves.is c.send_last-end.ensures c.leave.ensures.seat c.leave.ensures.last
+
+pub returns-in-Unwritten-clause-closes : goal.returns-in-Unwritten-clause-closes
+returns-in-Unwritten-clause-closes g c =
+    unwritten_closes c.args.over c.args.output.now c.in-Unwritten.stage c.sent.result c.leave-in-Unwritten.result c.leave-in-Unwritten.ensures.seat c.leave-in-Unwritten.ensures.last
+
+pub returns-in-OpeningUntold-clause-closes : goal.returns-in-OpeningUntold-clause-closes
+returns-in-OpeningUntold-clause-closes g c =
+    hung_up_closes c.args.over c.args.output.now c.args.output.now c.in-OpeningUntold.seat c.hang_up.result.0 end.NoMemory c.hang_up.result.1 None c.left_by.result (λ answers. tt) c.hang_up.ensures.hangs_up c.left_by.ensures
+
+pub returns-in-RefusalUntold-clause-closes : goal.returns-in-RefusalUntold-clause-closes
+returns-in-RefusalUntold-clause-closes g c = rw c.left_by-in-RefusalUntold.ensures tt
+
+pub returns-in-Untold-clause-closes : goal.returns-in-Untold-clause-closes
+returns-in-Untold-clause-closes g c =
+    subst (λ (o : Over). ClosesBy o c.args.output.now c.leave_untold.new.output c.leave_untold.result) (sym c.in-Untold.is) c.leave_untold.ensures.closes
+
+pub returns-in-Refused-clause-closes : goal.returns-in-Refused-clause-closes
+returns-in-Refused-clause-closes g c =
+    seat_closes c.args.over c.args.output.now c.send_last-end-in-Refused.new.output why.Closed c.in-Refused.seat c.send_last-end-in-Refused.result c.left_by-in-Refused.result (λ closed. subst MayClose (sym c.in-Refused.is) tt)
+    c.send_last-end-in-Refused.ensures c.left_by-in-Refused.ensures
+
+pub returns-in-Lost-clause-closes : goal.returns-in-Lost-clause-closes
+returns-in-Lost-clause-closes g c =
+    seat_closes c.args.over c.args.output.now c.send_last-end-in-Lost.new.output why.Closed c.in-Lost.seat c.send_last-end-in-Lost.result c.left_by-in-Lost.result (λ closed. subst MayClose (sym c.in-Lost.is) tt)
+    c.send_last-end-in-Lost.ensures c.left_by-in-Lost.ensures
+
+pub returns-in-Ended-clause-closes : goal.returns-in-Ended-clause-closes
+returns-in-Ended-clause-closes g c =
+    seat_closes c.args.over c.args.output.now c.send_last-end-in-Ended.new.output c.in-Ended.why c.in-Ended.seat c.send_last-end-in-Ended.result c.left_by-in-Ended.result (λ closed. subst MayClose (sym c.in-Ended.is) closed)
+    c.send_last-end-in-Ended.ensures c.left_by-in-Ended.ensures
+
+pub returns-in-Foreign-clause-closes : goal.returns-in-Foreign-clause-closes
+returns-in-Foreign-clause-closes g c = rw c.left_by-in-Foreign.ensures tt

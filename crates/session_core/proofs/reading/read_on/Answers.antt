@@ -8,7 +8,7 @@ use Rattle.session_core.proofs.reading.read_on.Goals as goal
 pub returns-in-Bytes-clause-reads : goal.returns-in-Bytes-clause-reads
 returns-in-Bytes-clause-reads g c =
     laws.bytes_read c.args.source.now c.read.new.self c.read.new.buffer c.in-Bytes.count _ c.args.decoder.now c.take_piece.new.decoder c.args.stage c.args.output.now c.take_piece.new.output c.take_piece.result
-    (subst (ReadsOnce c.args.source.now c.read.new.self c.read.new.buffer) c.in-Bytes.is c.read.ensures.reads) c.split_at.ensures.front c.take_piece.ensures
+    (subst (ReadsOnce c.args.source.now c.read.new.self c.read.new.buffer) c.in-Bytes.is c.read.ensures.reads) c.split_at.ensures.front c.take_piece.ensures.takes
 
 pub returns-in-Nothing-clause-reads : goal.returns-in-Nothing-clause-reads
 returns-in-Nothing-clause-reads g c =

@@ -8,21 +8,21 @@ use Rattle.session_core.specs.Talk.{goes_on}
 use Rattle.session_core.proofs.CallLemmas as laws
 use Rattle.session_core.proofs.turns.take_call.Goals as goal
 
-pub returns-in-Ok-put_refused : goal.returns-in-Ok-put_refused
-returns-in-Ok-put_refused g c = laws.refused c.args.seat c.call.new.seat c.args.call c.in-Err.refusal _ _ c.in-Err.ensures c.in-Ok-put_refused.ensures.ok
+pub returns-in-Ok-put_refused-clause-takes : goal.returns-in-Ok-put_refused-clause-takes
+returns-in-Ok-put_refused-clause-takes g c = laws.refused c.args.seat c.call.new.seat c.args.call c.in-Err.refusal _ _ c.in-Err.ensures.calls c.in-Ok-put_refused.ensures.ok
 
-pub returns-in-Ok-put_recorded : goal.returns-in-Ok-put_recorded
-returns-in-Ok-put_recorded g c base handled holds talking =
-    c.wait_out.ensures base handled c.args.call (laws.parked base handled c.args.seat c.call.new.seat c.args.call c.in-Ok.receipt _ _ c.in-Ok.ensures.0 c.in-Ok.ensures.1
+pub returns-in-Ok-put_recorded-clause-takes : goal.returns-in-Ok-put_recorded-clause-takes
+returns-in-Ok-put_recorded-clause-takes g c base handled holds talking =
+    c.wait_out.ensures.waits base handled c.args.call (laws.parked base handled c.args.seat c.call.new.seat c.args.call c.in-Ok.receipt _ _ c.in-Ok.ensures.calls.0 c.in-Ok.ensures.calls.1
     (ap (λ (r : Record). goes_on r.outcome) (sym c.record.ensures) ∙ sym c.goes_on-waits.ensures ∙ c.if-waits.true) c.in-Ok-put_recorded.ensures.ok holds talking)
 
-pub returns-in-Ok-2 : goal.returns-in-Ok-2
-returns-in-Ok-2 g c =
-    laws.replied c.args.seat c.call.new.seat c.args.call c.in-Ok.receipt _ _ c.in-Ok.ensures.0 c.in-Ok.ensures.1
+pub returns-in-Ok-2-clause-takes : goal.returns-in-Ok-2-clause-takes
+returns-in-Ok-2-clause-takes g c =
+    laws.replied c.args.seat c.call.new.seat c.args.call c.in-Ok.receipt _ _ c.in-Ok.ensures.calls.0 c.in-Ok.ensures.calls.1
     (ap (λ (r : Record). goes_on r.outcome) (sym c.record.ensures) ∙ sym c.goes_on-waits.ensures ∙ c.if-waits.false) c.in-Ok-2.ensures.ok
 
-pub returns-in-Err-put_recorded : goal.returns-in-Err-put_recorded
-returns-in-Err-put_recorded g c =
+pub returns-in-Err-put_recorded-clause-takes : goal.returns-in-Err-put_recorded-clause-takes
+returns-in-Err-put_recorded-clause-takes g c =
     laws.untold c.args.seat c.call.new.seat c.args.call c.in-Err-put_recorded.receipt c.args.output.now c.put_recorded.new.self
-    (subst (Adds c.args.seat c.call.new.seat (act.Call c.args.call)) (sym c.in-Err-put_recorded.ensures.back) c.in-Ok.ensures.0)
-    (subst (λ (r : Receipted). EndsOrWaits r.record_is.outcome) (sym c.in-Err-put_recorded.ensures.back) c.in-Ok.ensures.1) c.in-Err-put_recorded.ensures.err
+    (subst (Adds c.args.seat c.call.new.seat (act.Call c.args.call)) (sym c.in-Err-put_recorded.ensures.back) c.in-Ok.ensures.calls.0)
+    (subst (λ (r : Receipted). EndsOrWaits r.record_is.outcome) (sym c.in-Err-put_recorded.ensures.back) c.in-Ok.ensures.calls.1) c.in-Err-put_recorded.ensures.err

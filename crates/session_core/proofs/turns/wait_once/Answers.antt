@@ -5,30 +5,34 @@ use Rattle.posix_model.specs.WaitLaws.{EndsOrGoesOn}
 use Rattle.record_book.specs.Seat.{Receipted}
 use Rattle.system_lock.specs.Kernel.{Adds}
 use Rattle.session_core.specs.Talk.{goes_on}
+use Rattle.session_core.proofs.SaidLemmas.{given_up_said}
 use Rattle.session_core.proofs.WaitLemmas as laws
 use Rattle.session_core.proofs.turns.wait_once.Goals as goal
 
-pub returns-in-Err : goal.returns-in-Err
-returns-in-Err g c base handled call w = laws.unsent base handled call c.args.seat _ _ c.in-Err.ensures.err w
+pub returns-in-Err-clause-waits : goal.returns-in-Err-clause-waits
+returns-in-Err-clause-waits g c base handled call w = laws.unsent base handled call c.args.seat _ _ c.in-Err.ensures.err w
 
-pub returns-in-Ended : goal.returns-in-Ended
-returns-in-Ended g c base handled call w = c.give_up.ensures.gives base handled call c.args.seat (laws.still_waits base handled call c.args.seat _ _ c.in-Ok.ensures.ok w) c.in-Ended.ensures.0
+pub returns-in-Ended-clause-waits : goal.returns-in-Ended-clause-waits
+returns-in-Ended-clause-waits g c base handled call w = c.give_up.ensures.gives base handled call c.args.seat (laws.still_waits base handled call c.args.seat _ _ c.in-Ok.ensures.ok w) c.in-Ended.ensures.finishes.0
 
-pub returns-in-Ok-put_recorded : goal.returns-in-Ok-put_recorded
-returns-in-Ok-put_recorded g c base handled call w =
-    laws.resumed_part base handled call c.args.seat c.in-Resumed.seat c.in-Resumed.receipt _ _ c.in-Resumed.ensures.0 c.in-Resumed.ensures.1
+pub returns-in-Ok-put_recorded-clause-waits : goal.returns-in-Ok-put_recorded-clause-waits
+returns-in-Ok-put_recorded-clause-waits g c base handled call w =
+    laws.resumed_part base handled call c.args.seat c.in-Resumed.seat c.in-Resumed.receipt _ _ c.in-Resumed.ensures.finishes.0 c.in-Resumed.ensures.finishes.1
     (ap (λ (r : Record). goes_on r.outcome) (sym c.record.ensures) ∙ sym c.goes_on-waits.ensures ∙ c.if-waits.true) c.in-Ok-put_recorded.ensures.ok
     (laws.still_waits base handled call c.args.seat _ _ c.in-Ok.ensures.ok w)
 
-pub returns-in-Ok-2 : goal.returns-in-Ok-2
-returns-in-Ok-2 g c base handled call w =
-    laws.resumed_whole base handled call c.args.seat c.in-Resumed.seat c.in-Resumed.receipt _ _ c.in-Resumed.ensures.0 c.in-Resumed.ensures.1
+pub returns-in-Ok-2-clause-waits : goal.returns-in-Ok-2-clause-waits
+returns-in-Ok-2-clause-waits g c base handled call w =
+    laws.resumed_whole base handled call c.args.seat c.in-Resumed.seat c.in-Resumed.receipt _ _ c.in-Resumed.ensures.finishes.0 c.in-Resumed.ensures.finishes.1
     (ap (λ (r : Record). goes_on r.outcome) (sym c.record.ensures) ∙ sym c.goes_on-waits.ensures ∙ c.if-waits.false) c.in-Ok-2.ensures.ok
     (laws.still_waits base handled call c.args.seat _ _ c.in-Ok.ensures.ok w)
 
-pub returns-in-Err-put_recorded : goal.returns-in-Err-put_recorded
-returns-in-Err-put_recorded g c base handled call w =
+pub returns-in-Err-put_recorded-clause-waits : goal.returns-in-Err-put_recorded-clause-waits
+returns-in-Err-put_recorded-clause-waits g c base handled call w =
     laws.resumed_untold base handled call c.args.seat c.in-Resumed.seat c.in-Err-put_recorded.receipt _ _
-    (subst (Adds c.args.seat c.in-Resumed.seat act.Resume) (sym c.in-Err-put_recorded.ensures.back) c.in-Resumed.ensures.0)
-    (subst (λ (r : Receipted). EndsOrGoesOn r.record_is.outcome) (sym c.in-Err-put_recorded.ensures.back) c.in-Resumed.ensures.1) c.in-Err-put_recorded.ensures.err
+    (subst (Adds c.args.seat c.in-Resumed.seat act.Resume) (sym c.in-Err-put_recorded.ensures.back) c.in-Resumed.ensures.finishes.0)
+    (subst (λ (r : Receipted). EndsOrGoesOn r.record_is.outcome) (sym c.in-Err-put_recorded.ensures.back) c.in-Resumed.ensures.finishes.1) c.in-Err-put_recorded.ensures.err
     (laws.still_waits base handled call c.args.seat _ _ c.in-Ok.ensures.ok w)
+
+pub returns-in-Ended-clause-said : goal.returns-in-Ended-clause-said
+returns-in-Ended-clause-said g c = given_up_said g.K.Kernel.not_opened g.K.Kernel.ended c.args.seat c.in-Ended.ended.why c.flush.new.self c.give_up.new.output c.give_up.result c.give_up.ensures.tells c.in-Ended.ensures.ended

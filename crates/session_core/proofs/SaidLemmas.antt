@@ -1,0 +1,90 @@
+-- What a session ends for is what its kernel said.
+use Rattle.std.proofs.Common.{◌≡◌, Option, None, Some, inl, inr, refl, sym, subst}
+use Rattle.call_types.specs.declared.refusal.Refusal.{Refusal}
+use Rattle.call_types.specs.declared.refusal.Refusal.TheVariants as refusal
+use Rattle.call_types.specs.declared.request.Request.{Request}
+use Rattle.record_book.specs.Seat.{SeatState}
+use Rattle.system_lock.specs.declared.kernel.Why.{Why}
+use Rattle.system_lock.specs.declared.kernel.Why.TheVariants as ended_why
+use Rattle.session_core.specs.declared.end.End.{End}
+use Rattle.session_core.specs.declared.end.End.TheVariants as end
+use Rattle.session_core.specs.Closing.{HangsUpSeat, KeepsSeat, LeavesWith, SendsLast, end_of}
+use Rattle.session_core.specs.declared.stage.Stage.TheVariants as stage
+use Rattle.session_core.specs.Stages.{LeftSession, Over, Stage}
+use Rattle.session_core.specs.declared.stage.Over.TheVariants as over
+use Rattle.session_core.specs.declared.stage.LeaveCause.{LeaveCause}
+use Rattle.session_core.specs.declared.stage.LeaveCause.TheVariants as why
+use Rattle.session_core.specs.Output.{OutputState}
+use Rattle.session_core.specs.Turns.{PutsGivenUp, TellsWhy, WhyRefused}
+use Rattle.session_core.specs.Said.{CauseSaid, CauseEndedSaid, OverSaid, EndSaid, SaidEnded, SaidUnopened}
+
+-- a refusal that brings this end
+why_refused : (unopened : Request → Refusal → Type 0) (request : Request) (told : Refusal) (found : LeaveCause) → WhyRefused told found → unopened request told → CauseSaid unopened found
+why_refused unopened request refusal.NoMemory found is said = rw is tt
+why_refused unopened request refusal.RunFull found is said = rw is (request, said)
+why_refused unopened request (refusal.Foreign seen len) found is said = absurd is
+why_refused unopened request refusal.NotHere found is said = absurd is
+why_refused unopened request refusal.Waiting found is said = absurd is
+
+pub unopened_said : (unopened : Request → Refusal → Type 0) (request : Request) (told : Refusal) (old new : OutputState) (found : LeaveCause) → PutsGivenUp old new told found → unopened request told → CauseSaid unopened found
+unopened_said unopened request told old new found (inl put) said = why_refused unopened request told found put.0 said
+unopened_said unopened request told old new found (inr none) said = rw none.0 tt
+
+-- the end that is told of a process that ended in the call that it waited in
+full_said : (ended : SeatState → Why → Type 0) (seat : SeatState) (old new : OutputState) (found : LeaveCause) → PutsGivenUp old new refusal.RunFull found → ended seat ended_why.RunFull → CauseEndedSaid ended found
+full_said ended seat old new found (inl put) said = rw put.0 (seat, said)
+full_said ended seat old new found (inr none) said = rw none.0 (inr (seat, said))
+
+wanting_said : (ended : SeatState → Why → Type 0) (seat : SeatState) (old new : OutputState) (found : LeaveCause) → PutsGivenUp old new refusal.NoMemory found → ended seat ended_why.NoMemory → CauseEndedSaid ended found
+wanting_said ended seat old new found (inl put) said = rw put.0 (inl (seat, said))
+wanting_said ended seat old new found (inr none) said = rw none.0 (inl (seat, said))
+
+pub given_up_said : (unopened : Request → Refusal → Type 0) (ended : SeatState → Why → Type 0) (seat : SeatState) (reason : Why) (old new : OutputState) (found : Over) → TellsWhy reason old new found → ended seat reason → OverSaid unopened ended found
+given_up_said unopened ended seat ended_why.NoMemory old new (over.Ended spent why) tells said = wanting_said ended seat old new why tells said
+given_up_said unopened ended seat ended_why.RunFull old new (over.Ended spent why) tells said = full_said ended seat old new why tells said
+given_up_said unopened ended seat ended_why.Lost old new (over.Lost spent) tells said = (seat, said)
+given_up_said unopened ended seat ended_why.Foreign old new (over.Foreign spent) tells said = (seat, said)
+given_up_said unopened ended seat reason old new found tells said = absurd tells
+
+-- the end that is told once the last answers are written
+why_end : (unopened : Request → Refusal → Type 0) (ended : SeatState → Why → Type 0) (why : LeaveCause) → CauseSaid unopened why → EndSaid unopened ended (end_of why)
+why_end unopened ended why.Closed said = tt
+why_end unopened ended why.ReadFault said = tt
+why_end unopened ended why.Malformed said = tt
+why_end unopened ended why.RunFull said = inl said
+why_end unopened ended why.NoMemory said = tt
+
+ended_end : (unopened : Request → Refusal → Type 0) (ended : SeatState → Why → Type 0) (why : LeaveCause) → CauseEndedSaid ended why → EndSaid unopened ended (end_of why)
+ended_end unopened ended why.Closed said = tt
+ended_end unopened ended why.ReadFault said = tt
+ended_end unopened ended why.Malformed said = tt
+ended_end unopened ended why.RunFull said = inr said
+ended_end unopened ended why.NoMemory said = tt
+
+sent_end : (unopened : Request → Refusal → Type 0) (ended : SeatState → Why → Type 0) (old new : OutputState) (why : LeaveCause) (found : End) → SendsLast old new why found → EndSaid unopened ended (end_of why) → EndSaid unopened ended found
+sent_end unopened ended old new why found (inl sent) said = rw sent.1 said
+sent_end unopened ended old new why found (inr failed) said = rw failed.1 tt
+
+pub leaves_said : (unopened : Request → Refusal → Type 0) (ended : SeatState → Why → Type 0) (old new : OutputState) (is : Over) (stage : Stage) (why : LeaveCause) (found : End) → is ≡ over.Leaves stage why → SendsLast old new why found → OverSaid unopened ended is → EndSaid unopened ended found
+leaves_said unopened ended old new is stage why found same sends said = sent_end unopened ended old new why found sends (why_end unopened ended why (subst (OverSaid unopened ended) same said))
+
+pub ended_said : (unopened : Request → Refusal → Type 0) (ended : SeatState → Why → Type 0) (old new : OutputState) (is : Over) (seat : SeatState) (why : LeaveCause) (found : End) → is ≡ over.Ended seat why → SendsLast old new why found → OverSaid unopened ended is → EndSaid unopened ended found
+ended_said unopened ended old new is seat why found same sends said = sent_end unopened ended old new why found sends (ended_end unopened ended why (subst (OverSaid unopened ended) same said))
+
+pub closed_said : (unopened : Request → Refusal → Type 0) (ended : SeatState → Why → Type 0) (old new : OutputState) (found : End) → SendsLast old new why.Closed found → EndSaid unopened ended found
+closed_said unopened ended old new found sends = sent_end unopened ended old new why.Closed found sends tt
+
+pub foreign_said : (unopened : Request → Refusal → Type 0) (ended : SeatState → Why → Type 0) (is : Over) (seat : SeatState) → is ≡ over.Foreign seat → OverSaid unopened ended is → EndSaid unopened ended end.Foreign
+foreign_said unopened ended is seat same said = subst (OverSaid unopened ended) same said
+
+-- a session that leaves off keeps its seat
+hung : (seat : SeatState) (wanted : End) (told : Option SeatState) (left : LeftSession) → left.seat ≡ told → LeavesWith (stage.Ready seat) wanted told left.end → HangsUpSeat seat left
+hung seat wanted None left is h = absurd h
+hung seat wanted (Some spent) left is h = (wanted, spent, is, h)
+
+keeps_at : (at : Stage) (why : LeaveCause) (wanted : End) (left : LeftSession) → LeavesWith at wanted left.seat left.end → KeepsSeat (over.Leaves at why) left
+keeps_at stage.Opening why wanted left h = h.0
+keeps_at (stage.Ready seat) why wanted left h = hung seat wanted left.seat left refl h
+
+pub keeps_left : (is : Over) (at : Stage) (why : LeaveCause) (wanted : End) (left : LeftSession) → is ≡ over.Leaves at why → LeavesWith at wanted left.seat left.end → KeepsSeat is left
+keeps_left is at why wanted left same h = subst (λ (o : Over). KeepsSeat o left) (sym same) (keeps_at at why wanted left h)

@@ -1,0 +1,78 @@
+-- What a session ends for is what its kernel said (own).
+use Rattle.std.specs.Prelude.{◌≡◌, ◌⊎◌, List, None}
+use Rattle.call_types.specs.declared.refusal.Refusal.{Refusal}
+use Rattle.call_types.specs.declared.refusal.Refusal.TheVariants as refusal
+use Rattle.call_types.specs.declared.request.Request.{Request}
+use Rattle.record_book.specs.Seat.{SeatState}
+use Rattle.system_lock.specs.declared.kernel.Why.{Why}
+use Rattle.system_lock.specs.declared.kernel.Why.TheVariants as ended_why
+use Rattle.session_core.specs.declared.end.End.{End}
+use Rattle.session_core.specs.declared.end.End.TheVariants as end
+use Rattle.session_core.specs.declared.told.Told.{Told}
+use Rattle.session_core.specs.Talk.{IsCut}
+use Rattle.session_core.specs.Stages.{Stage, Over, Turn, Waited}
+use Rattle.session_core.specs.declared.stage.LeaveCause.{LeaveCause}
+use Rattle.session_core.specs.declared.stage.LeaveCause.TheVariants as why
+use Rattle.session_core.specs.declared.stage.Over.TheVariants as over
+use Rattle.session_core.specs.declared.stage.Turn.TheVariants as turn
+use Rattle.session_core.specs.declared.stage.Waited.TheVariants as waited
+
+-- a kernel said that an opening is refused, since the run is full
+abbrev pub SaidUnopened : (Request → Refusal → Type 0) → Type 0
+SaidUnopened unopened = (request : Request) × unopened request refusal.RunFull
+
+-- a kernel said that a process ended so
+abbrev pub SaidEnded : (SeatState → Why → Type 0) → Why → Type 0
+SaidEnded ended reason = (seat : SeatState) × ended seat reason
+
+-- a session leaves off: for want of room in the run only if a kernel refused an opening for that
+abbrev pub CauseSaid : (Request → Refusal → Type 0) → LeaveCause → Type 0
+CauseSaid unopened why.Closed = Unit {0}
+CauseSaid unopened why.ReadFault = Unit {0}
+CauseSaid unopened why.Malformed = Unit {0}
+CauseSaid unopened why.RunFull = SaidUnopened unopened
+CauseSaid unopened why.NoMemory = Unit {0}
+
+-- a process ended in the call that it waited in: a kernel said so. Memory may run out for the answer that the run is full
+abbrev pub CauseEndedSaid : (SeatState → Why → Type 0) → LeaveCause → Type 0
+CauseEndedSaid ended why.Closed = ⊥
+CauseEndedSaid ended why.ReadFault = ⊥
+CauseEndedSaid ended why.Malformed = ⊥
+CauseEndedSaid ended why.RunFull = SaidEnded ended ended_why.RunFull
+CauseEndedSaid ended why.NoMemory = SaidEnded ended ended_why.NoMemory ⊎ SaidEnded ended ended_why.RunFull
+
+-- where a session is over for a reason that only a kernel can give, the kernel gave it
+abbrev pub OverSaid : (Request → Refusal → Type 0) → (SeatState → Why → Type 0) → Over → Type 0
+OverSaid unopened ended (over.Leaves stage why) = CauseSaid unopened why
+OverSaid unopened ended (over.Unwritten stage) = Unit {0}
+OverSaid unopened ended (over.OpeningUntold seat) = Unit {0}
+OverSaid unopened ended (over.RefusalUntold seat) = Unit {0}
+OverSaid unopened ended (over.Untold seat receipt) = Unit {0}
+OverSaid unopened ended (over.Refused seat) = Unit {0}
+OverSaid unopened ended (over.Lost seat) = SaidEnded ended ended_why.Lost
+OverSaid unopened ended (over.Ended seat why) = CauseEndedSaid ended why
+OverSaid unopened ended (over.Foreign seat) = SaidEnded ended ended_why.Foreign
+
+-- the same of a turn that is the last
+abbrev pub TurnSaid : (Request → Refusal → Type 0) → (SeatState → Why → Type 0) → Turn → Type 0
+TurnSaid unopened ended (turn.GoesOn stage) = Unit {0}
+TurnSaid unopened ended (turn.Over over) = OverSaid unopened ended over
+
+-- the same of a turn of a call that waits
+abbrev pub WaitedSaid : (Request → Refusal → Type 0) → (SeatState → Why → Type 0) → Waited → Type 0
+WaitedSaid unopened ended (waited.Still seat) = Unit {0}
+WaitedSaid unopened ended (waited.Done turn) = TurnSaid unopened ended turn
+
+-- a session ends with Foreign or RunFull only where its kernel said so
+abbrev pub EndSaid : (Request → Refusal → Type 0) → (SeatState → Why → Type 0) → End → Type 0
+EndSaid unopened ended end.Closed = Unit {0}
+EndSaid unopened ended end.ReadFault = Unit {0}
+EndSaid unopened ended (end.WriteFault sent) = Unit {0}
+EndSaid unopened ended end.Malformed = Unit {0}
+EndSaid unopened ended end.RunFull = SaidUnopened unopened ⊎ SaidEnded ended ended_why.RunFull
+EndSaid unopened ended end.NoMemory = Unit {0}
+EndSaid unopened ended end.Foreign = SaidEnded ended ended_why.Foreign
+
+-- a session is closed in a call that waits only where its kernel gave that call up
+abbrev pub ClosedSaid : (SeatState → Why → Type 0) → List Told → End → Type 0
+ClosedSaid ended answers is = is ≡ end.Closed → (requests : List Request) → IsCut requests answers None → SaidEnded ended ended_why.Lost
