@@ -189,6 +189,25 @@ script_line (scripts.Resume process) = process_word process ++ codes " " ++ scri
 script_line (scripts.Exit process) = process_word process ++ codes " " ++ script_act_text (scripts.Exit process)
 script_line scripts.CloseRun = script_act_text scripts.CloseRun
 
+-- what a script asks for, where a run has this act of this actor
+abbrev pub script_act : ℕ → Act → ScriptAct
+script_act actor acts.Join = scripts.Join
+script_act actor acts.Attach = scripts.Attach actor
+script_act actor (acts.Call call) = scripts.Call actor call
+script_act actor acts.Resume = scripts.Resume actor
+script_act actor acts.Exit = scripts.Exit actor
+script_act actor acts.CloseRun = scripts.CloseRun
+
+-- of whom a script asks an act: a join and the closing are asked of nobody
+abbrev pub asked_of : ℕ → Act → List ℕ
+asked_of actor acts.Join = []
+asked_of actor acts.CloseRun = []
+asked_of actor other = process_word actor ++ codes " "
+
+-- the line of a script that asks for an act
+abbrev pub act_line : ℕ → Act → List ℕ
+act_line actor act = script_line (script_act actor act) ++ codes "\n"
+
 -- the name of a refusal that is not recorded
 abbrev pub refusal_word : Refusal → List ℕ
 refusal_word refusals.NoMemory = codes "NoMemory"

@@ -1,8 +1,8 @@
 //! The lines of a run, written. Room for a whole line is made first; then nothing can fail.
 
-ghost use Rattle.std.specs.Prelude.{◌≡◌, ◌≤◌, ◌+◌, ◌++◌, length, ◌<◌, ◌^◌};
+ghost use Rattle.std.specs.Prelude.{◌≡◌, ◌≤◌, ◌+◌, ◌-◌, ◌++◌, length, ◌<◌, ◌^◌};
 ghost use Rattle.call_types.specs.Writing.{Appends};
-ghost use Rattle.script_text.specs.Lines.{actor_word, act_text, record_line, script_act_text, script_actor_word, refused_line, still_line, refusal_word, totals_line};
+ghost use Rattle.script_text.specs.Lines.{actor_word, act_line, act_text, asked_of, outcome_text, record_line, script_act_text, script_actor_word, refused_line, still_line, refusal_word, totals_line};
 ghost use Rattle.script_text.specs.Room.{HasRoom, UsesRoom, act_room, script_act_room, outcome_room};
 
 use crate::calls::{CALL_ROOM, put_call, room_of_call};
@@ -82,6 +82,51 @@ pub fn write_record(out: &mut Vec<u8>, place: u64, record: &Record) -> Result<()
 {
     out.reserve(LINE_ROOM + room_of_act(&record.act) + room_of_outcome(&record.outcome))?;
     put_record(out, place, record);
+    Ok(())
+}
+
+/// Appends an outcome, as the line of a record has it.
+pub fn write_outcome(out: &mut Vec<u8>, outcome: &Outcome) -> Result<(), AllocError>
+    // The outcome stands after the old bytes; where memory runs out these are still the front.
+    ensures { Appends result out.old.items out.new.items (outcome_text outcome.now) }
+{
+    out.reserve(room_of_outcome(outcome))?;
+    put_outcome(out, outcome);
+    Ok(())
+}
+
+/// Appends of whom a script asks an act: the process and a space, or nothing for a join and for the closing.
+fn put_asked(out: &mut Vec<u8>, actor: u32, act: &Act)
+    requires { HasRoom out.old LINE_ROOM }
+    ensures text { out.new.items ≡ out.old.items ++ asked_of actor act.now }
+    ensures room { UsesRoom out.old out.new (LINE_ROOM - 1) }
+{
+    match act {
+        Act::Join | Act::CloseRun => {}
+        Act::Attach | Act::Call(_) | Act::Resume | Act::Exit => {
+            put_process(out, actor);
+            out.push_reserved(b' ');
+        }
+    }
+}
+
+/// Appends the line of a script that asks for an act, with its LF, for which there is room.
+fn put_act_line(out: &mut Vec<u8>, actor: u32, act: &Act)
+    requires { HasRoom out.old (LINE_ROOM + act_room act.now) }
+    ensures { out.new.items ≡ out.old.items ++ act_line actor act.now }
+{
+    put_asked(out, actor, act);
+    put_act(out, act);
+    out.push_reserved(b'\n');
+}
+
+/// Appends the line of a script that asks for what a record tells, with its LF.
+pub fn write_act(out: &mut Vec<u8>, record: &Record) -> Result<(), AllocError>
+    // The line stands after the old bytes; where memory runs out these are still the front.
+    ensures { Appends result out.old.items out.new.items (act_line «record».now.actor «record».now.act) }
+{
+    out.reserve(LINE_ROOM + room_of_act(&record.act))?;
+    put_act_line(out, record.actor, &record.act);
     Ok(())
 }
 
