@@ -6,8 +6,8 @@ usage: tests/allocations.py [--program PATH] [--trial PATH] [--stride N]
 The library that refuses is built by the kit's clang and comes before the C library (LD_PRELOAD).
 
 The program is crates/fdref/out/fdref where no PATH is given. It is run on each row of tests/rows, on
-a script with long data, and on a few command lines. Each of these is run, for each N from 1 to the
-number of allocations that it asks for when nothing is refused,
+a script with long data, on a few command lines, and as `audit` and `show` on traces. Each of these is
+run, for each N from 1 to the number of allocations that it asks for when nothing is refused,
 
   - with allocation N refused alone,
   - where that run asked for more after N: with N and all later ones refused. Many of these runs end
@@ -53,14 +53,18 @@ import sys
 import tempfile
 import time
 from collections.abc import Callable, Iterable, Sequence
+from pathlib import Path
 from typing import NamedTuple
 
 from support import plain_model
+from support.auditing import audited
+from support.auditing import shown as shown_trace
 from support.counting import Count, Failure
-from support.places import FDREF, MEMORY_TRIAL
+from support.frames import trace_of
+from support.places import FDREF, MEMORY_TRIAL, SCRATCH
 from support.refusing import GIVEN_AGAIN, NEVER, NO_MEMORY, Refuser, build
 from support.rows import Row as Files
-from support.rows import rows
+from support.rows import audits, rows
 from support.running import Ran
 from support.texts import difference, shown
 
@@ -297,6 +301,31 @@ def scripts() -> list[Script]:
 
 Makers = Iterable[tuple[str, Callable[[], Row]]]
 
+# The rows of which the records are audited and shown too: with files, pipes, FIFOs, many processes, calls that wait.
+TRACED = ["two-processes", "parts-of-a-large-write", "fifo-rendezvous", "what-an-exit-frees", "closing-of-a-run"]
+
+
+def traces() -> list[tuple[str, bytes]]:
+    """The traces that are audited and shown, by their names."""
+    found = [(row.name, row.trace()) for row in audits()]
+    for row in rows():
+        if row.name in TRACED:
+            lines = row.wanted().stdout.decode().splitlines()
+            found.append((f"the records of {row.name}", trace_of(line for line in lines if line[0].isdigit())))
+    return found
+
+
+def trace_rows(refuser: Refuser, program: str) -> Makers:
+    """The rows of the program that read a trace."""
+    with tempfile.TemporaryDirectory(prefix="fdref-", dir=SCRATCH) as folder:
+        for name, trace in traces():
+            path = os.path.join(folder, name)
+            Path(path).write_bytes(trace)
+            wanted = {"audit": audited(trace), "show": shown_trace(trace), "show --acts": shown_trace(trace, acts=True)}
+            for line, ran in wanted.items():
+                words = [program, *line.split(), path]
+                yield f"{line} of {name}", functools.partial(ProgramRow, refuser, words, b"", ran)
+
 
 def program_rows(refuser: Refuser, program: str) -> Makers:
     """All rows of the program, each with its name and what makes it."""
@@ -306,6 +335,7 @@ def program_rows(refuser: Refuser, program: str) -> Makers:
     for line in ["--help", "replay --version", "play", "replay x", "replay --records 0"]:
         words = [program, *line.split()]
         yield f"fdref {line}", functools.partial(ProgramRow, refuser, words, b"")
+    yield from trace_rows(refuser, program)
 
 
 def trial_rows(refuser: Refuser, trial: str) -> Makers:
