@@ -9,3 +9,4 @@ pub mod ClosingLemmas
 pub mod ServeLemmas
 pub mod SaidLemmas
 pub mod CutLemmas
+pub mod LawLemmas

@@ -9,3 +9,4 @@ pub mod Reading
 pub mod Closing
 pub mod Memory
 pub mod Said
+pub mod Laws

@@ -5,6 +5,7 @@ mod asking;
 mod closing;
 pub mod end;
 pub mod gate;
+pub mod laws;
 pub mod memory;
 mod output;
 mod pieces;
