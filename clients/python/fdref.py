@@ -393,7 +393,8 @@ def _name(name: str | bytes) -> bytes:
 
 
 def _data(data: bytes | bytearray | memoryview, most: int = DATA_MOST) -> bytes:
-    data = bytes(data)
+    # not bytes(data), which makes zeros of a number
+    data = bytes(memoryview(data))
     if len(data) > most:
         raise ValueError(f"{len(data)} bytes, and at most {most} have a place here")
     return _number(len(data), 4) + data
