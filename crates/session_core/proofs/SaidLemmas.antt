@@ -16,7 +16,7 @@ use Rattle.session_core.specs.declared.stage.LeaveCause.{LeaveCause}
 use Rattle.session_core.specs.declared.stage.LeaveCause.TheVariants as why
 use Rattle.session_core.specs.Output.{OutputState}
 use Rattle.session_core.specs.Turns.{PutsGivenUp, TellsWhy, WhyRefused}
-use Rattle.session_core.specs.Said.{CauseSaid, CauseEndedSaid, OverSaid, EndSaid, SaidEnded, SaidUnopened}
+use Rattle.session_core.specs.Said.{CauseSaid, CauseEndedSaid, OverSaid, EndSaid}
 
 -- a refusal that brings this end
 why_refused : (unopened : Request → Refusal → Type 0) (request : Request) (told : Refusal) (found : LeaveCause) → WhyRefused told found → unopened request told → CauseSaid unopened found

@@ -10,7 +10,7 @@ use Rattle.session_core.specs.declared.end.End.{End}
 use Rattle.session_core.specs.declared.end.End.TheVariants as end
 use Rattle.session_core.specs.declared.told.Told.{Told}
 use Rattle.session_core.specs.Talk.{IsCut}
-use Rattle.session_core.specs.Stages.{Stage, Over, Turn, Waited}
+use Rattle.session_core.specs.Stages.{Over, Turn, Waited}
 use Rattle.session_core.specs.declared.stage.LeaveCause.{LeaveCause}
 use Rattle.session_core.specs.declared.stage.LeaveCause.TheVariants as why
 use Rattle.session_core.specs.declared.stage.Over.TheVariants as over
