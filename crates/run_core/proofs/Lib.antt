@@ -1,1 +1,2 @@
 pub mod ReceiptLemmas
+pub mod JoinLemmas

@@ -1,14 +1,17 @@
 -- Which receipts of seats are good, one seat after another.
-use Rattle.std.proofs.Common.{◌≡◌, ℕ, ◌+◌, ◌<◌, ◌≤◌, ◌⊎◌, List, [], ◌∷◌, ◌++◌, map, Option, None, Some, length, refl, sym, ap, subst, ◌∙◌, arith, IfSome, inl, inr}
-use Rattle.std.specs.List.{slice_index}
+use Rattle.std.proofs.Common.{◌≡◌, true, false, ℕ, suc, ◌+◌, ◌<◌, ◌≤◌, ◌⊎◌, List, [], ◌∷◌, ◌++◌, map, Option, None, Some, length, refl, sym, ap, subst, ◌∙◌, arith, IfSome, inl, inr}
+use Rattle.std.specs.List.{slice_get, slice_index}
 use Rattle.std.proofs.lemmas.List.{append-nil, get_or_past}
 use Rattle.std.proofs.lemmas.Bool.{cases_lt}
+use Rattle.std.proofs.lemmas.Option.{slice_get_past}
 use Rattle.std.proofs.lemmas.Bool.Decides.{nat_tests}
-use Rattle.run_core.specs.Receipts.{Held, GoodAt, GoodFrom, IsBefore, IsSound, names, named, wanted}
-use Rattle.run_core.specs.Run.{held_in}
+use Rattle.run_core.specs.Receipts.{Held, Agrees, GoodAt, GoodFrom, IsBefore, names, named, wanted}
+use Rattle.run_core.specs.Run.{held_in, AreAll, IsClosing, IsLeast}
 use Rattle.call_types.specs.declared.act.Record.{Record}
-use Rattle.call_types.specs.declared.act.TheConstants.{HOUSE}
 use Rattle.record_book.specs.Seat.{Receipted, SeatState}
+use Rattle.record_book.specs.Book.{BookState, world_now}
+use Rattle.record_book.specs.Ends.{Ends, told_more}
+use Rattle.record_book.specs.Exits.{closing_records, receipts_from}
 
 -- of no seats nothing is asked
 pub none_left : (h : List Record) (p : ℕ) (left : List Held) → length left ≡ 0 → GoodAt h p left
@@ -127,28 +130,62 @@ named_as_wanted marks len p has is few there marked = elim (cases_lt p (length m
 
 -- ---- what a run is closed with
 
--- where the least place that is not sound is told, it is not, and all below it are
-pub told_place : (h : List Record) (held all : List Held) (least : Option ℕ) (place : ℕ) → held ≡ all → least ≡ Some place
-    → ((p : ℕ) → IsBefore p least → IsSound h held p) → IfSome least (λ q. IsSound h held q → ⊥)
-    → (IsSound h all place → ⊥) × ((p : ℕ) → p < place → IsSound h all p)
-told_place h held all least place same is sound broken =
-    let below = subst (λ (o : Option ℕ). (p : ℕ) → IsBefore p o → IsSound h held p) is sound in
-    let not_sound = subst (λ (o : Option ℕ). IfSome o (λ q. IsSound h held q → ⊥)) is broken in
-    subst (λ (hs : List Held). (IsSound h hs place → ⊥) × ((p : ℕ) → p < place → IsSound h hs p)) same (not_sound, below)
+-- where the least place that does not agree is told, it does not, and all below it do
+pub told_place : (h : List Record) (held all : List Held) (received : List Record) (least : Option ℕ) (place : ℕ) → held ≡ all → least ≡ Some place
+    → ((p : ℕ) → IsBefore p least → Agrees h held received p) → IfSome least (λ q. Agrees h held received q → ⊥)
+    → IsLeast h all received place
+told_place h held all received least place same is agree broken =
+    let below = subst (λ (o : Option ℕ). (p : ℕ) → IsBefore p o → Agrees h held received p) is agree in
+    let not_agreed = subst (λ (o : Option ℕ). IfSome o (λ q. Agrees h held received q → ⊥)) is broken in
+    subst (λ (hs : List Held). IsLeast h hs received place) same (not_agreed, below)
 
--- where none is told, all places are sound
-pub all_sound : (h : List Record) (held all : List Held) (least : Option ℕ) → held ≡ all → least ≡ None
-    → ((p : ℕ) → IsBefore p least → IsSound h held p)
-    → (p : ℕ) → IsSound h all p
-all_sound h held all least same is sound p =
-    let at : IsBefore p None → IsSound h held p = subst (λ (o : Option ℕ). IsBefore p o → IsSound h held p) is (sound p) in
-    subst (λ (hs : List Held). IsSound h hs p) same (at tt)
+-- where none is told, all places agree
+pub all_agree : (h : List Record) (held all : List Held) (received : List Record) (least : Option ℕ) → held ≡ all → least ≡ None
+    → ((p : ℕ) → IsBefore p least → Agrees h held received p)
+    → AreAll h all received
+all_agree h held all received least same is agree p =
+    let at : IsBefore p None → Agrees h held received p = subst (λ (o : Option ℕ). IsBefore p o → Agrees h held received p) is (agree p) in
+    subst (λ (hs : List Held). Agrees h hs received p) same (at tt)
+
+-- lists that have the same at each place are one
+same_everywhere : {X : Type 0} (xs ys : List X) → ((k : ℕ) → slice_get xs k ≡ slice_get ys k) → xs ≡ ys
+same_everywhere [] [] h = refl
+same_everywhere [] (y ∷ ys) h = absurd (let e : None ≡ Some y = h 0 in cc)
+same_everywhere (x ∷ xs) [] h = absurd (let e : Some x ≡ None = h 0 in cc)
+same_everywhere (x ∷ xs) (y ∷ ys) h =
+    let first : Some x ≡ Some y = h 0 in
+    let e : x ≡ y = cc in
+    let rest : xs ≡ ys = same_everywhere xs ys (λ k. h (suc k)) in
+    cc
+
+-- where all places agree, what was received is the records
+pub received_all : (h : List Record) (held : List Held) (received : List Record) → AreAll h held received → received ≡ h
+received_all h held received all = same_everywhere received h (λ k. (all k).received_is)
+
+-- what was received past the end of the records, of which there are none, does not differ
+pub received_past : (h received : List Record) (records most p : ℕ) → records ≡ length h → records ≤ most → length received ≤ most → most ≤ p → slice_get received p ≡ slice_get h p
+received_past h received records most p is few short past = slice_get_past received p (omega (arith, short, past)) ∙ sym (slice_get_past h p (omega (arith, is, few, past)))
 
 -- seats beside which there is nobody
 pub seats_alone : (seats others all : List SeatState) → seats ≡ all → others ≡ [] → map held_in seats ++ map held_in others ≡ map held_in all
 seats_alone seats others all is none = ap (λ (hs : List SeatState). map held_in seats ++ map held_in hs) none ∙ (append-nil (map held_in seats) ∙ ap (map held_in) is)
 
 -- holders beside whom there is the house
-pub with_house : (held : List Held) (houses : List SeatState) (house : SeatState) → houses ≡ house ∷ [] → house.pid ≡ HOUSE → held ++ map held_in houses ≡ held ++ record { pid = HOUSE; receipts = house.receipts } ∷ []
-with_house held houses house is pid =
-    ap (λ (hs : List SeatState). held ++ map held_in hs) is ∙ ap (λ (n : ℕ). held ++ record { pid = n; receipts = house.receipts } ∷ []) pid
+pub with_house : (held : List Held) (houses : List SeatState) (house : SeatState) → houses ≡ house ∷ [] → held ++ map held_in houses ≡ held ++ held_in house ∷ []
+with_house held houses house is = ap (λ (hs : List SeatState). held ++ map held_in hs) is
+
+-- a house that held no receipt holds those of the closing
+closing_receipts : (house : Option (List Receipted)) (place : ℕ) (rs : List Record) (receipts : List Receipted) → house ≡ Some [] → Some receipts ≡ told_more place rs house → receipts ≡ receipts_from place rs
+closing_receipts house place rs receipts none is =
+    let told : Some receipts ≡ told_more place rs (Some []) = subst (λ (o : Option (List Receipted)). Some receipts ≡ told_more place rs o) none is in cc
+
+pub closing_is : (before book : BookState) (house : SeatState) → before.house ≡ Some [] → (world_now before).closed ≡ false → (world_now book).closed ≡ true → Ends before book (closing_records (world_now before)) house → IsClosing before book house
+closing_is before book house none still_open shut h = record {
+  limits_are = h.limits;
+  was_open = still_open;
+  history_is = h.history;
+  pid_is = h.pid;
+  receipts_are = closing_receipts before.house (length before.history) (closing_records (world_now before)) house.receipts none h.receipts;
+  counts_are = h.counts;
+  is_closed = shut;
+}

@@ -61,6 +61,15 @@ pub record IsSound (h : List Record) (seats : List Held) (p : ℕ) : Type 0 wher
   pub good : GoodAt h p seats
   pub covered : named p seats ≡ wanted (length h) p
 
+-- the trace thread received the record of a place, or there is none and it received none
+abbrev pub IsReceivedAt : List Record → List Record → ℕ → Type 0
+IsReceivedAt h received p = slice_get received p ≡ slice_get h p
+
+-- a place agrees where it is sound and its record was received
+pub record Agrees (h : List Record) (seats : List Held) (received : List Record) (p : ℕ) : Type 0 where
+  pub sound : IsSound h seats p
+  pub received_is : IsReceivedAt h received p
+
 -- a place is below another, if there is one
 abbrev pub IsBefore : ℕ → Option ℕ → Type 0
 IsBefore p None = Unit {0}

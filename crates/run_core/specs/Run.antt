@@ -1,15 +1,18 @@
 -- What a run of sessions comes to (own).
-use Rattle.std.specs.Prelude.{◌≡◌, ℕ, ◌+◌, ◌<◌, Bool, true, map, List, [], ◌∷◌, ◌++◌, Option, Some, length, sum}
+use Rattle.std.specs.Prelude.{◌≡◌, ℕ, ◌+◌, ◌<◌, ◌⊎◌, Bool, true, false, map, List, [], ◌∷◌, ◌++◌, Option, None, Some, length, sum, filter_map}
+use Rattle.std.specs.List.{AllZip}
 use Rattle.std.specs.Option.{option_map}
 use Rattle.posix_model.specs.History.{legal}
 use Rattle.posix_model.specs.Turns.{bytes_in, bytes_out}
-use Rattle.record_book.specs.Seat.{Receipted, SeatState}
+use Rattle.record_book.specs.Seat.{SeatState}
 use Rattle.call_types.specs.declared.act.Record.{Record}
 use Rattle.call_types.specs.declared.act.TheConstants.{HOUSE}
 use Rattle.call_types.specs.declared.limits.Limits.{Limits}
-use Rattle.run_core.specs.Receipts.{Held, IsSound}
+use Rattle.run_core.specs.Receipts.{Held, Agrees, held_by}
+use Rattle.run_core.specs.Traced.{TraceTold, IsTold}
 use Rattle.record_book.specs.Book.{BookState, world_now}
-use Rattle.record_book.specs.Counting.{seats_given}
+use Rattle.record_book.specs.Counting.{only_records, seats_given}
+use Rattle.record_book.specs.Exits.{closing_records, receipts_from}
 use Rattle.byte_ledger.specs.Counted.{Counted}
 use Rattle.byte_ledger.specs.declared.tallies.GatherFault.{GatherFault}
 use Rattle.byte_ledger.specs.declared.tallies.GatherFault.TheVariants as gathered
@@ -17,12 +20,12 @@ use Rattle.run_core.specs.declared.closing.CloseFault.{CloseFault}
 use Rattle.run_core.specs.declared.closing.CloseFault.TheVariants as fault
 use Rattle.session_core.specs.declared.end.End.{End}
 use Rattle.session_core.specs.declared.told.Told.{Told}
+use Rattle.session_core.specs.Said.{ClosedSaid, EndSaid}
 use Rattle.session_core.specs.Served.{SessionState, Serves}
+use Rattle.system_lock.specs.Says.{IsEnded, IsNotOpened}
 use Rattle.logged_streams.specs.Streams.{LogState}
 use Rattle.run_core.specs.declared.report.RunFault.{RunFault}
 use Rattle.run_core.specs.declared.report.RunFault.TheVariants as run_fault
-use Rattle.run_core.specs.declared.report.Shortage.{Shortage}
-use Rattle.run_core.specs.declared.report.Shortage.TheVariants as shortage
 
 -- what a seat holds beside its counts
 abbrev pub held_in : SeatState → Held
@@ -31,10 +34,6 @@ held_in s = record { pid = s.pid; receipts = s.receipts }
 -- this is the process of this seat, if there is one
 abbrev pub IsOf : Option SeatState → Option Held → Type 0
 IsOf seat process = process ≡ option_map held_in seat
-
--- a session was served, under a gate that always says yes or under any other, whatever its reader had and its writer held at its start
-abbrev pub IsServed : Bool → SessionState → Type 0
-IsServed always s = (from base : Option (List ℕ)) × Serves always from base s
 
 -- a session of a report: a session that is over, with its process in place of its seat
 pub record ReportedSession : Type 0 where
@@ -50,24 +49,76 @@ pub record ReportedSession : Type 0 where
 abbrev pub with_seat : Option SeatState → ReportedSession → SessionState
 with_seat seat s = record { remaining = s.remaining; reads = s.reads; contents = s.contents; writes = s.writes; seat = seat; answers = s.answers; end_is = s.end_is }
 
--- a session of a report was served with some seat, and its process is that of this seat
-abbrev pub IsServedBy : Bool → ReportedSession → Type 0
-IsServedBy always s = (seat : Option SeatState) × IsOf seat s.process × IsServed always (with_seat seat s)
+-- ---- connections
 
--- how many times a source has failed by the end of a run that was short of this: once more where it gave no connection
-abbrev pub failures_after : ℕ → Option Shortage → ℕ
-failures_after before (Some shortage.NoConnection) = before + 1
-failures_after before other = before
+-- what the reader of a connection has, and what its writer holds, where that is known
+pub record Streams : Type 0 where
+  pub reader : Option (List ℕ)
+  pub writer : Option (List ℕ)
 
--- these are the sums of a legal run within these limits that is closed
-pub record IsClosedRun (limits : Limits) (records taken given : ℕ) : Type 0 where
-  pub book : BookState
-  pub limits_are : book.limits ≡ limits
-  pub is_legal : legal book.limits.bounds book.history
-  pub closed : (world_now book).closed ≡ true
-  pub records_are : records ≡ length book.history
-  pub taken_is : taken ≡ bytes_in book.limits.bounds book.history
-  pub given_is : given ≡ bytes_out book.limits.bounds book.history
+abbrev pub streams : Option (List ℕ) → Option (List ℕ) → Streams
+streams reader writer = record { reader = reader; writer = writer }
+
+-- what the connections hold that a source has still to give, where it is known: those that it gave were the next of them, in order, and
+-- the others are still to come
+abbrev pub Gives : Option (List Streams) → Option (List Streams) → List Streams → Type 0
+Gives None new next = Unit {0}
+Gives (Some coming) None next = ⊥
+Gives (Some coming) (Some later) next = coming ≡ next ++ later
+
+-- nothing was written yet, where it is known what was
+abbrev pub is_blank : Option (List ℕ) → Bool
+is_blank None = true
+is_blank (Some []) = true
+is_blank (Some (byte ∷ bytes)) = false
+
+abbrev pub IsBlank : Option (List ℕ) → Type 0
+IsBlank contents = is_blank contents ≡ true
+
+-- a session was served under the lock of a run: it did what is promised of any session, and ends as full or foreign only where that was
+-- due in some book; a call that waits is never given up there
+pub record ServesInRun (always : Bool) (from base : Option (List ℕ)) (s : SessionState) : Type 0 where
+  pub serves : Serves always from base s
+  pub said : EndSaid IsNotOpened IsEnded s.end_is
+  pub given_up : ClosedSaid IsEnded s.answers s.end_is
+
+-- a connection that was served: what its reader had and its writer held at the start, and the seat of its process, if there is one
+pub record Connection : Type 0 where
+  pub from : Option (List ℕ)
+  pub base : Option (List ℕ)
+  pub seat : Option SeatState
+
+-- what a connection was at its start
+abbrev pub at_start : Connection → Streams
+at_start c = streams c.from c.base
+
+-- a session of a report served this connection, from the first byte of its reader on and with a writer that held nothing, under a gate
+-- that always says yes or under any other; its process is that of the connection's seat
+pub record ServesConnection (always : Bool) (c : Connection) (session : ReportedSession) : Type 0 where
+  pub process_is : IsOf c.seat session.process
+  pub blank : IsBlank c.base
+  pub serves : ServesInRun always c.from c.base (with_seat c.seat session)
+
+-- the sessions served the connections, one each and in order
+abbrev pub ServesEach : Bool → List Connection → List ReportedSession → Type 0
+ServesEach always connections sessions = AllZip (ServesConnection always) connections sessions
+
+-- what the seats of connections count
+abbrev pub counted_by : List Connection → List Counted
+counted_by connections = filter_map (λ c. option_map (λ (s : SeatState). s.counted) c.seat) connections
+
+-- the sessions that connections of these streams were served by, in order, and the shares of all their seats
+pub record IsJoined (always : Bool) (told : List Streams) (sessions : List ReportedSession) (shares : List Counted) : Type 0 where
+  pub connections : List Connection
+  pub told_are : map at_start connections ≡ told
+  pub each : ServesEach always connections sessions
+  pub shares_are : shares ≡ counted_by connections
+
+-- so many sessions are as many as there were to be, and the source did not fail; or they are fewer, and it failed once
+abbrev pub FailsIfFewer : ℕ → ℕ → ℕ → ℕ → Type 0
+FailsIfFewer count sessions before after = ((count ≡ sessions) × (after ≡ before)) ⊎ ((count < sessions) × (after ≡ before + 1))
+
+-- ---- the closing
 
 -- these shares count so much, and they are as many as the book has given out
 pub record IsGathered (b : BookState) (shares : List Counted) (records taken given : ℕ) : Type 0 where
@@ -76,27 +127,76 @@ pub record IsGathered (b : BookState) (shares : List Counted) (records taken giv
   pub taken_is : taken ≡ sum (map (λ s. s.bytes_in) shares)
   pub given_is : given ≡ sum (map (λ s. s.bytes_out) shares)
 
--- the receipts of all holders are the records, each of them once
-abbrev pub AreAll : List Record → List Held → Type 0
-AreAll h held = (p : ℕ) → IsSound h held p
+-- the receipts of all holders are the records, each of them once, and the records were received
+abbrev pub AreAll : List Record → List Held → List Record → Type 0
+AreAll h held received = (p : ℕ) → Agrees h held received p
 
--- the same of these holders and of the house
-pub record AreAllWithHouse (h : List Record) (held : List Held) : Type 0 where
-  pub house : List Receipted
-  pub all : AreAll h (held ++ record { pid = HOUSE; receipts = house } ∷ [])
+-- the closing of a run that was open: its records are put after those before, and the house has the receipts of just these and counts them
+pub record IsClosing (before book : BookState) (house : SeatState) : Type 0 where
+  pub limits_are : book.limits ≡ before.limits
+  pub was_open : (world_now before).closed ≡ false
+  pub history_is : book.history ≡ before.history ++ closing_records (world_now before)
+  pub pid_is : house.pid ≡ HOUSE
+  pub receipts_are : house.receipts ≡ receipts_from (length before.history) (closing_records (world_now before))
+  pub counts_are : house.counted ≡ only_records (length house.receipts)
+  pub is_closed : (world_now book).closed ≡ true
 
--- this is the least place that is not sound
-abbrev pub IsLeast : List Record → List Held → ℕ → Type 0
-IsLeast h held place = (IsSound h held place → ⊥) × ((p : ℕ) → p < place → IsSound h held p)
+-- this is the least place that does not agree
+abbrev pub IsLeast : List Record → List Held → List Record → ℕ → Type 0
+IsLeast h held received place = (Agrees h held received place → ⊥) × ((p : ℕ) → p < place → Agrees h held received p)
 
--- the sums of a legal run within these limits that is closed, gathered from all shares; each of its records stands in one receipt of
--- these holders or of the house
-pub record IsRunOf (limits : Limits) (records taken given : ℕ) (held : List Held) : Type 0 where
-  pub run : IsClosedRun limits records taken given
-  pub shares : List Counted
-  pub gathered : IsGathered run.book shares records taken given
-  pub house : List Receipted
-  pub all : AreAll run.book.history (held ++ record { pid = HOUSE; receipts = house } ∷ [])
+-- the sums of a legal run within these limits, gathered from these shares and from those of the house. Each of its records stands in one
+-- receipt of these holders or of the house, and these records were received, which are all of them
+pub record IsRunOf (limits : Limits) (records taken given : ℕ) (book : BookState) (house : SeatState) (shares : List Counted) (held : List Held) (received : List Record) : Type 0 where
+  pub limits_are : book.limits ≡ limits
+  pub is_legal : legal book.limits.bounds book.history
+  pub records_are : records ≡ length book.history
+  pub taken_is : taken ≡ bytes_in book.limits.bounds book.history
+  pub given_is : given ≡ bytes_out book.limits.bounds book.history
+  pub gathered : IsGathered book (shares ++ house.counted ∷ []) records taken given
+  pub all : AreAll book.history (held ++ held_in house ∷ []) received
+  pub received_are : received ≡ book.history
+
+-- ---- the run
+
+-- sessions that have ended served the connections that were given, and the run is closed
+pub record HasEnded (always : Bool) (limits : Option Limits) (coming later : Option (List Streams)) (book : BookState) (house : SeatState) (ends : List ReportedSession) (shares : List Counted) : Type 0 where
+  pub before : BookState
+  pub limits_are : limits ≡ Some before.limits
+  pub closing : IsClosing before book house
+  pub told : List Streams
+  pub joined : IsJoined always told ends shares
+  pub gives : Gives coming later told
+
+-- what is told of a run of sessions: whether its gate says yes always, its limits, what its source had to give before and has after it,
+-- the number of its records, how many bytes its calls wrote and how many they read, its sessions, the records that the trace thread
+-- received, and their trace
+pub record RunTold : Type 0 where
+  pub always : Bool
+  pub limits_are : Limits
+  pub coming : Option (List Streams)
+  pub later : Option (List Streams)
+  pub records : ℕ
+  pub taken : ℕ
+  pub given : ℕ
+  pub ends : List ReportedSession
+  pub received : List Record
+  pub trace : TraceTold
+
+-- that is so of one run, which was open before its closing. Each session served one of the connections that the source gave, in their
+-- order. The sums are gathered from the seats of these very connections and from that of the house. Each record stands in one receipt of
+-- the sessions or of the house: those of the closing in one of the house, and the others in one of the sessions. The trace is that of
+-- these records
+pub record IsRun (told : RunTold) : Type 0 where
+  pub connections : List Connection
+  pub gives : Gives told.coming told.later (map at_start connections)
+  pub each : ServesEach told.always connections told.ends
+  pub before : BookState
+  pub book : BookState
+  pub house : SeatState
+  pub closing : IsClosing before book house
+  pub run : IsRunOf told.limits_are told.records told.taken told.given book house (counted_by connections) (map (λ s. held_by s.process) told.ends) told.received
+  pub trace : IsTold told.trace book.history
 
 -- what a fault of gathering is for a run
 abbrev pub close_fault_of : GatherFault → CloseFault
@@ -108,8 +208,8 @@ abbrev pub run_fault_of : GatherFault → RunFault
 run_fault_of gathered.NoMemory = run_fault.NoMemory
 run_fault_of (gathered.Missing missing) = run_fault.Missing
 
--- why a run comes to no totals: seats are missing, or none is and this is the least place at which records and receipts differ
-abbrev pub ClosesFor : BookState → List SeatState → CloseFault → Type 0
-ClosesFor b seats fault.NoMemory = Unit {0}
-ClosesFor b seats (fault.Missing m) = (m.held ≡ length seats) × (m.opened ≡ seats_given b) × (m.held < m.opened)
-ClosesFor b seats (fault.Disagree place) = (length seats ≡ seats_given b) × IsLeast b.history (map held_in seats) place
+-- why a run comes to no totals: seats are missing, or none is and this is the least place that does not agree
+abbrev pub ClosesFor : BookState → List SeatState → List Record → CloseFault → Type 0
+ClosesFor b seats received fault.NoMemory = Unit {0}
+ClosesFor b seats received (fault.Missing m) = (m.held ≡ length seats) × (m.opened ≡ seats_given b) × (m.held < m.opened)
+ClosesFor b seats received (fault.Disagree place) = (length seats ≡ seats_given b) × IsLeast b.history (map held_in seats) received place

@@ -1,23 +1,27 @@
 //! The closing of a run whose sessions have ended: their receipts are compared with its records, and what they counted is gathered.
 
-ghost use Rattle.std.specs.Prelude.{◌≡◌, ◌+◌, ◌≤◌, ℕ, map, true, None, Some, length, vec_len, vec_capacity, OnOk, IfOk, IfErr};
+ghost use Rattle.std.specs.Prelude.{◌≡◌, ◌+◌, ◌≤◌, ◌++◌, ◌∷◌, ℕ, [], map, true, None, Some, length, vec_len, vec_capacity, OnOk, IfOk, IfErr};
 ghost use Rattle.std.specs.Arc.{arc_value};
 ghost use Rattle.posix_model.specs.History.{legal};
 ghost use Rattle.posix_model.specs.Turns.{bytes_in, bytes_out};
 ghost use Rattle.record_book.specs.Book.{world_now};
-ghost use Rattle.run_core.specs.Run.{AreAll, AreAllWithHouse, IsClosedRun, IsGathered, IsLeast, IsRunOf, ClosesFor, held_in};
+ghost use Rattle.run_core.specs.declared.report.RunFault.TheVariants as run_fault;
+ghost use Rattle.run_core.specs.Run.{AreAll, ClosesFor, IsClosing, IsGathered, IsLeast, IsRunOf, held_in};
 
 use crate::comparison::{HasReceipts, compare};
 use crate::report::RunFault;
 use byte_ledger::gather::Missing;
 use byte_ledger::ledgers::Ledgers;
 use byte_ledger::tallies::{GatherFault, Shares, Sums};
+use call_types::act::Record;
 use record_book::book::Book;
+use record_book::closed::ClosedBook;
 use record_book::seat::{Receipt, SpentSeat};
 use std::alloc::{AllocError, Global};
 use std::slice;
 use std::sync::{Arc, Wait};
 use thiserror::Error;
+use trace_writer::traced::{TraceFault, Traced};
 
 /// Waits until nobody else holds an `Arc`, and returns what it holds.
 pub(crate) fn unshared<Rt: Wait, T>(rt: &Rt, shared: Arc<T>) -> T
@@ -104,66 +108,80 @@ fn part<L: Ledgers>(alloc: Global, seats: Vec<SpentSeat<L>>) -> Result<Parted<L>
     Ok(Parted { receipts, shares })
 }
 
-/// Compares the receipts of seats with the records of their book: the least place that is not sound, if there is one.
+/// Whether memory ran out for the list of the records that were received, so that it ends before those of a run of this many do.
+fn is_torn(traced: &Traced, records: u64) -> bool {
+    traced.fault == Some(TraceFault::NoMemory) && (traced.received.len() as u64) < records
+}
+
+/// Compares the receipts of seats, and what was received, with the records of their book: the least place that does not agree, if there
+/// is one.
 fn compare_seats<L: Ledgers>(
     alloc: Global,
-    book: &Book<L>,
+    book: &ClosedBook<L>,
     seats: &[SpentSeat<L>],
+    received: &[Arc<Record>],
 ) -> Result<Option<u64>, AllocError>
-    ensures all { IfOk result (λ least. least ≡ None → AreAll book.now.history (map held_in seats.now)) }
-    ensures least { IfOk result (λ least. (place : ℕ) → least ≡ Some place → IsLeast book.now.history (map held_in seats.now) place) }
+    ensures all { IfOk result (λ least. least ≡ None → AreAll book.now.history (map held_in seats.now) (map arc_value received.now)) }
+    ensures least { IfOk result (λ least. (place : ℕ) → least ≡ Some place → IsLeast book.now.history (map held_in seats.now) (map arc_value received.now) place) }
 {
     let others: Vec<SpentSeat<L>> = Vec::new(alloc);
-    let least = compare(alloc, book, seats, others.as_slice())?;
+    let least = compare(alloc, book, seats, others.as_slice(), received)?;
     Ok(least)
 }
 
 /// Seats that were compared with the records of their book, and parted.
 #[derive(Drop)]
 struct Checked<L: Ledgers> {
-    /// The least place that is not sound, if there is one.
+    /// The least place that does not agree, if there is one.
     least: Option<u64>,
     parted: Parted<L>,
 }
 
-/// Compares the receipts of seats with the records of their book, and parts them.
+/// Compares the receipts of seats, and what was received, with the records of their book, and parts the seats.
 fn compare_and_part<L: Ledgers>(
     alloc: Global,
-    book: &Book<L>,
+    book: &ClosedBook<L>,
     seats: Vec<SpentSeat<L>>,
+    received: &[Arc<Record>],
 ) -> Result<Checked<L>, AllocError>
-    ensures sound { IfOk result (λ told. told.least ≡ None → AreAll book.now.history (map held_in seats.items)) }
-    ensures least { IfOk result (λ told. (place : ℕ) → told.least ≡ Some place → IsLeast book.now.history (map held_in seats.items) place) }
+    ensures agree { IfOk result (λ told. told.least ≡ None → AreAll book.now.history (map held_in seats.items) (map arc_value received.now)) }
+    ensures least { IfOk result (λ told. (place : ℕ) → told.least ≡ Some place → IsLeast book.now.history (map held_in seats.items) (map arc_value received.now) place) }
     ensures receipts { IfOk result (λ told. map (λ r. r.items) told.parted.receipts.items ≡ map (λ s. s.receipts) seats.items) }
     ensures all { IfOk result (λ told. vec_len told.parted.shares ≡ length seats.items) }
     ensures counted { IfOk result (λ told. told.parted.shares.items ≡ map (λ s. s.counted) seats.items) }
 {
-    let least = compare_seats(alloc, book, seats.as_slice())?;
+    let least = compare_seats(alloc, book, seats.as_slice(), received)?;
     let parted = part(alloc, seats)?;
     Ok(Checked { least, parted })
 }
 
 /// Brings all seats of a run together: the sums of what they counted, and their receipts. The seat of the house, which closed the run, is
-/// among them. The receipts are the records of the book, each of them once, in a seat of its process. Where seats are missing, that is
-/// the fault. Otherwise, where receipts and records differ, the fault is the least place at which they do. It takes time in proportion to
-/// the records and the receipts.
+/// among them. The receipts are the records of the book, each of them once, in a seat of its process, and what the trace thread received
+/// is these records. Where seats are missing, that is the fault. Otherwise, where receipts, records and what was received differ, the
+/// fault is the least place at which they do, or want of memory, if that is why less was received. It takes time in proportion to the
+/// records and the receipts.
 pub fn close_run<L: Ledgers>(
     alloc: Global,
-    book: Book<L>,
+    book: ClosedBook<L>,
     seats: Vec<SpentSeat<L>>,
+    traced: &Traced,
 ) -> Result<Totals, CloseFault>
     ensures records { IfOk result (λ totals. totals.records ≡ length book.history) }
     ensures bytes_in { IfOk result (λ totals. totals.bytes_in ≡ bytes_in book.limits.bounds book.history) }
     ensures bytes_out { IfOk result (λ totals. totals.bytes_out ≡ bytes_out book.limits.bounds book.history) }
     ensures gathered { IfOk result (λ totals. IsGathered book (map (λ s. s.counted) seats.items) totals.records totals.bytes_in totals.bytes_out) }
     ensures receipts { IfOk result (λ totals. map (λ r. r.items) totals.receipts.items ≡ map (λ s. s.receipts) seats.items) }
-    ensures all { OnOk result (AreAll book.history (map held_in seats.items)) }
-    ensures fault { IfErr result (ClosesFor book seats.items) }
+    ensures all { OnOk result (AreAll book.history (map held_in seats.items) (map arc_value traced.now.received.items)) }
+    ensures received { OnOk result (map arc_value traced.now.received.items ≡ book.history) }
+    ensures fault { IfErr result (ClosesFor book seats.items (map arc_value traced.now.received.items)) }
 {
-    let checked = compare_and_part(alloc, &book, seats)?;
+    let checked = compare_and_part(alloc, &book, seats, traced.received.as_slice())?;
     let Checked { least, parted } = checked;
     let Parted { receipts, shares } = parted;
     let sums = book.gather(alloc, shares)?;
+    if least.is_some() && is_torn(traced, sums.records) {
+        return Err(CloseFault::NoMemory);
+    }
     match least {
         Some(place) => Err(CloseFault::Disagree { place }),
         None => Ok(Totals {
@@ -175,56 +193,85 @@ pub fn close_run<L: Ledgers>(
     }
 }
 
-/// A run that is closed, and whose records were compared with its receipts.
+/// A run that is closed: its book, and the seat of the house, which closed it.
 #[derive(Drop)]
-struct Closed<L: Ledgers> {
-    /// The least place that is not sound, if there is one.
-    least: Option<u64>,
-    /// The shares of all seats, those of the house among them.
-    shares: Vec<Shares<L>>,
+pub(crate) struct Closed<L: Ledgers> {
+    pub(crate) book: ClosedBook<L>,
+    pub(crate) house: SpentSeat<L>,
 }
 
-/// Closes a run and compares its records with the receipts of these holders and of the house. The shares of the house are put after the
-/// others.
-fn close_and_compare<L: Ledgers, T: HasReceipts>(
-    alloc: Global,
-    book: &mut Book<L>,
-    holders: &[T],
-    shares: Vec<Shares<L>>,
-) -> Result<Closed<L>, RunFault>
-    ensures limits { book.new.limits ≡ book.old.limits }
-    ensures is_legal { OnOk result (legal book.new.limits.bounds book.new.history) }
-    ensures closed { OnOk result ((world_now book.new).closed ≡ true) }
-    ensures all { IfOk result (λ told. told.least ≡ None → AreAllWithHouse book.new.history (map T.held holders.now)) }
-    ensures one_more { IfOk result (λ told. vec_len told.shares ≡ vec_len shares + 1) }
+/// Closes a run, whose house has no receipt yet, and ends what the trace thread is to receive. Also where that fails nothing more comes
+/// to the trace thread.
+pub(crate) fn close<L: Ledgers>(book: Book<L>) -> Result<Closed<L>, RunFault>
+    requires { book.house ≡ Some [] }
+    ensures closing { IfOk result (λ closed. IsClosing book closed.book closed.house) }
+    ensures fault { IfErr result (λ fault. fault ≡ run_fault.NoThread → ⊥) }
 {
-    let mut shares = shares;
+    let mut book = book;
     let house = match book.close_run() {
         Some(house) => house,
         None => return Err(RunFault::Missing),
     };
-    let least = compare(alloc, book, holders, slice::from_ref(&house))?;
+    match book.end_trace() {
+        Ok(book) => Ok(Closed { book, house }),
+        Err(_) => unreachable!(),
+    }
+}
+
+/// What the records of a run were compared with.
+#[derive(Drop)]
+struct Compared<L: Ledgers> {
+    /// The least place that does not agree, if there is one.
+    least: Option<u64>,
+    /// The shares of all seats, those of the house as the last.
+    shares: Vec<Shares<L>>,
+}
+
+/// Compares the records of a run with the receipts of these holders and of the house, and with what was received. The shares of the house
+/// are put after the others.
+fn compare_with_house<L: Ledgers, T: HasReceipts>(
+    alloc: Global,
+    book: &ClosedBook<L>,
+    house: SpentSeat<L>,
+    holders: &[T],
+    shares: Vec<Shares<L>>,
+    received: &[Arc<Record>],
+) -> Result<Compared<L>, RunFault>
+    ensures is_legal { OnOk result (legal book.now.limits.bounds book.now.history) }
+    ensures all { IfOk result (λ told. told.least ≡ None → AreAll book.now.history (map T.held holders.now ++ held_in house ∷ []) (map arc_value received.now)) }
+    ensures shares { IfOk result (λ told. told.shares.items ≡ shares.items ++ house.counted ∷ []) }
+    ensures fault { IfErr result (λ fault. fault ≡ run_fault.NoThread → ⊥) }
+{
+    let mut shares = shares;
+    let least = compare(alloc, book, holders, slice::from_ref(&house), received)?;
     let (_receipts, counted) = house.into_parts();
     if shares.push(counted).is_err() {
         return Err(RunFault::NoMemory);
     }
-    Ok(Closed { least, shares })
+    Ok(Compared { least, shares })
 }
 
-/// Closes a run whose seats are parted into holders of their receipts and shares, compares the receipts with the records, and gathers
-/// the shares: the number of the records, and of the bytes that they took and gave.
+/// Ends a run that is closed and whose seats are parted into holders of their receipts and shares. It compares the receipts with the
+/// records and with what was received, and gathers the shares: the number of the records, and of the bytes that they took and gave.
 pub(crate) fn end_run<L: Ledgers, T: HasReceipts>(
     alloc: Global,
-    book: Book<L>,
+    closed: Closed<L>,
     holders: &[T],
     shares: Vec<Shares<L>>,
+    traced: &Traced,
 ) -> Result<Sums, RunFault>
-    ensures { IfOk result (λ sums. IsRunOf book.limits sums.records sums.bytes_in sums.bytes_out (map T.held holders.now)) }
+    ensures run { IfOk result (λ sums. IsRunOf closed.book.limits sums.records sums.bytes_in sums.bytes_out closed.book closed.house shares.items (map T.held holders.now) (map arc_value traced.now.received.items)) }
+    ensures fault { IfErr result (λ fault. fault ≡ run_fault.NoThread → ⊥) }
 {
-    let mut book = book;
-    let closed = close_and_compare(alloc, &mut book, holders, shares)?;
-    let sums = book.gather(alloc, closed.shares)?;
-    match closed.least {
+    let Closed { book, house } = closed;
+    let received = traced.received.as_slice();
+    let compared = compare_with_house(alloc, &book, house, holders, shares, received)?;
+    let Compared { least, shares } = compared;
+    let sums = book.gather(alloc, shares)?;
+    if least.is_some() && is_torn(traced, sums.records) {
+        return Err(RunFault::NoMemory);
+    }
+    match least {
         Some(place) => Err(RunFault::Disagree { place }),
         None => Ok(sums),
     }

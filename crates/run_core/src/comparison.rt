@@ -3,13 +3,15 @@
 ghost use Rattle.std.specs.Prelude.{◌≡◌, ◌↔◌, ◌<◌, ◌≤◌, ◌+◌, ◌==◌, ◌⊎◌, ◌++◌, ℕ, map, None, Some, true, false, length, if◌then◌else◌, IfOk, IfSome};
 ghost use Rattle.std.specs.List.{slice_index};
 ghost use Rattle.posix_model.specs.History.{legal};
-ghost use Rattle.run_core.specs.Receipts.{Held, IsGood, IsOwn, IsAbove, GoodFrom, GoodAt, IsBefore, names, named, wanted, IsSound};
+ghost use Rattle.std.specs.Arc.{arc_value};
+ghost use Rattle.run_core.specs.Receipts.{Held, Agrees, IsGood, IsOwn, IsAbove, GoodFrom, GoodAt, IsBefore, IsReceivedAt, names, named, wanted, IsSound};
 
 use byte_ledger::ledgers::Ledgers;
 use call_types::act::{Act, HOUSE, Record};
-use record_book::book::Book;
+use record_book::closed::ClosedBook;
 use record_book::seat::{Receipt, SpentSeat};
 use std::alloc::{AllocError, Global};
+use std::sync::Arc;
 
 /// What holds the receipts of one process, if it has any.
 pub trait HasReceipts {
@@ -86,7 +88,12 @@ fn lowest(one: Option<u64>, other: Option<u64>) -> Option<u64>
 }
 
 /// Whether a receipt is good: it tells the record at its place, that is a record of this process, and its place is above the one before.
-fn is_good<L: Ledgers>(book: &Book<L>, pid: u32, before: Option<u64>, receipt: &Receipt) -> bool
+fn is_good<L: Ledgers>(
+    book: &ClosedBook<L>,
+    pid: u32,
+    before: Option<u64>,
+    receipt: &Receipt,
+) -> bool
     ensures { (result ≡ true) ↔ IsGood book.now.history pid before receipt.now }
 {
     let stands = match book.record_at(receipt.place()) {
@@ -97,7 +104,7 @@ fn is_good<L: Ledgers>(book: &Book<L>, pid: u32, before: Option<u64>, receipt: &
 }
 
 /// The least place that is named by a receipt which is not good.
-fn least_bad<L: Ledgers>(book: &Book<L>, pid: u32, receipts: &[Receipt]) -> Option<u64>
+fn least_bad<L: Ledgers>(book: &ClosedBook<L>, pid: u32, receipts: &[Receipt]) -> Option<u64>
     ensures good { (p : ℕ) → IsBefore p result → GoodFrom book.now.history pid p None receipts.now }
     ensures bad { IfSome result (λ p. GoodFrom book.now.history pid p None receipts.now → ⊥) }
 {
@@ -115,7 +122,7 @@ fn least_bad<L: Ledgers>(book: &Book<L>, pid: u32, receipts: &[Receipt]) -> Opti
 }
 
 /// The least place that is named by a receipt of these holders which is not good.
-fn least_bad_of<L: Ledgers, T: HasReceipts>(book: &Book<L>, holders: &[T]) -> Option<u64>
+fn least_bad_of<L: Ledgers, T: HasReceipts>(book: &ClosedBook<L>, holders: &[T]) -> Option<u64>
     ensures good { (p : ℕ) → IsBefore p result → GoodAt book.now.history p (map T.held holders.now) }
     ensures bad { IfSome result (λ p. GoodAt book.now.history p (map T.held holders.now) → ⊥) }
 {
@@ -211,11 +218,10 @@ fn uncovered<T: HasReceipts, U: HasReceipts>(
 }
 
 /// The least place that is not sound: one whose record is not in exactly one receipt of all holders, or that a receipt names which is not
-/// good. The records are a legal run, as those of a book are. It takes time in proportion to the receipts and the records, and a byte of
-/// memory for each record.
-pub fn compare<L: Ledgers, T: HasReceipts, U: HasReceipts>(
+/// good. The records are a legal run.
+fn least_unsound<L: Ledgers, T: HasReceipts, U: HasReceipts>(
     alloc: Global,
-    book: &Book<L>,
+    book: &ClosedBook<L>,
     holders: &[T],
     others: &[U],
 ) -> Result<Option<u64>, AllocError>
@@ -228,4 +234,47 @@ pub fn compare<L: Ledgers, T: HasReceipts, U: HasReceipts>(
     let uncovered = uncovered(marks.as_mut_slice(), holders, others);
     let bad = lowest(least_bad_of(book, holders), least_bad_of(book, others));
     Ok(lowest(uncovered, bad))
+}
+
+/// Whether the record of a place was received there, or there is none and none was received.
+fn is_received<L: Ledgers>(book: &ClosedBook<L>, received: &[Arc<Record>], place: usize) -> bool
+    ensures { (result ≡ true) ↔ IsReceivedAt book.now.history (map arc_value received.now) place }
+{
+    match (book.record_at(place as u64), received.get(place)) {
+        (Some(stands), Some(told)) => stands.is_same(&**told),
+        (None, None) => true,
+        _ => false,
+    }
+}
+
+/// The first place at which records and what was received of them differ, one of the two ending there too.
+fn first_difference<L: Ledgers>(book: &ClosedBook<L>, received: &[Arc<Record>]) -> Option<u64>
+    ensures same { (p : ℕ) → IsBefore p result → IsReceivedAt book.now.history (map arc_value received.now) p }
+    ensures differs { IfSome result (λ p. IsReceivedAt book.now.history (map arc_value received.now) p → ⊥) }
+{
+    let records = book.counts().records as usize;
+    for place in 0..records.max(received.len()) {
+        if !is_received(book, received, place) {
+            return Some(place as u64);
+        }
+    }
+    None
+}
+
+/// The least place that does not agree: one that is not sound, since its record is not in exactly one receipt of all holders or a
+/// receipt names it that is not good, or whose record was not received as the trace thread says. The records are a legal run, as those
+/// of a book are. It takes time in proportion to the receipts and the records, and a byte of memory for each record.
+pub fn compare<L: Ledgers, T: HasReceipts, U: HasReceipts>(
+    alloc: Global,
+    book: &ClosedBook<L>,
+    holders: &[T],
+    others: &[U],
+    received: &[Arc<Record>],
+) -> Result<Option<u64>, AllocError>
+    ensures legal { legal book.now.limits.bounds book.now.history }
+    ensures agree { IfOk result (λ least. (p : ℕ) → IsBefore p least → Agrees book.now.history (map T.held holders.now ++ map U.held others.now) (map arc_value received.now) p) }
+    ensures broken { IfOk result (λ least. IfSome least (λ q. Agrees book.now.history (map T.held holders.now ++ map U.held others.now) (map arc_value received.now) q → ⊥)) }
+{
+    let unsound = least_unsound(alloc, book, holders, others)?;
+    Ok(lowest(unsound, first_difference(book, received)))
 }

@@ -6,3 +6,4 @@ pub mod comparison;
 pub mod report;
 pub mod sessions;
 pub mod source;
+mod tracing;

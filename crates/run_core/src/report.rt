@@ -13,6 +13,8 @@ use std::alloc::AllocError;
 use std::io::{Read, Write};
 use std::marker::Model;
 use thiserror::Error;
+use trace_writer::sink::Sink;
+use trace_writer::traced::Traced;
 
 /// The process of a session, or one that was refused: its number, and the receipts of its acts, in the order of their places.
 /// Contracts see the two.
@@ -88,39 +90,37 @@ impl<R: Read, W: Write> HasReceipts for Session<R, W> {
     }
 }
 
-/// A run that is over: all its sessions have ended, and it is closed.
+/// A run that is over: all its sessions have ended, it is closed, and its trace is written as far as the sink took it.
 #[derive(Drop)]
-pub struct Report<R: Read, W: Write> {
+pub struct Report<R: Read, W: Write, K: Sink> {
+    /// How many sessions were started.
+    pub sessions: usize,
     /// How many records there are, summed over the seats of all sessions and of the house.
     pub records: u64,
     /// How many bytes the calls of all processes wrote, and how many they read, summed in the same way.
     pub bytes_in: u64,
     pub bytes_out: u64,
-    /// The sessions that were started, in the order in which they were accepted.
+    /// What became of the trace.
+    pub traced: Traced,
+    /// The sessions, in the order in which they were accepted: all that there were to be, or those before the source gave no more.
     pub ends: Vec<Session<R, W>>,
-    /// What kept the run from having all its sessions, if something did.
-    pub shortage: Option<Shortage>,
-}
-
-/// Why a run has fewer sessions than it was to have.
-#[derive(Clone, Copy, Debug, PartialEq, Eq)]
-pub enum Shortage {
-    /// The source gave no more connections.
-    NoConnection,
-    /// A thread could not be started.
-    NoThread,
+    /// What took the trace.
+    pub sink: K,
 }
 
 /// Why a run gives no report.
 #[derive(Clone, Copy, Debug, PartialEq, Eq, Drop, Error)]
 pub enum RunFault {
-    /// Memory ran out before the first session, or when the run was closed.
+    /// Memory ran out before the first session, when the run was closed, or for the list of the records that were received.
     #[error("no memory")]
     NoMemory,
+    /// The thread of the trace could not be started, or that of a session. The sessions before it were served to their end.
+    #[error("no thread")]
+    NoThread,
     /// Shares of some seats are missing.
     #[error("missing share")]
     Missing,
-    /// The receipts of the sessions and the records differ: this is the least place at which they do.
+    /// The receipts of the sessions, the records and what the trace thread received differ: this is the least place at which they do.
     #[error("disagree at {place}")]
     Disagree { place: u64 },
 }

@@ -1,13 +1,18 @@
 //! The sessions of a run, each in a thread of its own.
 
-ghost use Rattle.std.specs.Prelude.{◌≡◌, ◌≤◌, ◌<◌, ◌+◌, ◌^◌, All, None, Some, map, vec_len, vec_capacity, IfOk, IfErr, IfSome, OnOk};
-ghost use Rattle.session_core.specs.Served.{Serves};
+ghost use Rattle.std.specs.Prelude.{◌≡◌, ◌≤◌, ◌<◌, ◌+◌, ◌^◌, ◌∷◌, [], true, false, Some, map, vec_len, vec_capacity, IfOk, IfErr, IfSome, OnOk};
+ghost use Rattle.std.specs.Option.{option_map};
+ghost use Rattle.std.specs.Arc.{arc_value};
+ghost use Rattle.rtrb.specs.Ring.{received};
 ghost use Rattle.run_core.specs.Receipts.{held_by};
-ghost use Rattle.run_core.specs.Run.{IsRunOf, IsServed, IsServedBy, failures_after};
+ghost use Rattle.run_core.specs.Run.{HasEnded, IsRun, IsRunOf, IsBlank, IsJoined, IsOf, FailsIfFewer, Gives, ServesInRun, streams, with_seat};
+ghost use Rattle.run_core.specs.declared.report.RunFault.TheVariants as run_fault;
+ghost use Rattle.run_core.specs.declared.sessions.Shortage.TheVariants as shortage;
 
-use crate::closing::{end_run, unshared};
-use crate::report::{Process, Report, RunFault, Session, Shortage};
+use crate::closing::{Closed, close, end_run, unshared};
+use crate::report::{Process, Report, RunFault, Session};
 use crate::source::Source;
+use crate::tracing::{Done, start_trace};
 use byte_ledger::ledgers::{Blanks, Ledgers};
 use byte_ledger::tallies::Shares;
 use call_types::limits::Limits;
@@ -19,7 +24,10 @@ use std::snapshot::Snapshot;
 use std::sync::{Arc, Wait};
 use std::thread;
 use std::thread::{Promise, PromisedHandle, Threads};
+use std::time::Clock;
 use system_lock::lock::SystemLock;
+use trace_ring::trace_ring::TraceEnd;
+use trace_writer::sink::Sink;
 
 /// What all sessions of a run share: the lock round its book, and the gate that is asked before an answer is written.
 #[derive(Drop)]
@@ -38,23 +46,25 @@ impl<G: Gate, L: Ledgers> Shared<G, L> {
     }
 }
 
-/// What the thread of a session promises: that the connection is served.
+/// What the thread of a session promises: that the connection is served. Its writer holds nothing yet.
 #[derive(Drop)]
 pub(crate) struct Serving<R: Read, W: Write, G: Gate> {
     reader: Snapshot<R>,
     writer: Snapshot<W>,
     gate: Snapshot<Arc<G>>,
+    ghost blank: { IsBlank (W.contents writer.value) },
 }
 
 impl<R: Read, W: Write, G: Gate, L: Ledgers> Promise<Served<R, W, L>> for Serving<R, W, G> {
-    ghost use Rattle.session_core.specs.Served.{Serves};
+    ghost use Rattle.run_core.specs.Run.{ServesInRun};
 
-    ghost kept_by = { λ p served. Serves G.is_open (R.remaining p.reader.value) (W.contents p.writer.value) served };
+    ghost kept_by = { λ p served. ServesInRun G.is_open (R.remaining p.reader.value) (W.contents p.writer.value) served };
 }
 
 impl<R: Read, W: Write, G: Gate> Serving<R, W, G> {
     /// The promise to serve this reader and this writer under this gate.
     fn of(reader: &R, writer: &W, gate: &Arc<G>) -> Self
+        requires { IsBlank (W.contents writer.now) }
         ensures reader { R.remaining result.reader.value ≡ R.remaining reader.now }
         ensures writer { W.contents result.writer.value ≡ W.contents writer.now }
     {
@@ -79,7 +89,7 @@ fn serve_connection<Rt: Wait, S: Source, G: Gate, L: Ledgers>(
     writer: S::Writer,
     session: u64,
 ) -> Served<S::Reader, S::Writer, L>
-    ensures { Serves G.is_open (S.Reader.Read.remaining reader) (S.Writer.Write.contents writer) result }
+    ensures { ServesInRun G.is_open (S.Reader.Read.remaining reader) (S.Writer.Write.contents writer) result }
 {
     let served = serve(rt, alloc, reader, writer, lock, session, gate);
     S::hang_up(&served.reader, &served.writer);
@@ -99,7 +109,10 @@ fn start<
     reader: S::Reader,
     writer: S::Writer,
     session: u64,
-) -> Option<Running<S::Reader, S::Writer, G, L>> {
+) -> Option<Running<S::Reader, S::Writer, G, L>>
+    requires { IsBlank (S.Writer.Write.contents writer) }
+    ensures { IfSome result (λ thread. (S.Reader.Read.remaining thread.promise.reader.value ≡ S.Reader.Read.remaining reader) × (S.Writer.Write.contents thread.promise.writer.value ≡ S.Writer.Write.contents writer)) }
+{
     let Shared { lock, gate } = shared;
     let promise = Serving::of(&reader, &writer, &gate);
     let serving = move || {
@@ -109,6 +122,15 @@ fn start<
         Ok(running) => Some(running),
         Err(_) => None,
     }
+}
+
+/// Why no session was started.
+#[derive(Clone, Copy, Debug, PartialEq, Eq)]
+enum Shortage {
+    /// The source gave no connection.
+    NoConnection,
+    /// No thread could be started for one.
+    NoThread,
 }
 
 /// Accepts a connection, and serves it in a thread of its own.
@@ -124,9 +146,13 @@ fn next_session<
     source: &mut S,
     session: u64,
 ) -> Result<Running<S::Reader, S::Writer, G, L>, Shortage>
-    requires { S.failures source.old + 1 < 2 ^ 64 }
-    ensures started { OnOk result (S.failures source.new ≡ S.failures source.old) }
-    ensures short { IfErr result (λ shortage. S.failures source.new ≡ failures_after (S.failures source.old) (Some shortage)) }
+    requires failures { S.failures source.old + 1 < 2 ^ 64 }
+    requires accepted { S.accepted source.old + 1 < 2 ^ 64 }
+    ensures failures { OnOk result (S.failures source.new ≡ S.failures source.old) }
+    ensures accepted { OnOk result (S.accepted source.new ≡ S.accepted source.old + 1) }
+    ensures next { IfOk result (λ thread. Gives (S.coming source.old) (S.coming source.new) (streams (S.Reader.Read.remaining thread.promise.reader.value) (S.Writer.Write.contents thread.promise.writer.value) ∷ [])) }
+    ensures no_connection { IfErr result (λ why. why ≡ shortage.NoConnection → (S.failures source.new ≡ S.failures source.old + 1) × (S.accepted source.new ≡ S.accepted source.old) × (S.coming source.new ≡ S.coming source.old)) }
+    ensures no_thread { IfErr result (λ why. why ≡ shortage.NoThread → S.failures source.new ≡ S.failures source.old) }
 {
     let (reader, writer) = match source.accept() {
         Ok(connection) => connection,
@@ -140,11 +166,11 @@ fn next_session<
     }
 }
 
-/// The sessions that were started, and why there are fewer than there were to be, if there are.
+/// The sessions that were started, and whether a connection was accepted after them for which no thread could be started.
 #[derive(Drop)]
 struct Started<R: Read, W: Write, G: Gate, L: Ledgers> {
     running: Vec<Running<R, W, G, L>>,
-    shortage: Option<Shortage>,
+    no_thread: bool,
 }
 
 /// Accepts so many connections, and serves each in a thread of its own. There is room for them.
@@ -162,27 +188,36 @@ fn start_all<
     room: Vec<Running<S::Reader, S::Writer, G, L>>,
 ) -> Started<S::Reader, S::Writer, G, L>
     requires failures { S.failures source.old + 1 < 2 ^ 64 }
+    requires accepted { S.accepted source.old + sessions < 2 ^ 64 }
     requires room { sessions ≤ vec_capacity room }
     requires empty { vec_len room ≡ 0 }
-    ensures failures { S.failures source.new ≡ failures_after (S.failures source.old) result.shortage }
     ensures few { vec_len result.running ≤ sessions }
-    ensures all { result.shortage ≡ None → vec_len result.running ≡ sessions }
-    ensures short { IfSome result.shortage (λ _. vec_len result.running < sessions) }
+    ensures failures { result.no_thread ≡ false → FailsIfFewer (vec_len result.running) sessions (S.failures source.old) (S.failures source.new) }
+    ensures accepted { result.no_thread ≡ false → S.accepted source.new ≡ S.accepted source.old + vec_len result.running }
+    ensures lost { result.no_thread ≡ true → S.failures source.new ≡ S.failures source.old }
+    ensures gives { result.no_thread ≡ false → Gives (S.coming source.old) (S.coming source.new) (map (λ thread. streams (S.Reader.Read.remaining thread.promise.reader.value) (S.Writer.Write.contents thread.promise.writer.value)) result.running.items) }
 {
     let mut running = room;
     for session in 0..sessions {
-        let shortage = match next_session(rt, alloc, shared, source, session as u64) {
-            Ok(session) => {
-                running.push_reserved(session);
-                continue;
+        match next_session(rt, alloc, shared, source, session as u64) {
+            Ok(session) => running.push_reserved(session),
+            Err(Shortage::NoConnection) => {
+                return Started {
+                    running,
+                    no_thread: false,
+                };
             }
-            Err(shortage) => Some(shortage),
-        };
-        return Started { running, shortage };
+            Err(Shortage::NoThread) => {
+                return Started {
+                    running,
+                    no_thread: true,
+                };
+            }
+        }
     }
     Started {
         running,
-        shortage: None,
+        no_thread: false,
     }
 }
 
@@ -194,11 +229,12 @@ struct Parted<R: Read, W: Write, L: Ledgers> {
 }
 
 /// A session without its seat, and the shares of the seat.
-fn part<R: Read + Drop, W: Write + Drop, G: Gate, L: Ledgers>(
+fn part<R: Read + Drop, W: Write + Drop, L: Ledgers>(
     served: Served<R, W, L>,
 ) -> (Session<R, W>, Option<Shares<L>>)
-    requires { IsServed G.is_open served }
-    ensures { IsServedBy G.is_open result.0 }
+    ensures process { IsOf served.seat result.0.process }
+    ensures shares { result.1 ≡ option_map (λ s. s.counted) served.seat }
+    ensures session { with_seat served.seat result.0 ≡ served }
 {
     let Served {
         seat,
@@ -238,7 +274,8 @@ fn join_all<Rt: Threads, R: Read + Drop, W: Write + Drop, G: Gate, L: Ledgers>(
     requires sessions { vec_len room.sessions + vec_len running ≤ vec_capacity room.sessions }
     requires shares { vec_len room.shares + vec_len running ≤ vec_capacity room.shares }
     requires empty { vec_len room.sessions ≡ 0 }
-    ensures served { All (IsServedBy G.is_open) result.sessions.items }
+    requires no_shares { vec_len room.shares ≡ 0 }
+    ensures joined { IsJoined G.is_open (map (λ thread. streams (R.remaining thread.promise.reader.value) (W.contents thread.promise.writer.value)) running.items) result.sessions.items result.shares.items }
     ensures all { vec_len result.sessions ≡ vec_len running }
 {
     let Parted {
@@ -246,39 +283,145 @@ fn join_all<Rt: Threads, R: Read + Drop, W: Write + Drop, G: Gate, L: Ledgers>(
         mut shares,
     } = room;
     for thread in running {
-        let (session, counted) = part::<R, W, G, L>(thread.join(rt));
+        let (session, counted) = part(thread.join(rt));
         sessions.push_reserved(session);
-        if let Some(counted) = counted {
-            shares.push_reserved(counted);
+        match counted {
+            Some(counted) => shares.push_reserved(counted),
+            None => {}
         }
     }
     Parted { sessions, shares }
 }
 
-/// What the sessions of a new run share.
+/// Room for all sessions of a run: while they go on, and when they are over.
+#[derive(Drop)]
+struct Rooms<R: Read, W: Write, G: Gate, L: Ledgers> {
+    running: Vec<Running<R, W, G, L>>,
+    ends: Parted<R, W, L>,
+}
+
+/// Makes room for so many sessions.
+fn rooms_for<R: Read + Drop, W: Write + Drop, G: Gate, L: Ledgers>(
+    alloc: Global,
+    sessions: usize,
+) -> Result<Rooms<R, W, G, L>, AllocError>
+    ensures running { IfOk result (λ rooms. (vec_len rooms.running ≡ 0) × (sessions ≤ vec_capacity rooms.running)) }
+    ensures ends { IfOk result (λ rooms. (vec_len rooms.ends.sessions ≡ 0) × (sessions ≤ vec_capacity rooms.ends.sessions)) }
+    ensures shares { IfOk result (λ rooms. (vec_len rooms.ends.shares ≡ 0) × (sessions ≤ vec_capacity rooms.ends.shares)) }
+{
+    let running = Vec::with_capacity(alloc, sessions)?;
+    Ok(Rooms {
+        running,
+        ends: Parted {
+            sessions: Vec::with_capacity(alloc, sessions)?,
+            shares: Vec::with_capacity(alloc, sessions)?,
+        },
+    })
+}
+
+/// What the sessions of a new run share, and the end of its ring that gives its records to the trace.
 fn shared_by<G: Gate, L: Ledgers>(
     alloc: Global,
     limits: Limits,
     blanks: Blanks,
     gate: G,
-) -> Result<Shared<G, L>, AllocError>
+) -> Result<(Shared<G, L>, TraceEnd), AllocError>
     requires ledgers { blanks ≡ L.names }
     requires limits { L.limits ≡ Some limits }
+    ensures { IfOk result (λ pair. received pair.1 ≡ []) }
 {
-    Ok(Shared {
-        lock: Arc::new(alloc, SystemLock::new(alloc, limits, blanks)?)?,
+    let (lock, end) = SystemLock::new(alloc, limits, blanks)?;
+    let shared = Shared {
+        lock: Arc::new(alloc, lock)?,
         gate: Arc::new(alloc, gate)?,
-    })
+    };
+    Ok((shared, end))
 }
 
-/// Runs so many sessions, each in a thread of its own. An answer is written once the gate lets it through. When all sessions have ended,
-/// the run is closed, and what their seats counted is gathered. Where accepting fails, or a thread cannot be started, the sessions that
-/// were started are served to their end.
-pub fn run_sessions<
+/// Sessions that have ended, and their run, which is closed.
+#[derive(Drop)]
+struct Ended<R: Read, W: Write, L: Ledgers> {
+    closed: Closed<L>,
+    parted: Parted<R, W, L>,
+}
+
+/// Accepts so many connections, serves each in a thread of its own, and closes the run when all have ended. In any case no thread goes
+/// on then, and no record is put into the ring any more.
+fn serve_all<
     Rt: Threads + Wait + Copy + Send + 'static,
     S: Source + Send + 'static,
     G: Gate + Send + Sync + 'static,
     L: Ledgers + Send + Sync + 'static,
+>(
+    rt: Rt,
+    alloc: Global,
+    shared: Shared<G, L>,
+    source: &mut S,
+    sessions: usize,
+    rooms: Rooms<S::Reader, S::Writer, G, L>,
+) -> Result<Ended<S::Reader, S::Writer, L>, RunFault>
+    requires failures { S.failures source.old + 1 < 2 ^ 64 }
+    requires accepted { S.accepted source.old + sessions < 2 ^ 64 }
+    requires running { (vec_len rooms.running ≡ 0) × (sessions ≤ vec_capacity rooms.running) }
+    requires ends { (vec_len rooms.ends.sessions ≡ 0) × (sessions ≤ vec_capacity rooms.ends.sessions) }
+    requires shares { (vec_len rooms.ends.shares ≡ 0) × (sessions ≤ vec_capacity rooms.ends.shares) }
+    ensures failures { IfOk result (λ ended. FailsIfFewer (vec_len ended.parted.sessions) sessions (S.failures source.old) (S.failures source.new)) }
+    ensures accepted { IfOk result (λ ended. S.accepted source.new ≡ S.accepted source.old + vec_len ended.parted.sessions) }
+    ensures few { IfOk result (λ ended. vec_len ended.parted.sessions ≤ sessions) }
+    ensures ended { IfOk result (λ ended. HasEnded G.is_open L.limits (S.coming source.old) (S.coming source.new) ended.closed.book ended.closed.house ended.parted.sessions.items ended.parted.shares.items) }
+    ensures lost { IfErr result (λ fault. fault ≡ run_fault.NoThread → S.failures source.new ≡ S.failures source.old) }
+{
+    let Rooms { running, ends } = rooms;
+    let started = start_all(rt, alloc, &shared, source, sessions, running);
+    let Started { running, no_thread } = started;
+    let parted = join_all(&rt, running, ends);
+    if no_thread {
+        return Err(RunFault::NoThread);
+    }
+    let closed = close(unshared(&rt, shared.lock).take().into_book())?;
+    Ok(Ended { closed, parted })
+}
+
+/// Compares and gathers what sessions and their trace left.
+fn report_of<R: Read + Drop, W: Write + Drop, L: Ledgers, K: Sink + Drop>(
+    alloc: Global,
+    ended: Ended<R, W, L>,
+    done: Done<K>,
+) -> Result<Report<R, W, K>, RunFault>
+    ensures run { IfOk result (λ report. IsRunOf ended.closed.book.limits report.records report.bytes_in report.bytes_out ended.closed.book ended.closed.house ended.parted.shares.items (map (λ s. held_by s.process) ended.parted.sessions.items) (map arc_value done.traced.received.items)) }
+    ensures ends { IfOk result (λ report. (report.ends ≡ ended.parted.sessions) × (report.sessions ≡ vec_len ended.parted.sessions)) }
+    ensures trace { IfOk result (λ report. (report.traced ≡ done.traced) × (report.sink ≡ done.sink)) }
+    ensures fault { IfErr result (λ fault. fault ≡ run_fault.NoThread → ⊥) }
+{
+    let Ended { closed, parted } = ended;
+    let Parted {
+        sessions: ends,
+        shares,
+    } = parted;
+    let Done { traced, sink } = done;
+    let sums = end_run(alloc, closed, ends.as_slice(), shares, &traced)?;
+    Ok(Report {
+        sessions: ends.len(),
+        records: sums.records,
+        bytes_in: sums.bytes_in,
+        bytes_out: sums.bytes_out,
+        traced,
+        ends,
+        sink,
+    })
+}
+
+/// Runs so many sessions, each in a thread of its own, and a thread beside them that writes the trace into a sink. An answer is written
+/// once the gate lets it through. When all sessions have ended, the run is closed, what their seats counted is gathered, and receipts,
+/// records and what the trace thread received are compared. Where accepting fails, the sessions before are served to their end, and the
+/// report has fewer. Where a thread cannot be started they are too, but there is no report. Where the sink fails, the report tells it. In
+/// any case no thread goes on then.
+pub fn run_sessions<
+    Rt: Threads + Wait + Clock + Copy + Send + 'static,
+    S: Source + Send + 'static,
+    G: Gate + Send + Sync + 'static,
+    L: Ledgers + Send + Sync + 'static,
+    K: Sink + Send + Drop + 'static,
 >(
     rt: Rt,
     alloc: Global,
@@ -287,35 +430,29 @@ pub fn run_sessions<
     limits: Limits,
     blanks: Blanks,
     gate: G,
-) -> Result<Report<S::Reader, S::Writer>, RunFault>
+    sink: K,
+) -> Result<Report<S::Reader, S::Writer, K>, RunFault>
     requires failures { S.failures source.old + 1 < 2 ^ 64 }
+    requires accepted { S.accepted source.old + sessions < 2 ^ 64 }
     requires ledgers { blanks ≡ L.names }
     requires limits { L.limits ≡ Some limits }
-    ensures failures { IfOk result (λ report. S.failures source.new ≡ failures_after (S.failures source.old) report.shortage) }
-    ensures run { IfOk result (λ report. IsRunOf limits report.records report.bytes_in report.bytes_out (map (λ s. held_by s.process) report.ends.items)) }
-    ensures few { IfOk result (λ report. vec_len report.ends ≤ sessions) }
-    ensures all { IfOk result (λ report. report.shortage ≡ None → vec_len report.ends ≡ sessions) }
-    ensures short { IfOk result (λ report. IfSome report.shortage (λ _. vec_len report.ends < sessions)) }
-    ensures served { IfOk result (λ report. All (IsServedBy G.is_open) report.ends.items) }
+    requires sound { K.is_sound sink ≡ true }
+    requires few { K.failures sink + 1 < 2 ^ 64 }
+    ensures failures { IfOk result (λ report. FailsIfFewer report.sessions sessions (S.failures source.old) (S.failures source.new)) }
+    ensures accepted { IfOk result (λ report. S.accepted source.new ≡ S.accepted source.old + report.sessions) }
+    ensures few { IfOk result (λ report. (report.sessions ≡ vec_len report.ends) × (report.sessions ≤ sessions)) }
+    ensures run { IfOk result (λ report. IsRun (record { always = G.is_open; limits_are = limits; coming = S.coming source.old; later = S.coming source.new; records = report.records; taken = report.bytes_in; given = report.bytes_out; ends = report.ends.items; received = map arc_value report.traced.received.items; trace = record { base = K.contents sink; now = K.contents report.sink; before = K.failures sink; after = K.failures report.sink; is_synced = K.is_synced report.sink; whole = report.traced.whole; bytes = report.traced.bytes; fault = report.traced.fault } })) }
+    ensures lost { IfErr result (λ fault. fault ≡ run_fault.NoThread → S.failures source.new ≡ S.failures source.old) }
 {
-    let shared: Shared<G, L> = shared_by(alloc, limits, blanks, gate)?;
-    let room = Vec::with_capacity(alloc, sessions)?;
-    let room_for_ends = Parted {
-        sessions: Vec::with_capacity(alloc, sessions)?,
-        shares: Vec::with_capacity(alloc, sessions)?,
+    let rooms = rooms_for(alloc, sessions)?;
+    let (shared, end) = shared_by::<G, L>(alloc, limits, blanks, gate)?;
+    let traces = match start_trace(rt, alloc, end, sink) {
+        Some(traces) => traces,
+        None => return Err(RunFault::NoThread),
     };
-    let started = start_all(rt, alloc, &shared, source, sessions, room);
-    let Parted {
-        sessions: ends,
-        shares,
-    } = join_all(&rt, started.running, room_for_ends);
-    let book = unshared(&rt, shared.lock).take().into_book();
-    let sums = end_run(alloc, book, ends.as_slice(), shares)?;
-    Ok(Report {
-        records: sums.records,
-        bytes_in: sums.bytes_in,
-        bytes_out: sums.bytes_out,
-        ends,
-        shortage: started.shortage,
-    })
+    let ended = serve_all(rt, alloc, shared, source, sessions, rooms);
+    let done = traces.join(&rt);
+    let ended = ended?;
+    let report = report_of(alloc, ended, done)?;
+    Ok(report)
 }

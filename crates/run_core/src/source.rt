@@ -1,6 +1,7 @@
 //! Where the connections of a run come from.
 
-ghost use Rattle.std.specs.Prelude.{◌≡◌, ◌+◌, ◌<◌, ◌^◌, ℕ, OnOk, OnErr};
+ghost use Rattle.std.specs.Prelude.{◌≡◌, ◌+◌, ◌<◌, ◌^◌, ◌∷◌, [], ℕ, OnOk, OnErr, IfOk};
+ghost use Rattle.run_core.specs.Run.{Gives, IsBlank, streams};
 
 use std::io::{Read, Write};
 
@@ -14,13 +15,26 @@ pub trait Source {
 
     type Writer: Write + Send + Drop + 'static;
 
+    ghost use Rattle.std.specs.Prelude.{Option, List};
+    ghost use Rattle.run_core.specs.Run.{Streams};
+
+    /// How many times it gave no connection.
     ghost failures: { Self → ℕ };
 
-    /// The next connection, for which it may wait.
+    /// How many connections it gave.
+    ghost accepted: { Self → ℕ };
+
+    /// What the connections hold that it has still to give, in order; none where that is not known, as of sockets.
+    ghost coming: { Self → Option (List Streams) };
+
+    /// The next connection, for which it may wait. It is the next of those to come, and its writer holds nothing.
     fn accept(&mut self) -> Result<(Self::Reader, Self::Writer), AcceptFailed>
-        requires { failures self.old + 1 < 2 ^ 64 }
-        ensures ok { OnOk result (failures self.new ≡ failures self.old) }
-        ensures err { OnErr result (failures self.new ≡ failures self.old + 1) };
+        requires failures { failures self.old + 1 < 2 ^ 64 }
+        requires accepted { accepted self.old + 1 < 2 ^ 64 }
+        ensures ok { OnOk result ((failures self.new ≡ failures self.old) × (accepted self.new ≡ accepted self.old + 1)) }
+        ensures next { IfOk result (λ connection. Gives (coming self.old) (coming self.new) (streams (Self.Reader.Read.remaining connection.0) (Self.Writer.Write.contents connection.1) ∷ [])) }
+        ensures blank { IfOk result (λ connection. IsBlank (Self.Writer.Write.contents connection.1)) }
+        ensures err { OnErr result ((failures self.new ≡ failures self.old + 1) × (accepted self.new ≡ accepted self.old) × (coming self.new ≡ coming self.old)) };
 
     /// How many times a connection could not be accepted.
     fn failures(&self) -> u64

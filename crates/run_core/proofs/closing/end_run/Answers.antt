@@ -1,21 +1,24 @@
+use Rattle.std.proofs.Common.{List, ◌∷◌, [], ◌++◌, map, ap, refl, subst}
+use Rattle.std.specs.Arc.{arc_value}
+use Rattle.call_types.specs.declared.act.Record.{Record}
+use Rattle.run_core.specs.Run.{AreAll, held_in}
+use Rattle.run_core.proofs.ReceiptLemmas.{received_all}
 use Rattle.run_core.proofs.closing.end_run.Goals as goal
 
-pub returns-in-None : goal.returns-in-None
-returns-in-None g c =
+pub returns-in-None-clause-run : goal.returns-in-None-clause-run
+returns-in-None-clause-run g c =
     let sums = c.in_ok-sums.ensures in
-    let whole = c.in_ok-closed.ensures.all c.in-None.is in
+    let history = c.args.closed.book.history in
+    let held = map g.T.HasReceipts.held c.args.holders.now ++ held_in c.args.closed.house ∷ [] in
+    let received = map arc_value c.args.traced.now.received.items in
+    let all : AreAll history held received = subst (λ (rs : List Record). AreAll history held rs) (ap (map arc_value) c.as_slice-received.ensures.value) (c.in_ok-compared.ensures.all c.in-None.is) in
     record {
-      run = record {
-        book = c.close_and_compare.new.book;
-        limits_are = c.close_and_compare.ensures.limits;
-        is_legal = c.in_ok-closed.ensures.is_legal;
-        closed = c.in_ok-closed.ensures.closed;
-        records_are = sums.records;
-        taken_is = sums.bytes_in;
-        given_is = sums.bytes_out;
-      };
-      shares = c.in_ok-closed.closed.shares.items;
-      gathered = record { whole = sums.all; records_are = sums.shares_records; taken_is = sums.shares_bytes_in; given_is = sums.shares_bytes_out };
-      house = whole.house;
-      all = whole.all;
+      limits_are = refl;
+      is_legal = c.in_ok-compared.ensures.is_legal;
+      records_are = sums.records;
+      taken_is = sums.bytes_in;
+      given_is = sums.bytes_out;
+      gathered = rw (← c.in_ok-compared.ensures.shares) (record { whole = sums.all; records_are = sums.shares_records; taken_is = sums.shares_bytes_in; given_is = sums.shares_bytes_out });
+      all = all;
+      received_are = received_all history held received all;
     }

@@ -1,27 +1,19 @@
-use Rattle.std.proofs.Common.{◌∙◌, ◌++◌, ◌≡◌, ap, sym, length, map}
-use Rattle.run_core.specs.Receipts.{GoodAt, IsBefore, IsSound, named, wanted}
-use Rattle.run_core.proofs.ReceiptLemmas.{good_joined, good_parted, neither_holds}
+use Rattle.std.proofs.Common.{◌++◌, map}
+use Rattle.std.specs.Arc.{arc_value}
+use Rattle.run_core.specs.Receipts.{Agrees, IsBefore, IsReceivedAt, IsSound}
+use Rattle.run_core.proofs.ReceiptLemmas.{neither_holds}
 use Rattle.run_core.proofs.comparison.compare.Goals as goal
 
--- below all places all is sound
-pub returns-clause-sound : goal.returns-clause-sound
-returns-clause-sound g c = λ p below.
+-- below both places all agrees
+pub returns-clause-agree : goal.returns-clause-agree
+returns-clause-agree g c = λ p below.
     let both = c.lowest.ensures.both p below in
-    let bad = c.lowest-bad.ensures.both p both.1 in
-    record {
-      good = good_joined _ p _ _ (c.least_bad_of.ensures.good p bad.0) (c.least_bad_of-2.ensures.good p bad.1);
-      covered = c.uncovered-uncovered.ensures.covered p both.0 ∙ ap (λ len. wanted len p) (c.as_mut_slice.ensures.len ∙ (c.in_ok-marks.ensures.len ∙ c.counts-records.ensures.records));
-    }
+    record { sound = c.in_ok-unsound.ensures.sound p both.0; received_is = c.first_difference.ensures.same p both.1 }
 
--- the lowest of the places that are not named as wanted and of those of a receipt that is not good
+-- the lower of a place that is not sound and of one that was not received
 pub returns-clause-broken : goal.returns-clause-broken
 returns-clause-broken g c =
-    neither_holds _ _ _ (λ q. named q (map g.T.HasReceipts.held c.args.holders.now ++ map g.U.HasReceipts.held c.args.others.now) ≡ wanted (length c.as_mut_slice.result.now) q)
-    (λ q. GoodAt c.args.book.now.history q (map g.T.HasReceipts.held c.args.holders.now ++ map g.U.HasReceipts.held c.args.others.now))
-    (λ q. IsSound c.args.book.now.history (map g.T.HasReceipts.held c.args.holders.now ++ map g.U.HasReceipts.held c.args.others.now) q)
-    (λ q. IsBefore q c.uncovered-uncovered.result)
-    (λ q sound. sound.covered ∙ ap (λ len. wanted len q) (sym (c.as_mut_slice.ensures.len ∙ (c.in_ok-marks.ensures.len ∙ c.counts-records.ensures.records))))
-    (λ q sound. sound.good) c.lowest.ensures.either c.uncovered-uncovered.ensures.uncovered
-    (neither_holds _ _ _ (λ q. GoodAt c.args.book.now.history q (map g.T.HasReceipts.held c.args.holders.now)) (λ q. GoodAt c.args.book.now.history q (map g.U.HasReceipts.held c.args.others.now))
-    (λ q. GoodAt c.args.book.now.history q (map g.T.HasReceipts.held c.args.holders.now ++ map g.U.HasReceipts.held c.args.others.now)) (λ q. IsBefore q c.least_bad_of.result)
-    (λ q all. (good_parted _ q _ _ all).0) (λ q all. (good_parted _ q _ _ all).1) c.lowest-bad.ensures.either c.least_bad_of.ensures.bad c.least_bad_of-2.ensures.bad)
+    let held = map g.T.HasReceipts.held c.args.holders.now ++ map g.U.HasReceipts.held c.args.others.now in
+    let received = map arc_value c.args.received.now in
+    neither_holds _ _ _ (λ q. IsSound c.args.book.now.history held q) (λ q. IsReceivedAt c.args.book.now.history received q) (λ q. Agrees c.args.book.now.history held received q) (λ q. IsBefore q c.in_ok-unsound.unsound)
+    (λ q all. all.sound) (λ q all. all.received_is) c.lowest.ensures.either c.in_ok-unsound.ensures.broken c.first_difference.ensures.differs

@@ -1,11 +1,11 @@
-use Rattle.std.proofs.Common.{arith, rules}
-use Rattle.std.proofs.lemmas.List.Elements.{All-push}
-use Rattle.run_core.specs.Run.{IsServedBy}
+use Rattle.std.proofs.Common.{◌∙◌, ◌++◌, arith, rules, ap, sym, map-id, List}
+use Rattle.std.proofs.lemmas.Iterator.Adapters.{YieldsList-from_vec}
+use Rattle.std.proofs.lemmas.Iterator.Consumers.{YieldsList-end}
+use Rattle.std.proofs.lemmas.List.{append-nil}
+use Rattle.byte_ledger.specs.Counted.{Counted}
+use Rattle.run_core.specs.Run.{streams}
+use Rattle.run_core.proofs.JoinLemmas.{joined_all, joined_next, shares_some, shares_none}
 use Rattle.run_core.proofs.sessions.join_all.Goals as goal
-
--- each thread kept its promise
-pub part-session-requires : goal.part-session-requires
-part-session-requires g c = (g.R.Read.remaining c.in-Some.thread.promise.reader.value, g.W.Write.contents c.in-Some.thread.promise.writer.value, c.join.ensures)
 
 -- one session more was served, and one fewer is left, with shares or without
 pub loop-thread-preserved-in-Some-counted : goal.loop-thread-preserved-in-Some-counted
@@ -20,7 +20,9 @@ loop-thread-preserved-in-Some-counted g c =
       count = let all = before.count in omega arith;
       room = let room = before.room in omega arith;
       shares_room = let room = before.shares_room in omega arith;
-      served = rw c.push_reserved.ensures.items (All-push (IsServedBy g.G.Gate.is_open) c.loop-thread.sessions.items c.part-session.result.0 before.served c.part-session.ensures);
+      joined = joined_next g.G.Gate.is_open (λ thread. g.R.Read.remaining thread.promise.reader.value) (λ thread. g.W.Write.contents thread.promise.writer.value) c.loop-thread.yielded c.in-Some.thread c.loop-thread.sessions.items _ c.loop-thread.shares.items _ c.join.result.seat c.part-session.result.0 _
+          before.joined c.part-session.ensures.process c.in-Some.thread.promise.blank c.part-session.ensures.session c.join.ensures c.push_reserved.ensures.items
+          (c.push_reserved-in-Some-counted.ensures.items ∙ ap (λ (l : List Counted). c.loop-thread.shares.items ++ l) (sym (shares_some c.join.result.seat c.part-session.result.1 c.in-Some-counted.counted c.part-session.ensures.shares c.in-Some-counted.is)));
       goes = search rules;
       ends = search rules;
     }
@@ -35,7 +37,15 @@ loop-thread-preserved g c =
       count = let all = before.count in omega arith;
       room = let room = before.room in omega arith;
       shares_room = let room = before.shares_room in omega arith;
-      served = rw c.push_reserved.ensures.items (All-push (IsServedBy g.G.Gate.is_open) c.loop-thread.sessions.items c.part-session.result.0 before.served c.part-session.ensures);
+      joined = joined_next g.G.Gate.is_open (λ thread. g.R.Read.remaining thread.promise.reader.value) (λ thread. g.W.Write.contents thread.promise.writer.value) c.loop-thread.yielded c.in-Some.thread c.loop-thread.sessions.items _ c.loop-thread.shares.items _ c.join.result.seat c.part-session.result.0 _
+          before.joined c.part-session.ensures.process c.in-Some.thread.promise.blank c.part-session.ensures.session c.join.ensures c.push_reserved.ensures.items
+          (sym (append-nil c.loop-thread.shares.items) ∙ ap (λ (l : List Counted). c.loop-thread.shares.items ++ l) (sym (shares_none c.join.result.seat c.part-session.result.1 c.part-session.ensures.shares c.in-None-counted.is)));
       goes = search rules;
       ends = search rules;
     }
+
+pub returns-clause-joined : goal.returns-clause-joined
+returns-clause-joined g c =
+    let all = YieldsList-from_vec c.args.running.items c.into_iter-thread-iterator.ensures.into_iter_gives.0 (c.into_iter-thread-iterator.ensures.into_iter_gives.1 ∙ c.args.running.ok.0) in
+    let end = YieldsList-end all c.loop-thread.yielded c.loop-thread.thread-iterator c.loop-thread.yielded_by c.next.result c.next.new.self c.in-None.is c.next.ensures.steps in
+    joined_all g.G.Gate.is_open (λ thread. streams (g.R.Read.remaining thread.promise.reader.value) (g.W.Write.contents thread.promise.writer.value)) c.loop-thread.yielded c.args.running.items _ _ (sym (map-id c.loop-thread.yielded) ∙ end.0) c.loop-thread.invariant.joined

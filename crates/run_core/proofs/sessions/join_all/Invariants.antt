@@ -1,6 +1,6 @@
-use Rattle.std.proofs.Common.{◌≡◌, ◌+◌, ◌≤◌, All, vec_len, vec_capacity}
+use Rattle.std.proofs.Common.{◌≡◌, ◌+◌, ◌≤◌, map, vec_len, vec_capacity}
 use Rattle.std.specs.Vec.Iter.{into_iter_len}
-use Rattle.run_core.specs.Run.{IsServedBy}
+use Rattle.run_core.specs.Run.{IsJoined, streams}
 use Rattle.run_core.proofs.sessions.join_all.Given as goal
 
 -- those that were joined were served, and there is room for the others
@@ -9,7 +9,7 @@ invariant-loop-thread g l = record {
   count : vec_len l.sessions + into_iter_len l.thread-iterator ≡ vec_len l.fn.running;
   room : vec_len l.sessions + into_iter_len l.thread-iterator ≤ vec_capacity l.sessions;
   shares_room : vec_len l.shares + into_iter_len l.thread-iterator ≤ vec_capacity l.shares;
-  served : All (IsServedBy g.G.Gate.is_open) l.sessions.items;
+  joined : IsJoined g.G.Gate.is_open (map (λ thread. streams (g.R.Read.remaining thread.promise.reader.value) (g.W.Write.contents thread.promise.writer.value)) l.yielded) l.sessions.items l.shares.items;
   goes : (goal.iterator-loop-thread g).can_next l.thread-iterator;
   ends : (goal.iterator-loop-thread g).is_finite l.thread-iterator;
 }

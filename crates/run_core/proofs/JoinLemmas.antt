@@ -1,0 +1,122 @@
+-- One session more.
+use Rattle.std.proofs.Common.{◌≡◌, ℕ, Bool, List, [], ◌∷◌, ◌++◌, map, Option, None, Some, refl, sym, ap, subst, ◌∙◌, append_assoc}
+use Rattle.std.specs.List.{AllZip}
+use Rattle.std.specs.Option.{option_map}
+use Rattle.std.proofs.lemmas.List.{map-append}
+use Rattle.std.proofs.lemmas.List.Elements.{filter_map-append}
+use Rattle.byte_ledger.specs.Counted.{Counted}
+use Rattle.record_book.specs.Seat.{SeatState}
+use Rattle.session_core.specs.Served.{SessionState}
+use Rattle.call_types.specs.declared.limits.Limits.{Limits}
+use Rattle.run_core.specs.Receipts.{held_by}
+use Rattle.run_core.specs.Traced.{TraceTold, IsTold}
+use Rattle.record_book.specs.Book.{BookState}
+use Rattle.call_types.specs.declared.act.Record.{Record}
+use Rattle.run_core.specs.Run.{Connection, Gives, HasEnded, IsBlank, IsJoined, IsOf, IsRun, IsRunOf, ReportedSession, RunTold, ServesConnection, ServesEach, ServesInRun, Streams, at_start, counted_by, streams, with_seat}
+
+-- ---- what a source gives
+
+-- nothing was given
+pub gives_none : (coming : Option (List Streams)) → Gives coming coming []
+gives_none None = tt
+gives_none (Some coming) = refl
+
+-- connections were given, and then others
+gives_more : (a b c : Option (List Streams)) (first next : List Streams) → Gives a b first → Gives b c next → Gives a c (first ++ next)
+gives_more None b c first next p q = tt
+gives_more (Some x) None c first next p q = absurd p
+gives_more (Some x) (Some y) None first next p q = absurd q
+gives_more (Some x) (Some y) (Some z) first next p q = p ∙ ap (λ l. first ++ l) q ∙ sym (append_assoc first next z)
+
+-- one thread more was started, for the connection that was given next
+pub gives_next : {T : Type 0} (connection : T → Streams) (a b c : Option (List Streams)) (items new_items : List T) (t : T)
+    → Gives a b (map connection items) → Gives b c (connection t ∷ []) → new_items ≡ items ++ t ∷ [] → Gives a c (map connection new_items)
+gives_next {T} connection a b c items new_items t first next more =
+    let all = gives_more a b c (map connection items) (connection t ∷ []) first next in
+    let told = subst (λ (given : List Streams). Gives a c given) (sym (map-append connection items (t ∷ []))) all in
+    subst (λ (ts : List T). Gives a c (map connection ts)) (sym more) told
+
+-- ---- what was joined
+
+-- two lists that go along, with one element more each
+along_more : {A B : Type 0} (R : A → B → Type 0) (xs : List A) (ys : List B) (x : A) (y : B) → AllZip R xs ys → R x y → AllZip R (xs ++ x ∷ []) (ys ++ y ∷ [])
+along_more R [] [] x y all one = (one, tt)
+along_more R [] (b ∷ bs) x y all one = absurd all
+along_more R (a ∷ others) [] x y all one = absurd all
+along_more R (a ∷ others) (b ∷ bs) x y all one = (all.0, along_more R others bs x y all.1 one)
+
+-- the shares of a seat, if there is one
+abbrev pub shares_of : Option SeatState → List Counted
+shares_of None = []
+shares_of (Some seat) = seat.counted ∷ []
+
+pub shares_some : (seat : Option SeatState) (told : Option Counted) (counted : Counted) → told ≡ option_map (λ (s : SeatState). s.counted) seat → told ≡ Some counted → shares_of seat ≡ counted ∷ []
+shares_some None told counted is some = absurd cc
+shares_some (Some seat) told counted is some = let same : seat.counted ≡ counted = cc in ap (λ (c : Counted). c ∷ []) same
+
+pub shares_none : (seat : Option SeatState) (told : Option Counted) → told ≡ option_map (λ (s : SeatState). s.counted) seat → told ≡ None → shares_of seat ≡ []
+shares_none None told is none = refl
+shares_none (Some seat) told is none = absurd cc
+
+counted_of_one : (c : Connection) (seat : Option SeatState) → c.seat ≡ seat → counted_by (c ∷ []) ≡ shares_of seat
+counted_of_one c None is = rw is refl
+counted_of_one c (Some seat) is = rw is refl
+
+counted_more : (connections : List Connection) (c : Connection) → counted_by (connections ++ c ∷ []) ≡ counted_by connections ++ shares_of c.seat
+counted_more connections c = filter_map-append (λ (c : Connection). option_map (λ (s : SeatState). s.counted) c.seat) connections (c ∷ []) ∙ ap (λ l. counted_by connections ++ l) (counted_of_one c c.seat refl)
+
+-- one session more, with these shares of its seat
+joined_more : (always : Bool) (told : List Streams) (sessions : List ReportedSession) (shares new_shares : List Counted) (c : Connection) (s : ReportedSession)
+    → IsJoined always told sessions shares → ServesConnection always c s → new_shares ≡ shares ++ shares_of c.seat
+    → IsJoined always (told ++ at_start c ∷ []) (sessions ++ s ∷ []) new_shares
+joined_more always told sessions shares new_shares c s h one are = record {
+  connections = h.connections ++ c ∷ [];
+  told_are = map-append at_start h.connections (c ∷ []) ∙ ap (λ l. l ++ at_start c ∷ []) h.told_are;
+  each = along_more (ServesConnection always) h.connections sessions c s h.each one;
+  shares_are = are ∙ (ap (λ l. l ++ shares_of c.seat) h.shares_are ∙ sym (counted_more h.connections c));
+}
+
+-- the next thread was joined
+pub joined_next : {T : Type 0} (always : Bool) (reader writer : T → Option (List ℕ)) (yielded : List T) (thread : T)
+    (sessions new_sessions : List ReportedSession) (shares new_shares : List Counted) (seat : Option SeatState) (s : ReportedSession) (served : SessionState)
+    → IsJoined always (map (λ t. streams (reader t) (writer t)) yielded) sessions shares → IsOf seat s.process → IsBlank (writer thread) → with_seat seat s ≡ served → ServesInRun always (reader thread) (writer thread) served
+    → new_sessions ≡ sessions ++ s ∷ [] → new_shares ≡ shares ++ shares_of seat
+    → IsJoined always (map (λ t. streams (reader t) (writer t)) (yielded ++ thread ∷ [])) new_sessions new_shares
+joined_next {T} always reader writer yielded thread sessions new_sessions shares new_shares seat s served h of blank same serves more shares_more =
+    let c : Connection = record { from = reader thread; base = writer thread; seat = seat } in
+    let one : ServesConnection always c s = record { process_is = of; blank = blank; serves = subst (ServesInRun always (reader thread) (writer thread)) (sym same) serves } in
+    let all = joined_more always (map (λ t. streams (reader t) (writer t)) yielded) sessions shares new_shares c s h one shares_more in
+    let told = subst (λ (ss : List ReportedSession). IsJoined always (map (λ t. streams (reader t) (writer t)) yielded ++ streams (reader thread) (writer thread) ∷ []) ss new_shares) (sym more) all in
+    subst (λ (ts : List Streams). IsJoined always ts new_sessions new_shares) (sym (map-append (λ (t : T). streams (reader t) (writer t)) yielded (thread ∷ []))) told
+
+-- all threads were joined
+pub joined_all : {T : Type 0} (always : Bool) (connection : T → Streams) (yielded all : List T) (sessions : List ReportedSession) (shares : List Counted)
+    → yielded ≡ all → IsJoined always (map connection yielded) sessions shares → IsJoined always (map connection all) sessions shares
+joined_all {T} always connection yielded all sessions shares is h = subst (λ (ts : List T). IsJoined always (map connection ts) sessions shares) is h
+
+-- ---- the run
+
+-- what was gathered of the seats of these sessions, and of their trace
+pub run_of : (told : RunTold) (limits : Option Limits) (book : BookState) (house : SeatState) (ends : List ReportedSession) (shares : List Counted) (received : List Record) (trace : TraceTold)
+    → told.ends ≡ ends → told.received ≡ received → told.trace ≡ trace → limits ≡ Some told.limits_are
+    → HasEnded told.always limits told.coming told.later book house ends shares
+    → IsRunOf book.limits told.records told.taken told.given book house shares (map (λ s. held_by s.process) ends) received
+    → IsTold trace received
+    → IsRun told
+run_of told limits book house ends shares received trace those got traced within ended run written =
+    let same : book.limits ≡ told.limits_are = (let known = ended.limits_are in let given = ended.closing.limits_are in cc) in
+    let held = map (λ s. held_by s.process) ends in
+    let limited = subst (λ (l : Limits). IsRunOf l told.records told.taken told.given book house shares held received) same run in
+    let counted = subst (λ (cs : List Counted). IsRunOf told.limits_are told.records told.taken told.given book house cs held received) ended.joined.shares_are limited in
+    let of_those = subst (λ (es : List ReportedSession). IsRunOf told.limits_are told.records told.taken told.given book house (counted_by ended.joined.connections) (map (λ s. held_by s.process) es) received) (sym those) counted in
+    record {
+      connections = ended.joined.connections;
+      gives = subst (λ (ts : List Streams). Gives told.coming told.later ts) (sym ended.joined.told_are) ended.gives;
+      each = subst (λ (es : List ReportedSession). ServesEach told.always ended.joined.connections es) (sym those) ended.joined.each;
+      before = ended.before;
+      book = book;
+      house = house;
+      closing = ended.closing;
+      run = subst (λ (rs : List Record). IsRunOf told.limits_are told.records told.taken told.given book house (counted_by ended.joined.connections) (map (λ s. held_by s.process) told.ends) rs) (sym got) of_those;
+      trace = subst (λ (t : TraceTold). IsTold t book.history) (sym traced) (subst (λ (rs : List Record). IsTold trace rs) run.received_are written);
+    }

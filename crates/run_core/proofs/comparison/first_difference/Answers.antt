@@ -1,0 +1,16 @@
+use Rattle.std.proofs.Common.{◌≤◌, ◌≡◌, map, length, arith, rules, inl, inr}
+use Rattle.std.specs.Arc.{arc_value}
+use Rattle.std.proofs.lemmas.Bool.{cases_lt}
+use Rattle.std.proofs.lemmas.List.{length-map}
+use Rattle.run_core.proofs.ReceiptLemmas.{received_past}
+use Rattle.run_core.proofs.comparison.first_difference.Goals as goal
+
+-- no place so far differs, and both lists have ended
+pub returns-clause-same : goal.returns-clause-same
+returns-clause-same g c = λ p below.
+    let most : (c.counts-records.result.records ≤ c.max-place-end.result) × (length c.args.received.now ≤ c.max-place-end.result) = search rules in
+    let long : length (map arc_value c.args.received.now) ≡ length c.args.received.now = length-map c.args.received.now arc_value in
+    elim (cases_lt p c.max-place-end.result) [
+      | inl before ↦ c.loop-place.invariant p (omega (arith, before))
+      | inr past ↦ received_past _ _ _ c.max-place-end.result p c.counts-records.ensures.records most.0 (rw long most.1) past
+    ]
