@@ -1,6 +1,7 @@
 //! Sessions of one run go on side by side, each answer is written once its gate lets it through, and no lock is held meanwhile.
 
-ghost use Rattle.std.specs.Prelude.{◌≡◌, ◌≤◌, ◌+◌, ◌<◌, ◌^◌, Some, length};
+ghost use Rattle.std.specs.Prelude.{◌≡◌, ◌≤◌, ◌+◌, ◌<◌, ◌^◌, All, Some, length};
+ghost use Rattle.run_core.specs.Run.{IsBlank};
 
 use byte_ledger::ledgers::{Blanks, Ledgers};
 use call_types::call::Call;
@@ -12,7 +13,7 @@ use run_core::sessions::run_sessions;
 use run_core::source::{AcceptFailed, Source};
 use session_core::end::End;
 use session_core::gate::{Gate, OpenGate};
-use session_core::memory::{Manner, MemoryReader, MemoryWriter};
+use session_core::memory::{Manner as StreamManner, MemoryReader, MemoryWriter};
 use std::alloc::{AllocError, Global};
 use std::io::{Error, ErrorKind, Read, Write};
 use std::marker::Brand;
@@ -20,7 +21,11 @@ use std::sync::atomic::{AtomicBool, AtomicU64, Ordering};
 use std::sync::{Arc, Wait};
 use std::test::Fail;
 use std::thread::Threads;
+use std::time::Clock;
 use std::{io, thread};
+use trace_writer::memory::{Manner, MemorySink};
+use trace_writer::sink::Sink;
+use trace_writer::traced::TraceFault;
 
 /// How often a run is repeated whose threads wait for one another.
 const REPEATED: u32 = 100;
@@ -29,7 +34,7 @@ const REPEATED: u32 = 100;
 const WAITS: u32 = 1_000;
 
 /// A stream over memory that neither fails nor is interrupted.
-const WELL: Manner = Manner {
+const WELL: StreamManner = StreamManner {
     most: 65_536,
     fails_at: None,
     interruptions: 0,
@@ -43,11 +48,13 @@ fn stand_aside() {
     }
 }
 
-/// Connections that are there from the start, of which the last is accepted first.
+/// Connections that are there from the start, of which the last is accepted first. Nothing was written to any of them.
 #[derive(Drop)]
-struct Waiting<R: Drop, W: Drop> {
+struct Waiting<R: Read + Drop, W: Write + Drop> {
     connections: Vec<(R, W)>,
+    accepted: u64,
     failures: u64,
+    ghost blank: { All (λ connection. IsBlank (W.contents connection.1)) connections.items },
 }
 
 impl<R: Read + Send + Drop + 'static, W: Write + Send + Drop + 'static> Source for Waiting<R, W> {
@@ -55,11 +62,21 @@ impl<R: Read + Send + Drop + 'static, W: Write + Send + Drop + 'static> Source f
 
     type Writer = W;
 
+    ghost use Rattle.std.specs.Prelude.{Some, map, reverse};
+    ghost use Rattle.run_core.specs.Run.{streams};
+
     ghost failures = { λ s. s.failures };
+
+    ghost accepted = { λ s. s.accepted };
+
+    ghost coming = { λ s. Some (map (λ connection. streams (R.remaining connection.0) (W.contents connection.1)) (reverse s.connections.items)) };
 
     fn accept(&mut self) -> Result<(R, W), AcceptFailed> {
         match self.connections.pop() {
-            Some(connection) => Ok(connection),
+            Some(connection) => {
+                self.accepted += 1;
+                Ok(connection)
+            }
             None => {
                 self.failures += 1;
                 Err(AcceptFailed)
@@ -74,9 +91,9 @@ impl<R: Read + Send + Drop + 'static, W: Write + Send + Drop + 'static> Source f
     fn hang_up(_reader: &R, _writer: &W) {}
 }
 
-/// The report of a run over all these connections, under this gate, if there is one.
+/// The report of a run over all these connections, under this gate, with a trace into a sink of this manner, if there is one.
 fn report_of<
-    Rt: Threads + Wait + Copy + Send + 'static,
+    Rt: Threads + Wait + Clock + Copy + Send + 'static,
     R: Read + Send + Drop + 'static,
     W: Write + Send + Drop + 'static,
     G: Gate + Send + Sync + 'static,
@@ -88,16 +105,19 @@ fn report_of<
     gate: G,
     limits: Limits,
     blanks: Blanks,
-) -> Option<Report<R, W>>
+    manner: Manner,
+) -> Option<Report<R, W, MemorySink>>
     requires ledgers { blanks ≡ L.names }
     requires limits { L.limits ≡ Some limits }
+    requires blank { All (λ connection. IsBlank (W.contents connection.1)) connections.items }
 {
     let sessions = connections.len();
     let mut source = Waiting {
         connections,
+        accepted: 0,
         failures: 0,
     };
-    let ran = run_sessions::<Rt, Waiting<R, W>, G, L>(
+    let ran = run_sessions::<Rt, Waiting<R, W>, G, L, MemorySink>(
         rt,
         alloc,
         &mut source,
@@ -105,6 +125,7 @@ fn report_of<
         limits,
         blanks,
         gate,
+        MemorySink::new(alloc, manner),
     );
     ran.ok()
 }
@@ -115,7 +136,7 @@ fn is_whole<R: Read, W: Write>(session: &Session<R, W>) -> bool {
 }
 
 /// Whether two sessions of two requests each have ended well: two joins, two calls, two exits and the closing.
-fn are_whole<R: Read, W: Write>(report: &Report<R, W>) -> bool {
+fn are_whole<R: Read, W: Write>(report: &Report<R, W, MemorySink>) -> bool {
     match report.ends.as_slice() {
         [one, other] => report.records == 7 && is_whole(one) && is_whole(other),
         _ => false,
@@ -290,6 +311,7 @@ fn answer_waits_at_its_gate_for_another_session(rt: HostRuntime) -> Result<(), F
             gate,
             limits,
             Blanks::new(),
+            Manner::sound(),
         ) {
             Some(report) => assert!(rt; are_whole(&report)),
             None => return Err("there is memory for a report")?,
@@ -308,7 +330,9 @@ fn plain(alloc: Global) -> Result<(MemoryReader, MemoryWriter), AllocError> {
 
 /// What came of one session over memory under a gate: its end, how many answers there were, how often the last was refused, the bytes
 /// written, and how many records the run has.
-fn came_of(report: &Report<MemoryReader, MemoryWriter>) -> Option<(End, usize, u32, usize, u64)> {
+fn came_of(
+    report: &Report<MemoryReader, MemoryWriter, MemorySink>,
+) -> Option<(End, usize, u32, usize, u64)> {
     match report.ends.as_slice() {
         [only] => {
             let answers = only.answers.len();
@@ -326,7 +350,10 @@ fn came_of(report: &Report<MemoryReader, MemoryWriter>) -> Option<(End, usize, u
 }
 
 /// What comes of one session over memory, in a run of so many records, under a gate that says this.
-fn under_a_gate<Rt: Threads + Wait + Copy + Send + 'static, L: Ledgers + Send + Sync + 'static>(
+fn under_a_gate<
+    Rt: Threads + Wait + Clock + Copy + Send + 'static,
+    L: Ledgers + Send + Sync + 'static,
+>(
     rt: Rt,
     alloc: Global,
     says: Says,
@@ -350,6 +377,7 @@ fn under_a_gate<Rt: Threads + Wait + Copy + Send + 'static, L: Ledgers + Send + 
         gate,
         limits,
         blanks,
+        Manner::sound(),
     ) {
         Some(report) => Ok(came_of(&report)),
         None => Ok(None),
@@ -502,8 +530,50 @@ fn reader_waits_for_the_answer_of_another_session(rt: HostRuntime) -> Result<(),
             OpenGate,
             limits,
             Blanks::new(),
+            Manner::sound(),
         ) {
             Some(report) => assert!(rt; are_whole(&report)),
+            None => return Err("there is memory for a report")?,
+        }
+    }
+    Ok(())
+}
+
+/// Whether all answers of two sessions came, in a run whose sink failed once, so that this was told of its trace.
+fn came_all_the_same(
+    report: &Report<MemoryReader, MemoryWriter, MemorySink>,
+    fault: TraceFault,
+    whole: u64,
+) -> bool {
+    are_whole(report)
+        && report.sessions == 2
+        && report.sink.failures() == 1
+        && report.traced.fault == Some(fault)
+        && report.traced.whole == whole
+        && report.traced.bytes == report.sink.bytes().len() as u64
+}
+
+#[test]
+fn sink_that_fails_keeps_no_answer_back(rt: HostRuntime) -> Result<(), Fail> {
+    // the sync fails, and then the first write does
+    for (manner, fault, whole) in [
+        (Manner::unsyncable(), TraceFault::Sync, 7),
+        (Manner::refusing(), TraceFault::Write, 0),
+    ] {
+        let mut connections = Vec::with_capacity(rt.alloc(), 2)?;
+        connections.push(plain(rt.alloc())?)?;
+        connections.push(plain(rt.alloc())?)?;
+        let limits = Limits::new(100)?;
+        match report_of::<HostRuntime, MemoryReader, MemoryWriter, OpenGate, Brand>(
+            rt,
+            rt.alloc(),
+            connections,
+            OpenGate,
+            limits,
+            Blanks::new(),
+            manner,
+        ) {
+            Some(report) => assert!(rt; came_all_the_same(&report, fault, whole)),
             None => return Err("there is memory for a report")?,
         }
     }
