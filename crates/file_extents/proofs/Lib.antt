@@ -1,0 +1,5 @@
+pub mod Over
+pub mod Places
+pub mod Rooms
+pub mod Pieces
+pub mod Rows
