@@ -1,2 +1,3 @@
 pub mod ReceiptLemmas
 pub mod JoinLemmas
+pub mod JudgedLemmas

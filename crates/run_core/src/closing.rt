@@ -6,6 +6,7 @@ ghost use Rattle.posix_model.specs.History.{legal};
 ghost use Rattle.posix_model.specs.Turns.{bytes_in, bytes_out};
 ghost use Rattle.record_book.specs.Book.{world_now};
 ghost use Rattle.run_core.specs.declared.report.RunFault.TheVariants as run_fault;
+ghost use Rattle.run_core.specs.Judged.{FlagsDecideAll};
 ghost use Rattle.run_core.specs.Run.{AreAll, ClosesFor, IsClosing, IsGathered, IsLeast, IsRunOf, held_in};
 
 use crate::comparison::{HasReceipts, compare};
@@ -239,6 +240,7 @@ fn compare_with_house<L: Ledgers, T: HasReceipts>(
 ) -> Result<Compared<L>, RunFault>
     ensures is_legal { OnOk result (legal book.now.limits.bounds book.now.history) }
     ensures all { IfOk result (λ told. told.least ≡ None → AreAll book.now.history (map T.held holders.now ++ held_in house ∷ []) (map arc_value received.now)) }
+    ensures decided { IfOk result (λ told. told.least ≡ None → FlagsDecideAll (map arc_value received.now)) }
     ensures shares { IfOk result (λ told. told.shares.items ≡ shares.items ++ house.counted ∷ []) }
     ensures fault { IfErr result (λ fault. fault ≡ run_fault.NoThread → ⊥) }
 {
@@ -261,6 +263,7 @@ pub(crate) fn end_run<L: Ledgers, T: HasReceipts>(
     traced: &Traced,
 ) -> Result<Sums, RunFault>
     ensures run { IfOk result (λ sums. IsRunOf closed.book.limits sums.records sums.bytes_in sums.bytes_out closed.book closed.house shares.items (map T.held holders.now) (map arc_value traced.now.received.items)) }
+    ensures decided { OnOk result (FlagsDecideAll (map arc_value traced.now.received.items)) }
     ensures fault { IfErr result (λ fault. fault ≡ run_fault.NoThread → ⊥) }
 {
     let Closed { book, house } = closed;

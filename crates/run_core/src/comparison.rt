@@ -4,8 +4,10 @@ ghost use Rattle.std.specs.Prelude.{◌≡◌, ◌↔◌, ◌<◌, ◌≤◌, �
 ghost use Rattle.std.specs.List.{slice_index};
 ghost use Rattle.posix_model.specs.History.{legal};
 ghost use Rattle.std.specs.Arc.{arc_value};
+ghost use Rattle.run_core.specs.Judged.{FlagsDecideAt};
 ghost use Rattle.run_core.specs.Receipts.{Held, Agrees, IsGood, IsOwn, IsAbove, GoodFrom, GoodAt, IsBefore, IsReceivedAt, names, named, wanted, IsSound};
 
+use audit_core::ranges::record_is_in_range;
 use byte_ledger::ledgers::Ledgers;
 use call_types::act::{Act, HOUSE, Record};
 use record_book::closed::ClosedBook;
@@ -238,10 +240,14 @@ fn least_unsound<L: Ledgers, T: HasReceipts, U: HasReceipts>(
 
 /// Whether the record of a place was received there, or there is none and none was received.
 fn is_received<L: Ledgers>(book: &ClosedBook<L>, received: &[Arc<Record>], place: usize) -> bool
-    ensures { (result ≡ true) ↔ IsReceivedAt book.now.history (map arc_value received.now) place }
+    ensures received { (result ≡ true) ↔ IsReceivedAt book.now.history (map arc_value received.now) place }
+    ensures decided { result ≡ true → FlagsDecideAt (map arc_value received.now) place }
 {
     match (book.record_at(place as u64), received.get(place)) {
-        (Some(stands), Some(told)) => stands.is_same(&**told),
+        (Some(stands), Some(told)) => {
+            record_is_in_range(&**told);
+            stands.is_same(&**told)
+        }
         (None, None) => true,
         _ => false,
     }
@@ -250,6 +256,7 @@ fn is_received<L: Ledgers>(book: &ClosedBook<L>, received: &[Arc<Record>], place
 /// The first place at which records and what was received of them differ, one of the two ending there too.
 fn first_difference<L: Ledgers>(book: &ClosedBook<L>, received: &[Arc<Record>]) -> Option<u64>
     ensures same { (p : ℕ) → IsBefore p result → IsReceivedAt book.now.history (map arc_value received.now) p }
+    ensures decided { (p : ℕ) → IsBefore p result → FlagsDecideAt (map arc_value received.now) p }
     ensures differs { IfSome result (λ p. IsReceivedAt book.now.history (map arc_value received.now) p → ⊥) }
 {
     let records = book.counts().records as usize;
@@ -274,6 +281,7 @@ pub fn compare<L: Ledgers, T: HasReceipts, U: HasReceipts>(
     ensures legal { legal book.now.limits.bounds book.now.history }
     ensures agree { IfOk result (λ least. (p : ℕ) → IsBefore p least → Agrees book.now.history (map T.held holders.now ++ map U.held others.now) (map arc_value received.now) p) }
     ensures broken { IfOk result (λ least. IfSome least (λ q. Agrees book.now.history (map T.held holders.now ++ map U.held others.now) (map arc_value received.now) q → ⊥)) }
+    ensures decided { IfOk result (λ least. (p : ℕ) → IsBefore p least → FlagsDecideAt (map arc_value received.now) p) }
 {
     let unsound = least_unsound(alloc, book, holders, others)?;
     Ok(lowest(unsound, first_difference(book, received)))

@@ -3,6 +3,7 @@
 
 pub mod closing;
 pub mod comparison;
+mod laws;
 pub mod report;
 pub mod sessions;
 pub mod source;

@@ -4,12 +4,14 @@ ghost use Rattle.std.specs.Prelude.{◌≡◌, ◌≤◌, ◌<◌, ◌+◌, ◌^
 ghost use Rattle.std.specs.Option.{option_map};
 ghost use Rattle.std.specs.Arc.{arc_value};
 ghost use Rattle.rtrb.specs.Ring.{received};
+ghost use Rattle.run_core.specs.Judged.{FlagsDecideAll, IsJudged};
 ghost use Rattle.run_core.specs.Receipts.{held_by};
 ghost use Rattle.run_core.specs.Run.{HasEnded, IsRun, IsRunOf, IsBlank, IsJoined, IsOf, FailsIfFewer, Gives, ServesInRun, streams, with_seat};
 ghost use Rattle.run_core.specs.declared.report.RunFault.TheVariants as run_fault;
 ghost use Rattle.run_core.specs.declared.sessions.Shortage.TheVariants as shortage;
 
 use crate::closing::{Closed, close, end_run, unshared};
+use crate::laws::runs_are_judged;
 use crate::report::{Process, Report, RunFault, Session};
 use crate::source::Source;
 use crate::tracing::{Done, start_trace};
@@ -389,6 +391,7 @@ fn report_of<R: Read + Drop, W: Write + Drop, L: Ledgers, K: Sink + Drop>(
     done: Done<K>,
 ) -> Result<Report<R, W, K>, RunFault>
     ensures run { IfOk result (λ report. IsRunOf ended.closed.book.limits report.records report.bytes_in report.bytes_out ended.closed.book ended.closed.house ended.parted.shares.items (map (λ s. held_by s.process) ended.parted.sessions.items) (map arc_value done.traced.received.items)) }
+    ensures decided { OnOk result (FlagsDecideAll (map arc_value done.traced.received.items)) }
     ensures ends { IfOk result (λ report. (report.ends ≡ ended.parted.sessions) × (report.sessions ≡ vec_len ended.parted.sessions)) }
     ensures trace { IfOk result (λ report. (report.traced ≡ done.traced) × (report.sink ≡ done.sink)) }
     ensures fault { IfErr result (λ fault. fault ≡ run_fault.NoThread → ⊥) }
@@ -414,8 +417,8 @@ fn report_of<R: Read + Drop, W: Write + Drop, L: Ledgers, K: Sink + Drop>(
 /// Runs so many sessions, each in a thread of its own, and a thread beside them that writes the trace into a sink. An answer is written
 /// once the gate lets it through. When all sessions have ended, the run is closed, what their seats counted is gathered, and receipts,
 /// records and what the trace thread received are compared. Where accepting fails, the sessions before are served to their end, and the
-/// report has fewer. Where a thread cannot be started they are too, but there is no report. Where the sink fails, the report tells it. In
-/// any case no thread goes on then.
+/// report has fewer. Where a thread cannot be started they are too, but there is no report. Where the sink fails, the report tells it. An
+/// audit under the same limits finds what the sink took legal, with the whole records that are told. In any case no thread goes on then.
 pub fn run_sessions<
     Rt: Threads + Wait + Clock + Copy + Send + 'static,
     S: Source + Send + 'static,
@@ -442,8 +445,10 @@ pub fn run_sessions<
     ensures accepted { IfOk result (λ report. S.accepted source.new ≡ S.accepted source.old + report.sessions) }
     ensures few { IfOk result (λ report. (report.sessions ≡ vec_len report.ends) × (report.sessions ≤ sessions)) }
     ensures run { IfOk result (λ report. IsRun (record { always = G.is_open; limits_are = limits; coming = S.coming source.old; later = S.coming source.new; records = report.records; taken = report.bytes_in; given = report.bytes_out; ends = report.ends.items; received = map arc_value report.traced.received.items; trace = record { base = K.contents sink; now = K.contents report.sink; before = K.failures sink; after = K.failures report.sink; is_synced = K.is_synced report.sink; whole = report.traced.whole; bytes = report.traced.bytes; fault = report.traced.fault } })) }
+    ensures judged { IfOk result (λ report. IsJudged limits.bounds (K.contents sink) (K.contents report.sink) report.traced.whole report.traced.bytes) }
     ensures lost { IfErr result (λ fault. fault ≡ run_fault.NoThread → S.failures source.new ≡ S.failures source.old) }
 {
+    runs_are_judged();
     let rooms = rooms_for(alloc, sessions)?;
     let (shared, end) = shared_by::<G, L>(alloc, limits, blanks, gate)?;
     let traces = match start_trace(rt, alloc, end, sink) {

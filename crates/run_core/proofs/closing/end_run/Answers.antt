@@ -1,6 +1,7 @@
 use Rattle.std.proofs.Common.{List, ◌∷◌, [], ◌++◌, map, ap, refl, subst}
 use Rattle.std.specs.Arc.{arc_value}
 use Rattle.call_types.specs.declared.act.Record.{Record}
+use Rattle.run_core.specs.Judged.{FlagsDecideAll}
 use Rattle.run_core.specs.Run.{AreAll, held_in}
 use Rattle.run_core.proofs.ReceiptLemmas.{received_all}
 use Rattle.run_core.proofs.closing.end_run.Goals as goal
@@ -22,3 +23,6 @@ returns-in-None-clause-run g c =
       all = all;
       received_are = received_all history held received all;
     }
+
+pub returns-in-None-clause-decided : goal.returns-in-None-clause-decided
+returns-in-None-clause-decided g c = subst FlagsDecideAll (ap (map arc_value) c.as_slice-received.ensures.value) (c.in_ok-compared.ensures.decided c.in-None.is)

@@ -17,3 +17,6 @@ returns-clause-broken g c =
     let received = map arc_value c.args.received.now in
     neither_holds _ _ _ (λ q. IsSound c.args.book.now.history held q) (λ q. IsReceivedAt c.args.book.now.history received q) (λ q. Agrees c.args.book.now.history held received q) (λ q. IsBefore q c.in_ok-unsound.unsound)
     (λ q all. all.sound) (λ q all. all.received_is) c.lowest.ensures.either c.in_ok-unsound.ensures.broken c.first_difference.ensures.differs
+
+pub returns-clause-decided : goal.returns-clause-decided
+returns-clause-decided g c = λ p below. c.first_difference.ensures.decided p (c.lowest.ensures.both p below).1

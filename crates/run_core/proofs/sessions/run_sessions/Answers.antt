@@ -1,5 +1,7 @@
-use Rattle.std.proofs.Common.{map}
+use Rattle.std.proofs.Common.{map, subst, sym}
 use Rattle.std.specs.Arc.{arc_value}
+use Rattle.trace_writer.specs.declared.traced.Traced.{Traced}
+use Rattle.run_core.specs.Judged.{FlagsDecideAll}
 use Rattle.run_core.proofs.JoinLemmas.{run_of}
 use Rattle.run_core.proofs.sessions.run_sessions.Goals as goal
 
@@ -44,3 +46,9 @@ returns-clause-run g c =
     (let same = told.ends.0 in cc) (let same = told.trace.0 in cc)
     (let base = c.in-Some.ensures.0 in let before = c.in-Some.ensures.1 in let traced = told.trace.0 in let sink = told.trace.1 in cc)
     c.requires.limits c.in_ok-ended.ensures.ended told.run c.join-done.ensures
+
+pub returns-clause-judged : goal.returns-clause-judged
+returns-clause-judged g c =
+    let told = c.in_ok-report.ensures in
+    let decided = subst (λ (traced : Traced). FlagsDecideAll (map arc_value traced.received.items)) (sym told.trace.0) told.decided in
+    c.runs_are_judged.ensures _ (returns-clause-run g c) decided

@@ -1,0 +1,153 @@
+-- What was written of a run is legal.
+use Rattle.std.proofs.Common.{◌≡◌, ℕ, ◌+◌, ◌-◌, ◌<◌, ◌≤◌, suc, nat_le, Bool, List, [], ◌∷◌, ◌++◌, map, Option, None, Some, IfSome, length, if◌then◌else◌, refl, sym, ap, subst, ◌∙◌, arith, inl, inr}
+use Rattle.std.specs.List.{AllByRecursion, AllZip, slice_get}
+use Rattle.std.specs.Option.{option_map}
+use Rattle.std.proofs.lemmas.Bool.{cases_lt}
+use Rattle.std.proofs.lemmas.Option.{slice_get_past}
+use Rattle.call_types.specs.declared.act.Act.{Act}
+use Rattle.call_types.specs.declared.act.Act.TheVariants as acts
+use Rattle.call_types.specs.declared.act.Record.{Record}
+use Rattle.call_types.specs.declared.call.Call.TheVariants as calls
+use Rattle.call_types.specs.declared.limits.Limits.{Limits}
+use Rattle.frame_codec.specs.Frames.{frame}
+use Rattle.frame_codec.specs.Records.{ActFits, record_bytes}
+use Rattle.frame_codec.specs.Trace.{trace_header}
+use Rattle.posix_model.specs.declared.world.World.{World}
+use Rattle.record_book.specs.Book.{world_now}
+use Rattle.record_book.specs.Exits.{closing_record, closing_records, exit_record, orphans_from, receipts_from}
+use Rattle.record_book.specs.Seat.{Receipted, SeatState}
+use Rattle.session_core.specs.Laws.{ActsFit, SeatFits, ActsOfSeatsFit}
+use Rattle.trace_writer.specs.Traces.{whole_in}
+use Rattle.audit_core.specs.Laws.{WrittenIsLegal}
+use Rattle.audit_core.specs.Trace.{FlagsFit, IsInRange, AllInRange, whole_frames}
+use Rattle.audit_core.specs.Verdict.{IsVerdict}
+use Rattle.audit_core.specs.declared.verdict.Verdict.TheVariants.{Legal}
+use Rattle.run_core.specs.Receipts.{Held, GoodAt, GoodFrom, names, named, wanted, held_by}
+use Rattle.run_core.specs.Run.{Connection, ReportedSession, ServesConnection, RunTold, IsRun, held_in, with_seat}
+use Rattle.run_core.specs.Judged.{FlagsDecide, FlagsDecideAll, RunsAreJudged}
+
+-- ---- the records of receipts
+
+-- holders of receipts whose acts have their fields in range
+abbrev AllFit : List Held → Type 0
+AllFit held = AllByRecursion (λ holder. ActsFit holder.receipts) held
+
+-- the act of the record of a place has its fields in range
+record FitsAt (h : List Record) (p : ℕ) : Type 0 where
+  told : Record
+  stands : slice_get h p ≡ Some told
+  fits : ActFits told.act
+
+later_names : (p : ℕ) (r : Receipted) (rs : List Receipted) → (r.place ≡ p → ⊥) → 1 ≤ names p (r ∷ rs) → 1 ≤ names p rs
+later_names p r rs other some = grind (arith, other, some)
+
+-- a receipt that names a place
+receipt_fits : (h : List Record) (pid p : ℕ) (before : Option ℕ) (rs : List Receipted) → ActsFit rs → GoodFrom h pid p before rs → 1 ≤ names p rs → FitsAt h p
+receipt_fits h pid p before [] fits good some = absurd (omega (arith, some))
+receipt_fits h pid p before (r ∷ rs) fits good some =
+    let later : (r.place ≡ p → ⊥) → FitsAt h p = λ other. receipt_fits h pid p (Some r.place) rs fits.1 good.1 (later_names p r rs other some) in
+    elim (cases_lt r.place p) [
+      | inl below ↦ later (λ same. omega (arith, below, same))
+      | inr past ↦ elim (cases_lt p r.place) [
+        | inl above ↦ later (λ same. omega (arith, above, same))
+        | inr least ↦
+            let same : r.place ≡ p = omega (arith, past, least) in
+            record { told = r.record_is; stands = subst (λ (n : ℕ). slice_get h n ≡ Some r.record_is) same (good.0 same).stands; fits = fits.0 }
+      ]
+    ]
+
+-- a receipt of some holder that names a place
+held_fits : (h : List Record) (p : ℕ) (held : List Held) → AllFit held → GoodAt h p held → 1 ≤ named p held → FitsAt h p
+held_fits h p [] fits good some = absurd (omega (arith, some))
+held_fits h p (s ∷ held) fits good some = elim (cases_lt 0 (names p s.receipts)) [
+  | inl here ↦ receipt_fits h s.pid p None s.receipts fits.0 good.0 (omega (arith, here))
+  | inr none ↦ held_fits h p held fits.1 good.1 (omega (arith, none, some))
+]
+
+-- ---- the holders
+
+all_joined : (xs ys : List Held) → AllFit xs → AllFit ys → AllFit (xs ++ ys)
+all_joined [] ys h k = k
+all_joined (x ∷ xs) ys h k = (h.0, all_joined xs ys h.1 k)
+
+of_seat : (seat : Option SeatState) → SeatFits seat → ActsFit (held_by (option_map held_in seat)).receipts
+of_seat None h = tt
+of_seat (Some seat) h = h
+
+session_fits : ActsOfSeatsFit → (always : Bool) (c : Connection) (s : ReportedSession) → ServesConnection always c s → ActsFit (held_by s.process).receipts
+session_fits acts_fit always c s h =
+    subst (λ (process : Option Held). ActsFit (held_by process).receipts) (sym h.process_is) (of_seat c.seat (acts_fit always c.from c.base (with_seat c.seat s) h.serves.serves))
+
+sessions_fit : ActsOfSeatsFit → (always : Bool) (cs : List Connection) (ss : List ReportedSession) → AllZip (ServesConnection always) cs ss → AllFit (map (λ s. held_by s.process) ss)
+sessions_fit acts_fit always [] [] h = tt
+sessions_fit acts_fit always [] (s ∷ ss) h = absurd h
+sessions_fit acts_fit always (c ∷ cs) [] h = absurd h
+sessions_fit acts_fit always (c ∷ cs) (s ∷ ss) h = (session_fits acts_fit always c s h.0, sessions_fit acts_fit always cs ss h.1)
+
+-- exits and the closing have no fields
+exits_fit : (place : ℕ) (processes : List ℕ) → ActsFit (receipts_from place (map exit_record processes ++ closing_record ∷ []))
+exits_fit place [] = (tt, tt)
+exits_fit place (process ∷ processes) = (tt, exits_fit (place + 1) processes)
+
+house_fits : (place : ℕ) (w : World) (receipts : List Receipted) → receipts ≡ receipts_from place (closing_records w) → ActsFit receipts
+house_fits place w receipts is = subst ActsFit (sym is) (exits_fit place (orphans_from 0 w.processes))
+
+-- ---- the records of a run
+
+flags_fit : (act : Act) → ActFits act → FlagsFit act
+flags_fit (acts.Call (calls.Open name flags)) fits = fits.0
+flags_fit other fits = tt
+
+one_wanted : (p len : ℕ) → p < len → wanted len p ≡ 1
+one_wanted p len below = grind (arith, below)
+
+-- each record of a run stands in a receipt
+each_fits : ActsOfSeatsFit → (told : RunTold) (h : IsRun told) → (p : ℕ) → p < length h.book.history → FitsAt h.book.history p
+each_fits acts_fit told h p below =
+    let agrees = h.run.all p in
+    let sessions = sessions_fit acts_fit told.always h.connections told.ends h.each in
+    let house = house_fits (length h.before.history) (world_now h.before) h.house.receipts h.closing.receipts_are in
+    let held = map (λ (s : ReportedSession). held_by s.process) told.ends in
+    let once = agrees.sound.covered ∙ one_wanted p (length h.book.history) below in
+    held_fits h.book.history p (held ++ held_in h.house ∷ []) (all_joined held (held_in h.house ∷ []) sessions (house, tt)) agrees.sound.good (omega (arith, once))
+
+-- records of which each is in range
+all_in_range : (h : List Record) → ((p : ℕ) → IfSome (slice_get h p) IsInRange) → AllInRange h
+all_in_range [] each = tt
+all_in_range (r ∷ h) each = (each 0, all_in_range h (λ p. each (suc p)))
+
+one_in_range : (h : List Record) (p : ℕ) → FitsAt h p → IfSome (slice_get h p) FlagsDecide → IfSome (slice_get h p) IsInRange
+one_in_range h p at decide =
+    let decided = subst (λ (o : Option Record). IfSome o FlagsDecide) at.stands decide in
+    subst (λ (o : Option Record). IfSome o IsInRange) (sym at.stands) (decided (flags_fit at.told.act at.fits))
+
+history_in_range : ActsOfSeatsFit → (told : RunTold) (h : IsRun told) → FlagsDecideAll told.received → AllInRange h.book.history
+history_in_range acts_fit told h decide =
+    let here = subst FlagsDecideAll h.run.received_are decide in
+    all_in_range h.book.history (λ p. elim (cases_lt p (length h.book.history)) [
+      | inl below ↦ one_in_range h.book.history p (each_fits acts_fit told h p below) (here p)
+      | inr past ↦ subst (λ (o : Option Record). IfSome o IsInRange) (sym (slice_get_past h.book.history p past)) tt
+    ])
+
+-- ---- the verdict
+
+-- the records that are whole are counted in one way
+whole_same : (h : List Record) (n : ℕ) → whole_frames h n ≡ whole_in h n
+whole_same [] n = refl
+whole_same (r ∷ h) n = ap (λ (m : ℕ). if nat_le (length (frame (record_bytes r))) n then m + 1 else 0) (whole_same h (n - length (frame (record_bytes r))))
+
+pub runs_judged : ActsOfSeatsFit → WrittenIsLegal → RunsAreJudged
+runs_judged acts_fit written_legal told h decide =
+    let records = h.book.history in
+    let t = h.trace in
+    let v = written_legal h.book.limits.bounds records t.front t.rest h.run.is_legal (history_in_range acts_fit told h decide) (sym t.is) in
+    let whole : whole_frames records (length t.front - length trace_header) ≡ told.trace.whole =
+    whole_same records (length t.front - length trace_header) ∙ ap (λ (n : ℕ). whole_in records (n - length trace_header)) (sym t.bytes_is) ∙ sym t.whole_is in
+    record {
+      written = t.front;
+      rest = v.0;
+      appends = t.appends;
+      bytes_is = t.bytes_is;
+      verdict = subst (λ (n : ℕ). IsVerdict told.limits_are.bounds t.front (Legal n v.0)) whole
+          (subst (λ (limits : Limits). IsVerdict limits.bounds t.front (Legal (whole_frames records (length t.front - length trace_header)) v.0)) h.run.limits_are v.1);
+    }
