@@ -3,4 +3,7 @@ pub mod RequiredOptions
 pub mod OutputLemmas
 pub mod ReplayLemmas
 pub mod RunLemmas
+pub mod AuditLemmas
+pub mod ShowLemmas
+pub mod PerformLemmas
 mod ServeLemmas

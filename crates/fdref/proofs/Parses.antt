@@ -1,13 +1,15 @@
 -- From what `clap` says of a parse to what this program says of its words.
-use Rattle.std.proofs.Common.{◌≡◌, ◌∙◌, ◌⊎◌, ◌||◌, Bool, true, false, not, cond, List, [], ◌∷◌, Option, Some, None, is_some, refl, sym, ap, ap₂, subst, arith, slice_index, inl, inr, codes, option_map, option_and_then}
-use Rattle.std.specs.Prelude.{Box, if◌then◌else◌}
+use Rattle.std.proofs.Common.{◌≡◌, ◌∙◌, ◌⊎◌, ◌||◌, ◌&&◌, ℕ, Bool, true, false, not, cond, List, [], ◌∷◌, Option, Some, None, is_some, refl, sym, ap, ap₂, subst, arith, slice_index, inl, inr, codes, option_map, option_and_then}
+use Rattle.std.specs.Prelude.{Box, ⊤}
+use Rattle.std.specs.List.{list_any}
 use Rattle.std.specs.Box.{box_value}
 use Rattle.std.specs.Option.{option_map_or}
 use Rattle.clap.specs.Faults.{check_fault, entered_fault, level_fault}
+use Rattle.clap.specs.Kinds.{check_kinds}
 use Rattle.clap.specs.Simple.{App, Shape, argument_words, built, built_leaf, entered, filled, help_rule, inherited, label_of, marked_built, names_of, rows_at, version_rule, with_index, with_leaf_noted}
 use Rattle.clap.specs.Takes.{is_given}
 use Rattle.clap.specs.Walk.{Row, Rule, Text, answers_to, nothing_held, rows_after, rows_of, stop_after}
-use Rattle.clap.specs.Words.{AddsArg, app_of, fault_of, first_of, first_value, found_of, kind_of, rule_of, with_rule}
+use Rattle.clap.specs.Words.{AddsArg, AddsSubcommand, app_of, fault_of, first_of, first_value, found_of, kind_of, rule_of, with_rule, with_subcommand}
 use Rattle.clap.specs.Words.{subcommand_name_of, subcommand_of, subcommand_rows, subcommand_rows_of, HasKind, IsAmong}
 use Rattle.clap.specs.declared.builder.arg.Arg.{Arg}
 use Rattle.clap.specs.declared.builder.command.Command.{Command}
@@ -19,11 +21,11 @@ use Rattle.clap.specs.declared.parser.matches.ValueSource.TheVariants.{CommandLi
 use Rattle.clap.specs.declared.error.Error.{Error}
 use Rattle.clap.specs.declared.error.kind.ErrorKind.TheVariants as kind
 use Rattle.clap.proofs.WalkLemmas.{first_value-rows}
-use Rattle.fdref.specs.CommandLine.{Asks, Deserves, Given, GivesAll, IsFaultOf, IsJobOf, IsMistake, IsOutOfRange, IsParse, IsRequest, RefusesNumber, fdref_app, name_given, replay_app, required_rule, serve_app, text_given}
+use Rattle.fdref.specs.CommandLine.{Asks, Deserves, Given, GivesAll, GivesFile, IsFaultOf, IsJobOf, IsMistake, IsOutOfRange, IsParse, IsRequest, RefusesNumber, audit_app, fdref_app, file_rule, flag_rule, name_given, replay_app, required_rule, serve_app, show_app, text_given}
 use Rattle.fdref.specs.declared.job.Job.{Job}
 use Rattle.fdref.specs.declared.job.JobFault.{JobFault}
 use Rattle.fdref.specs.declared.job.JobFault.TheVariants.{Usage, Shown, NoMemory}
-use Rattle.fdref.proofs.RequiredOptions.{Each, Fills, given_has, level_filled, replaced}
+use Rattle.fdref.proofs.RequiredOptions.{Each, Filled, Fills, given_has, level_filled, replaced}
 
 -- an error of the parse is a fault that the words deserve
 pub deserved : (words : List Text) (e : Error) (fault : JobFault) → HasKind (fault_of fdref_app words) e → IsFaultOf e fault → Deserves words fault
@@ -90,7 +92,7 @@ refused words m inner name NoMemory parse named rows h = tt
 
 -- ---- what words without a fault give
 
--- the command line and its two subcommands, as `clap` builds them
+-- the command line and its subcommands, as `clap` builds them
 abbrev whole : App
 whole = built fdref_app
 
@@ -103,104 +105,221 @@ replay_shape = built_leaf (inherited above replay_app.top)
 abbrev serve_shape : Shape
 serve_shape = built_leaf (inherited above serve_app.top)
 
--- a required option wants a value
-abbrev required : Text → Rule
-required id = with_index 1 (filled (required_rule id))
+abbrev audit_shape : Shape
+audit_shape = built_leaf (inherited above audit_app.top)
 
-required_fills : (id : Text) → Fills (required id)
+abbrev show_shape : Shape
+show_shape = built_leaf (inherited above show_app.top)
+
+-- ---- each use leaves a value
+
+-- a required option wants a value
+required_fills : (id : Text) → Fills (with_index 1 (filled (required_rule id)))
 required_fills id again [] rows e f = cc
 required_fills id again (v ∷ vs) rows e f = replaced id _ CommandLine v vs rows f
 
+-- and so does a file
+file_fills : Fills (with_index 1 (filled file_rule))
+file_fills again [] rows e f = cc
+file_fills again (v ∷ vs) rows e f = replaced (codes "file") _ CommandLine v vs rows f
+
+-- an option that takes none has one that stands for its use
+flag_fills : (id : Text) → Fills (with_index 1 (filled (flag_rule id)))
+flag_fills id again [] rows e f = replaced id _ CommandLine (codes "true") [] rows f
+flag_fills id again (v ∷ vs) rows e f = replaced id _ CommandLine v vs rows f
+
 -- the flags that building adds take none
-flags_fill : Each (with_index 1 (filled help_rule) ∷ with_index 1 (filled version_rule) ∷ [])
-flags_fill = ((λ again values rows e f. f), ((λ again values rows e f. f), tt))
+added_fill : Each (with_index 1 (filled help_rule) ∷ with_index 1 (filled version_rule) ∷ [])
+added_fill = ((λ again values rows e f. f), ((λ again values rows e f. f), tt))
 
 serve_fills : Each serve_shape.rules
 serve_fills =
-    (required_fills (codes "socket"), (required_fills (codes "sessions"), (required_fills (codes "records"), flags_fill)))
+    (required_fills (codes "socket"), (required_fills (codes "sessions"), (required_fills (codes "records"), (required_fills (codes "trace"), added_fill))))
+
+audit_fills : Each audit_shape.rules
+audit_fills = (file_fills, added_fill)
+
+show_fills : Each show_shape.rules
+show_fills = (flag_fills (codes "acts"), (file_fills, added_fill))
+
+-- ---- what is required is given
 
 -- a level without a fault enters a subcommand, if it wants one
 wanted : (rows : List Row) (has : Bool) → check_fault whole.top rows has ≡ [] → has ≡ true
 wanted rows true e = refl
 wanted rows false e = cc
 
--- where each required option of a level without a fault has a value
-all_given : (rows : List Row) → check_fault serve_shape rows false ≡ []
-    → (is_given (codes "socket") rows ≡ true) × (is_given (codes "sessions") rows ≡ true) × (is_given (codes "records") rows ≡ true)
-all_given rows e = go (is_given (codes "socket") rows) (is_given (codes "sessions") rows) (is_given (codes "records") rows) e
-  where
-    go : (a b c : Bool)
-        → (if not a || (not b || (not c || false)) then kind.MissingRequiredArgument ∷ [] else []) ≡ []
-        → (a ≡ true) × (b ≡ true) × (c ≡ true)
-    go true true true e = (refl, refl, refl)
-    go false b c e = cc
-    go true false c e = cc
-    go true true false e = cc
+-- each argument that is required has a value
+abbrev HasEach : List Rule → List Row → Type 0
+HasEach [] rows = ⊤
+HasEach (a ∷ rest) rows = (a.required ≡ true → is_some (first_of a.id rows) ≡ true) × HasEach rest rows
 
-level_gives : (words : List Text) → level_fault serve_shape [] nothing_held words false [] ≡ []
+abbrev is_missing : List Row → Rule → Bool
+is_missing rows a = a.required && not (is_given a.id rows)
+
+none_missing : (rules : List Rule) (rows : List Row) → Filled rows → list_any (is_missing rows) rules ≡ false → HasEach rules rows
+none_missing [] rows f e = tt
+none_missing (a ∷ rest) rows f e = go a.required (is_given a.id rows) refl (none_missing rest rows f) e
+  where
+    go : (required given : Bool) → is_given a.id rows ≡ given → (list_any (is_missing rows) rest ≡ false → HasEach rest rows)
+        → (required && not given) || list_any (is_missing rows) rest ≡ false → (required ≡ true → is_some (first_of a.id rows) ≡ true) × HasEach rest rows
+    go true true is rec e = ((λ _. given_has a.id rows f is), rec e)
+    go true false is rec e = cc
+    go false given is rec e = ((λ bad. cc), rec e)
+
+passes : (b : Bool) → check_kinds false false b ≡ [] → b ≡ false
+passes true e = cc
+passes false e = refl
+
+serve_gives : (words : List Text) → level_fault serve_shape [] nothing_held words false [] ≡ []
     → GivesAll (λ id. first_of id (rows_after serve_shape.rules [] words))
-level_gives words e =
+serve_gives words e =
     let rows = rows_after serve_shape.rules [] words in
     let level = level_filled serve_shape serve_fills [] words false [] e in
-    let all = all_given rows level.2 in
-    (given_has (codes "socket") rows level.0 all.0, given_has (codes "sessions") rows level.0 all.1, given_has (codes "records") rows level.0 all.2)
+    let all = none_missing serve_shape.rules rows level.0 (passes _ level.2) in
+    (all.0 refl, all.1.0 refl, all.1.1.0 refl, all.1.1.1.0 refl)
 
--- the matches name one of the two subcommands, and `serve` with each of its options
+audit_gives : (words : List Text) → level_fault audit_shape [] nothing_held words false [] ≡ []
+    → GivesFile (λ id. first_of id (rows_after audit_shape.rules [] words))
+audit_gives words e =
+    let rows = rows_after audit_shape.rules [] words in
+    let level = level_filled audit_shape audit_fills [] words false [] e in
+    (none_missing audit_shape.rules rows level.0 (passes _ level.2)).0 refl
+
+show_gives : (words : List Text) → level_fault show_shape [] nothing_held words false [] ≡ []
+    → GivesFile (λ id. first_of id (rows_after show_shape.rules [] words))
+show_gives words e =
+    let rows = rows_after show_shape.rules [] words in
+    let level = level_filled show_shape show_fills [] words false [] e in
+    (none_missing show_shape.rules rows level.0 (passes _ level.2)).1.0 refl
+
+-- ---- the name of a subcommand
+
+-- texts that differ at a place are two
+differ : (a b : Text) (i m n : ℕ) → slice_index a i ≡ m → slice_index b i ≡ n → (m ≡ n → ⊥) → a ≡ b → ⊥
+differ a b i m n at_a at_b apart e = apart (sym at_a ∙ ap (λ (t : Text). slice_index t i) e ∙ at_b)
+
+-- the names of the subcommands
+abbrev IsName : Text → Type 0
+IsName name = (name ≡ codes "replay") ⊎ ((name ≡ codes "serve") ⊎ ((name ≡ codes "audit") ⊎ (name ≡ codes "show")))
+
+-- what is required of the subcommand of this name is given
+record Has (name : Text) (given : Given) : Type 0 where
+  serve : name ≡ codes "serve" → GivesAll given
+  audit : name ≡ codes "audit" → GivesFile given
+  show : name ≡ codes "show" → GivesFile given
+
+-- the matches name one of the subcommands, with each argument that it requires
 abbrev Fits : Option (Text × List Row) → Type 0
 Fits None = ⊥
-Fits (Some p) = (p.0 ≡ codes "replay") ⊎ ((p.0 ≡ codes "serve") × GivesAll (λ id. first_of id p.1))
+Fits (Some p) = IsName p.0 × Has p.0 (λ id. first_of id p.1)
 
-abbrev met : Bool → Bool → Option Shape
-met a b = cond a (Some replay_shape) (cond b (Some serve_shape) None)
+replay_has : (given : Given) → Has (codes "replay") given
+replay_has given = record {
+  serve = λ e. absurd (differ (codes "replay") (codes "serve") 0 114 115 refl refl (λ n. omega (arith, n)) e);
+  audit = λ e. absurd (differ (codes "replay") (codes "audit") 0 114 97 refl refl (λ n. omega (arith, n)) e);
+  show = λ e. absurd (differ (codes "replay") (codes "show") 0 114 115 refl refl (λ n. omega (arith, n)) e);
+}
+
+serve_has : (given : Given) → GivesAll given → Has (codes "serve") given
+serve_has given all = record {
+  serve = λ e. all;
+  audit = λ e. absurd (differ (codes "serve") (codes "audit") 0 115 97 refl refl (λ n. omega (arith, n)) e);
+  show = λ e. absurd (differ (codes "serve") (codes "show") 1 101 104 refl refl (λ n. omega (arith, n)) e);
+}
+
+audit_has : (given : Given) → GivesFile given → Has (codes "audit") given
+audit_has given file = record {
+  serve = λ e. absurd (differ (codes "audit") (codes "serve") 0 97 115 refl refl (λ n. omega (arith, n)) e);
+  audit = λ e. file;
+  show = λ e. absurd (differ (codes "audit") (codes "show") 0 97 115 refl refl (λ n. omega (arith, n)) e);
+}
+
+show_has : (given : Given) → GivesFile given → Has (codes "show") given
+show_has given file = record {
+  serve = λ e. absurd (differ (codes "show") (codes "serve") 1 104 101 refl refl (λ n. omega (arith, n)) e);
+  audit = λ e. absurd (differ (codes "show") (codes "audit") 0 115 97 refl refl (λ n. omega (arith, n)) e);
+  show = λ e. file;
+}
+
+abbrev met : Bool → Bool → Bool → Bool → Option Shape
+met a b c d = cond a (Some replay_shape) (cond b (Some serve_shape) (cond c (Some audit_shape) (cond d (Some show_shape) None)))
 
 entered_fits : (stop : Option (Text × List Text)) → entered_fault whole stop ≡ [] → is_some (entered whole stop) ≡ true → Fits (entered whole stop)
 entered_fits None e some = cc
-entered_fits (Some p) e some = go (answers_to p.0 (label_of replay_shape)) (answers_to p.0 (label_of serve_shape)) e some
+entered_fits (Some p) e some =
+    go (answers_to p.0 (label_of replay_shape)) (answers_to p.0 (label_of serve_shape)) (answers_to p.0 (label_of audit_shape)) (answers_to p.0 (label_of show_shape)) e some
   where
-    go : (a b : Bool) → option_map_or (λ s. level_fault s [] nothing_held p.1 false []) (met a b) [] ≡ []
-        → is_some (option_map (λ s. rows_at s p.1) (met a b)) ≡ true → Fits (option_map (λ s. rows_at s p.1) (met a b))
-    go true b e some = inl refl
-    go false true e some = inr (refl, level_gives p.1 e)
-    go false false e some = cc
+    go : (a b c d : Bool) → option_map_or (λ s. level_fault s [] nothing_held p.1 false []) (met a b c d) [] ≡ []
+        → is_some (option_map (λ s. rows_at s p.1) (met a b c d)) ≡ true → Fits (option_map (λ s. rows_at s p.1) (met a b c d))
+    go true b c d e some = (inl refl, replay_has _)
+    go false true c d e some = (inr (inl refl), serve_has _ (serve_gives p.1 e))
+    go false false true d e some = (inr (inr (inl refl)), audit_has _ (audit_gives p.1 e))
+    go false false false true e some = (inr (inr (inr refl)), show_has _ (show_gives p.1 e))
+    go false false false false e some = cc
 
 fits : (words : List Text) → fault_of fdref_app words ≡ [] → Fits (subcommand_of fdref_app words)
 fits words e =
     let rest = argument_words fdref_app words in
     let stop = stop_after whole.top.rules (names_of whole) rest in
-    let level = level_filled whole.top flags_fill (names_of whole) rest
+    let level = level_filled whole.top added_fill (names_of whole) rest
     (is_some (entered whole stop)) (entered_fault whole stop) e in
     entered_fits stop level.1 (wanted (rows_after whole.top.rules (names_of whole) rest) (is_some (entered whole stop)) level.2)
 
-one_name : (o : Option (Text × List Row)) → Fits o
-    → (option_map (λ p. p.0) o ≡ Some (codes "replay")) ⊎ (option_map (λ p. p.0) o ≡ Some (codes "serve"))
-one_name None h = absurd h
-one_name (Some p) (inl e) = inl (ap Some e)
-one_name (Some p) (inr h) = inr (ap Some h.0)
+-- what is found where the words name a subcommand
+abbrev FitsAt : Option Text → Given → Type 0
+FitsAt None given = ⊥
+FitsAt (Some name) given = IsName name × Has name given
 
-gives_at : (o : Option (Text × List Row)) → Fits o → option_map (λ p. p.0) o ≡ Some (codes "serve")
-    → GivesAll (λ id. option_and_then (λ p. first_of id p.1) o)
-gives_at None h e = absurd h
-gives_at (Some p) (inl replay) e =
-    let both : Some (codes "replay") ≡ Some (codes "serve") = ap Some (sym replay) ∙ e in
-    let bad : slice_index (codes "replay") 0 ≡ slice_index (codes "serve") 0 = ap (λ (o : Option Text). option_map_or (λ t. slice_index t 0) o 0) both in
-    let numbers : 114 ≡ 115 = bad in
-    absurd (omega (arith, numbers))
-gives_at (Some p) (inr h) e = h.1
+fits_at : (o : Option (Text × List Row)) → Fits o → FitsAt (option_map (λ p. p.0) o) (λ id. option_and_then (λ p. first_of id p.1) o)
+fits_at None h = absurd h
+fits_at (Some p) h = h
 
--- the words name one of the two subcommands
-pub named : (words : List Text) (m : ArgMatches) → IsParse words m
-    → (subcommand_name_of m ≡ Some (codes "replay")) ⊎ (subcommand_name_of m ≡ Some (codes "serve"))
-named words m parse =
-    subst (λ (n : Option Text). (n ≡ Some (codes "replay")) ⊎ (n ≡ Some (codes "serve"))) (sym (name_is words m parse))
-    (one_name (subcommand_of fdref_app words) (fits words parse.parsed))
+-- the words name one of the subcommands, and its matches have each argument that it requires
+found_at : (words : List Text) (m : ArgMatches) → IsParse words m → FitsAt (subcommand_name_of m) (text_given words)
+found_at words m parse =
+    subst (λ (n : Option Text). FitsAt n (text_given words)) (sym (name_is words m parse))
+    (fits_at (subcommand_of fdref_app words) (fits words parse.parsed))
 
--- the matches of `serve` have each of its options
-pub gives : (words : List Text) (m inner : ArgMatches) → IsParse words m → subcommand_name_of m ≡ Some (codes "serve")
-    → option_map (λ p. p.1) (subcommand_rows_of m) ≡ Some (rows_of (found_of inner)) → GivesAll (first_value (found_of inner))
-gives words m inner parse name rows =
+-- the matches name one of the subcommands
+abbrev pub IsNamed : Option Text → Type 0
+IsNamed None = ⊥
+IsNamed (Some name) = IsName name
+
+pub named : (words : List Text) (m : ArgMatches) → IsParse words m → IsNamed (subcommand_name_of m)
+named words m parse = go (subcommand_name_of m) (found_at words m parse)
+  where
+    go : (o : Option Text) → FitsAt o (text_given words) → IsNamed o
+    go None h = h
+    go (Some name) h = h.0
+
+-- it is none of them, so there is no such name
+pub none_named : (name : Option Text) → IsNamed name → (name ≡ Some (codes "replay") → ⊥) → (name ≡ Some (codes "serve") → ⊥) → (name ≡ Some (codes "audit") → ⊥)
+    → (name ≡ Some (codes "show") → ⊥) → ⊥
+none_named None h replay serve audit show = h
+none_named (Some name) (inl e) replay serve audit show = replay (ap Some e)
+none_named (Some name) (inr (inl e)) replay serve audit show = serve (ap Some e)
+none_named (Some name) (inr (inr (inl e))) replay serve audit show = audit (ap Some e)
+none_named (Some name) (inr (inr (inr e))) replay serve audit show = show (ap Some e)
+
+-- and the matches of that subcommand have each argument that it requires
+has : (words : List Text) (m inner : ArgMatches) (name : Text) → IsParse words m → subcommand_name_of m ≡ Some name
+    → option_map (λ p. p.1) (subcommand_rows_of m) ≡ Some (rows_of (found_of inner)) → Has name (first_value (found_of inner))
+has words m inner name parse is rows =
     let same : first_value (found_of inner) ≡ text_given words = λ i id. given_is words m inner parse rows id i in
-    subst GivesAll (sym same)
-    (gives_at (subcommand_of fdref_app words) (fits words parse.parsed) (sym (name_is words m parse) ∙ name))
+    subst (λ (given : Given). Has name given) (sym same) (subst (λ (n : Option Text). FitsAt n (text_given words)) is (found_at words m parse)).1
+
+pub serve_given : (words : List Text) (m inner : ArgMatches) → IsParse words m → subcommand_name_of m ≡ Some (codes "serve")
+    → option_map (λ p. p.1) (subcommand_rows_of m) ≡ Some (rows_of (found_of inner)) → GivesAll (first_value (found_of inner))
+serve_given words m inner parse is rows = (has words m inner (codes "serve") parse is rows).serve refl
+
+pub audit_given : (words : List Text) (m inner : ArgMatches) → IsParse words m → subcommand_name_of m ≡ Some (codes "audit")
+    → option_map (λ p. p.1) (subcommand_rows_of m) ≡ Some (rows_of (found_of inner)) → GivesFile (first_value (found_of inner))
+audit_given words m inner parse is rows = (has words m inner (codes "audit") parse is rows).audit refl
+
+pub show_given : (words : List Text) (m inner : ArgMatches) → IsParse words m → subcommand_name_of m ≡ Some (codes "show")
+    → option_map (λ p. p.1) (subcommand_rows_of m) ≡ Some (rows_of (found_of inner)) → GivesFile (first_value (found_of inner))
+show_given words m inner parse is rows = (has words m inner (codes "show") parse is rows).show refl
 
 -- ---- a command with one option more
 
@@ -211,3 +330,13 @@ added_app old new a app r added local e f = added.shape local ∙ ap₂ with_rul
 pub added_local : (old new : Command) (a : Arg) → AddsArg old a new → a.global ≡ false → (fields_of old).has_globals ≡ false
     → (fields_of new).has_globals ≡ false
 added_local old new a added local e = added.globals ∙ ap₂ (λ x y. x || y) e local
+
+-- ---- a command with one subcommand more
+
+pub subcommand_app : (old sub new : Command) (app below : App) → AddsSubcommand old sub new → (fields_of sub).has_globals ≡ false → app_of old ≡ app → app_of sub ≡ below
+    → app_of new ≡ with_subcommand app below.top
+subcommand_app old sub new app below added local e f = added.shape local ∙ ap₂ with_subcommand e (ap (λ (a : App). a.top) f)
+
+pub subcommand_local : (old sub new : Command) → AddsSubcommand old sub new → (fields_of sub).has_globals ≡ false → (fields_of old).has_globals ≡ false
+    → (fields_of new).has_globals ≡ false
+subcommand_local old sub new added local e = added.globals ∙ ap₂ (λ x y. x || y) e local

@@ -1,53 +1,84 @@
--- A report that is written whole says how the run ended.
-use Rattle.std.proofs.Common.{◌≡◌, ◌≤◌, ◌<◌, ◌+◌, ℕ, List, Option, None, Some, length, refl, sym, subst, ◌∙◌}
-use Rattle.std.specs.Prelude.{IfSome}
+-- From a run and the line of its report to what its end says.
+use Rattle.std.proofs.Common.{◌≡◌, ◌∙◌, ◌≤◌, ◌+◌, inl, inr, ℕ, Bool, true, false, cond, List, Option, None, Some, length, refl, sym, ap, subst, arith}
+use Rattle.std.specs.Prelude.{nat_lt}
+use Rattle.std.proofs.lemmas.Bool.{ltb-true}
 use Rattle.std.specs.Io.KnownBytes.{Appends}
-use Rattle.call_types.specs.declared.limits.Limits.{Limits}
-use Rattle.run_core.specs.Receipts.{Held}
-use Rattle.run_core.specs.Run.{IsRunOf, failures_after}
-use Rattle.run_core.specs.declared.report.Shortage.{Shortage}
-use Rattle.run_core.specs.declared.report.Shortage.TheVariants as shortage
-use Rattle.fdref.specs.Output.{AppendsFront}
-use Rattle.fdref.specs.Serve.{IsReport, Reports, end_of, report_line}
+use Rattle.run_core.specs.Run.{FailsIfFewer, IsRun, RunTold}
+use Rattle.run_core.specs.declared.report.RunFault.{RunFault}
+use Rattle.run_core.specs.declared.report.RunFault.TheVariants as fault
+use Rattle.trace_writer.specs.declared.traced.TraceFault.{TraceFault}
+use Rattle.fdref.specs.Serve.{IsOf, Reported, RunAsked, SinkState, Unreported, WritesLine, WritesReport, end_of, ended_by, report_line, traced_end}
 use Rattle.fdref.specs.declared.job_end.JobEnd.{JobEnd}
 use Rattle.fdref.specs.declared.job_end.JobEnd.TheVariants as ended
 
--- the sessions of a report are those that hold its receipts
-pub report_of : (limits : Limits) (most sessions records taken given : ℕ) (held : List Held) (line : List ℕ)
-    → length held ≡ sessions → sessions ≤ most → IsRunOf limits records taken given held → line ≡ report_line sessions records taken given
-    → IsReport limits most line
-report_of limits most sessions records taken given held line all few run is = record {
-  held = held;
-  records = records;
-  taken = taken;
-  given = given;
-  few = rw all few;
-  run = run;
-  line_is = rw all is;
-}
+-- ---- a run with a report
 
--- by what was short
-pub reports_by : (limits : Limits) (most : ℕ) (old new : Option (List ℕ)) (short : Option Shortage) (sessions records taken given : ℕ) (held : List Held) (line : List ℕ)
-    → length held ≡ sessions → sessions ≤ most → (short ≡ None → sessions ≡ most) → IfSome short (λ _. sessions < most) → IsRunOf limits records taken given held → line ≡ report_line sessions records taken given → Appends old new line
-    → Reports limits most old new (end_of short)
-unfolding report_of
-reports_by limits most old new None sessions records taken given held line all few full fewer run is written =
-    (line, (report_of limits most sessions records taken given held line all few run is, all ∙ full refl), written)
-reports_by limits most old new (Some shortage.NoConnection) sessions records taken given held line all few full fewer run is written =
-    (line, (report_of limits most sessions records taken given held line all few run is, rw all fewer), written)
-reports_by limits most old new (Some shortage.NoThread) sessions records taken given held line all few full fewer run is written =
-    (line, (report_of limits most sessions records taken given held line all few run is, rw all fewer), written)
+-- a report's line that is written whole, by how the run ended
+written_by : (asked : RunAsked) (sink : SinkState) (old new : Option (List ℕ)) (told : RunTold) (line : List ℕ) → IsOf asked sink told → IsRun told → length told.ends ≤ asked.sessions
+    → line ≡ report_line (length told.ends) told.records told.taken told.given told.trace.whole → Appends old new line
+    → Reported asked sink old new (end_of (length told.ends) asked.sessions told.trace.fault)
+written_by asked sink old new told line is_of run few is appends = go (nat_lt (length told.ends) asked.sessions) told.trace.fault refl
+  where
+    writes : (end : JobEnd) → end ≡ end_of (length told.ends) asked.sessions told.trace.fault → WritesReport asked sink old new end
+    writes end so = record { line = line; report = record { told = told; is_of = is_of; run = run; few = few; line_is = is; end_is = so }; appends = appends }
 
--- or only a front of it was written
-pub reports_front : (limits : Limits) (most : ℕ) (old new : Option (List ℕ)) (sessions records taken given : ℕ) (held : List Held) (line : List ℕ) (found : JobEnd)
-    → length held ≡ sessions → sessions ≤ most → IsRunOf limits records taken given held → line ≡ report_line sessions records taken given → AppendsFront old new line → found ≡ ended.CannotWrite
-    → Reports limits most old new found
-unfolding report_of
-reports_front limits most old new sessions records taken given held line found all few run is front fault =
-    subst (Reports limits most old new) (sym fault) (line, report_of limits most sessions records taken given held line all few run is, front)
+    go : (fewer : Bool) (fault : Option TraceFault) → cond fewer ended.CannotListen (traced_end fault) ≡ end_of (length told.ends) asked.sessions told.trace.fault
+        → Reported asked sink old new (end_of (length told.ends) asked.sessions told.trace.fault)
+    go true fault e = subst (Reported asked sink old new) e (writes ended.CannotListen e)
+    go false None e = subst (Reported asked sink old new) e (writes ended.Done e)
+    go false (Some fault) e = subst (Reported asked sink old new) e (writes ended.TraceFault e)
+
+-- what became of the line of a report
+pub reported : (asked : RunAsked) (sink : SinkState) (old new : Option (List ℕ)) (told : RunTold) (sessions : ℕ) (end : JobEnd) → IsOf asked sink told → IsRun told
+    → sessions ≡ length told.ends → sessions ≤ asked.sessions
+    → WritesLine (report_line sessions told.records told.taken told.given told.trace.whole) (end_of sessions asked.sessions told.trace.fault) old new end
+    → Reported asked sink old new end
+reported asked sink old new told sessions end is_of run all few (inl (so, appends)) =
+    subst (Reported asked sink old new) (sym (so ∙ ap (λ (n : ℕ). end_of n asked.sessions told.trace.fault) all))
+    (written_by asked sink old new told _ is_of run (subst (λ (n : ℕ). n ≤ asked.sessions) all few)
+    (ap (λ (n : ℕ). report_line n told.records told.taken told.given told.trace.whole) all) appends)
+reported asked sink old new told sessions end is_of run all few (inr (inl (cannot, front))) =
+    subst (Reported asked sink old new) (sym cannot) (record {
+      line = report_line sessions told.records told.taken told.given told.trace.whole;
+      end = end_of (length told.ends) asked.sessions told.trace.fault;
+      report = record {
+        told = told;
+        is_of = is_of;
+        run = run;
+        few = subst (λ (n : ℕ). n ≤ asked.sessions) all few;
+        line_is = ap (λ (n : ℕ). report_line n told.records told.taken told.given told.trace.whole) all;
+        end_is = refl;
+      };
+      front = front;
+    })
+reported asked sink old new told sessions end is_of run all few (inr (inr (memory, same))) = subst (Reported asked sink old new) (sym memory) same
 
 -- it says that the source cannot listen only where a connection was wanting
-pub lost_connection : (before after : ℕ) (short : Option Shortage) → after ≡ failures_after before short → end_of short ≡ ended.CannotListen → after ≡ before + 1
-lost_connection before after None failed is = absurd cc
-lost_connection before after (Some shortage.NoConnection) failed is = failed
-lost_connection before after (Some shortage.NoThread) failed is = absurd cc
+pub lost_connection : (line : List ℕ) (old new : Option (List ℕ)) (sessions wanted before after : ℕ) (fault : Option TraceFault) (end : JobEnd) → FailsIfFewer sessions wanted before after
+    → WritesLine line (end_of sessions wanted fault) old new end → end ≡ ended.CannotListen → after ≡ before + 1
+lost_connection line old new sessions wanted before after fault end (inr fewer) w is = fewer.1
+lost_connection line old new sessions wanted before after fault end (inl full) (inl (so, appends)) is = absurd (not_short sessions wanted fault full.0 (sym so ∙ is))
+  where
+    not_short : (n m : ℕ) (f : Option TraceFault) → n ≡ m → end_of n m f ≡ ended.CannotListen → ⊥
+    not_short n m f same e = go (nat_lt n m) f refl e
+      where
+        go : (b : Bool) (f : Option TraceFault) → nat_lt n m ≡ b → cond b ended.CannotListen (traced_end f) ≡ ended.CannotListen → ⊥
+        go true f below e = omega (arith, same, ltb-true n m below)
+        go false None below e = cc
+        go false (Some fault) below e = cc
+lost_connection line old new sessions wanted before after fault end (inl full) (inr (inl (cannot, front))) is = let bad : ended.CannotWrite ≡ ended.CannotListen = sym cannot ∙ is in cc
+lost_connection line old new sessions wanted before after fault end (inl full) (inr (inr (memory, same))) is = let bad : ended.NoMemory ≡ ended.CannotListen = sym memory ∙ is in cc
+
+-- ---- a run without one
+
+pub unreported : (old : Option (List ℕ)) (told : RunFault) → Unreported old old (ended_by told)
+unreported old fault.NoMemory = refl
+unreported old fault.NoThread = refl
+unreported old fault.Missing = refl
+unreported old (fault.Disagree place) = refl
+
+pub never_lost : (told : RunFault) → ended_by told ≡ ended.CannotListen → ⊥
+never_lost fault.NoMemory e = cc
+never_lost fault.NoThread e = cc
+never_lost fault.Missing e = cc
+never_lost (fault.Disagree place) e = cc

@@ -1,11 +1,13 @@
 -- What the words of a command line ask of the program (own).
 use Rattle.std.specs.Prelude.{◌≡◌, ◌≢◌, ◌≤◌, ◌⊎◌, ◌∷◌, ℕ, List, [], Option, Some, None, true, codes}
-use Rattle.std.specs.Prelude.{option_map, option_and_then, is_some, ⊤}
+use Rattle.std.specs.Prelude.{option_map, option_and_then, is_some, ⊤, if◌then◌else◌}
 use Rattle.std.specs.String.{string_bytes}
+use Rattle.std.specs.Str.{bytes_eq}
 use Rattle.std.specs.Str.Parse.{IsNumeral, digits_value, without_leading_plus}
 use Rattle.clap.specs.Words.{App, IsAmong, Rule, Text, fault_of, first_of, kind_of}
 use Rattle.clap.specs.Words.{new_app, new_rule, subcommand_of, subcommand_rows_of}
 use Rattle.clap.specs.Words.{with_rule, with_subcommand}
+use Rattle.clap.specs.declared.builder.action.ArgAction.TheVariants.{SetTrue}
 use Rattle.clap.specs.declared.parser.matches.ArgMatches.{ArgMatches}
 use Rattle.clap.specs.declared.error.Error.{Error}
 use Rattle.clap.specs.declared.error.kind.ErrorKind.{ErrorKind}
@@ -14,7 +16,9 @@ use Rattle.call_types.specs.declared.limits.Bounds.{Bounds}
 use Rattle.call_types.specs.declared.limits.Limits.{Limits}
 use Rattle.call_types.specs.declared.limits.TheConstants.{RECORDS_MAX, FILE_SIZE_MAX, PIPE_CAPACITY}
 use Rattle.fdref.specs.declared.job.Job.{Job}
-use Rattle.fdref.specs.declared.job.Job.TheVariants.{Replay, Serve}
+use Rattle.fdref.specs.declared.job.Job.TheVariants.{Replay, Serve, Audit, Show}
+use Rattle.fdref.specs.declared.shown.Form.{Form}
+use Rattle.fdref.specs.declared.shown.Form.TheVariants as form
 use Rattle.fdref.specs.declared.job.JobFault.{JobFault}
 use Rattle.fdref.specs.declared.job.JobFault.TheVariants.{Usage, Shown, NoMemory}
 use Rattle.fdref.specs.declared.job.TheConstants.{SESSIONS_MAX}
@@ -29,15 +33,33 @@ option_rule id = record (new_rule id) { long = Some id; value_names = 1 }
 abbrev pub required_rule : Text → Rule
 required_rule id = record (option_rule id) { required = true }
 
+-- an option that is named so, and takes none
+abbrev pub flag_rule : Text → Rule
+flag_rule id = record (new_rule id) { long = Some id; action = Some SetTrue }
+
+-- a file, which stands by itself and has to be given
+abbrev pub file_rule : Rule
+file_rule = record (new_rule (codes "file")) { value_names = 1; required = true }
+
 -- the subcommand `replay`, with its one option
 abbrev pub replay_app : App
 replay_app = with_rule (new_app (codes "replay")) (option_rule (codes "records"))
 
--- the subcommand `serve`, with its three options
+-- the subcommand `serve`, with its four options
 abbrev pub serve_app : App
 serve_app = with_rule
+    (with_rule
     (with_rule (with_rule (new_app (codes "serve")) (required_rule (codes "socket"))) (required_rule (codes "sessions")))
-    (required_rule (codes "records"))
+    (required_rule (codes "records")))
+    (required_rule (codes "trace"))
+
+-- the subcommand `audit`, with its file
+abbrev pub audit_app : App
+audit_app = with_rule (new_app (codes "audit")) file_rule
+
+-- the subcommand `show`, with its one option and its file
+abbrev pub show_app : App
+show_app = with_rule (with_rule (new_app (codes "show")) (flag_rule (codes "acts"))) file_rule
 
 -- the program's settings: it has a version, wants a subcommand, and has none named `help`
 abbrev pub bare_app : App
@@ -52,7 +74,9 @@ bare_app = record (new_app (codes "fdref")) {
 
 -- the whole command line of the program
 abbrev pub fdref_app : App
-fdref_app = with_subcommand (with_subcommand bare_app replay_app.top) serve_app.top
+fdref_app = with_subcommand
+    (with_subcommand (with_subcommand (with_subcommand bare_app replay_app.top) serve_app.top) audit_app.top)
+    show_app.top
 
 -- ---- what the words give
 
@@ -62,7 +86,11 @@ line words = codes "fdref" ∷ words
 
 -- words that ask for a server
 abbrev pub served : List Text
-served = codes "serve" ∷ codes "--socket" ∷ codes "s" ∷ codes "--sessions" ∷ codes "2" ∷ codes "--records=5" ∷ []
+served = codes "serve" ∷ codes "--socket" ∷ codes "s" ∷ codes "--sessions" ∷ codes "2" ∷ codes "--records=5" ∷ codes "--trace=t" ∷ []
+
+-- words that ask for the acts of a trace
+abbrev pub shown : List Text
+shown = codes "show" ∷ codes "--acts" ∷ codes "t" ∷ []
 
 -- the name of the subcommand that the words give
 abbrev pub name_given : List Text → Option Text
@@ -107,17 +135,30 @@ pub record IsReplay (given : Given) (limits : Limits) : Type 0 where
   pub records : IsRecords (given (codes "records")) limits.records
   pub bounds : limits.bounds ≡ standard
 
--- path, number of sessions and limits are those of a server that is given so
-pub record IsServe (given : Given) (path : Text) (count : ℕ) (limits : Limits) : Type 0 where
+-- path, number of sessions, limits and the trace's file are those of a server that is given so
+pub record IsServe (given : Given) (path : Text) (count : ℕ) (limits : Limits) (file : Text) : Type 0 where
   pub socket : given (codes "socket") ≡ Some path
   pub sessions : IsNumber SESSIONS_MAX (given (codes "sessions")) count
   pub records : IsNumber RECORDS_MAX (given (codes "records")) limits.records
   pub bounds : limits.bounds ≡ standard
+  pub trace : given (codes "trace") ≡ Some file
+
+-- the form in which a trace is shown: its acts, where that option is used
+abbrev pub form_of : Option Text → Form
+form_of None = form.Records
+form_of (Some text) = if bytes_eq text (codes "true") then form.Acts else form.Records
+
+-- path and form are those of a trace that is to be shown
+pub record IsShow (given : Given) (path : Text) (how : Form) : Type 0 where
+  pub file : given (codes "file") ≡ Some path
+  pub form : how ≡ form_of (given (codes "acts"))
 
 -- the job is the one that the subcommand of this name asks for
 abbrev pub IsJobOf : Option Text → Given → Job → Type 0
 IsJobOf name given (Replay limits) = (name ≡ Some (codes "replay")) × IsReplay given limits
-IsJobOf name given (Serve path count limits) = (name ≡ Some (codes "serve")) × IsServe given (string_bytes path) count limits
+IsJobOf name given (Serve path count limits file) = (name ≡ Some (codes "serve")) × IsServe given (string_bytes path) count limits (string_bytes file)
+IsJobOf name given (Audit path) = (name ≡ Some (codes "audit")) × (given (codes "file") ≡ Some (string_bytes path))
+IsJobOf name given (Show path how) = (name ≡ Some (codes "show")) × IsShow given (string_bytes path) how
 
 -- a number that the subcommand of this name is given is out of its range
 abbrev pub IsOutOfRange : Option Text → Given → Type 0
@@ -128,7 +169,11 @@ IsOutOfRange name given = ((name ≡ Some (codes "replay")) × IsNoRecords (give
 -- each option of a server is given
 abbrev pub GivesAll : Given → Type 0
 GivesAll given = (is_some (given (codes "socket")) ≡ true) × (is_some (given (codes "sessions")) ≡ true)
-    × (is_some (given (codes "records")) ≡ true)
+    × (is_some (given (codes "records")) ≡ true) × (is_some (given (codes "trace")) ≡ true)
+
+-- the file of an audit, or of a trace to be shown, is given
+abbrev pub GivesFile : Given → Type 0
+GivesFile given = is_some (given (codes "file")) ≡ true
 
 -- ---- what the program makes of them
 

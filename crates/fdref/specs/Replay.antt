@@ -1,5 +1,5 @@
 -- What a replay writes, and what its end says (own).
-use Rattle.std.specs.Prelude.{◌≡◌, ℕ, List, [], ◌++◌, Option, Result, Ok, Err, IfSome, codes, decimal}
+use Rattle.std.specs.Prelude.{◌≡◌, ℕ, List, [], ◌++◌, Option, Result, Ok, Err, IfSome}
 use Rattle.std.specs.Io.KnownBytes.{Appends}
 use Rattle.call_types.specs.declared.act.ScriptAct.{ScriptAct}
 use Rattle.call_types.specs.declared.limits.Limits.{Limits}
@@ -108,33 +108,4 @@ Ends limits input old new ended.TooLong = IfSome input (Refuses faults.TooLong) 
 Ends limits input old new ended.CannotRead = new ≡ old
 Ends limits input old new ended.CannotWrite = OfInput input (WritesReplayFront limits old new)
 Ends limits input old new ended.NoMemory = new ≡ old
-Ends limits input old new ended.CannotListen = ⊥
-Ends limits input old new ended.NoThread = ⊥
-Ends limits input old new ended.MissingShare = ⊥
-Ends limits input old new (ended.Disagree place) = ⊥
-
--- the exit status of an end
-abbrev pub ended_status : JobEnd → ℕ
-ended_status ended.Done = 0
-ended_status (ended.BadLine line column) = 3
-ended_status ended.TooLong = 3
-ended_status ended.CannotRead = 4
-ended_status ended.CannotWrite = 4
-ended_status ended.NoMemory = 5
-ended_status ended.CannotListen = 4
-ended_status ended.NoThread = 5
-ended_status ended.MissingShare = 6
-ended_status (ended.Disagree place) = 6
-
--- what is written of an end on standard error (own)
-abbrev pub ended_text : JobEnd → List ℕ
-ended_text ended.Done = []
-ended_text (ended.BadLine line column) = codes "line " ++ (decimal line ++ (codes " column " ++ (decimal column ++ codes ": not an act\n")))
-ended_text ended.TooLong = codes "script too long\n"
-ended_text ended.CannotRead = codes "cannot read\n"
-ended_text ended.CannotWrite = codes "cannot write\n"
-ended_text ended.NoMemory = codes "no memory\n"
-ended_text ended.CannotListen = codes "cannot listen\n"
-ended_text ended.NoThread = codes "no thread\n"
-ended_text ended.MissingShare = codes "missing share\n"
-ended_text (ended.Disagree place) = codes "disagree at " ++ (decimal place ++ codes "\n")
+Ends limits input old new other = ⊥

@@ -1,59 +1,109 @@
--- What a run of sessions writes, and what its end says (own).
-use Rattle.std.specs.Prelude.{◌≡◌, ◌≤◌, ◌<◌, ℕ, List, ◌++◌, Option, None, Some, codes, decimal, length}
+-- What a run of sessions writes, what its end says, and what its sink has (own).
+use Rattle.std.specs.Prelude.{◌≡◌, ◌≤◌, ◌⊎◌, ℕ, nat_lt, Bool, true, List, ◌++◌, Option, None, Some, if◌then◌else◌, codes, decimal, length}
 use Rattle.std.specs.Io.KnownBytes.{Appends}
-use Rattle.script_text.specs.Lines.{totals_line}
 use Rattle.call_types.specs.declared.limits.Limits.{Limits}
-use Rattle.run_core.specs.Receipts.{Held}
-use Rattle.run_core.specs.Run.{IsRunOf}
+use Rattle.run_core.specs.Run.{IsRun, RunTold, Streams}
 use Rattle.run_core.specs.declared.report.RunFault.{RunFault}
 use Rattle.run_core.specs.declared.report.RunFault.TheVariants as fault
-use Rattle.run_core.specs.declared.report.Shortage.{Shortage}
-use Rattle.run_core.specs.declared.report.Shortage.TheVariants as shortage
+use Rattle.trace_writer.specs.declared.traced.TraceFault.{TraceFault}
 use Rattle.fdref.specs.Output.{AppendsFront}
 use Rattle.fdref.specs.declared.job_end.JobEnd.{JobEnd}
 use Rattle.fdref.specs.declared.job_end.JobEnd.TheVariants as ended
 
--- the line that reports a run: how many sessions were started, and the totals of its book
-abbrev pub report_line : ℕ → ℕ → ℕ → ℕ → List ℕ
-report_line sessions records taken given = codes "sessions " ++ (decimal sessions ++ (codes " " ++ totals_line records taken given))
+-- the line that reports a run: how many sessions were started, the totals of its book, and how many records are whole in its trace
+abbrev pub report_line : ℕ → ℕ → ℕ → ℕ → ℕ → List ℕ
+report_line sessions records taken given whole =
+    codes "sessions " ++ (decimal sessions ++ (codes " records " ++ (decimal records ++ (codes " in " ++ (decimal taken ++ (codes " out " ++ (decimal given ++ (codes " trace " ++ (decimal whole ++ codes "\n")))))))))
 
--- the line reports a run within these limits that is closed, with so many sessions at most, of which each holds its receipts
-pub record IsReport (limits : Limits) (most : ℕ) (line : List ℕ) : Type 0 where
-  pub held : List Held
-  pub records : ℕ
-  pub taken : ℕ
-  pub given : ℕ
-  pub few : length held ≤ most
-  pub run : IsRunOf limits records taken given held
-  pub line_is : line ≡ report_line (length held) records taken given
+-- what a sink holds, where that is known, how often it failed, and whether it was synced after the last write
+pub record SinkState : Type 0 where
+  pub contents : Option (List ℕ)
+  pub failures : ℕ
+  pub is_synced : Bool
 
--- the same, with just so many
-abbrev pub IsFullReport : Limits → ℕ → List ℕ → Type 0
-IsFullReport limits sessions line = (report : IsReport limits sessions line) × (length report.held ≡ sessions)
+-- what is asked of a run: its limits, how many sessions it is to have, what its source has to give before and has after it, and the sink
+-- that takes its trace
+pub record RunAsked : Type 0 where
+  pub limits : Limits
+  pub sessions : ℕ
+  pub coming : Option (List Streams)
+  pub later : Option (List Streams)
+  pub sink : SinkState
 
--- the same, with fewer
-abbrev pub IsShortReport : Limits → ℕ → List ℕ → Type 0
-IsShortReport limits sessions line = (report : IsReport limits sessions line) × (length report.held < sessions)
+-- what is told is told of such a run, under a gate that always says yes, whose trace went into the sink and left it so
+pub record IsOf (asked : RunAsked) (sink : SinkState) (told : RunTold) : Type 0 where
+  pub always : told.always ≡ true
+  pub limits_are : told.limits_are ≡ asked.limits
+  pub coming_is : told.coming ≡ asked.coming
+  pub later_is : told.later ≡ asked.later
+  pub base : told.trace.base ≡ asked.sink.contents
+  pub before : told.trace.before ≡ asked.sink.failures
+  pub now : told.trace.now ≡ sink.contents
+  pub after : told.trace.after ≡ sink.failures
+  pub is_synced : told.trace.is_synced ≡ sink.is_synced
 
--- how a run ended whose report is written
-abbrev pub end_of : Option Shortage → JobEnd
-end_of None = ended.Done
-end_of (Some shortage.NoConnection) = ended.CannotListen
-end_of (Some shortage.NoThread) = ended.NoThread
+-- how a run ended whose report is written, where its trace had this fault or none
+abbrev pub traced_end : Option TraceFault → JobEnd
+traced_end None = ended.Done
+traced_end (Some fault) = ended.TraceFault
+
+-- how a run ended whose report is written: that sessions are wanting is told before a fault of its trace
+abbrev pub end_of : ℕ → ℕ → Option TraceFault → JobEnd
+end_of started wanted fault = if nat_lt started wanted then ended.CannotListen else traced_end fault
+
+-- the line reports a run that was asked for, and its trace, which went into the sink and left it so; each record is told, and the run
+-- ends so
+pub record IsReport (asked : RunAsked) (sink : SinkState) (line : List ℕ) (end : JobEnd) : Type 0 where
+  pub told : RunTold
+  pub is_of : IsOf asked sink told
+  pub run : IsRun told
+  pub few : length told.ends ≤ asked.sessions
+  pub line_is : line ≡ report_line (length told.ends) told.records told.taken told.given told.trace.whole
+  pub end_is : end ≡ end_of (length told.ends) asked.sessions told.trace.fault
+
+-- such a line was written, and nothing else
+pub record WritesReport (asked : RunAsked) (sink : SinkState) (old new : Option (List ℕ)) (end : JobEnd) : Type 0 where
+  pub line : List ℕ
+  pub report : IsReport asked sink line end
+  pub appends : Appends old new line
+
+-- a front of such a line was written, and nothing else, of a run that ended so or so
+pub record WritesReportFront (asked : RunAsked) (sink : SinkState) (old new : Option (List ℕ)) : Type 0 where
+  pub line : List ℕ
+  pub end : JobEnd
+  pub report : IsReport asked sink line end
+  pub front : AppendsFront old new line
 
 -- how a run ended that gave no report
 abbrev pub ended_by : RunFault → JobEnd
 ended_by fault.NoMemory = ended.NoMemory
+ended_by fault.NoThread = ended.NoThread
 ended_by fault.Missing = ended.MissingShare
 ended_by (fault.Disagree place) = ended.Disagree place
 
--- what the end says of what was written
-abbrev pub Reports : Limits → ℕ → Option (List ℕ) → Option (List ℕ) → JobEnd → Type 0
-Reports limits most old new ended.Done = (line : List ℕ) × IsFullReport limits most line × Appends old new line
-Reports limits most old new ended.CannotListen = (line : List ℕ) × IsShortReport limits most line × Appends old new line
-Reports limits most old new ended.NoThread = (line : List ℕ) × IsShortReport limits most line × Appends old new line
-Reports limits most old new ended.CannotWrite = (line : List ℕ) × IsReport limits most line × AppendsFront old new line
-Reports limits most old new ended.NoMemory = new ≡ old
-Reports limits most old new ended.MissingShare = new ≡ old
-Reports limits most old new (ended.Disagree place) = new ≡ old
-Reports limits most old new other = ⊥
+-- a line was written, and the job ends so; or a front of the line was written, or memory ran out before
+abbrev pub WritesLine : List ℕ → JobEnd → Option (List ℕ) → Option (List ℕ) → JobEnd → Type 0
+WritesLine line so old new end =
+    ((end ≡ so) × Appends old new line) ⊎ (((end ≡ ended.CannotWrite) × AppendsFront old new line) ⊎ ((end ≡ ended.NoMemory) × (new ≡ old)))
+
+-- what the end says of what was written, where the sink is given back
+abbrev pub Reported : RunAsked → SinkState → Option (List ℕ) → Option (List ℕ) → JobEnd → Type 0
+Reported asked sink old new ended.Done = WritesReport asked sink old new ended.Done
+Reported asked sink old new ended.CannotListen = WritesReport asked sink old new ended.CannotListen
+Reported asked sink old new ended.TraceFault = WritesReport asked sink old new ended.TraceFault
+Reported asked sink old new ended.CannotWrite = WritesReportFront asked sink old new
+Reported asked sink old new ended.NoMemory = new ≡ old
+Reported asked sink old new other = ⊥
+
+-- the same, of a run without a report, which gives no sink back
+abbrev pub Unreported : Option (List ℕ) → Option (List ℕ) → JobEnd → Type 0
+Unreported old new ended.NoMemory = new ≡ old
+Unreported old new ended.NoThread = new ≡ old
+Unreported old new ended.MissingShare = new ≡ old
+Unreported old new (ended.Disagree place) = new ≡ old
+Unreported old new other = ⊥
+
+-- what the end says of what was written and of the sink
+abbrev pub Reports : RunAsked → Option (List ℕ) → Option (List ℕ) → Option SinkState → JobEnd → Type 0
+Reports asked old new (Some sink) end = Reported asked sink old new end
+Reports asked old new None end = Unreported old new end

@@ -1,12 +1,14 @@
 //! What the words of a command line ask for.
-ghost use Rattle.std.specs.Prelude.{◌≡◌, ◌∷◌, [], IfOk, IfErr, IfSome, map, codes, is_some, true, false};
+ghost use Rattle.std.specs.Prelude.{◌≡◌, ◌∷◌, [], IfOk, IfErr, IfSome, map, codes, is_some, option_map, true, false};
+ghost use Rattle.fdref.specs.declared.shown.Form.TheVariants as form;
 ghost use Rattle.clap.specs.Words.{app_of, found_of, first_value, fault_of, kind_of, rule_of};
 ghost use Rattle.clap.specs.declared.builder.command.Command.TheViews.{out-Command as fields_of};
-ghost use Rattle.fdref.specs.CommandLine.{Asks, Deserves, GivesAll, IsFaultOf, IsJobOf, IsNoNumber, IsNoRecords, IsNumber, IsParse, IsRecords, RefusesNumber, SaysNotText, fdref_app, line, name_given, option_rule, replay_app, required_rule, serve_app, served, standard, status_of, text_given};
+ghost use Rattle.fdref.specs.CommandLine.{Asks, Deserves, GivesAll, GivesFile, IsFaultOf, IsJobOf, IsNoNumber, IsNoRecords, IsNumber, IsParse, IsRecords, RefusesNumber, SaysNotText, audit_app, fdref_app, file_rule, flag_rule, form_of, line, name_given, option_rule, replay_app, required_rule, serve_app, served, show_app, shown, standard, status_of, text_given};
 
+use crate::shown::Form;
 use call_types::limits::{Limits, RECORDS_MAX};
 use clap::error::ErrorKind;
-use clap::{Arg, ArgMatches, Command, Error};
+use clap::{Arg, ArgAction, ArgMatches, Command, Error};
 use std::alloc::{AllocError, Global};
 use std::convert::AsStr;
 use std::fmt;
@@ -24,11 +26,21 @@ pub enum Job {
     Replay {
         limits: Limits,
     },
-    /// To serve so many sessions, 1 to 64, over a Unix socket that it makes at this path.
+    /// To serve so many sessions, 1 to 64, over a Unix socket that it makes at this path, and to write their trace to this file.
     Serve {
         socket: String,
         sessions: u8,
         limits: Limits,
+        trace: String,
+    },
+    /// To judge the trace in this file.
+    Audit {
+        file: String,
+    },
+    /// To show the records of the trace in this file, in this form.
+    Show {
+        file: String,
+        form: Form,
     },
 }
 
@@ -92,6 +104,28 @@ fn required_arg<'a>(alloc: Global, name: &'a str, value: &'a str, help: &'a str)
     option_arg(alloc, name, value).required(true).help(help)
 }
 
+/// An option `--name` without a value.
+fn flag_arg<'a>(alloc: Global, name: &'a str, help: &'a str) -> Arg<'a>
+    ensures rule { rule_of result ≡ flag_rule name.entry.now }
+    ensures local { result.global ≡ false }
+{
+    Arg::new(alloc, name)
+        .long(name)
+        .action(ArgAction::SetTrue)
+        .help(help)
+}
+
+/// The file, which has to be given, of a subcommand that reads one.
+fn file_arg<'a>(alloc: Global) -> Arg<'a>
+    ensures rule { rule_of result ≡ file_rule }
+    ensures local { result.global ≡ false }
+{
+    Arg::new(alloc, "file")
+        .value_name("FILE")
+        .required(true)
+        .help("The file that has the trace")
+}
+
 /// The subcommand `replay`.
 fn replay_command<'a>(alloc: Global) -> Result<Command<'a>, AllocError>
     ensures app { IfOk result (λ c. app_of c ≡ replay_app) }
@@ -112,13 +146,37 @@ fn serve_command<'a>(alloc: Global) -> Result<Command<'a>, AllocError>
     let socket = "Where the Unix socket is made; nothing may be there";
     let sessions = "Connections that are accepted, 1 to 64; each is one process";
     let records = "Records that the run may have, 1 to 1000000";
+    let trace = "The file that the trace is written to; one that is there is emptied";
     Command::new(alloc, "serve")
         .about(
             "Answers requests over a Unix socket and prints a report when all sessions have ended",
         )
         .arg(required_arg(alloc, "socket", "PATH", socket))?
         .arg(required_arg(alloc, "sessions", "N", sessions))?
-        .arg(required_arg(alloc, "records", "N", records))
+        .arg(required_arg(alloc, "records", "N", records))?
+        .arg(required_arg(alloc, "trace", "FILE", trace))
+}
+
+/// The subcommand `audit`.
+fn audit_command<'a>(alloc: Global) -> Result<Command<'a>, AllocError>
+    ensures app { IfOk result (λ c. app_of c ≡ audit_app) }
+    ensures local { IfOk result (λ c. (fields_of c).has_globals ≡ false) }
+{
+    Command::new(alloc, "audit")
+        .about("Prints whether each record of a trace is what the model gives")
+        .arg(file_arg(alloc))
+}
+
+/// The subcommand `show`.
+fn show_command<'a>(alloc: Global) -> Result<Command<'a>, AllocError>
+    ensures app { IfOk result (λ c. app_of c ≡ show_app) }
+    ensures local { IfOk result (λ c. (fields_of c).has_globals ≡ false) }
+{
+    let acts = "Print the lines of a script that asks for the same acts";
+    Command::new(alloc, "show")
+        .about("Prints a line for each record of a trace, and judges none")
+        .arg(flag_arg(alloc, "acts", acts))?
+        .arg(file_arg(alloc))
 }
 
 /// The command line of the program.
@@ -133,7 +191,9 @@ fn fdref_command<'a>(alloc: Global) -> Result<Command<'a>, AllocError>
         .subcommand_required(true)
         .disable_help_subcommand(true)
         .subcommand(replay_command(alloc)?)?
-        .subcommand(serve_command(alloc)?)
+        .subcommand(serve_command(alloc)?)?
+        .subcommand(audit_command(alloc)?)?
+        .subcommand(show_command(alloc)?)
 }
 
 /// The error of a subcommand whose option has a text that is no number from 1 to the most.
@@ -253,11 +313,44 @@ fn serve_job(alloc: Global, matches: &ArgMatches<'_>) -> Result<Job, JobFault>
         None => return Err(JobFault::Usage(serve_error(alloc, "records", text, RECORDS_MAX)?)),
     };
     let socket = String::from_str(alloc, text_of(matches, "socket"))?;
+    let trace = String::from_str(alloc, text_of(matches, "trace"))?;
     Ok(Job::Serve {
         socket,
         sessions,
         limits,
+        trace,
     })
+}
+
+/// The job that the matches of `audit` ask for, in which its file is given.
+fn audit_job(alloc: Global, matches: &ArgMatches<'_>) -> Result<Job, JobFault>
+    requires { GivesFile (first_value (found_of matches.now)) }
+    ensures job { IfOk result (λ job. IsJobOf (Some (codes "audit")) (first_value (found_of matches.now)) job) }
+    ensures fault { IfErr result (λ fault. RefusesNumber (Some (codes "audit")) (first_value (found_of matches.now)) fault) }
+{
+    let file = String::from_str(alloc, text_of(matches, "file"))?;
+    Ok(Job::Audit { file })
+}
+
+/// The form that the value of `--acts` stands for.
+fn form_of(text: Option<&str>) -> Form
+    ensures { result ≡ form_of (option_map (λ s. s.now) text.entry) }
+{
+    match text {
+        Some(text) if text == "true" => Form::Acts,
+        _ => Form::Records,
+    }
+}
+
+/// The job that the matches of `show` ask for, in which its file is given.
+fn show_job(alloc: Global, matches: &ArgMatches<'_>) -> Result<Job, JobFault>
+    requires { GivesFile (first_value (found_of matches.now)) }
+    ensures job { IfOk result (λ job. IsJobOf (Some (codes "show")) (first_value (found_of matches.now)) job) }
+    ensures fault { IfErr result (λ fault. RefusesNumber (Some (codes "show")) (first_value (found_of matches.now)) fault) }
+{
+    let form = form_of(matches.get_str("acts"));
+    let file = String::from_str(alloc, text_of(matches, "file"))?;
+    Ok(Job::Show { file, form })
 }
 
 /// The matches of the program's command line.
@@ -280,8 +373,14 @@ pub fn job_of<S: AsStr>(alloc: Global, words: &[S]) -> Result<Job, JobFault>
     if let Some(replay) = matches.subcommand_matches("replay") {
         return replay_job(alloc, replay);
     }
-    match matches.subcommand_matches("serve") {
-        Some(serve) => serve_job(alloc, serve),
+    if let Some(serve) = matches.subcommand_matches("serve") {
+        return serve_job(alloc, serve);
+    }
+    if let Some(audit) = matches.subcommand_matches("audit") {
+        return audit_job(alloc, audit);
+    }
+    match matches.subcommand_matches("show") {
+        Some(show) => show_job(alloc, show),
         None => unreachable!(),
     }
 }
@@ -321,7 +420,16 @@ pub fn lines_read()
     ensures socket { text_given (line served) (codes "socket") ≡ Some (codes "s") }
     ensures sessions { text_given (line served) (codes "sessions") ≡ Some (codes "2") }
     ensures records { text_given (line served) (codes "records") ≡ Some (codes "5") }
-    ensures incomplete { fault_of fdref_app (line (codes "serve" ∷ codes "--socket=s" ∷ codes "--records=5" ∷ [])) ≡ ErrorKind.MissingRequiredArgument ∷ [] }
+    ensures trace { text_given (line served) (codes "trace") ≡ Some (codes "t") }
+    ensures incomplete { fault_of fdref_app (line (codes "serve" ∷ codes "--socket=s" ∷ codes "--records=5" ∷ codes "--trace=t" ∷ [])) ≡ ErrorKind.MissingRequiredArgument ∷ [] }
+    ensures audit { (fault_of fdref_app (line (codes "audit" ∷ codes "t" ∷ [])) ≡ []) × (name_given (line (codes "audit" ∷ codes "t" ∷ [])) ≡ Some (codes "audit")) }
+    ensures file { text_given (line (codes "audit" ∷ codes "t" ∷ [])) (codes "file") ≡ Some (codes "t") }
+    ensures no_file { fault_of fdref_app (line (codes "audit" ∷ [])) ≡ ErrorKind.MissingRequiredArgument ∷ [] }
+    ensures two_files { fault_of fdref_app (line (codes "audit" ∷ codes "t" ∷ codes "u" ∷ [])) ≡ ErrorKind.UnknownArgument ∷ [] }
+    ensures show { (fault_of fdref_app (line shown) ≡ []) × (name_given (line shown) ≡ Some (codes "show")) }
+    ensures acts { (text_given (line shown) (codes "file") ≡ Some (codes "t")) × (form_of (text_given (line shown) (codes "acts")) ≡ form.Acts) }
+    ensures records_alone { form_of (text_given (line (codes "show" ∷ codes "t" ∷ [])) (codes "acts")) ≡ form.Records }
+    ensures traceless { fault_of fdref_app (line (codes "serve" ∷ codes "--socket=s" ∷ codes "--sessions=2" ∷ codes "--records=5" ∷ [])) ≡ ErrorKind.MissingRequiredArgument ∷ [] }
     ensures most_sessions { IsNumber SESSIONS_MAX (Some (codes "64")) 64 }
     ensures no_sessions { IsNoNumber SESSIONS_MAX (Some (codes "0")) }
     ensures too_many_sessions { IsNoNumber SESSIONS_MAX (Some (codes "65")) }

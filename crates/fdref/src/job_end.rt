@@ -1,34 +1,44 @@
-//! How a replay ends.
+//! How a job ends.
 ghost use Rattle.std.specs.Prelude.{◌≡◌};
-ghost use Rattle.fdref.specs.Replay.{ended_status};
+ghost use Rattle.fdref.specs.JobEnds.{ended_status};
 
 use script_text::fault::ScriptFault;
 use std::alloc::AllocError;
 use std::fmt;
 
-/// How a replay ended.
+/// How a job ended.
 #[derive(Clone, Copy, Debug, PartialEq, Eq)]
 pub enum JobEnd {
-    /// The script was run, and all its lines were written.
+    /// All was done and written.
     Done,
     /// A line of the script is no act; line and column are counted from 1. Nothing was written.
     BadLine { line: usize, column: usize },
     /// The script has more than 16,777,216 bytes. Nothing was run or written.
     TooLong,
-    /// The input failed. Nothing was run or written.
+    /// The input failed, or could not be opened. Of a trace that is shown, lines may have been written; else nothing was run or written.
     CannotRead,
     /// The output failed. A front of the right output was written, and nothing else.
     CannotWrite,
-    /// Memory ran out. Nothing was written.
+    /// Memory ran out. Of a trace that is shown, lines may have been written; else nothing was.
     NoMemory,
     /// There is no socket to listen on, or accepting failed; the sessions before were served and reported.
     CannotListen,
-    /// A thread could not be started; the sessions before were served and reported.
+    /// The trace is not whole, or may not last, since its sink or memory failed; the run was reported.
+    TraceFault,
+    /// A thread could not be started, so nothing was reported; the sessions before were served.
     NoThread,
     /// Shares of some seats are missing, so nothing was reported.
     MissingShare,
-    /// The receipts of the sessions and the records differ, at this place at the least, so nothing was reported.
+    /// The receipts of the sessions, the records and those that the trace is of differ, at this place at the least, so nothing was reported.
     Disagree { place: u64 },
+    /// A record of the trace is not what the model gives; the verdict was written.
+    IllegalTrace,
+    /// The trace has no header, or a frame that spells no record; the verdict was written.
+    MalformedTrace,
+    /// All whole records were shown, and so many bytes of one that is not finished are left over.
+    Rest { bytes: u64 },
+    /// The records were shown up to a frame that spells none, or is too long, at this byte of the trace; at 0 it has no header.
+    Malformed { at: u64 },
 }
 
 impl JobEnd {
@@ -37,24 +47,27 @@ impl JobEnd {
         ensures { result ≡ ended_status self }
     {
         match self {
-            JobEnd::Done => 0,
+            JobEnd::Done | JobEnd::Rest { .. } => 0,
             JobEnd::BadLine { .. } | JobEnd::TooLong => 3,
-            JobEnd::CannotRead | JobEnd::CannotWrite | JobEnd::CannotListen => 4,
+            JobEnd::CannotRead | JobEnd::CannotWrite | JobEnd::CannotListen | JobEnd::TraceFault =>
+                4,
             JobEnd::NoMemory | JobEnd::NoThread => 5,
             JobEnd::MissingShare | JobEnd::Disagree { .. } => 6,
+            JobEnd::IllegalTrace => 7,
+            JobEnd::MalformedTrace | JobEnd::Malformed { .. } => 8,
         }
     }
 }
 
 impl fmt::Display for JobEnd {
     ghost use Rattle.std.specs.Prelude.{Some};
-    ghost use Rattle.fdref.specs.Replay.{ended_text};
+    ghost use Rattle.fdref.specs.JobEnds.{ended_text};
 
     ghost output = { λ ended. Some (ended_text ended) };
 
     fn fmt<W: fmt::Write>(&self, f: &mut fmt::Formatter<W>) -> fmt::Result {
         match self {
-            JobEnd::Done => Ok(()),
+            JobEnd::Done | JobEnd::IllegalTrace | JobEnd::MalformedTrace => Ok(()),
             JobEnd::BadLine { line, column } => {
                 write!(f, "line {line} column {column}: not an act\n")
             }
@@ -63,9 +76,12 @@ impl fmt::Display for JobEnd {
             JobEnd::CannotWrite => f.write_str("cannot write\n"),
             JobEnd::NoMemory => f.write_str("no memory\n"),
             JobEnd::CannotListen => f.write_str("cannot listen\n"),
+            JobEnd::TraceFault => f.write_str("trace fault\n"),
             JobEnd::NoThread => f.write_str("no thread\n"),
             JobEnd::MissingShare => f.write_str("missing share\n"),
             JobEnd::Disagree { place } => write!(f, "disagree at {place}\n"),
+            JobEnd::Rest { bytes } => write!(f, "rest {bytes}\n"),
+            JobEnd::Malformed { at } => write!(f, "malformed {at}\n"),
         }
     }
 }

@@ -7,10 +7,11 @@ use std::io;
 use std::net::{Net, Shutdown};
 use std::os::unix::net::{UnixListener, UnixStream};
 
-/// A socket that listens, and how many times it gave no connection.
+/// A socket that listens, how many connections it gave, and how many times it gave none.
 #[derive(Drop)]
 pub struct Listener {
     socket: UnixListener,
+    accepted: u64,
     failures: u64,
 }
 
@@ -28,11 +29,20 @@ impl Source for Listener {
 
     type Writer = UnixStream;
 
+    ghost use Rattle.std.specs.Prelude.{None};
+
     ghost failures = { λ listener. listener.failures };
+
+    ghost accepted = { λ listener. listener.accepted };
+
+    ghost coming = { λ _. None };
 
     fn accept(&mut self) -> Result<(UnixStream, UnixStream), AcceptFailed> {
         match self.next() {
-            Ok(connection) => Ok(connection),
+            Ok(connection) => {
+                self.accepted += 1;
+                Ok(connection)
+            }
             Err(_) => {
                 self.failures += 1;
                 Err(AcceptFailed)
@@ -66,6 +76,7 @@ impl<'a, R: Files + Net> Listens for Sockets<'a, R> {
         match UnixListener::bind(self.rt, path) {
             Ok(socket) => Some(Listener {
                 socket,
+                accepted: 0,
                 failures: 0,
             }),
             Err(_) => None,

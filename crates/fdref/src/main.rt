@@ -1,6 +1,8 @@
 //! The program `fdref`.
 #![tactic(auto)]
 
+mod audit_file;
+mod files;
 mod job;
 mod job_end;
 mod listener;
@@ -8,12 +10,15 @@ mod output;
 mod perform;
 mod replay;
 mod serve;
+mod show;
+mod shown;
 
 ghost use Rattle.std.specs.Prelude.{◌≡◌};
 ghost use Rattle.std.specs.Process.{exit_status};
 ghost use Rattle.fdref.specs.CommandLine.{status_of};
-ghost use Rattle.fdref.specs.Replay.{ended_status};
+ghost use Rattle.fdref.specs.JobEnds.{ended_status};
 
+use files::SystemFiles;
 use job::{Job, JobFault, job_of, not_text};
 use job_end::JobEnd;
 use listener::Sockets;
@@ -73,6 +78,7 @@ fn main(rt: HostRuntime) -> ExitCode {
                 rt,
                 rt.alloc(),
                 &Sockets { rt: &rt },
+                &SystemFiles { rt: &rt },
                 rt.reader(),
                 &mut io::writer(&rt),
                 job,

@@ -1,17 +1,25 @@
 //! A job, done.
 
-ghost use Rattle.std.specs.Prelude.{◌≡◌, IfSome};
-ghost use Rattle.fdref.specs.Perform.{Performs};
+ghost use Rattle.std.specs.Prelude.{◌≡◌, ◌+◌, ◌<◌, ◌^◌, true, IfSome};
+ghost use Rattle.fdref.specs.Audit.{AuditEnds};
+ghost use Rattle.fdref.specs.Perform.{Has, Performs, Serves};
+ghost use Rattle.fdref.specs.Show.{ShowEnds};
 
+use crate::audit_file::audit_file;
 use crate::job::Job;
 use crate::job_end::JobEnd;
 use crate::replay::replay;
 use crate::serve::serve_on;
+use crate::show::show;
+use crate::shown::Form;
+use call_types::limits::Limits;
 use run_core::source::Source;
 use std::alloc::Global;
 use std::io::{Read, Write};
 use std::sync::Wait;
 use std::thread::Threads;
+use std::time::Clock;
+use trace_writer::sink::Sink;
 
 /// What makes sources of connections.
 pub trait Listens {
@@ -19,20 +27,125 @@ pub trait Listens {
 
     /// A source of the connections to a path, at which nothing was before.
     fn listen(&self, path: &str) -> Option<Self::Source>
-        ensures { IfSome result (λ source. Self.Source.Source.failures source ≡ 0) };
+        ensures failures { IfSome result (λ source. Self.Source.Source.failures source ≡ 0) }
+        ensures accepted { IfSome result (λ source. Self.Source.Source.accepted source ≡ 0) };
 }
 
-/// Does a job: reads its input or accepts its connections, writes its output, and says how it ended. It leaks what `replay` leaks:
-/// call it once in a process.
-pub fn perform<Rt: Threads + Wait + Copy + Send + 'static, L: Listens, R: Read + Drop, W: Write>(
+/// What opens files, and makes them.
+pub trait Opens {
+    ghost use Rattle.std.specs.Prelude.{ℕ, List, Option};
+
+    type File: Read + Drop;
+
+    type Sink: Sink + Send + Drop + 'static;
+
+    /// What the file at a path has, where that is known.
+    ghost bytes_at: { Self → List ℕ → Option (List ℕ) };
+
+    /// The file at a path, to be read from its first byte on.
+    fn open(&self, path: &str) -> Option<Self::File>
+        ensures { IfSome result (λ file. Has (bytes_at self.now path.now) (Self.File.Read.remaining file)) };
+
+    /// An empty file at a path, to be written, in place of one that is there.
+    fn create(&self, path: &str) -> Option<Self::Sink>
+        ensures sound { IfSome result (λ sink. Self.Sink.Sink.is_sound sink ≡ true) }
+        ensures failures { IfSome result (λ sink. Self.Sink.Sink.failures sink ≡ 0) };
+}
+
+/// Audits the trace at a path.
+fn audit_at<F: Opens, W: Write>(alloc: Global, files: &F, path: &str, writer: &mut W) -> JobEnd
+    ensures { AuditEnds (F.bytes_at files.now path.now) (W.contents writer.old) (W.contents writer.new) result }
+{
+    match files.open(path) {
+        Some(file) => audit_file(alloc, file, writer),
+        None => JobEnd::CannotRead,
+    }
+}
+
+/// Shows the trace at a path.
+fn show_at<F: Opens, W: Write>(
+    alloc: Global,
+    files: &F,
+    path: &str,
+    writer: &mut W,
+    form: Form,
+) -> JobEnd
+    ensures { ShowEnds form (F.bytes_at files.now path.now) (W.contents writer.old) (W.contents writer.new) result }
+{
+    match files.open(path) {
+        Some(file) => show(alloc, file, writer, form),
+        None => JobEnd::CannotRead,
+    }
+}
+
+/// Serves the connections to a path, and writes their trace to a sink.
+fn serve_at<
+    Rt: Threads + Wait + Clock + Copy + Send + 'static,
+    L: Listens,
+    K: Sink + Send + Drop + 'static,
+    W: Write,
+>(
     rt: Rt,
     alloc: Global,
     listens: &L,
-    reader: R,
+    path: &str,
+    sessions: u8,
+    limits: Limits,
+    sink: K,
     writer: &mut W,
-    job: Job,
 ) -> JobEnd
-    ensures { Performs job (R.remaining reader) (W.contents writer.old) (W.contents writer.new) result }
+    requires sound { K.is_sound sink ≡ true }
+    requires few { K.failures sink + 1 < 2 ^ 64 }
+    ensures { Serves limits sessions (W.contents writer.old) (W.contents writer.new) result }
+{
+    match listens.listen(path) {
+        Some(source) => {
+            let mut source = source;
+            let served = serve_on(
+                rt,
+                alloc,
+                &mut source,
+                usize::from(sessions),
+                limits,
+                sink,
+                writer,
+            );
+            served.end
+        }
+        None => JobEnd::CannotListen,
+    }
+}
+
+/// Makes the file of the trace, serves the connections to a path, and writes their trace to the file.
+fn serve_to<Rt: Threads + Wait + Clock + Copy + Send + 'static, L: Listens, F: Opens, W: Write>(
+    rt: Rt,
+    alloc: Global,
+    listens: &L,
+    files: &F,
+    path: &str,
+    sessions: u8,
+    limits: Limits,
+    trace: &str,
+    writer: &mut W,
+) -> JobEnd
+    ensures { Serves limits sessions (W.contents writer.old) (W.contents writer.new) result }
+{
+    match files.create(trace) {
+        Some(sink) => serve_at(rt, alloc, listens, path, sessions, limits, sink, writer),
+        None => JobEnd::CannotWrite,
+    }
+}
+
+/// Does a job: reads its input, a file or its connections, writes its output, and says how it ended. It leaks what `replay` leaks:
+/// call it once in a process.
+pub fn perform<
+    Rt: Threads + Wait + Clock + Copy + Send + 'static,
+    L: Listens,
+    F: Opens,
+    R: Read + Drop,
+    W: Write,
+>(rt: Rt, alloc: Global, listens: &L, files: &F, reader: R, writer: &mut W, job: Job) -> JobEnd
+    ensures { Performs (F.bytes_at files.now) job (R.remaining reader) (W.contents writer.old) (W.contents writer.new) result }
 {
     match job {
         Job::Replay { limits } => replay(alloc, reader, writer, limits),
@@ -40,19 +153,19 @@ pub fn perform<Rt: Threads + Wait + Copy + Send + 'static, L: Listens, R: Read +
             socket,
             sessions,
             limits,
-        } => match listens.listen(socket.as_str()) {
-            Some(source) => {
-                let mut source = source;
-                serve_on(
-                    rt,
-                    alloc,
-                    &mut source,
-                    usize::from(sessions),
-                    limits,
-                    writer,
-                )
-            }
-            None => JobEnd::CannotListen,
-        },
+            trace,
+        } => serve_to(
+            rt,
+            alloc,
+            listens,
+            files,
+            socket.as_str(),
+            sessions,
+            limits,
+            trace.as_str(),
+            writer,
+        ),
+        Job::Audit { file } => audit_at(alloc, files, file.as_str(), writer),
+        Job::Show { file, form } => show_at(alloc, files, file.as_str(), writer, form),
     }
 }

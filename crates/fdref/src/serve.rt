@@ -1,42 +1,61 @@
-//! A run of sessions, and the line that reports it.
+//! A run of sessions, its trace, and the line that reports it.
 
-ghost use Rattle.std.specs.Prelude.{◌≡◌, ◌++◌, ◌+◌, ◌<◌, ◌^◌, Some, codes, decimal, vec_len, IfOk};
-ghost use Rattle.fdref.specs.Serve.{Reports, end_of, ended_by, report_line};
+ghost use Rattle.std.specs.Prelude.{◌≡◌, ◌+◌, ◌<◌, ◌^◌, Some, true, IfOk, option_map};
+ghost use Rattle.fdref.specs.Serve.{Reports, WritesLine, end_of, ended_by, report_line};
 ghost use Rattle.fdref.specs.declared.job_end.JobEnd.TheVariants as ended;
 
 use crate::job_end::JobEnd;
 use crate::output::write_lines;
 use byte_ledger::ledgers::{Blanks, Ledgers};
 use call_types::limits::Limits;
-use run_core::report::{Report, RunFault, Shortage};
+use run_core::report::{Report, RunFault};
 use run_core::sessions::run_sessions;
 use run_core::source::Source;
-use script_text::lines::write_totals;
 use session_core::gate::OpenGate;
 use std::alloc::{AllocError, Global};
 use std::io::{Read, Write};
 use std::marker::Brand;
 use std::sync::Wait;
 use std::thread::Threads;
+use std::time::Clock;
+use trace_writer::sink::Sink;
+use trace_writer::traced::TraceFault;
 
-/// The line of a report.
-fn line_of<R: Read, V: Write>(alloc: Global, report: &Report<R, V>) -> Result<Vec<u8>, AllocError>
-    ensures { IfOk result (λ line. line.items ≡ report_line (vec_len report.now.ends) report.now.records report.now.bytes_in report.now.bytes_out) }
-{
-    let sessions = report.ends.len();
-    let mut line = format!(in alloc; "sessions {sessions} ")?.into_bytes();
-    write_totals(&mut line, report.records, report.bytes_in, report.bytes_out)?;
-    Ok(line)
+/// How a run of sessions ended, and the sink with its trace. A run without a report gives no sink back.
+#[derive(Drop)]
+pub struct Served<K: Drop> {
+    pub end: JobEnd,
+    pub sink: Option<K>,
 }
 
-/// How a run ended whose report is written.
-fn end_of(shortage: Option<Shortage>) -> JobEnd
-    ensures { result ≡ end_of shortage }
+/// The line of a report.
+fn line_of<R: Read, V: Write, K: Sink>(
+    alloc: Global,
+    report: &Report<R, V, K>,
+) -> Result<Vec<u8>, AllocError>
+    ensures { IfOk result (λ line. line.items ≡ report_line report.now.sessions report.now.records report.now.bytes_in report.now.bytes_out report.now.traced.whole) }
 {
-    match shortage {
+    let sessions = report.sessions;
+    let records = report.records;
+    let bytes_in = report.bytes_in;
+    let bytes_out = report.bytes_out;
+    let whole = report.traced.whole;
+    let line = format!(in alloc;
+        "sessions {sessions} records {records} in {bytes_in} out {bytes_out} trace {whole}\n"
+    )?;
+    Ok(line.into_bytes())
+}
+
+/// How a run ended whose report is written: that sessions are wanting is told before a fault of its trace.
+fn end_of(started: usize, wanted: usize, fault: Option<TraceFault>) -> JobEnd
+    ensures { result ≡ end_of started wanted fault }
+{
+    if started < wanted {
+        return JobEnd::CannotListen;
+    }
+    match fault {
         None => JobEnd::Done,
-        Some(Shortage::NoConnection) => JobEnd::CannotListen,
-        Some(Shortage::NoThread) => JobEnd::NoThread,
+        Some(_) => JobEnd::TraceFault,
     }
 }
 
@@ -46,15 +65,36 @@ fn ended_by(fault: RunFault) -> JobEnd
 {
     match fault {
         RunFault::NoMemory => JobEnd::NoMemory,
+        RunFault::NoThread => JobEnd::NoThread,
         RunFault::Missing => JobEnd::MissingShare,
         RunFault::Disagree { place } => JobEnd::Disagree { place },
     }
 }
 
-/// Serves so many sessions within these limits, counted by these ledgers, and writes the line of their report.
+/// Writes the line of a report, of a run that was to have so many sessions: how the run ended.
+fn write_report<R: Read, V: Write, K: Sink, W: Write>(
+    alloc: Global,
+    report: &Report<R, V, K>,
+    wanted: usize,
+    writer: &mut W,
+) -> JobEnd
+    ensures { WritesLine (report_line report.now.sessions report.now.records report.now.bytes_in report.now.bytes_out report.now.traced.whole) (end_of report.now.sessions wanted report.now.traced.fault) (W.contents writer.old) (W.contents writer.new) result }
+{
+    let line = match line_of(alloc, report) {
+        Ok(line) => line,
+        Err(_) => return JobEnd::NoMemory,
+    };
+    match write_lines(writer, line.as_slice()) {
+        Ok(()) => end_of(report.sessions, wanted, report.traced.fault),
+        Err(ended) => ended,
+    }
+}
+
+/// Serves so many sessions within these limits, counted by these ledgers, writes their trace to a sink, and the line of their report.
 fn serve_with<
-    Rt: Threads + Wait + Copy + Send + 'static,
+    Rt: Threads + Wait + Clock + Copy + Send + 'static,
     S: Source + Send + 'static,
+    K: Sink + Send + Drop + 'static,
     W: Write,
     L: Ledgers + Send + Sync + 'static,
 >(
@@ -64,43 +104,68 @@ fn serve_with<
     sessions: usize,
     limits: Limits,
     blanks: Blanks,
+    sink: K,
     writer: &mut W,
-) -> JobEnd
+) -> Served<K>
     requires failures { S.failures source.old + 1 < 2 ^ 64 }
+    requires accepted { S.accepted source.old + sessions < 2 ^ 64 }
     requires ledgers { blanks ≡ L.names }
     requires limits { L.limits ≡ Some limits }
-    ensures reports { Reports limits sessions (W.contents writer.old) (W.contents writer.new) result }
-    ensures failed { result ≡ ended.CannotListen → S.failures source.new ≡ S.failures source.old + 1 }
+    requires sound { K.is_sound sink ≡ true }
+    requires few { K.failures sink + 1 < 2 ^ 64 }
+    ensures reports { Reports (record { limits = limits; sessions = sessions; coming = S.coming source.old; later = S.coming source.new; sink = record { contents = K.contents sink; failures = K.failures sink; is_synced = K.is_synced sink } }) (W.contents writer.old) (W.contents writer.new) (option_map (λ s. record { contents = K.contents s; failures = K.failures s; is_synced = K.is_synced s }) result.sink) result.end }
+    ensures failed { result.end ≡ ended.CannotListen → S.failures source.new ≡ S.failures source.old + 1 }
 {
-    let ran = run_sessions::<Rt, S, OpenGate, L>(
-        rt, alloc, source, sessions, limits, blanks, OpenGate,
+    let ran = run_sessions::<Rt, S, OpenGate, L, K>(
+        rt, alloc, source, sessions, limits, blanks, OpenGate, sink,
     );
     let report = match ran {
         Ok(report) => report,
-        Err(fault) => return ended_by(fault),
+        Err(fault) => {
+            return Served {
+                end: ended_by(fault),
+                sink: None,
+            };
+        }
     };
-    let line = match line_of(alloc, &report) {
-        Ok(line) => line,
-        Err(_) => return JobEnd::NoMemory,
-    };
-    match write_lines(writer, line.as_slice()) {
-        Ok(()) => end_of(report.shortage),
-        Err(ended) => ended,
+    let end = write_report(alloc, &report, sessions, writer);
+    Served {
+        end,
+        sink: Some(report.sink),
     }
 }
 
-/// Serves so many sessions within these limits, and writes the line of their report.
-pub fn serve_on<Rt: Threads + Wait + Copy + Send + 'static, S: Source + Send + 'static, W: Write>(
+/// Serves so many sessions within these limits, writes their trace to a sink, and the line of their report. A run with a report gives
+/// the sink back, which has the trace that the line tells of.
+pub fn serve_on<
+    Rt: Threads + Wait + Clock + Copy + Send + 'static,
+    S: Source + Send + 'static,
+    K: Sink + Send + Drop + 'static,
+    W: Write,
+>(
     rt: Rt,
     alloc: Global,
     source: &mut S,
     sessions: usize,
     limits: Limits,
+    sink: K,
     writer: &mut W,
-) -> JobEnd
+) -> Served<K>
     requires failures { S.failures source.old + 1 < 2 ^ 64 }
-    ensures reports { Reports limits sessions (W.contents writer.old) (W.contents writer.new) result }
-    ensures failed { result ≡ ended.CannotListen → S.failures source.new ≡ S.failures source.old + 1 }
+    requires accepted { S.accepted source.old + sessions < 2 ^ 64 }
+    requires sound { K.is_sound sink ≡ true }
+    requires few { K.failures sink + 1 < 2 ^ 64 }
+    ensures reports { Reports (record { limits = limits; sessions = sessions; coming = S.coming source.old; later = S.coming source.new; sink = record { contents = K.contents sink; failures = K.failures sink; is_synced = K.is_synced sink } }) (W.contents writer.old) (W.contents writer.new) (option_map (λ s. record { contents = K.contents s; failures = K.failures s; is_synced = K.is_synced s }) result.sink) result.end }
+    ensures failed { result.end ≡ ended.CannotListen → S.failures source.new ≡ S.failures source.old + 1 }
 {
-    serve_with::<Rt, S, W, Brand>(rt, alloc, source, sessions, limits, Blanks::new(), writer)
+    serve_with::<Rt, S, K, W, Brand>(
+        rt,
+        alloc,
+        source,
+        sessions,
+        limits,
+        Blanks::new(),
+        sink,
+        writer,
+    )
 }

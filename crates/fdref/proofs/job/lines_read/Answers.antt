@@ -54,3 +54,39 @@ returns-clause-records c = refl
 pub returns-clause-incomplete : goal.returns-clause-incomplete
 unfolding clap_on_literals
 returns-clause-incomplete c = refl
+
+pub returns-clause-audit : goal.returns-clause-audit
+unfolding clap_on_literals
+returns-clause-audit c = (refl, refl)
+
+pub returns-clause-file : goal.returns-clause-file
+unfolding clap_on_literals
+returns-clause-file c = refl
+
+pub returns-clause-no_file : goal.returns-clause-no_file
+unfolding clap_on_literals
+returns-clause-no_file c = refl
+
+pub returns-clause-two_files : goal.returns-clause-two_files
+unfolding clap_on_literals
+returns-clause-two_files c = refl
+
+pub returns-clause-show : goal.returns-clause-show
+unfolding clap_on_literals
+returns-clause-show c = (refl, refl)
+
+pub returns-clause-acts : goal.returns-clause-acts
+unfolding clap_on_literals
+returns-clause-acts c = (refl, refl)
+
+pub returns-clause-records_alone : goal.returns-clause-records_alone
+unfolding clap_on_literals
+returns-clause-records_alone c = refl
+
+pub returns-clause-trace : goal.returns-clause-trace
+unfolding clap_on_literals
+returns-clause-trace c = refl
+
+pub returns-clause-traceless : goal.returns-clause-traceless
+unfolding clap_on_literals
+returns-clause-traceless c = refl

@@ -1,18 +1,16 @@
-use Rattle.std.proofs.Common.{◌∙◌, map, sym}
-use Rattle.std.proofs.lemmas.List.{length-map}
-use Rattle.run_core.specs.Receipts.{held_by}
-use Rattle.fdref.proofs.ServeLemmas.{reports_by, reports_front, lost_connection}
+use Rattle.std.proofs.Common.{◌∙◌, sym, refl}
+use Rattle.fdref.proofs.ServeLemmas.{lost_connection, never_lost, reported, unreported}
 use Rattle.fdref.proofs.serve.serve_with.Goals as goal
 
-pub returns-in-Ok-write_lines : goal.returns-in-Ok-write_lines
-returns-in-Ok-write_lines g c =
-    let told = c.in-Ok.ensures in
-    record {
-      reports = rw c.end_of.ensures (reports_by _ _ _ _ c.in-Ok.report.shortage _ _ _ _ (map (λ s. held_by s.process) c.in-Ok.report.ends.items) _ (length-map c.in-Ok.report.ends.items _ ∙ sym c.in-Ok.report.ends.ok.0) told.few told.all told.short told.run (c.as_slice.ensures.value ∙ c.in-Ok-line_of.ensures) c.in-Ok-write_lines.ensures.text);
-      failed = λ is. lost_connection _ _ c.in-Ok.report.shortage told.failures (sym c.end_of.ensures ∙ is);
-    }
+pub returns-in-Err : goal.returns-in-Err
+returns-in-Err g c = record { reports = rw c.ended_by.ensures (unreported _ c.in-Err.fault); failed = λ is. absurd (never_lost c.in-Err.fault (sym c.ended_by.ensures ∙ is)) }
 
-pub returns-clause-reports : goal.returns-clause-reports
-returns-clause-reports g c =
-    let told = c.in-Ok.ensures in
-    reports_front _ _ _ _ _ _ _ _ (map (λ s. held_by s.process) c.in-Ok.report.ends.items) c.as_slice.result.now c.in-Err-write_lines.ended (length-map c.in-Ok.report.ends.items _ ∙ sym c.in-Ok.report.ends.ok.0) told.few told.run (c.as_slice.ensures.value ∙ c.in-Ok-line_of.ensures) c.in-Err-write_lines.ensures.front c.in-Err-write_lines.ensures.fault
+pub returns : goal.returns
+returns g c =
+    let ran = c.in-Ok.ensures in
+    record {
+      reports = reported _ _ _ _ _ c.in-Ok.report.sessions c.write_report-end.result
+          (record { always = refl; limits_are = refl; coming_is = refl; later_is = refl; base = refl; before = refl; now = refl; after = refl; is_synced = refl }) ran.run
+          (ran.few.0 ∙ c.in-Ok.report.ends.ok.0) ran.few.1 c.write_report-end.ensures;
+      failed = λ is. lost_connection _ _ _ c.in-Ok.report.sessions c.args.sessions _ _ _ c.write_report-end.result ran.failures c.write_report-end.ensures is;
+    }
