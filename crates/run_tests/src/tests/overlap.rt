@@ -1,6 +1,6 @@
 //! Sessions of one run go on side by side, each answer is written once its gate lets it through, and no lock is held meanwhile.
 
-ghost use Rattle.std.specs.Prelude.{◌≡◌, ◌≤◌, ◌+◌, ◌<◌, ◌^◌, All, Some, length};
+ghost use Rattle.std.specs.Prelude.{◌≡◌, ◌≤◌, ◌+◌, ◌<◌, ◌^◌, All, Some, length, IfOk};
 ghost use Rattle.run_core.specs.Run.{IsBlank};
 
 use byte_ledger::ledgers::{Blanks, Ledgers};
@@ -323,7 +323,9 @@ fn answer_waits_at_its_gate_for_another_session(rt: HostRuntime) -> Result<(), F
 }
 
 /// A connection that sends two requests at once, over memory.
-fn plain(alloc: Global) -> Result<(MemoryReader, MemoryWriter), AllocError> {
+fn plain(alloc: Global) -> Result<(MemoryReader, MemoryWriter), AllocError>
+    ensures { IfOk result (λ connection. IsBlank (Some connection.1.bytes)) }
+{
     let reader = MemoryReader::new(two_requests(alloc)?, WELL);
     Ok((reader, MemoryWriter::new(alloc, WELL)))
 }
