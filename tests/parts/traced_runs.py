@@ -210,7 +210,7 @@ def checked(program: str, seed: str, number: int) -> Checked:
         has_ended = live.close(plan)
         is_as_planned = has_ended or plan.waiting() or not live.goes_as_planned
         require(is_as_planned, "a call waits that the model does not let wait")
-        said = ended(server, has_ended, len(live.told))
+        said = ended(server, has_ended, max(live.told, default=-1))
         with open(server.trace, "rb") as file:
             trace = file.read()
     audit = Audit(trace)
@@ -224,12 +224,12 @@ def checked(program: str, seed: str, number: int) -> Checked:
     return Checked(len(lines), has_ended)
 
 
-def ended(server: Server, by_itself: bool, told: int) -> Ran | None:
-    """The end of a server: by itself, or by a signal once the trace holds as many records as were told."""
+def ended(server: Server, by_itself: bool, last: int) -> Ran | None:
+    """The end of a server: by itself, or by a signal once the trace holds the record at the last place told."""
     if by_itself:
         return outcome_of(server.process)
     until = time.monotonic() + SECONDS
-    while records_in(server.trace) < told:
+    while records_in(server.trace) <= last:
         require(time.monotonic() < until, f"the trace lacks records that were told {SECONDS} seconds ago")
         time.sleep(0.002)
     os.killpg(server.process.pid, signal.SIGKILL)
