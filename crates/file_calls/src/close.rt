@@ -9,6 +9,7 @@ use posix_model::change::{Decided, FileEdit, TableEdit, does, refused};
 use posix_model::reader::WorldReader;
 
 /// What close comes to: EBADF, or a free descriptor (page of close).
+#[inline(always)]
 pub fn decide_close<R: WorldReader>(state: &R, process: usize, fd: i32) -> Decided
     ensures { result ≡ on_open (opened (R.world state.now) process fd) (close process) }
 {

@@ -40,6 +40,7 @@ fn stat_of<R: WorldReader>(state: &R, target: Target) -> Stat
 }
 
 /// What fstat comes to: EBADF, or kind, size and links (page of fstat).
+#[inline(always)]
 pub fn decide_fstat<R: WorldReader>(state: &R, process: usize, fd: i32) -> Decided
     ensures { result ≡ on_open (opened (R.world state.now) process fd) (fstat (R.world state.now)) }
 {

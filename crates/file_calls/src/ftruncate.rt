@@ -31,6 +31,7 @@ fn ftruncate_fault(bounds: Bounds, descriptor: OpenDescriptor, len: i64) -> Opti
 }
 
 /// What ftruncate comes to: EBADF, EINVAL, EFBIG over the size limit, or a file of this length, in bytes (page of ftruncate).
+#[inline(always)]
 pub fn decide_ftruncate<R: WorldReader>(
     state: &R,
     bounds: Bounds,

@@ -48,6 +48,7 @@ fn lseek_fault(descriptor: OpenDescriptor, to: i128) -> Option<Errno>
 
 /// What lseek comes to: EBADF, ESPIPE, EINVAL before the start of the file, EOVERFLOW past the greatest offset, or the new
 /// offset (page of lseek).
+#[inline(always)]
 pub fn decide_lseek<R: WorldReader>(
     state: &R,
     process: usize,

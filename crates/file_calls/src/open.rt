@@ -177,6 +177,7 @@ fn open_found<R: WorldReader>(
 /// What open comes to: a refusal of its flags, its name, what that leads to or for want of room, or the lowest free
 /// descriptor; of an end of a FIFO the process may wait (page of open). An error says that memory for a new name, or for a copy
 /// of the call, ran out.
+#[inline(always)]
 pub fn decide_open<R: WorldReader>(
     state: &R,
     alloc: Global,

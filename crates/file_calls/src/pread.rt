@@ -33,6 +33,7 @@ fn pread_fault(descriptor: OpenDescriptor, start: i64, count: usize) -> Option<E
 
 /// What pread comes to: EBADF, ESPIPE, EINVAL, or at most `count` bytes from the position on, none at the end of the file.
 /// The offset stays (page of read, pread). An error says that memory ran out.
+#[inline(always)]
 pub fn decide_pread<R: WorldReader>(
     state: &R,
     alloc: Global,

@@ -41,6 +41,7 @@ fn pwrite_fault(
 
 /// What pwrite comes to: EBADF, ESPIPE, EINVAL, EFBIG, or how many of the bytes fit from the position on, under append too.
 /// The offset stays (page of write, pwrite).
+#[inline(always)]
 pub fn decide_pwrite<R: WorldReader>(
     state: &R,
     bounds: Bounds,

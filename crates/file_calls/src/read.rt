@@ -65,6 +65,7 @@ fn read_file<R: WorldReader>(
 /// What read comes to, which is this call: EBADF, EINVAL, EAGAIN, or at most `count` bytes. Those of a regular file are read
 /// from the offset on, none at its end; of a pipe or FIFO those that it holds, and the process may wait (page of read). An
 /// error says that memory ran out.
+#[inline(always)]
 pub fn decide_read<R: WorldReader>(
     state: &R,
     alloc: Global,

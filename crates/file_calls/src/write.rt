@@ -64,6 +64,7 @@ fn write_file(bounds: Bounds, start: u64, bytes: &Payload, descriptor: OpenDescr
 /// What write comes to, which is this call: EBADF, EINVAL, EFBIG, EAGAIN, EPIPE, or how many of the bytes went in. A regular
 /// file takes those that fit from the offset on, or from the end on under append. A pipe or FIFO takes those that it has room
 /// for, and the process may wait (page of write). An error says that memory for a copy of the call ran out.
+#[inline(always)]
 pub fn decide_write<R: WorldReader>(
     state: &R,
     alloc: Global,

@@ -8,6 +8,7 @@ use posix_model::change::{Decided, ProcessEdit, acts, refused};
 use posix_model::reader::WorldReader;
 
 /// What an attach comes to: ESRCH, or a child that has its connection.
+#[inline(always)]
 pub fn decide_attach<R: WorldReader>(state: &R, process: usize) -> Decided
     ensures { result ≡ decided_by (attach (R.world state.now) process) }
 {

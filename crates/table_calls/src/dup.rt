@@ -9,6 +9,7 @@ use posix_model::change::{Decided, FileEdit, TableEdit, does, refused};
 use posix_model::reader::WorldReader;
 
 /// What dup comes to: EBADF, EMFILE, or one more descriptor of the same open file description (page of dup).
+#[inline(always)]
 pub fn decide_dup<R: WorldReader>(state: &R, process: usize, fd: i32) -> Decided
     ensures { result ≡ on_open (opened (R.world state.now) process fd) (dup (R.world state.now) process) }
 {

@@ -17,6 +17,7 @@ fn is_no_descriptor(to: i32) -> bool
 }
 
 /// What dup2 comes to: EBADF, or one more descriptor of the same open file description, under the number that is asked (page of dup2).
+#[inline(always)]
 pub fn decide_dup2<R: WorldReader>(state: &R, process: usize, fd: i32, to: i32) -> Decided
     ensures { result ≡ on_open (opened (R.world state.now) process fd) (dup2 process to) }
 {

@@ -12,6 +12,7 @@ use std::alloc::{AllocError, Global};
 
 /// What fork comes to: EAGAIN, or a child with the same descriptors under the next number (page of fork). An error says that
 /// memory for its descriptors ran out.
+#[inline(always)]
 pub fn decide_fork<R: WorldReader>(
     state: &R,
     alloc: Global,

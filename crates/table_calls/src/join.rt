@@ -18,6 +18,7 @@ pub fn is_full<R: WorldReader>(state: &R) -> bool
 }
 
 /// What a join comes to: EAGAIN, or a new process under the next number. An error says that memory for one ran out.
+#[inline(always)]
 pub fn decide_join<R: WorldReader>(state: &R, alloc: Global) -> Result<Decided, AllocError>
     ensures page { IfOk result (λ d. d ≡ decided_by (join (R.world state.now))) }
     ensures needed { OnErr result (is_full (R.world state.now) ≡ false) }

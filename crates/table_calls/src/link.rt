@@ -45,6 +45,7 @@ fn link_fault<R: WorldReader>(
 
 /// What link comes to: the faults of the old name and of the new one, ENOENT, EEXIST, EMLINK, ENOSPC, or one more name of the
 /// file (page of link). An error says that memory for the name ran out.
+#[inline(always)]
 pub fn decide_link<R: WorldReader>(state: &R, old: &Name, new: &Name) -> Result<Decided, AllocError>
     ensures page { IfOk result (λ d. d ≡ decided_by (link (R.world state.now) old.now new.now)) }
     ensures needed { OnErr result (first_fault (link (R.world state.now) old.now new.now).faults ≡ None) }

@@ -32,6 +32,7 @@ fn mkfifo_fault<R: WorldReader>(state: &R, name: &[u8]) -> Option<Errno>
 
 /// What mkfifo comes to: a fault of the name, EEXIST, ENOSPC, or a FIFO that has this name (page of mkfifo). An error says that
 /// memory for the name ran out.
+#[inline(always)]
 pub fn decide_mkfifo<R: WorldReader>(state: &R, name: &Name) -> Result<Decided, AllocError>
     ensures page { IfOk result (λ d. d ≡ decided_by (mkfifo (R.world state.now) name.now)) }
     ensures needed { OnErr result (first_fault (mkfifo (R.world state.now) name.now).faults ≡ None) }

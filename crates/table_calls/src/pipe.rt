@@ -9,6 +9,7 @@ use posix_model::change::{Decided, FileEdit, TableEdit, does, refused};
 use posix_model::reader::WorldReader;
 
 /// What pipe comes to: EMFILE, ENFILE, or the two ends of a new pipe, under the two lowest free descriptors (page of pipe).
+#[inline(always)]
 pub fn decide_pipe<R: WorldReader>(state: &R, process: usize) -> Decided
     ensures { result ≡ decided_by (pipe (R.world state.now) process) }
 {

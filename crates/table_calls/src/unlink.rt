@@ -23,6 +23,7 @@ fn unlink_fault<R: WorldReader>(state: &R, name: &[u8]) -> Option<Errno>
 
 /// What unlink comes to: a fault of the name, ENOENT, or one name less (page of unlink). An error says that memory for the name
 /// ran out.
+#[inline(always)]
 pub fn decide_unlink<R: WorldReader>(state: &R, name: &Name) -> Result<Decided, AllocError>
     ensures page { IfOk result (λ d. d ≡ decided_by (unlink (R.world state.now) name.now)) }
     ensures needed { OnErr result (first_fault (unlink_faults (R.world state.now) name.now) ≡ None) }
