@@ -210,6 +210,7 @@ sound_write_file bounds w p fd bytes start o is on_file free =
     let regular : not (is_regular o) ≡ false = ap not on_file in
     let below_limit : is_past_limit bounds start bytes ≡ false =
     ap (λ b. b && is_past_limit bounds start bytes) (sym on_file) ∙ unmet (write_faults bounds start bytes o) free (is_regular o && is_past_limit bounds start bytes) (search rules) in
+    let few = not_below TRANSFER_MAX (length bytes) (unmet (write_faults bounds start bytes o) free (ltb TRANSFER_MAX (length bytes)) (search rules)) in
     let n = fitting bounds start bytes in
     if_has (Answers bounds w p (call.Write fd bytes)) (eqb (length bytes) 0) (tells (Number 0)) (does (Number n) (on_files.Bytes (file_at o) start n) (on_table.Offset o.number (start + n)))
     (λ _. sound_tells bounds w p (call.Write fd bytes) (Number 0) refl refl refl (omega arith))
@@ -221,7 +222,7 @@ sound_write_file bounds w p fd bytes start o is on_file free =
       pipes = λ _. record { files = refl; made = refl; opened = refl };
       brief = λ _. omega arith;
       few = omega (arith, put.0);
-      proper = λ small. record { files = (put.0, omega (arith, put.1, small)); process = tt; table = tt };
+      proper = λ small. record { files = (put.0, omega (arith, put.1, small), omega (arith, put.0, few)); process = tt; table = tt };
       fits = λ whole. record { files = file_there w p o at regular whole; process = tt; table = ap is_some at.description_is; alone = λ h. cc; goes_alone = λ h. cc };
       puts = tt;
       within_files = put.1;
@@ -234,6 +235,7 @@ sound_pwrite bounds w p fd start bytes o is free =
     let at = opened_stands w p fd o is in
     let regular = unmet (pwrite_faults bounds start bytes o) free (not (is_regular o)) (search rules) in
     let below_limit = unmet (pwrite_faults bounds start bytes o) free (is_past_limit bounds (bytes_before start) bytes) (search rules) in
+    let few = not_below TRANSFER_MAX (length bytes) (unmet (pwrite_faults bounds start bytes o) free (ltb TRANSFER_MAX (length bytes)) (search rules)) in
     let n = fitting bounds (bytes_before start) bytes in
     if_has (Answers bounds w p (call.Pwrite fd start bytes)) (eqb (length bytes) 0) (tells (Number 0)) (does (Number n) (on_files.Bytes (file_at o) (bytes_before start) n) on_table.Nothing)
     (λ _. sound_tells bounds w p (call.Pwrite fd start bytes) (Number 0) refl refl refl (omega arith))
@@ -245,7 +247,7 @@ sound_pwrite bounds w p fd start bytes o is free =
       pipes = λ _. record { files = refl; made = refl; opened = refl };
       brief = λ _. omega arith;
       few = omega (arith, put.0);
-      proper = λ small. record { files = (put.0, omega (arith, put.1, small)); process = tt; table = tt };
+      proper = λ small. record { files = (put.0, omega (arith, put.1, small), omega (arith, put.0, few)); process = tt; table = tt };
       fits = λ whole. record { files = file_there w p o at regular whole; process = tt; table = tt; alone = λ h. cc; goes_alone = λ h. cc };
       puts = tt;
       within_files = put.1;

@@ -8,7 +8,7 @@ use Rattle.posix_model.specs.Descriptors.{held_in}
 use Rattle.posix_model.specs.Pipes.{fifo_at, pipe_between}
 use Rattle.call_types.specs.declared.description.Target.TheVariants as target
 use Rattle.posix_model.specs.Change.{bytes_from, with_files, with_processes}
-use Rattle.posix_model.specs.Types.{World, Process, Parked, Description, FileEdit, ProcessEdit, TableEdit, Change, OPEN_MAX, OFFSET_MAX, NAMES_MAX, DESCRIPTIONS_MAX, PROCESSES_MAX}
+use Rattle.posix_model.specs.Types.{World, Process, Parked, Description, FileEdit, ProcessEdit, TableEdit, Change, OPEN_MAX, OFFSET_MAX, TRANSFER_MAX, NAMES_MAX, DESCRIPTIONS_MAX, PROCESSES_MAX}
 use Rattle.posix_model.specs.declared.change.FileEdit.TheVariants as on_files
 use Rattle.posix_model.specs.declared.change.ProcessEdit.TheVariants as on_process
 use Rattle.posix_model.specs.declared.change.TableEdit.TheVariants as on_table
@@ -103,11 +103,11 @@ pub record Fits (w : World) (bytes : List ℕ) (c : Change) : Type 0 where
   pub alone : removes c.files ≡ true → (c.process ≡ on_process.Nothing) × (c.table ≡ on_table.Nothing)
   pub goes_alone : ends c.process ≡ true → (c.files ≡ on_files.Nothing) × (c.table ≡ on_table.Nothing)
 
--- what an edit of files asks of its numbers: no more bytes than the act gives, no position past the greatest offset, and
--- room for a name that is new
+-- what an edit of files asks of its numbers: no more bytes than the act gives and than one transfer has, no position past the
+-- greatest offset, and room for a name that is new
 abbrev pub FilesProper : World → List ℕ → FileEdit → Type 0
 FilesProper w bytes on_files.Nothing = Unit {0}
-FilesProper w bytes (on_files.Bytes file start count) = (count ≤ length bytes) × (start + count ≤ OFFSET_MAX)
+FilesProper w bytes (on_files.Bytes file start count) = (count ≤ length bytes) × (start + count ≤ OFFSET_MAX) × (count ≤ TRANSFER_MAX)
 FilesProper w bytes (on_files.Resize file len) = len ≤ OFFSET_MAX
 FilesProper w bytes (on_files.AddName name file) = (file_of name w.names ≡ None) × (length w.names < NAMES_MAX)
 FilesProper w bytes (on_files.RemoveName name) = Unit {0}
