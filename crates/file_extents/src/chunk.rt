@@ -1,4 +1,4 @@
-ghost use Rattle.std.specs.Prelude.{◌≡◌, ℕ, ◌+◌, ◌≤◌, ◌<◌, [], ◌++◌, length, take, slice_index_or, vec_len, vec_capacity, OnOk, IsOk};
+ghost use Rattle.std.specs.Prelude.{◌≡◌, ℕ, ◌+◌, ◌≤◌, ◌<◌, [], ◌++◌, length, take, slice_index_or, vec_len, vec_capacity, OnOk, IsOk, IfSome};
 ghost use Rattle.call_types.specs.Stored.{span_bytes};
 ghost use Rattle.posix_model.specs.Bytes.{splice};
 ghost use Rattle.file_extents.specs.Chunks.{window, byte_in, HasPlaces, SameBytes, KeepsPlaces};
@@ -127,6 +127,21 @@ impl Chunk {
         ensures { (i : ℕ) → byte_in self.new i ≡ slice_index_or (take len self.old.bytes) i 0 }
     {
         self.stored.truncate(len.saturating_sub(self.low));
+    }
+
+    /// `count` bytes from the place `start` on, where all of them are stored.
+    #[inline(always)]
+    pub(crate) fn stored(&self, start: usize, count: usize) -> Option<&[u8]>
+        ensures { IfSome result (λ bytes. bytes.now ≡ window self.now.bytes start count) }
+    {
+        if start < self.low {
+            return None;
+        }
+        let bytes = bytes_at(self.stored.as_slice(), start - self.low, count);
+        if bytes.len() < count {
+            return None;
+        }
+        Some(bytes)
     }
 
     /// Appends `count` bytes from the place `start` on, of which those past the last one are zeros.

@@ -1,10 +1,10 @@
-ghost use Rattle.std.specs.Prelude.{◌≡◌, ℕ, ◌+◌, ◌≤◌, ◌<◌, ◌^◌, [], ◌++◌, length, take, vec_len, vec_capacity, IfOk, OnOk, IsOk};
+ghost use Rattle.std.specs.Prelude.{◌≡◌, ℕ, ◌+◌, ◌≤◌, ◌<◌, ◌^◌, [], ◌++◌, length, take, vec_len, vec_capacity, IfOk, IfSome, OnOk, IsOk};
 ghost use Rattle.call_types.specs.Stored.{span_bytes};
 ghost use Rattle.posix_model.specs.Bytes.{splice, bytes_at, padded_to};
 ghost use Rattle.file_extents.specs.Contents.{HasRoom, KeepsRoom};
 
 use crate::chunk::CHUNK;
-use crate::spread::{append, put, reserve};
+use crate::spread::{append, put, reserve, stored};
 use crate::table::Table;
 use call_types::span::Span;
 use std::alloc::{AllocError, Global};
@@ -20,6 +20,7 @@ pub struct Extents {
 }
 
 impl Model for Extents {
+    ghost use Rattle.std.specs.Prelude.{◌<◌, ◌^◌};
     ghost use Rattle.file_extents.specs.Chunks.{chunk_at};
     ghost use Rattle.file_extents.specs.Contents.{ExtentsState, contents, ZeroFrom};
 
@@ -27,7 +28,7 @@ impl Model for Extents {
 
     ghost view = { λ file. record { bytes = contents file.len (chunk_at file.table); table = file.table } };
 
-    ghost invariant = { λ file. ZeroFrom file.len (chunk_at file.table) };
+    ghost invariant = { λ file. (file.len < 2 ^ 63) × ZeroFrom file.len (chunk_at file.table) };
 }
 
 impl Extents {
@@ -56,6 +57,18 @@ impl Extents {
         ensures { result ≡ length (bytes_at self.now.bytes start count) }
     {
         count.min(self.len.saturating_sub(start))
+    }
+
+    /// At most `count` bytes from `start` on where they are, if all of them are stored in one chunk. A file has fewer than 2^63 bytes.
+    #[inline(always)]
+    pub fn stored(&self, start: usize, count: usize) -> Option<&[u8]>
+        ensures bytes { IfSome result (λ bytes. bytes.now ≡ bytes_at self.now.bytes start count) }
+        ensures within { length self.now.bytes < 2 ^ 63 }
+    {
+        if start >= self.len {
+            return Some(&[]);
+        }
+        stored(&self.table, start, count.min(self.len - start))
     }
 
     /// At most `count` bytes from `start` on; none at the end or past it. An error says that memory ran out.
@@ -120,6 +133,7 @@ impl Extents {
 
     /// Adds zeros, up to so many bytes in all. It takes no memory.
     pub fn extend_to(&mut self, len: usize)
+        requires { len < 2 ^ 63 }
         ensures bytes { self.new.bytes ≡ padded_to self.old.bytes len }
         ensures kept { KeepsRoom self.old.table self.new.table }
     {

@@ -1,4 +1,4 @@
-ghost use Rattle.std.specs.Prelude.{◌≡◌, ℕ, ◌+◌, ◌≤◌, ◌<◌, [], ◌++◌, length, take, vec_len, vec_capacity, OnOk, IsOk, List};
+ghost use Rattle.std.specs.Prelude.{◌≡◌, ℕ, ◌+◌, ◌≤◌, ◌<◌, [], ◌++◌, length, take, vec_len, vec_capacity, OnOk, IsOk, IfSome, List};
 ghost use Rattle.call_types.specs.Stored.{span_bytes};
 ghost use Rattle.file_extents.specs.Chunks.{ChunkState, chunk_in, window, HasPlaces, Keeps, Edits, Cuts};
 
@@ -85,6 +85,16 @@ impl Row {
         self.chunks.truncate(column + 1);
         if column < self.chunks.len() {
             self.chunks[column].cut(len);
+        }
+    }
+
+    /// `count` bytes of the chunk of a column from the place `start` on, where all of them are stored.
+    pub(crate) fn stored(&self, column: usize, start: usize, count: usize) -> Option<&[u8]>
+        ensures { IfSome result (λ bytes. bytes.now ≡ window (chunk_in self.now column).bytes start count) }
+    {
+        match self.chunks.get(column) {
+            Some(chunk) => chunk.stored(start, count),
+            None => None,
         }
     }
 

@@ -1,5 +1,5 @@
 //! Bytes that stand in one chunk or in two. As at most 65,536 are asked for at once, there is no third.
-ghost use Rattle.std.specs.Prelude.{◌≡◌, ℕ, ◌+◌, ◌≤◌, ◌<◌, ◌%◌, ◌^◌, ◌++◌, length, vec_len, vec_capacity, OnOk, IsOk};
+ghost use Rattle.std.specs.Prelude.{◌≡◌, ℕ, ◌+◌, ◌≤◌, ◌<◌, ◌%◌, ◌^◌, ◌++◌, length, vec_len, vec_capacity, OnOk, IsOk, IfSome};
 ghost use Rattle.call_types.specs.Stored.{span_bytes};
 ghost use Rattle.file_extents.specs.Chunks.{chunk_at, Keeps};
 ghost use Rattle.file_extents.specs.Contents.{bytes_from, IsOver, HasRoom};
@@ -181,6 +181,18 @@ pub(crate) fn put(table: &mut Table, start: usize, new: Span<'_>)
         return;
     }
     put_far(table, start, new);
+}
+
+/// Bytes where they are, if all of them are stored in one chunk.
+#[inline(always)]
+pub(crate) fn stored(table: &Table, start: usize, count: usize) -> Option<&[u8]>
+    ensures { IfSome result (λ bytes. bytes.now ≡ bytes_from (chunk_at table.now) start count) }
+{
+    let place = start % CHUNK;
+    if count > CHUNK - place {
+        return None;
+    }
+    table.stored(start / CHUNK, place, count)
 }
 
 /// Appends bytes of one chunk.

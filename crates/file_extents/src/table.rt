@@ -1,4 +1,4 @@
-ghost use Rattle.std.specs.Prelude.{◌≡◌, ℕ, ◌+◌, ◌≤◌, ◌<◌, [], ◌++◌, length, vec_len, vec_capacity, OnOk, IsOk};
+ghost use Rattle.std.specs.Prelude.{◌≡◌, ℕ, ◌+◌, ◌≤◌, ◌<◌, [], ◌++◌, length, vec_len, vec_capacity, OnOk, IsOk, IfSome};
 ghost use Rattle.call_types.specs.Stored.{span_bytes};
 ghost use Rattle.file_extents.specs.Chunks.{TableState, chunk_at, row_in, placed, window, HasPlaces, Keeps, Edits, Cuts};
 
@@ -93,6 +93,17 @@ fn append_in(rows: &[Row], number: usize, start: usize, count: usize, out: &mut 
     }
 }
 
+/// `count` bytes of a chunk of the rows from the place `start` on, where all of them are stored.
+#[inline(never)]
+fn stored_in(rows: &[Row], number: usize, start: usize, count: usize) -> Option<&[u8]>
+    ensures { IfSome result (λ bytes. bytes.now ≡ window (placed rows.now number).bytes start count) }
+{
+    match rows.get(number / COLUMNS) {
+        Some(row) => row.stored(number % COLUMNS, start, count),
+        None => None,
+    }
+}
+
 impl Table {
     /// No chunk, and no memory.
     pub(crate) fn new(alloc: Global) -> Self
@@ -149,6 +160,18 @@ impl Table {
             self.rows.clear();
         } else {
             cut_in(&mut self.rows, number, len);
+        }
+    }
+
+    /// `count` bytes of a chunk from the place `start` on, where all of them are stored.
+    #[inline(always)]
+    pub(crate) fn stored(&self, number: usize, start: usize, count: usize) -> Option<&[u8]>
+        ensures { IfSome result (λ bytes. bytes.now ≡ window (chunk_at self.now number).bytes start count) }
+    {
+        if number == 0 {
+            self.first.stored(start, count)
+        } else {
+            stored_in(self.rows.as_slice(), number, start, count)
         }
     }
 

@@ -6,4 +6,4 @@ use Rattle.file_extents.proofs.extents.Extents.write_at.Goals as goal
 
 pub returns-clause-bytes : goal.returns-clause-bytes
 returns-clause-bytes c =
-    rw (← c.self.view_is) (spliced c.self.inside.len c.max-self-inside.result c.args.start (span_bytes c.args.new) (chunk_at c.self.inside.table) (chunk_at c.put.new.table) c.self.invariant c.put.ensures (omega arith))
+    rw (← c.self.view_is) (spliced c.self.inside.len c.max-self-inside.result c.args.start (span_bytes c.args.new) (chunk_at c.self.inside.table) (chunk_at c.put.new.table) c.self.invariant.1 c.put.ensures (omega arith))
