@@ -12,7 +12,7 @@ use Rattle.call_types.specs.declared.description.Mode.TheVariants as mode
 use Rattle.posix_model.specs.declared.change.FileEdit.TheVariants as on_files
 use Rattle.posix_model.specs.declared.change.ProcessEdit.TheVariants as on_process
 use Rattle.posix_model.specs.declared.change.TableEdit.TheVariants as on_table
-use Rattle.machine_state.specs.Files.{openings}
+use Rattle.file_table.specs.Files.{openings}
 use Rattle.machine_state.specs.Targets.{EndsAreTheirs}
 use Rattle.machine_state.specs.Held.{Held}
 use Rattle.machine_state.specs.Room.{HasTableRoom}

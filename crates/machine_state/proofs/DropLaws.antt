@@ -22,10 +22,10 @@ use Rattle.description_table.specs.Drops.{dropped}
 use Rattle.description_table.specs.declared.Dropped.TheVariants.{Gone}
 use Rattle.std.proofs.lemmas.List.{set-get_or}
 use Rattle.machine_state.specs.Uses.{with_use, without_use, lost}
-use Rattle.machine_state.specs.declared.stored_file.FileBody.TheVariants as body
+use Rattle.file_table.specs.declared.stored_file.FileBody.TheVariants as body
 use Rattle.machine_state.specs.Targets.{file_of_target, pipes_left, pipe_gone, files_left, forgot, CanLeave, EndsAreTheirs}
 use Rattle.machine_state.specs.Pipes.{open_ends, pipe_slots}
-use Rattle.machine_state.specs.Files.{unnamed, file_in, file_slot, file_slots, forgetful, forgetful_body, other_pipe, links_at}
+use Rattle.file_table.specs.Files.{unnamed, file_in, file_slot, file_slots, forgetful, forgetful_body, other_pipe, links_at}
 use Rattle.machine_state.specs.Held.{Stored, world_in}
 use Rattle.machine_state.specs.Consistent.{IsConsistent}
 use Rattle.machine_state.proofs.SlotLaws.{one, same_or_not, other_number, is_itself}

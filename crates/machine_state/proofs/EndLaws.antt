@@ -16,7 +16,8 @@ use Rattle.call_types.specs.declared.description.Target.TheVariants as target
 use Rattle.call_types.specs.declared.description.Mode.TheVariants as mode
 use Rattle.description_table.specs.declared.Dropped.TheVariants.{Gone}
 use Rattle.machine_state.specs.Uses.{with_use, without_use}
-use Rattle.machine_state.specs.Pipes.{is_end, open_ends, pipe_slots, readers_at, writers_at, edited_ring, endless, with_end, without_end, HasEnd, HasEndAt, with_end_at, counted_less}
+use Rattle.pipe_table.specs.Pipes.{readers_at, writers_at, edited_ring, endless, with_end, without_end, HasEnd, HasEndAt}
+use Rattle.machine_state.specs.Pipes.{is_end, open_ends, pipe_slots, with_end_at, counted_less}
 use Rattle.machine_state.specs.Targets.{pipes_left}
 use Rattle.machine_state.proofs.SlotLaws.{one, is_itself, each_set, each_added, each_edited}
 use Rattle.machine_state.proofs.UseLaws.{Counted, slot_values, there_values, there_edited, counted_as, counted_more, values_more, counted_added, values_added, length_values, counted_edited, values_edited, full, positive, StaysUsed, Goes, LosesUse, loses_use}

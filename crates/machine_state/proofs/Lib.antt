@@ -1,6 +1,5 @@
 pub mod SlotLaws
 pub mod UseLaws
-pub mod BodyLaws
 pub mod FileLaws
 pub mod PipeLaws
 pub mod LinkLaws

@@ -17,10 +17,11 @@ use Rattle.call_types.specs.declared.description.Target.TheVariants as target
 use Rattle.call_types.specs.declared.description.Mode.TheVariants as mode
 use Rattle.slots.specs.Uses.{value_at, values_in, used_once, with_value}
 use Rattle.machine_state.specs.Uses.{with_use}
-use Rattle.machine_state.specs.declared.stored_file.FileBody.TheVariants as body
+use Rattle.file_table.specs.declared.stored_file.FileBody.TheVariants as body
 use Rattle.machine_state.specs.Targets.{file_of_target}
-use Rattle.machine_state.specs.Pipes.{open_ends, endless, with_end, with_end_at, pipe_slot, pipe_slots}
-use Rattle.machine_state.specs.Files.{file_in, opened_stored, opened_body}
+use Rattle.pipe_table.specs.Pipes.{endless, with_end}
+use Rattle.machine_state.specs.Pipes.{open_ends, with_end_at, pipe_slot, pipe_slots}
+use Rattle.file_table.specs.Files.{file_in, opened_stored, opened_body}
 use Rattle.machine_state.specs.Held.{Stored, world_in}
 use Rattle.machine_state.specs.Consistent.{IsConsistent}
 use Rattle.machine_state.proofs.SlotLaws.{one, is_itself, slot_set, slot_added}

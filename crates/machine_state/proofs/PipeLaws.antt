@@ -10,7 +10,8 @@ use Rattle.posix_model.specs.Descriptors.{pipe_bytes}
 use Rattle.machine_state.specs.Types.{Mode, Used, StoredPipe}
 use Rattle.call_types.specs.declared.description.Mode.TheVariants as mode
 use Rattle.slots.specs.Uses.{value_at, values_in, with_value}
-use Rattle.machine_state.specs.Pipes.{pipe_slot, pipe_slots, with_end, without_end}
+use Rattle.pipe_table.specs.Pipes.{held_at, with_end, without_end}
+use Rattle.machine_state.specs.Pipes.{pipe_slot, pipe_slots}
 use Rattle.machine_state.proofs.UseLaws.{slot_values, there_values, values_edited}
 
 abbrev pub Pipes : Type 0
@@ -23,8 +24,13 @@ module _ (xs : Pipes) (n : ℕ) where
   pub held_there : (used : Used StoredPipe) → slot xs n ≡ Some used → pipe_bytes (slot (pipe_slots (values_in xs)) n) ≡ used.value.ring.bytes
   held_there used is = ap pipe_bytes (slot_pipes (values_in xs) n ∙ ap pipe_slot (slot_values xs n ∙ ap value_at is))
 
-  pub held_gone : slot xs n ≡ None → slot (pipe_slots (values_in xs)) n ≡ None
-  held_gone is = slot_pipes (values_in xs) n ∙ ap pipe_slot (slot_values xs n ∙ ap value_at is)
+-- the bytes of a pipe are those of the pipe of the world
+pub held_is : (xs : Pipes) (n : ℕ) → pipe_bytes (slot (pipe_slots (values_in xs)) n) ≡ held_at (slot (values_in xs) n)
+held_is xs n = ap pipe_bytes (slot_pipes (values_in xs) n) ∙ same (slot (values_in xs) n)
+  where
+    same : (x : Option StoredPipe) → pipe_bytes (pipe_slot x) ≡ held_at x
+    same None = refl
+    same (Some pipe) = refl
 
 pub pipe_slots_set : (slots : List (Option StoredPipe)) (n : ℕ) (x : Option StoredPipe) → pipe_slots (set slots n x) ≡ set (pipe_slots slots) n (pipe_slot x)
 pipe_slots_set slots n x = map-set pipe_slot slots n x

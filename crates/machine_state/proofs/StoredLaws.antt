@@ -12,11 +12,12 @@ use Rattle.process_table.specs.Processes.{with_entry}
 use Rattle.posix_model.specs.Descriptors.{with_offset, held_in}
 use Rattle.posix_model.specs.Whole.{EachThere, IsThere}
 use Rattle.posix_model.specs.Released.{IsSettled}
-use Rattle.machine_state.specs.Types.{Process, Description, Used, Ring, FileBody, StoredFile, StoredPipe}
+use Rattle.machine_state.specs.Types.{Process, Description, Used, Ring, TableState, FileBody, StoredFile, StoredPipe}
 use Rattle.slots.specs.Uses.{uses_at, value_at, values_in, used_once, use_added, with_value}
-use Rattle.machine_state.specs.declared.stored_file.FileBody.TheVariants as body
-use Rattle.machine_state.specs.Pipes.{is_end, open_ends, readers_at, writers_at, edited_ring, room_left}
-use Rattle.machine_state.specs.Files.{named, file_in, edited_body, edited_bytes, links_at}
+use Rattle.file_table.specs.declared.stored_file.FileBody.TheVariants as body
+use Rattle.pipe_table.specs.Pipes.{readers_at, writers_at, edited_ring, room_left}
+use Rattle.machine_state.specs.Pipes.{is_end, open_ends}
+use Rattle.file_table.specs.Files.{named, file_in, edited_body, edited_bytes, links_at}
 use Rattle.machine_state.specs.Held.{Stored, world_in}
 use Rattle.machine_state.specs.Consistent.{IsConsistent}
 use Rattle.machine_state.proofs.SlotLaws.{one, same_or_not, slot_set, slot_added, set_none, each_edited}
@@ -193,7 +194,7 @@ module _ (s : Stored) (all : IsConsistent s) where
       })
 
   -- a file has other bytes
-  pub after_bytes : (n : ℕ) (edit : List ℕ → List ℕ) (room : ℕ) → IsConsistent (record s { files = edited n (with_value (edited_bytes edit room)) s.files })
+  pub after_bytes : (n : ℕ) (edit : List ℕ → List ℕ) (room : TableState) → IsConsistent (record s { files = edited n (with_value (edited_bytes edit room)) s.files })
   after_bytes n edit room = after_edit n (edited_bytes edit room) (λ x. refl) (λ x p is h. (facts_of s all).fifos n p (ap known is ∙ (sym (alike x.body) ∙ h)))
     where
       alike : (b : FileBody) → pipe_of_fifo (fifo_at (Some (file_in (edited_body edit room b)))) ≡ pipe_of_fifo (fifo_at (Some (file_in b)))

@@ -41,17 +41,6 @@ module _ {T : Type 0} where
       by_slot None is = rw (is, set_none xs k is) there
       by_slot (Some x) is = rw (is, slot_set xs k x (Some (f x)) n is) (elim (eqb k n) as (λ b. is_some (cond b (Some (f x)) (slot xs n)) ≡ true) [ true ↦ refl | false ↦ there ])
 
-  -- two edits of a value are one
-  pub edited_twice : (xs : List (Option (Used T))) (n : ℕ) (f g : Used T → Used T) → edited n f (edited n g xs) ≡ edited n (λ x. f (g x)) xs
-  edited_twice [] n f g = refl
-  edited_twice (None ∷ xs) zero f g = refl
-  edited_twice (Some x ∷ xs) zero f g = refl
-  edited_twice (x ∷ xs) (suc n) f g = ap (λ ys. x ∷ ys) (edited_twice xs n f g)
-
-  -- a value that is written is edited
-  pub edited_as : (xs : List (Option (Used T))) (n : ℕ) (f : Used T → Used T) (x y : Used T) → slot xs n ≡ Some x → y ≡ f x → set xs n (Some y) ≡ edited n f xs
-  edited_as xs n f x y is same = ap (λ y. set xs n y) (ap Some same ∙ ap (option_map f) (sym is))
-
   -- what is used is there
   pub positive : (x : Option (Used T)) → 0 < uses_at x → is_some x ≡ true
   positive None h = absurd (omega (arith, h))

@@ -8,8 +8,9 @@ use Rattle.posix_model.specs.Released.{IsSettled}
 use Rattle.slots.specs.Uses.{values_in}
 use Rattle.machine_state.specs.Types.{Ring}
 use Rattle.machine_state.specs.Uses.{Counts}
-use Rattle.machine_state.specs.Files.{links_at}
-use Rattle.machine_state.specs.Pipes.{open_ends, readers_at, writers_at}
+use Rattle.file_table.specs.Files.{links_at}
+use Rattle.pipe_table.specs.Pipes.{readers_at, writers_at}
+use Rattle.machine_state.specs.Pipes.{open_ends}
 use Rattle.machine_state.specs.Held.{Stored, world_in}
 
 -- each count is that of the world, nothing waits for a sweep, each pipe and the spare ring, which is empty, have the one capacity, and there are no

@@ -1,13 +1,13 @@
 -- What contracts see of a machine: its world, and the room reserved.
 use Rattle.std.specs.Prelude.{ℕ, Bool, List, Option}
 use Rattle.call_types.specs.Names.{Entries}
-use Rattle.machine_state.specs.Types.{World, Process, Description, Used, Ring, StoredFile, StoredPipe}
+use Rattle.machine_state.specs.Types.{World, Process, Description, Used, Ring, TableState, StoredFile, StoredPipe}
 use Rattle.slots.specs.Uses.{values_in}
-use Rattle.machine_state.specs.Files.{file_slots, room_slots}
+use Rattle.file_table.specs.Files.{file_slots, room_slots}
 use Rattle.machine_state.specs.Pipes.{pipe_slots, pipe_room}
 use Rattle.machine_state.specs.declared.machine.Machine.TheInside.{Inside}
 
--- for how many more files, pipes, descriptions, processes and names there is room, for how many bytes in all in each file, and
+-- for how many more files, pipes, descriptions, processes and names there is room, for which bytes in each file, and
 -- how many bytes each pipe holds, which never changes
 pub record Room : Type 0 where
   pub files : ℕ
@@ -15,7 +15,7 @@ pub record Room : Type 0 where
   pub descriptions : ℕ
   pub processes : ℕ
   pub names : ℕ
-  pub bytes : List ℕ
+  pub bytes : List TableState
   pub capacity : ℕ
 
 -- a machine, as contracts see it

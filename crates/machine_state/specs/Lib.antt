@@ -1,7 +1,5 @@
 pub mod Types
-pub mod FileBytes
 pub mod Uses
-pub mod Files
 pub mod Pipes
 pub mod Targets
 pub mod Held

@@ -1,18 +1,18 @@
 -- The room that changes take.
-use Rattle.std.specs.Prelude.{◌≡◌, ℕ, ◌+◌, ◌<◌, ◌≤◌, ◌^◌, None, slice_index}
+use Rattle.std.specs.Prelude.{◌≡◌, ℕ, ◌+◌, ◌<◌, ◌≤◌, ◌^◌, None}
 use Rattle.slots.specs.Slots.{slot}
 use Rattle.posix_model.specs.Pipes.{fifo_at, pipe_of_fifo}
 use Rattle.machine_state.specs.Types.{Mode, FileEdit, ProcessEdit, TableEdit, Change}
 use Rattle.posix_model.specs.declared.change.FileEdit.TheVariants as on_files
 use Rattle.posix_model.specs.declared.change.ProcessEdit.TheVariants as on_process
 use Rattle.posix_model.specs.declared.change.TableEdit.TheVariants as on_table
-use Rattle.machine_state.specs.Files.{openings}
+use Rattle.file_extents.specs.Contents.{HasRoom as HasBytes, KeepsRoom as KeepsBytes}
+use Rattle.file_table.specs.Files.{room_at, openings}
 use Rattle.machine_state.specs.Held.{Room, Held}
 
 -- the room of an edit of files stands reserved
 abbrev pub HasFileRoom : Room → FileEdit → Type 0
-HasFileRoom room (on_files.Bytes file start count) = start + count ≤ slice_index room.bytes file
-HasFileRoom room (on_files.Resize file len) = len ≤ slice_index room.bytes file
+HasFileRoom room (on_files.Bytes file start count) = HasBytes (room_at room.bytes file) start count
 HasFileRoom room (on_files.AddName name file) = 0 < room.names
 HasFileRoom room (on_files.MakeFile name) = (0 < room.files) × (0 < room.names)
 HasFileRoom room (on_files.MakeFifo name) = (0 < room.files) × (0 < room.names)
@@ -49,7 +49,7 @@ pub record KeepsRoom (old new : Room) : Type 0 where
   pub descriptions : old.descriptions ≤ new.descriptions
   pub processes : old.processes ≤ new.processes
   pub names : old.names ≤ new.names
-  pub bytes : (file : ℕ) → slice_index old.bytes file ≤ slice_index new.bytes file
+  pub bytes : (file : ℕ) → KeepsBytes (room_at old.bytes file) (room_at new.bytes file)
   pub capacity : new.capacity ≡ old.capacity
 
 -- descriptions and pipes have the room that they had, and a pipe holds as many bytes

@@ -1,12 +1,14 @@
 -- What a description holds: a file, a pipe, or both.
 use Rattle.std.specs.Prelude.{◌≡◌, ℕ, true, List, Option, None, Some, is_some}
-use Rattle.slots.specs.Slots.{slot}
+use Rattle.slots.specs.Slots.{slot, edited}
+use Rattle.slots.specs.Uses.{with_value}
 use Rattle.machine_state.specs.Types.{World, Target, Dropped, Used, StoredFile, StoredPipe}
 use Rattle.posix_model.specs.Whole.{EachThere, IsItsFifo}
 use Rattle.posix_model.specs.Pipes.{pipe_at}
 use Rattle.machine_state.specs.Uses.{without_use, lost}
-use Rattle.machine_state.specs.Files.{forgotten}
-use Rattle.machine_state.specs.Pipes.{counted_less, HasEndAt}
+use Rattle.file_table.specs.Files.{forgetful}
+use Rattle.pipe_table.specs.Pipes.{HasEndAt}
+use Rattle.machine_state.specs.Pipes.{counted_less}
 use Rattle.call_types.specs.declared.description.Target.TheVariants as target
 use Rattle.description_table.specs.declared.Dropped.TheVariants.{Still, Gone}
 
@@ -25,6 +27,12 @@ pipes_left (Gone target mode) pipes = without_use (pipe_at target) (counted_less
 abbrev pub pipe_gone : Dropped → List (Option (Used StoredPipe)) → Option StoredPipe
 pipe_gone Still pipes = None
 pipe_gone (Gone target mode) pipes = lost (pipe_at target) (counted_less (pipe_at target) mode pipes)
+
+-- the files after the FIFO of a target forgot its pipe
+abbrev pub forgotten : Target → List (Option (Used StoredFile)) → List (Option (Used StoredFile))
+forgotten (target.Regular file) files = files
+forgotten (target.Pipe pipe) files = files
+forgotten (target.Fifo file pipe) files = edited file (with_value (forgetful pipe)) files
 
 -- the files after a FIFO forgot its pipe, if that went
 abbrev pub forgot : Option StoredPipe → Target → List (Option (Used StoredFile)) → List (Option (Used StoredFile))

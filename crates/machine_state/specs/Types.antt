@@ -13,6 +13,7 @@ pub use Rattle.posix_model.specs.declared.change.Change.{Change}
 pub use Rattle.slots.specs.declared.used.Used.{Used}
 pub use Rattle.description_table.specs.declared.Dropped.{Dropped}
 pub use Rattle.pipe_ring.specs.Ring.{Ring}
-pub use Rattle.machine_state.specs.declared.stored_file.FileBody.{FileBody}
-pub use Rattle.machine_state.specs.declared.stored_file.StoredFile.{StoredFile}
-pub use Rattle.machine_state.specs.declared.stored_pipe.StoredPipe.{StoredPipe}
+pub use Rattle.file_extents.specs.Chunks.{TableState}
+pub use Rattle.file_table.specs.declared.stored_file.FileBody.{FileBody}
+pub use Rattle.file_table.specs.declared.stored_file.StoredFile.{StoredFile}
+pub use Rattle.pipe_table.specs.declared.StoredPipe.{StoredPipe}

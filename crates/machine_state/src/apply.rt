@@ -8,8 +8,8 @@ ghost use Rattle.machine_state.specs.Targets.{EndsAreTheirs};
 ghost use Rattle.machine_state.specs.Room.{HasFileRoom, HasProcessRoom, HasTableRoom, HasRoom, KeepsOpenRoom, KeepsTableRoom};
 
 use crate::machine::Machine;
-use crate::stored_file::FileBody;
 use call_types::span::Span;
+use file_table::stored_file::FileBody;
 use posix_model::change::{Change, FileEdit, ProcessEdit, TableEdit};
 use posix_model::laws::sweep_releases;
 

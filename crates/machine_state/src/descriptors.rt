@@ -8,15 +8,13 @@ ghost use Rattle.posix_model.specs.Whole.{IsThere};
 ghost use Rattle.posix_model.specs.Fits.{IsFree, CanOpen, CanOpenPair, CanOpenEnd, CanSet};
 ghost use Rattle.posix_model.specs.Sweep.{sweep, is_open};
 ghost use Rattle.posix_model.specs.declared.change.TableEdit.TheVariants as on_table;
-ghost use Rattle.machine_state.specs.Files.{openings};
+ghost use Rattle.file_table.specs.Files.{openings};
 ghost use Rattle.machine_state.specs.Targets.{file_of_target, EndsAreTheirs};
 ghost use Rattle.machine_state.specs.Room.{HasEndRoom};
 
 use crate::entries::{drop_entry, hold_entry};
 use crate::machine::Machine;
-use crate::stored_files::{count_opening, fifo_of, hold_file};
-use crate::stored_pipes::{add_end, add_pipe};
-use crate::targets::{file_of_target, pipe_of_target, release};
+use crate::targets::{add_end, file_of_target, hold_file, pipe_of_target, release};
 use call_types::description::{Description, Mode, Target};
 use posix_model::laws::{sweep_leaves_wanted, sweep_releases};
 use posix_model::world::Fifo;
@@ -87,7 +85,7 @@ impl Machine {
         let file = file_of_target(description.target);
         hold_file(&mut self.files, file);
         match self.spare.take() {
-            Some(ring) => add_pipe(&mut self.pipes, ring, description.mode),
+            Some(ring) => self.pipes.add(ring, description.mode),
             None => unreachable!(),
         }
         self.descriptions.add(description);
@@ -115,7 +113,7 @@ impl Machine {
         ensures world { self.new.world ≡ record self.old.world { files = edited file (opened_file mode pipe) self.old.world.files } }
         ensures capacity { self.new.room.capacity ≡ self.old.room.capacity }
     {
-        count_opening(&mut self.files, file, mode, pipe);
+        self.files.count_opening(file, mode, pipe);
     }
 
     /// Opens an end of a FIFO once more, on its pipe, or on the next one where it has none (page of open).
@@ -132,7 +130,7 @@ impl Machine {
         ensures world { self.new.world ≡ with_table self.old.world (on_table.OpenEnd process fd file description) }
         ensures capacity { self.new.room.capacity ≡ self.old.room.capacity }
     {
-        match pipe_of_fifo(fifo_of(&self.files, file)) {
+        match pipe_of_fifo(self.files.fifo_at(file)) {
             Some(pipe) => {
                 self.open(process, fd, description);
                 self.count_opening(file, description.mode, pipe);

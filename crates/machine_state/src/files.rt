@@ -1,5 +1,5 @@
-ghost use Rattle.std.specs.Prelude.{◌≡◌, ◌+◌, ◌<◌, ◌≤◌, None, true, is_some, length, slice_index, OnOk};
-ghost use Rattle.call_types.specs.declared.limits.TheConstants.{NAMES_MAX};
+ghost use Rattle.std.specs.Prelude.{◌≡◌, ◌+◌, ◌<◌, ◌≤◌, ◌^◌, None, true, is_some, length, OnOk};
+ghost use Rattle.call_types.specs.declared.limits.TheConstants.{NAMES_MAX, TRANSFER_MAX};
 ghost use Rattle.call_types.specs.Stored.{span_bytes};
 ghost use Rattle.slots.specs.Slots.{slot};
 ghost use Rattle.posix_model.specs.Bytes.{splice, resized};
@@ -9,51 +9,59 @@ ghost use Rattle.posix_model.specs.Sweep.{sweep};
 ghost use Rattle.posix_model.specs.Descriptors.{bytes_of};
 ghost use Rattle.posix_model.specs.Change.{with_bytes, created};
 ghost use Rattle.posix_model.specs.Pipes.{fifo_at, pipe_of_fifo};
-ghost use Rattle.machine_state.specs.Files.{file_in};
+ghost use Rattle.file_extents.specs.Contents.{HasRoom};
+ghost use Rattle.file_table.specs.Files.{file_in, room_at};
 ghost use Rattle.machine_state.specs.Room.{KeepsRoom, KeepsTableRoom};
 
 use crate::machine::Machine;
-use crate::stored_file::{FileBody, StoredFile};
-use crate::stored_files::{add_link, drop_link, reserve_bytes, set_len, write};
 use call_types::bounded::Name;
 use call_types::span::Span;
+use file_table::stored_file::FileBody;
 use posix_model::laws::sweep_releases;
-use slots::used::Used;
 use std::alloc::AllocError;
 
 impl Machine {
-    /// Makes room for `len` bytes in all in a file. An error says that memory ran out.
+    /// Makes room for `count` bytes of a file from the byte `start` on. An error says that memory ran out.
     #[inline(always)]
-    pub(crate) fn reserve_bytes(&mut self, file: usize, len: usize) -> Result<(), AllocError>
-        requires { is_regular_file (slot self.old.world.files file) ≡ true }
+    pub(crate) fn reserve_bytes(
+        &mut self,
+        file: usize,
+        start: usize,
+        count: usize,
+    ) -> Result<(), AllocError>
+        requires there { is_regular_file (slot self.old.world.files file) ≡ true }
+        requires few { count ≤ TRANSFER_MAX }
+        requires fits { start + count < 2 ^ 63 }
         ensures world { self.new.world ≡ self.old.world }
-        ensures room { OnOk result (len ≤ slice_index self.new.room.bytes file) }
+        ensures room { OnOk result (HasRoom (room_at self.new.room.bytes file) start count) }
         ensures tables { KeepsTableRoom self.old self.new }
         ensures kept { KeepsRoom self.old.room self.new.room }
     {
-        reserve_bytes(&mut self.files, file, len)
+        self.files.reserve_bytes(file, start, count)
     }
 
     /// Writes bytes into a file from the byte `start` on.
     #[inline(always)]
     pub(crate) fn write_bytes(&mut self, file: usize, start: usize, bytes: Span<'_>)
         requires there { is_regular_file (slot self.old.world.files file) ≡ true }
-        requires room { start + length (span_bytes bytes) ≤ slice_index self.old.room.bytes file }
+        requires few { length (span_bytes bytes) ≤ TRANSFER_MAX }
+        requires fits { start + length (span_bytes bytes) < 2 ^ 63 }
+        requires room { HasRoom (room_at self.old.room.bytes file) start (length (span_bytes bytes)) }
         ensures world { self.new.world ≡ with_bytes self.old.world file (splice (bytes_of self.old.world file) start (span_bytes bytes.entry)) }
         ensures tables { KeepsTableRoom self.old self.new }
     {
-        write(&mut self.files, file, start, bytes);
+        self.files.write(file, start, bytes);
     }
 
     /// Gives a file its length, in bytes: its first bytes, and zeros where there were fewer.
     #[inline(always)]
     pub(crate) fn set_len(&mut self, file: usize, len: usize)
         requires there { is_regular_file (slot self.old.world.files file) ≡ true }
-        requires room { len ≤ slice_index self.old.room.bytes file }
+        requires fits { len < 2 ^ 63 }
         ensures world { self.new.world ≡ with_bytes self.old.world file (resized (bytes_of self.old.world file) len) }
         ensures tables { KeepsTableRoom self.old self.new }
     {
-        set_len(&mut self.files, file, len);
+        self.files.set_len(file, len);
     }
 
     /// Gives a new name to a file that is there.
@@ -66,7 +74,7 @@ impl Machine {
         ensures world { self.new.world ≡ record self.old.world { names = with_name name file self.old.world.names } }
         ensures tables { KeepsTableRoom self.old self.new }
     {
-        add_link(&mut self.files, file);
+        self.files.add_link(file);
         self.names.add(name, file);
     }
 
@@ -78,7 +86,7 @@ impl Machine {
     {
         sweep_releases();
         match self.names.remove(name) {
-            Some(file) => drop_link(&mut self.files, file),
+            Some(file) => self.files.drop_link(file),
             None => unreachable!(),
         }
     }
@@ -94,10 +102,7 @@ impl Machine {
         ensures tables { KeepsTableRoom self.old self.new }
     {
         let file = self.files.next();
-        self.files.push(Used {
-            value: StoredFile::new(body),
-            uses: 1,
-        });
+        self.files.create(body);
         self.names.add(name, file);
     }
 }

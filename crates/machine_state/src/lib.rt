@@ -4,15 +4,10 @@
 mod apply;
 mod descriptors;
 mod entries;
-mod file_bytes;
 mod files;
 pub mod machine;
 mod pipes;
 mod processes;
 mod reader;
 mod reserve;
-mod stored_file;
-mod stored_files;
-mod stored_pipe;
-mod stored_pipes;
 mod targets;

@@ -1,14 +1,12 @@
 ghost use Rattle.std.specs.Prelude.{◌≡◌};
 ghost use Rattle.posix_model.specs.History.{empty_world};
 
-use crate::stored_file::StoredFile;
-use crate::stored_pipe::StoredPipe;
 use description_table::DescriptionTable;
+use file_table::table::FileTable;
 use name_table::NameTable;
 use pipe_ring::PipeRing;
+use pipe_table::PipeTable;
 use process_table::processes::ProcessTable;
-use slots::numbered::Numbered;
-use slots::used::Used;
 use std::alloc::Global;
 use std::marker::Model;
 
@@ -18,8 +16,8 @@ use std::marker::Model;
 pub struct Machine {
     pub(crate) alloc: Global,
     pub(crate) capacity: usize,
-    pub(crate) files: Numbered<Used<StoredFile>>,
-    pub(crate) pipes: Numbered<Used<StoredPipe>>,
+    pub(crate) files: FileTable,
+    pub(crate) pipes: PipeTable,
     pub(crate) spare: Option<PipeRing>,
     pub(crate) descriptions: DescriptionTable,
     pub(crate) processes: ProcessTable,
@@ -47,8 +45,8 @@ impl Machine {
         Machine {
             alloc,
             capacity,
-            files: Numbered::new(alloc),
-            pipes: Numbered::new(alloc),
+            files: FileTable::new(alloc),
+            pipes: PipeTable::new(alloc),
             spare: None,
             descriptions: DescriptionTable::new(alloc),
             processes: ProcessTable::new(alloc),

@@ -1,15 +1,38 @@
-ghost use Rattle.std.specs.Prelude.{◌≡◌, ◌-◌, ◌≤◌, length, take, drop};
+ghost use Rattle.std.specs.Prelude.{◌≡◌, ◌-◌, ◌≤◌, [], length, take, drop, unwrap_or};
+ghost use Rattle.call_types.specs.CallTable.{payload_of};
 ghost use Rattle.call_types.specs.Stored.{span_bytes};
-ghost use Rattle.slots.specs.Slots.{edited};
+ghost use Rattle.slots.specs.Slots.{slot, edited};
+ghost use Rattle.process_table.specs.Processes.{parked_of};
 ghost use Rattle.posix_model.specs.Whole.{IsThere};
 ghost use Rattle.posix_model.specs.Descriptors.{held_in};
-ghost use Rattle.posix_model.specs.Change.{bytes_from, after_those};
+ghost use Rattle.posix_model.specs.Change.{bytes_from, after_those, rest_of};
 ghost use Rattle.machine_state.specs.Room.{KeepsTableRoom};
 
 use crate::machine::Machine;
-use crate::stored_pipes::{put, put_parked, take};
 use call_types::span::Span;
 use posix_model::change::DataSource;
+use process_table::process::Parked;
+use process_table::processes::ProcessTable;
+
+/// The data of a call that waits, after the bytes that it moved, and no more than so many.
+fn waiting_bytes(parked: &Parked, count: usize) -> Span<'_>
+    ensures { span_bytes result ≡ take count (drop parked.now.moved (unwrap_or (payload_of parked.now.call) [])) }
+{
+    match parked.call.get().payload() {
+        Some(bytes) => bytes.span().cut(parked.moved as usize, count),
+        None => Span::Slice(&[]),
+    }
+}
+
+/// The data of the call that a process waits in, after the bytes that it moved, and no more than so many.
+fn parked_bytes(processes: &ProcessTable, process: usize, count: usize) -> Span<'_>
+    ensures { span_bytes result ≡ take count (rest_of (parked_of (slot processes.now.0 process))) }
+{
+    match processes.parked(process) {
+        Some(parked) => waiting_bytes(parked, count),
+        None => Span::Slice(&[]),
+    }
+}
 
 impl Machine {
     /// Puts so many bytes of the act, or of a call that waits, into a pipe (page of write).
@@ -22,9 +45,10 @@ impl Machine {
         ensures tables { KeepsTableRoom self.old self.new }
     {
         match source {
-            DataSource::Act => put(&mut self.pipes, pipe, bytes.cut(0, count)),
+            DataSource::Act => self.pipes.put(pipe, bytes.cut(0, count)),
             DataSource::Parked { process } => {
-                put_parked(&self.processes, &mut self.pipes, process, pipe, count);
+                self.pipes
+                    .put(pipe, parked_bytes(&self.processes, process, count));
             }
         }
     }
@@ -36,6 +60,6 @@ impl Machine {
         ensures world { self.new.world ≡ record self.old.world { pipes = edited pipe (drop count) self.old.world.pipes } }
         ensures tables { KeepsTableRoom self.old self.new }
     {
-        take(&mut self.pipes, pipe, count);
+        self.pipes.take(pipe, count);
     }
 }

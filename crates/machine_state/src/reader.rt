@@ -1,8 +1,5 @@
 use crate::machine::Machine;
-use crate::stored_files::{bytes_of, fifo_of, links_of};
-use crate::stored_pipes::{held_in, peek, readers_of, writers_of};
 use call_types::bounded::Content;
-use posix_model::contents::bytes_at;
 use posix_model::opened::OpenDescriptor;
 use posix_model::reader::WorldReader;
 use posix_model::world::Fifo;
@@ -39,7 +36,7 @@ impl WorldReader for Machine {
     }
 
     fn length_of(&self, file: usize) -> usize {
-        bytes_of(&self.files, file).len()
+        self.files.length_of(file)
     }
 
     fn read_at(
@@ -49,7 +46,7 @@ impl WorldReader for Machine {
         start: usize,
         count: usize,
     ) -> Result<Content, AllocError> {
-        Content::copied(alloc, bytes_at(bytes_of(&self.files, file), start, count))
+        self.files.read_at(alloc, file, start, count)
     }
 
     fn file_of(&self, name: &[u8]) -> Option<usize> {
@@ -57,27 +54,27 @@ impl WorldReader for Machine {
     }
 
     fn fifo_at(&self, file: usize) -> Option<Fifo> {
-        fifo_of(&self.files, file)
+        self.files.fifo_at(file)
     }
 
     fn links(&self, file: usize) -> usize {
-        links_of(&self.files, file)
+        self.files.links(file)
     }
 
     fn held_in(&self, pipe: usize) -> usize {
-        held_in(&self.pipes, pipe)
+        self.pipes.held_in(pipe)
     }
 
     fn peek(&self, alloc: Global, pipe: usize, count: usize) -> Result<Content, AllocError> {
-        peek(&self.pipes, alloc, pipe, count)
+        self.pipes.peek(alloc, pipe, count)
     }
 
     fn has_reader(&self, pipe: usize) -> bool {
-        readers_of(&self.pipes, pipe) > 0
+        self.pipes.readers(pipe) > 0
     }
 
     fn has_writer(&self, pipe: usize) -> bool {
-        writers_of(&self.pipes, pipe) > 0
+        self.pipes.writers(pipe) > 0
     }
 
     fn name_count(&self) -> usize {

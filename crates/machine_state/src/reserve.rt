@@ -4,9 +4,8 @@ ghost use Rattle.machine_state.specs.Room.{HasEndRoom, HasFileRoom, HasProcessRo
 
 use crate::descriptors::pipe_of_fifo;
 use crate::machine::Machine;
-use crate::stored_file::openings;
-use crate::stored_files::fifo_of;
 use call_types::description::Mode;
+use file_table::stored_file::openings;
 use pipe_ring::PipeRing;
 use posix_model::change::{Change, FileEdit, ProcessEdit, TableEdit};
 use std::alloc::AllocError;
@@ -50,7 +49,7 @@ impl Machine {
         ensures room { OnOk result (HasEndRoom self.new file mode) }
         ensures kept { KeepsRoom self.old.room self.new.room }
     {
-        let fifo = fifo_of(&self.files, file);
+        let fifo = self.files.fifo_at(file);
         if openings(mode, fifo) == u64::MAX {
             return Err(AllocError);
         }
@@ -110,9 +109,8 @@ impl Machine {
         ensures kept { KeepsRoom self.old.room self.new.room }
     {
         match edit {
-            FileEdit::Nothing => Ok(()),
-            FileEdit::Bytes { file, start, count } => self.reserve_bytes(*file, *start + *count),
-            FileEdit::Resize { file, len } => self.reserve_bytes(*file, *len),
+            FileEdit::Nothing | FileEdit::Resize { .. } => Ok(()),
+            FileEdit::Bytes { file, start, count } => self.reserve_bytes(*file, *start, *count),
             FileEdit::AddName { .. } => self.names.reserve(),
             FileEdit::RemoveName { .. } | FileEdit::Put { .. } | FileEdit::Take { .. } => Ok(()),
             FileEdit::MakeFile { .. } | FileEdit::MakeFifo { .. } => {

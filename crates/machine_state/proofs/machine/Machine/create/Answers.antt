@@ -7,5 +7,5 @@ pub invariant_of-self : goal.invariant_of-self
 invariant_of-self c =
     let new = rw (← c.self.view_is) at c.requires.new in
     let few = rw (← c.self.view_is) at c.requires.few in
-    rw (c.push.ensures.slots, c.add.ensures, c.next-file.ensures, c.new.ensures)
+    rw (c.create.ensures.slots, c.add.ensures, c.next-file.ensures)
     (after_create (stored_in c.self.inside) c.self.invariant c.args.name (record { body = c.args.body; links = 1 }) refl c.requires.closed new few)

@@ -1,5 +1,5 @@
 use Rattle.std.proofs.Common.{arith, ap, sym, ◌∙◌}
-use Rattle.machine_state.specs.Files.{links_at}
+use Rattle.file_table.specs.Files.{links_at}
 use Rattle.machine_state.specs.Held.{stored_in}
 use Rattle.machine_state.proofs.UseLaws.{slot_values}
 use Rattle.machine_state.proofs.FileLaws.{files_there}
@@ -20,7 +20,7 @@ invariant_of-self c =
     let new = rw (← c.self.view_is) at c.requires.new in
     let there = rw (← c.self.view_is) at c.requires.there in
     let few = rw (← c.self.view_is) at c.requires.few in
-    rw (c.add.ensures, c.add_link.ensures) (after_link (stored_in c.self.inside) c.self.invariant c.args.name c.args.file new there few)
+    rw (c.add.ensures, c.add_link.ensures.slots) (after_link (stored_in c.self.inside) c.self.invariant c.args.name c.args.file new there few)
 
 pub returns-clause-world : goal.returns-clause-world
-returns-clause-world c = rw (← c.self.view_is, c.add.ensures, c.add_link.ensures) (linked_world (stored_in c.self.inside) c.self.invariant c.args.name c.args.file)
+returns-clause-world c = rw (← c.self.view_is, c.add.ensures, c.add_link.ensures.slots) (linked_world (stored_in c.self.inside) c.self.invariant c.args.name c.args.file)

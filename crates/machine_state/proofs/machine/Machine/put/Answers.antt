@@ -1,4 +1,4 @@
-use Rattle.std.proofs.Common.{sym, ap, ◌∙◌, length, take, length-take-le, arith}
+use Rattle.std.proofs.Common.{sym, ap, ◌∙◌, length, take, length-take, length-take-le, arith}
 use Rattle.call_types.specs.Stored.{span_bytes}
 use Rattle.posix_model.specs.Change.{after_those, rest_of}
 use Rattle.process_table.specs.Processes.{parked_of}
@@ -21,18 +21,19 @@ put-requires-clause-room c =
 pub invariant_of-self : goal.invariant_of-self
 invariant_of-self c = rw (c.put.ensures.slots, c.cut.ensures) (after_written (stored_in c.self.inside) c.self.invariant c.args.pipe (after_those (take c.args.count (span_bytes c.args.bytes))))
 
-pub put_parked-requires-clause-there : goal.put_parked-requires-clause-there
-put_parked-requires-clause-there c = sym (pipes_there c.self.inside.pipes.0 c.args.pipe) ∙ (rw (← c.self.view_is) at c.requires.there)
+pub put-requires-in-Parked-clause-there : goal.put-requires-in-Parked-clause-there
+put-requires-in-Parked-clause-there c = sym (pipes_there c.self.inside.pipes.0 c.args.pipe) ∙ (rw (← c.self.view_is) at c.requires.there)
 
-pub put_parked-requires-clause-room : goal.put_parked-requires-clause-room
-put_parked-requires-clause-room c =
+pub put-requires-in-Parked-clause-room : goal.put-requires-in-Parked-clause-room
+put-requires-in-Parked-clause-room c =
     let there = rw (← c.self.view_is) at c.requires.there in
     let holds = rw (← c.self.view_is) at c.requires.holds in
-    fits_ring (stored_in c.self.inside) c.self.invariant c.args.pipe c.args.count there holds
+    let rest = rest_of (parked_of (slot c.self.inside.processes.0 c.in-Parked.process)) in
+    omega (arith, ap length c.parked_bytes.ensures, length-take c.args.count rest, fits_ring (stored_in c.self.inside) c.self.invariant c.args.pipe c.args.count there holds)
 
 pub invariant_of-self-in-Parked : goal.invariant_of-self-in-Parked
 invariant_of-self-in-Parked c =
-    rw c.put_parked.ensures.slots
+    rw (c.put-in-Parked.ensures.slots, c.parked_bytes.ensures)
     (after_written (stored_in c.self.inside) c.self.invariant c.args.pipe (after_those (take c.args.count (rest_of (parked_of (slot c.self.inside.processes.0 c.in-Parked.process))))))
 
 pub returns-in-Act-clause-world : goal.returns-in-Act-clause-world
@@ -41,5 +42,5 @@ returns-in-Act-clause-world c =
 
 pub returns-in-Parked-clause-world : goal.returns-in-Parked-clause-world
 returns-in-Parked-clause-world c =
-    rw (← c.self.view_is, c.put_parked.ensures.slots, c.in-Parked.is)
+    rw (← c.self.view_is, c.put-in-Parked.ensures.slots, c.parked_bytes.ensures, c.in-Parked.is)
     (written_world (stored_in c.self.inside) c.self.invariant c.args.pipe (after_those (take c.args.count (rest_of (parked_of (slot c.self.inside.processes.0 c.in-Parked.process))))))

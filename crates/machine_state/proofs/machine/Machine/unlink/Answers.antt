@@ -10,11 +10,11 @@ drop_link-requires c =
 pub invariant_of-self : goal.invariant_of-self
 invariant_of-self c =
     let fewer = rw c.remove.ensures.entries at c.in-Some.ensures.links in
-    rw (c.drop_link.ensures, c.remove.ensures.entries)
+    rw (c.drop_link.ensures.slots, c.remove.ensures.entries)
     (after_unlink (stored_in c.self.inside) c.self.invariant c.args.name.now c.in-Some.file fewer c.sweep_releases.ensures.names).consistent
 
 pub returns-clause-world : goal.returns-clause-world
 returns-clause-world c =
     let fewer = rw c.remove.ensures.entries at c.in-Some.ensures.links in
-    rw (← c.self.view_is, c.drop_link.ensures, c.remove.ensures.entries)
+    rw (← c.self.view_is, c.drop_link.ensures.slots, c.remove.ensures.entries)
     (after_unlink (stored_in c.self.inside) c.self.invariant c.args.name.now c.in-Some.file fewer c.sweep_releases.ensures.names).world
