@@ -1,0 +1,76 @@
+//! The bytes of a file: what writes over one another leave, both sides of the end of a chunk, and positions far out.
+
+ghost use Rattle.std.specs.Prelude.{◌≤◌, ◌<◌, ◌^◌};
+
+use call_types::span::Span;
+use file_extents::extents::Extents;
+use std::alloc::{AllocError, Global};
+use std::test::Fail;
+
+/// Writes bytes, after their room was made.
+fn write(file: &mut Extents, start: usize, new: &[u8; 4]) -> Result<(), AllocError>
+    requires { start < 2 ^ 62 }
+{
+    file.reserve_for(start, 4)?;
+    file.write_at(start, Span::Slice(new));
+    Ok(())
+}
+
+/// What a new file has from two bytes before a write of four.
+fn read_round(alloc: Global, start: usize) -> Result<(usize, Vec<u8>), AllocError>
+    requires after_two { 2 ≤ start }
+    requires fits { start < 2 ^ 62 }
+{
+    let mut file = Extents::new(alloc);
+    write(&mut file, start, b"wxyz")?;
+    Ok((file.len(), file.read_at(start - 2, 65_536)?))
+}
+
+#[test]
+fn writes_over_one_another_leave_the_last(rt: HostRuntime) -> Result<(), Fail> {
+    let mut file = Extents::new(rt.alloc());
+    write(&mut file, 4, b"wxyz")?;
+    file.reserve_for(0, 2)?;
+    file.write_at(0, Span::Slice(b"ab"));
+    write(&mut file, 1, b"1234")?;
+    assert_eq!(rt; file.len(), 8);
+    assert!(rt; file.read_at(0, 99)?.as_slice() == b"a1234xyz".as_slice());
+    assert!(rt; file.stored(5, 2) == Some(b"xy".as_slice()));
+    file.cut(3);
+    file.extend_to(5);
+    assert!(rt; file.read_at(0, 99)?.as_slice() == b"a12\0\0".as_slice());
+    assert!(rt; file.read_at(5, 1)?.is_empty());
+    file.extend_to(1_048_576);
+    assert_eq!(rt; file.len(), 1_048_576);
+    assert!(rt; file.read_at(1_048_575, 9)?.as_slice() == b"\0".as_slice());
+    Ok(())
+}
+
+#[test]
+fn chunks_meet_without_a_seam(rt: HostRuntime) -> Result<(), Fail> {
+    let alloc = rt.alloc();
+    let round = b"\0\0wxyz".as_slice();
+    for (len, read) in [
+        read_round(alloc, 65_535)?,
+        read_round(alloc, 65_536)?,
+        read_round(alloc, 65_537)?,
+        read_round(alloc, 1 << 30)?,
+        read_round(alloc, 1 << 40)?,
+    ] {
+        assert!(rt; read.as_slice() == round, "of {len} bytes");
+    }
+    assert_eq!(rt; read_round(alloc, 65_535)?.0, 65_539);
+    assert_eq!(rt; read_round(alloc, 1 << 40)?.0, 1_099_511_627_780);
+    Ok(())
+}
+
+#[test]
+fn bytes_of_two_chunks_are_not_lent(rt: HostRuntime) -> Result<(), Fail> {
+    let mut file = Extents::new(rt.alloc());
+    write(&mut file, 65_534, b"wxyz")?;
+    assert!(rt; file.stored(65_534, 2) == Some(b"wx".as_slice()));
+    assert!(rt; file.stored(65_536, 2) == Some(b"yz".as_slice()));
+    assert!(rt; file.stored(65_535, 2).is_none());
+    assert!(rt; file.stored(65_538, 2) == Some(b"".as_slice()));
+    Ok(())
+}
