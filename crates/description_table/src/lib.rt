@@ -12,7 +12,8 @@ ghost use Rattle.description_table.specs.Flags.{flag_if, flags_of};
 use bitflags::Flags;
 use call_types::description::{Description, Mode, Target};
 use call_types::flags::OpenFlags;
-use slots::numbered::Numbered;
+use slots::keyed::Keyed;
+use slots::ticket::Ticket;
 use slots::used::Used;
 use std::alloc::{AllocError, Global};
 use std::marker::Model;
@@ -48,7 +49,7 @@ fn flags_of(description: Description) -> OpenFlags
 /// more descriptions there is room.
 #[derive(Drop)]
 pub struct DescriptionTable {
-    descriptions: Numbered<Used<Description>>,
+    descriptions: Keyed<Used<Description>>,
 }
 
 impl Model for DescriptionTable {
@@ -71,7 +72,7 @@ impl DescriptionTable {
         ensures { result.0 ≡ [] }
     {
         DescriptionTable {
-            descriptions: Numbered::new(alloc),
+            descriptions: Keyed::new(alloc),
         }
     }
 
@@ -90,8 +91,8 @@ impl DescriptionTable {
     }
 
     /// The description of a number, if it is live.
-    pub fn get(&self, number: usize) -> Option<&Description>
-        ensures { option_copied result ≡ value_at (slot self.now.0 number) }
+    pub fn get(&self, number: &Ticket) -> Option<&Description>
+        ensures { option_copied result ≡ value_at (slot self.now.0 number.now) }
     {
         match self.descriptions.get(number) {
             Some(used) => Some(&used.value),
@@ -100,8 +101,8 @@ impl DescriptionTable {
     }
 
     /// The offset of a description, in bytes, if it is live.
-    pub fn offset(&self, number: usize) -> Option<u64>
-        ensures { result ≡ option_map (λ description. description.offset) (value_at (slot self.now.0 number)) }
+    pub fn offset(&self, number: &Ticket) -> Option<u64>
+        ensures { result ≡ option_map (λ description. description.offset) (value_at (slot self.now.0 number.now)) }
     {
         match self.get(number) {
             Some(description) => Some(description.offset),
@@ -110,8 +111,8 @@ impl DescriptionTable {
     }
 
     /// The flags of a description, of those that stay with it, if it is live (page of fcntl, F_GETFL).
-    pub fn flags(&self, number: usize) -> Option<OpenFlags>
-        ensures { result ≡ option_map flags_of (value_at (slot self.now.0 number)) }
+    pub fn flags(&self, number: &Ticket) -> Option<OpenFlags>
+        ensures { result ≡ option_map flags_of (value_at (slot self.now.0 number.now)) }
     {
         match self.get(number) {
             Some(description) => Some(flags_of(*description)),
@@ -140,33 +141,34 @@ impl DescriptionTable {
     }
 
     /// Gives the next number to a description, for which there is room, with one reference.
-    pub fn add(&mut self, description: Description)
+    pub fn add(&mut self, description: Description) -> Ticket
         requires { 0 < self.old.1 }
+        ensures number { result ≡ length self.old.0 }
         ensures slots { self.new.0 ≡ self.old.0 ++ Some (used_once description) ∷ [] }
         ensures room { self.new.1 + 1 ≡ self.old.1 }
     {
         self.descriptions.push(Used {
             value: description,
             uses: 1,
-        });
+        })
     }
 
     /// A description has one reference more.
-    pub fn hold(&mut self, number: usize)
-        requires there { is_some (slot self.old.0 number) ≡ true }
-        requires few { uses_at (slot self.old.0 number) < 2 ^ 63 }
-        ensures slots { self.new.0 ≡ use_added number self.old.0 }
+    pub fn hold(&mut self, number: &Ticket)
+        requires there { is_some (slot self.old.0 number.now) ≡ true }
+        requires few { uses_at (slot self.old.0 number.now) < 2 ^ 63 }
+        ensures slots { self.new.0 ≡ use_added number.now self.old.0 }
         ensures room { self.new.1 ≡ self.old.1 }
     {
         self.descriptions.add_use(number);
     }
 
     /// A description has one reference less, and goes with its last one (page of close). Of a number that is gone nothing goes.
-    pub fn drop_one(&mut self, number: usize) -> Dropped
-        ensures slots { self.new.0 ≡ use_dropped number self.old.0 }
+    pub fn drop_one(&mut self, number: &Ticket) -> Dropped
+        ensures slots { self.new.0 ≡ use_dropped number.now self.old.0 }
         ensures room { self.old.1 ≤ self.new.1 }
         ensures most { self.new.1 ≤ self.old.1 + 1 }
-        ensures told { result ≡ dropped (last_value (slot self.old.0 number)) }
+        ensures told { result ≡ dropped (last_value (slot self.old.0 number.now)) }
     {
         match self.descriptions.drop_use(number) {
             Some(description) => Dropped::Gone {
@@ -178,9 +180,9 @@ impl DescriptionTable {
     }
 
     /// Gives a live description another offset, in bytes, below 2^63.
-    pub fn set_offset(&mut self, number: usize, offset: u64)
-        requires { is_some (slot self.old.0 number) ≡ true }
-        ensures slots { self.new.0 ≡ edited number (with_value (at_offset offset)) self.old.0 }
+    pub fn set_offset(&mut self, number: &Ticket, offset: u64)
+        requires { is_some (slot self.old.0 number.now) ≡ true }
+        ensures slots { self.new.0 ≡ edited number.now (with_value (at_offset offset)) self.old.0 }
         ensures room { self.new.1 ≡ self.old.1 }
     {
         self.descriptions.value_mut(number).value.offset = offset;

@@ -12,8 +12,8 @@ use posix_model::opened::OpenDescriptor;
 use posix_model::reader::WorldReader;
 
 /// The first refusal of an ftruncate of an open descriptor.
-fn ftruncate_fault(bounds: Bounds, descriptor: OpenDescriptor, len: i64) -> Option<Errno>
-    ensures { result ≡ first_fault (ftruncate_faults bounds len descriptor) }
+fn ftruncate_fault(bounds: Bounds, descriptor: &OpenDescriptor, len: i64) -> Option<Errno>
+    ensures { result ≡ first_fault (ftruncate_faults bounds len descriptor.now) }
 {
     if len < 0 {
         return Some(Errno::EINVAL);
@@ -45,11 +45,11 @@ pub fn decide_ftruncate<R: WorldReader>(
         None => return refused(Errno::EBADF),
         Some(descriptor) => descriptor,
     };
-    if let Some(error) = ftruncate_fault(bounds, descriptor, len) {
+    if let Some(error) = ftruncate_fault(bounds, &descriptor, len) {
         return refused(error);
     }
     let edit = FileEdit::Resize {
-        file: file_at(descriptor),
+        file: file_at(&descriptor),
         len: len.unsigned_abs() as usize,
     };
     does(Reply::Done, edit, TableEdit::Nothing)

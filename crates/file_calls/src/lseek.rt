@@ -31,8 +31,8 @@ fn sought(base: u64, offset: i64) -> i128
 }
 
 /// The first refusal of an lseek of an open descriptor that leads to the byte `to`.
-fn lseek_fault(descriptor: OpenDescriptor, to: i128) -> Option<Errno>
-    ensures { result ≡ first_fault (lseek_faults to descriptor) }
+fn lseek_fault(descriptor: &OpenDescriptor, to: i128) -> Option<Errno>
+    ensures { result ≡ first_fault (lseek_faults to descriptor.now) }
 {
     if !is_regular(descriptor) {
         return Some(Errno::ESPIPE);
@@ -62,12 +62,12 @@ pub fn decide_lseek<R: WorldReader>(
         None => return refused(Errno::EBADF),
         Some(descriptor) => descriptor,
     };
-    let to = sought(base_of(state, descriptor, whence), offset);
-    if let Some(error) = lseek_fault(descriptor, to) {
+    let to = sought(base_of(state, &descriptor, whence), offset);
+    if let Some(error) = lseek_fault(&descriptor, to) {
         return refused(error);
     }
     let offset = to.unsigned_abs() as u64;
-    let number = descriptor.number;
+    let number = descriptor.number.again();
     let edit = TableEdit::Offset { number, offset };
     does(Reply::Number(offset), FileEdit::Nothing, edit)
 }

@@ -13,8 +13,8 @@ use posix_model::reader::WorldReader;
 use std::alloc::{AllocError, Global};
 
 /// The first refusal of a pread of an open descriptor.
-fn pread_fault(descriptor: OpenDescriptor, start: i64, count: usize) -> Option<Errno>
-    ensures { result ≡ first_fault (pread_faults start count descriptor) }
+fn pread_fault(descriptor: &OpenDescriptor, start: i64, count: usize) -> Option<Errno>
+    ensures { result ≡ first_fault (pread_faults start count descriptor.now) }
 {
     if !descriptor.description.mode.can_read() {
         return Some(Errno::EBADF);
@@ -49,10 +49,10 @@ pub fn decide_pread<R: WorldReader>(
         None => return Ok(refused(Errno::EBADF)),
         Some(descriptor) => descriptor,
     };
-    if let Some(error) = pread_fault(descriptor, start, count) {
+    if let Some(error) = pread_fault(&descriptor, start, count) {
         return Ok(refused(error));
     }
     let start = start.unsigned_abs() as usize;
-    let got = state.read_at(alloc, file_at(descriptor), start, count)?;
+    let got = state.read_at(alloc, file_at(&descriptor), start, count)?;
     Ok(tells(Reply::Data(got)))
 }

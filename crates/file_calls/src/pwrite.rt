@@ -15,11 +15,11 @@ use posix_model::reader::WorldReader;
 /// The first refusal of a pwrite of an open descriptor.
 fn pwrite_fault(
     bounds: Bounds,
-    descriptor: OpenDescriptor,
+    descriptor: &OpenDescriptor,
     start: i64,
     bytes: &Payload,
 ) -> Option<Errno>
-    ensures { result ≡ first_fault (pwrite_faults bounds start bytes.now descriptor) }
+    ensures { result ≡ first_fault (pwrite_faults bounds start bytes.now descriptor.now) }
 {
     if !descriptor.description.mode.can_write() {
         return Some(Errno::EBADF);
@@ -56,14 +56,14 @@ pub fn decide_pwrite<R: WorldReader>(
         None => return refused(Errno::EBADF),
         Some(descriptor) => descriptor,
     };
-    if let Some(error) = pwrite_fault(bounds, descriptor, start, bytes) {
+    if let Some(error) = pwrite_fault(bounds, &descriptor, start, bytes) {
         return refused(error);
     }
     let start = start.unsigned_abs();
     let count = fitting(bounds, start, bytes);
     puts(
         bytes,
-        file_at(descriptor),
+        file_at(&descriptor),
         start as usize,
         count,
         TableEdit::Nothing,

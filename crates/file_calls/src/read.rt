@@ -20,8 +20,8 @@ use posix_model::reader::WorldReader;
 use std::alloc::{AllocError, Global};
 
 /// The first refusal of a read of an open descriptor.
-fn read_fault(descriptor: OpenDescriptor, count: usize) -> Option<Errno>
-    ensures { result ≡ first_fault (read_faults count descriptor) }
+fn read_fault(descriptor: &OpenDescriptor, count: usize) -> Option<Errno>
+    ensures { result ≡ first_fault (read_faults count descriptor.now) }
 {
     if !descriptor.description.mode.can_read() {
         return Some(Errno::EBADF);
@@ -33,15 +33,15 @@ fn read_fault(descriptor: OpenDescriptor, count: usize) -> Option<Errno>
 }
 
 /// The bytes are told, and the offset goes past them; none are no change.
-fn gives(descriptor: OpenDescriptor, got: Content) -> Decided
-    requires { descriptor.description.offset + length got < 2 ^ 64 }
-    ensures { result ≡ gives descriptor got }
+fn gives(descriptor: &OpenDescriptor, got: Content) -> Decided
+    requires { descriptor.now.description.offset + length got < 2 ^ 64 }
+    ensures { result ≡ gives descriptor.now got }
 {
     if got.is_empty() {
         return tells(Reply::Data(got));
     }
     let offset = descriptor.description.offset + got.len() as u64;
-    let number = descriptor.number;
+    let number = descriptor.number.again();
     let edit = TableEdit::Offset { number, offset };
     does(Reply::Data(got), FileEdit::Nothing, edit)
 }
@@ -50,11 +50,11 @@ fn gives(descriptor: OpenDescriptor, got: Content) -> Decided
 fn read_file<R: WorldReader>(
     state: &R,
     alloc: Global,
-    descriptor: OpenDescriptor,
+    descriptor: &OpenDescriptor,
     count: usize,
 ) -> Result<Decided, AllocError>
     requires { count ≤ TRANSFER_MAX }
-    ensures { IfOk result (λ d. d ≡ gives descriptor (bytes_at (bytes_of (R.world state.now) (file_at descriptor)) descriptor.description.offset count)) }
+    ensures { IfOk result (λ d. d ≡ gives descriptor.now (bytes_at (bytes_of (R.world state.now) (file_at descriptor.now)) descriptor.now.description.offset count)) }
 {
     let file = file_at(descriptor);
     let start = descriptor.description.offset as usize;
@@ -82,11 +82,11 @@ pub fn decide_read<R: WorldReader>(
         None => return Ok(refused(Errno::EBADF)),
         Some(descriptor) => descriptor,
     };
-    if let Some(error) = read_fault(descriptor, count) {
+    if let Some(error) = read_fault(&descriptor, count) {
         return Ok(refused(error));
     }
     match pipe_at(descriptor.description.target) {
-        None => read_file(state, alloc, descriptor, count),
-        Some(pipe) => decide_read_end(state, alloc, process, call, count, descriptor, pipe),
+        None => read_file(state, alloc, &descriptor, count),
+        Some(pipe) => decide_read_end(state, alloc, process, call, count, &descriptor, pipe),
     }
 }

@@ -15,15 +15,15 @@ fn regular_file(target: Target) -> Option<usize>
 }
 
 /// Whether a descriptor is open on a regular file.
-pub(crate) fn is_regular(descriptor: OpenDescriptor) -> bool
-    ensures { result ≡ is_regular descriptor }
+pub(crate) fn is_regular(descriptor: &OpenDescriptor) -> bool
+    ensures { result ≡ is_regular descriptor.now }
 {
     regular_file(descriptor.description.target).is_some()
 }
 
 /// The regular file that a descriptor is open on, if it is on one.
-pub(crate) fn file_at(descriptor: OpenDescriptor) -> usize
-    ensures { result ≡ file_at descriptor }
+pub(crate) fn file_at(descriptor: &OpenDescriptor) -> usize
+    ensures { result ≡ file_at descriptor.now }
 {
     regular_file(descriptor.description.target).unwrap_or(0)
 }

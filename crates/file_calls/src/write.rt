@@ -32,11 +32,11 @@ fn write_start<R: WorldReader>(state: &R, descriptor: OpenDescriptor) -> u64
 /// The first refusal of a write of an open descriptor that begins at `start`.
 fn write_fault(
     bounds: Bounds,
-    descriptor: OpenDescriptor,
+    descriptor: &OpenDescriptor,
     start: u64,
     bytes: &Payload,
 ) -> Option<Errno>
-    ensures { result ≡ first_fault (write_faults bounds start bytes.now descriptor) }
+    ensures { result ≡ first_fault (write_faults bounds start bytes.now descriptor.now) }
 {
     if !descriptor.description.mode.can_write() {
         return Some(Errno::EBADF);
@@ -51,12 +51,12 @@ fn write_fault(
 }
 
 /// A write to a regular file from a position on: what fits, and the offset goes past it.
-fn write_file(bounds: Bounds, start: u64, bytes: &Payload, descriptor: OpenDescriptor) -> Decided
-    ensures { result ≡ write_file bounds start bytes.now descriptor }
+fn write_file(bounds: Bounds, start: u64, bytes: &Payload, descriptor: &OpenDescriptor) -> Decided
+    ensures { result ≡ write_file bounds start bytes.now descriptor.now }
 {
     let count = fitting(bounds, start, bytes);
     let offset = start + count as u64;
-    let number = descriptor.number;
+    let number = descriptor.number.again();
     let moved = TableEdit::Offset { number, offset };
     puts(bytes, file_at(descriptor), start as usize, count, moved)
 }
@@ -82,14 +82,14 @@ pub fn decide_write<R: WorldReader>(
         None => return Ok(refused(Errno::EBADF)),
         Some(descriptor) => descriptor,
     };
-    let start = write_start(state, descriptor);
-    if let Some(error) = write_fault(bounds, descriptor, start, bytes) {
+    let start = write_start(state, &descriptor);
+    if let Some(error) = write_fault(bounds, &descriptor, start, bytes) {
         return Ok(refused(error));
     }
     match pipe_at(descriptor.description.target) {
-        None => Ok(write_file(bounds, start, bytes, descriptor)),
+        None => Ok(write_file(bounds, start, bytes, &descriptor)),
         Some(pipe) => {
-            decide_write_end(state, alloc, bounds, process, call, bytes, descriptor, pipe)
+            decide_write_end(state, alloc, bounds, process, call, bytes, &descriptor, pipe)
         }
     }
 }

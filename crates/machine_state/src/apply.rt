@@ -78,7 +78,7 @@ impl Machine {
     {
         match edit {
             TableEdit::Nothing => {}
-            TableEdit::Offset { number, offset } => self.set_offset(number, offset),
+            TableEdit::Offset { number, offset } => self.set_offset(&number, offset),
             TableEdit::Open {
                 process,
                 fd,

@@ -18,6 +18,7 @@ use crate::targets::{add_end, file_of_target, hold_file, pipe_of_target, release
 use call_types::description::{Description, Mode, Target};
 use posix_model::laws::{sweep_leaves_wanted, sweep_releases};
 use posix_model::world::Fifo;
+use slots::ticket::Ticket;
 
 /// A new open file description of an end of a pipe (page of pipe).
 fn end_of(pipe: usize, mode: Mode) -> Description
@@ -59,15 +60,14 @@ impl Machine {
         ensures world { self.new.world ≡ with_description self.old.world process fd description }
         ensures capacity { self.new.room.capacity ≡ self.old.room.capacity }
     {
-        let number = self.descriptions.next();
         hold_file(&mut self.files, file_of_target(description.target));
         add_end(
             &mut self.pipes,
             pipe_of_target(description.target),
             description.mode,
         );
-        self.descriptions.add(description);
-        self.processes.set_fd(process, fd, Some(number));
+        let ticket = self.descriptions.add(description);
+        self.processes.set_fd(process, fd, Some(ticket));
     }
 
     /// Lets a free descriptor refer to a new description of the first end of the next pipe, which is empty.
@@ -81,15 +81,14 @@ impl Machine {
         ensures room { self.new.room.descriptions + 1 ≡ self.old.room.descriptions }
         ensures capacity { self.new.room.capacity ≡ self.old.room.capacity }
     {
-        let number = self.descriptions.next();
         let file = file_of_target(description.target);
         hold_file(&mut self.files, file);
         match self.spare.take() {
             Some(ring) => self.pipes.add(ring, description.mode),
             None => unreachable!(),
         }
-        self.descriptions.add(description);
-        self.processes.set_fd(process, fd, Some(number));
+        let ticket = self.descriptions.add(description);
+        self.processes.set_fd(process, fd, Some(ticket));
     }
 
     /// Opens both ends of the next pipe (page of pipe).
@@ -154,9 +153,9 @@ impl Machine {
     {
         sweep_releases();
         sweep_leaves_wanted();
-        hold_entry(&mut self.descriptions, entry);
+        hold_entry(&mut self.descriptions, &entry);
         let old = self.processes.set_fd(process, fd, entry);
-        let dropped = drop_entry(&mut self.descriptions, old);
+        let dropped = drop_entry(&mut self.descriptions, &old);
         release(&mut self.pipes, &mut self.files, dropped);
     }
 }

@@ -8,12 +8,13 @@ ghost use Rattle.description_table.specs.Drops.{dropped};
 ghost use Rattle.machine_state.specs.Uses.{with_use, with_uses, without_use, lost};
 
 use description_table::{DescriptionTable, Dropped};
+use slots::ticket::Ticket;
 
 /// What an entry refers to has one reference more; a free entry refers to nothing.
-pub(crate) fn hold_entry(table: &mut DescriptionTable, entry: Option<usize>)
-    requires there { (n : ℕ) → entry ≡ Some n → is_some (slot table.old.0 n) ≡ true }
+pub(crate) fn hold_entry(table: &mut DescriptionTable, entry: &Option<Ticket>)
+    requires there { (n : ℕ) → entry.now ≡ Some n → is_some (slot table.old.0 n) ≡ true }
     requires few { (n : ℕ) → uses_at (slot table.old.0 n) < 2 ^ 63 }
-    ensures slots { table.new.0 ≡ with_use entry table.old.0 }
+    ensures slots { table.new.0 ≡ with_use entry.now table.old.0 }
     ensures room { table.new.1 ≡ table.old.1 }
 {
     if let Some(number) = entry {
@@ -22,21 +23,21 @@ pub(crate) fn hold_entry(table: &mut DescriptionTable, entry: Option<usize>)
 }
 
 /// What each of these entries refers to has one reference more.
-pub(crate) fn hold_entries(table: &mut DescriptionTable, entries: &[Option<usize>])
+pub(crate) fn hold_entries(table: &mut DescriptionTable, entries: &[Option<Ticket>])
     requires there { EachThere (IsThere table.old.0) entries.now }
     requires few { (n : ℕ) → uses_at (slot table.old.0 n) + length entries.now < 2 ^ 63 }
     ensures slots { table.new.0 ≡ with_uses entries.now table.old.0 }
     ensures room { table.new.1 ≡ table.old.1 }
 {
     for entry in entries {
-        hold_entry(table, *entry);
+        hold_entry(table, entry);
     }
 }
 
 /// What an entry referred to has one reference less, and goes with its last one.
-pub(crate) fn drop_entry(table: &mut DescriptionTable, entry: Option<usize>) -> Dropped
-    ensures slots { table.new.0 ≡ without_use entry table.old.0 }
-    ensures told { result ≡ dropped (lost entry table.old.0) }
+pub(crate) fn drop_entry(table: &mut DescriptionTable, entry: &Option<Ticket>) -> Dropped
+    ensures slots { table.new.0 ≡ without_use entry.now table.old.0 }
+    ensures told { result ≡ dropped (lost entry.now table.old.0) }
 {
     match entry {
         Some(number) => table.drop_one(number),

@@ -18,11 +18,11 @@ impl WorldReader for Machine {
 
     #[inline(always)]
     fn opened_at(&self, process: usize, fd: usize) -> Option<OpenDescriptor> {
-        let number = self.processes.descriptor(process, fd)?;
-        let description = *self.descriptions.get(number)?;
+        let ticket = self.processes.ticket(process, fd)?;
+        let description = *self.descriptions.get(ticket)?;
         Some(OpenDescriptor {
             fd,
-            number,
+            number: ticket.again(),
             description,
         })
     }

@@ -48,13 +48,13 @@ pub fn decide_read_end<R: WorldReader>(
     process: usize,
     call: &Call,
     count: usize,
-    descriptor: OpenDescriptor,
+    descriptor: &OpenDescriptor,
     pipe: usize,
 ) -> Result<Decided, AllocError>
     requires few { count ≤ TRANSFER_MAX }
     requires kept { AsksFew call.now }
-    ensures effect { IfOk result (λ d. d ≡ read_end (R.world state.now) process call.now count descriptor pipe) }
-    ensures needed { OnErr result (is_refusal (read_end (R.world state.now) process call.now count descriptor pipe) ≡ false) }
+    ensures effect { IfOk result (λ d. d ≡ read_end (R.world state.now) process call.now count descriptor.now pipe) }
+    ensures needed { OnErr result (is_refusal (read_end (R.world state.now) process call.now count descriptor.now pipe) ≡ false) }
 {
     if count == 0 {
         return Ok(tells(Reply::Data(Content::empty())));

@@ -65,7 +65,7 @@ fn open_ready<R: WorldReader>(
 }
 
 /// A call that a process waits in, with the descriptor and the pipe that it is on.
-#[derive(Clone, Copy)]
+#[derive(Drop)]
 struct Waiting<'a> {
     parked: &'a Parked,
     descriptor: OpenDescriptor,
@@ -97,7 +97,7 @@ fn can_go_on<R: WorldReader>(state: &R, bounds: Bounds, waiting: Waiting<'_>) ->
     match waiting.parked.call.get() {
         Call::Read { .. } => read_ready(state, pipe),
         Call::Write { bytes, .. } => write_ready(state, bounds, pipe, bytes.len()),
-        Call::Open { .. } => open_ready(state, waiting.descriptor, pipe, waiting.parked.openings),
+        Call::Open { .. } => open_ready(state, &waiting.descriptor, pipe, waiting.parked.openings),
         _ => false,
     }
 }
@@ -123,7 +123,7 @@ fn try_again<R: WorldReader>(
             let (len, moved) = (bytes.len(), parked.moved);
             Ok(Some(write_try(state, bounds, pipe, source, len, moved)))
         }
-        Call::Open { .. } if open_ready(state, waiting.descriptor, pipe, parked.openings) => {
+        Call::Open { .. } if open_ready(state, &waiting.descriptor, pipe, parked.openings) => {
             let reply = Reply::Number(waiting.descriptor.fd as u64);
             let edit = FileEdit::Nothing;
             Ok(Some(Try::Ends { reply, edit }))

@@ -39,12 +39,12 @@ fn waits(
     alloc: Global,
     process: usize,
     call: &Call,
-    descriptor: OpenDescriptor,
+    descriptor: &OpenDescriptor,
     moved: u32,
     edit: FileEdit,
 ) -> Result<Decided, AllocError>
     requires { AsksFew call.now }
-    ensures { IfOk result (λ d. d ≡ parks process (waiting call.now descriptor.fd moved 0) (does (Reply.Number moved) edit TableEdit.Nothing)) }
+    ensures { IfOk result (λ d. d ≡ parks process (waiting call.now descriptor.now.fd moved 0) (does (Reply.Number moved) edit TableEdit.Nothing)) }
 {
     let parked = Parked {
         call: KeptCall::copied(alloc, call)?,
@@ -62,12 +62,12 @@ pub fn first_try(
     alloc: Global,
     process: usize,
     call: &Call,
-    descriptor: OpenDescriptor,
+    descriptor: &OpenDescriptor,
     tried: Try,
 ) -> Result<Decided, AllocError>
     requires { AsksFew call.now }
-    ensures effect { IfOk result (λ d. d ≡ first_try process call.now descriptor tried) }
-    ensures needed { OnErr result (is_refusal (first_try process call.now descriptor tried) ≡ false) }
+    ensures effect { IfOk result (λ d. d ≡ first_try process call.now descriptor.now tried) }
+    ensures needed { OnErr result (is_refusal (first_try process call.now descriptor.now tried) ≡ false) }
 {
     match tried {
         Try::Ends { reply, edit } => Ok(does(reply, edit, TableEdit::Nothing)),

@@ -87,12 +87,12 @@ pub fn decide_write_end<R: WorldReader>(
     process: usize,
     call: &Call,
     bytes: &Payload,
-    descriptor: OpenDescriptor,
+    descriptor: &OpenDescriptor,
     pipe: usize,
 ) -> Result<Decided, AllocError>
     requires { AsksFew call.now }
-    ensures effect { IfOk result (λ d. d ≡ write_end bounds (R.world state.now) process call.now bytes.now descriptor pipe) }
-    ensures needed { OnErr result (is_refusal (write_end bounds (R.world state.now) process call.now bytes.now descriptor pipe) ≡ false) }
+    ensures effect { IfOk result (λ d. d ≡ write_end bounds (R.world state.now) process call.now bytes.now descriptor.now pipe) }
+    ensures needed { OnErr result (is_refusal (write_end bounds (R.world state.now) process call.now bytes.now descriptor.now pipe) ≡ false) }
 {
     if bytes.is_empty() {
         return Ok(tells(Reply::Number(0)));

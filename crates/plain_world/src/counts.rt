@@ -6,13 +6,14 @@ use call_types::description::{Description, Target};
 use process_table::process::Process;
 use process_table::table::DescriptorTable;
 use slots::dense::Slots;
+use slots::ticket::Ticket;
 
 /// Whether a descriptor refers to the description of a number.
-fn refers(number: usize, entry: Option<usize>) -> bool
-    ensures { result ≡ refers number entry }
+fn refers(number: usize, entry: &Option<Ticket>) -> bool
+    ensures { result ≡ refers number entry.now }
 {
     match entry {
-        Some(other) => other == number,
+        Some(other) => other.number() == number,
         None => false,
     }
 }
@@ -24,7 +25,7 @@ fn entries_of(number: usize, table: &DescriptorTable) -> usize
     table
         .entries()
         .iter()
-        .filter(|entry| refers(number, **entry))
+        .filter(|entry| refers(number, *entry))
         .count()
 }
 

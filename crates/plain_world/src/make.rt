@@ -25,6 +25,7 @@ use posix_model::contents::Contents;
 use posix_model::world::{Fifo, File, World};
 use process_table::process::{Parked, Process};
 use slots::dense::Slots;
+use slots::ticket::Ticket;
 use std::alloc::{AllocError, Global};
 
 /// A FIFO that nobody opened yet.
@@ -197,7 +198,12 @@ fn make_processes(world: &mut World, edit: ProcessEdit) -> Result<(), AllocError
 }
 
 /// Lets a descriptor of a process refer to a description, or frees it.
-fn set_descriptor(processes: &mut Slots<Process>, number: usize, fd: usize, entry: Option<usize>)
+fn set_descriptor(
+    processes: &mut Slots<Process>,
+    number: usize,
+    fd: usize,
+    entry: Option<Ticket>,
+)
     ensures { processes.new ≡ edited number (with_entry fd entry) processes.old }
 {
     if let Some(mut process) = processes.take(number) {
@@ -227,7 +233,7 @@ fn add_description(
 {
     let number = world.descriptions.len();
     world.descriptions.push(description)?;
-    set_descriptor(&mut world.processes, process, fd, Some(number));
+    set_descriptor(&mut world.processes, process, fd, Some(Ticket::new(number, number)));
     Ok(())
 }
 
@@ -263,7 +269,7 @@ fn make_table(alloc: Global, world: &mut World, edit: TableEdit) -> Result<(), A
     match edit {
         TableEdit::Nothing => {}
         TableEdit::Offset { number, offset } => {
-            set_offset(&mut world.descriptions, number, offset);
+            set_offset(&mut world.descriptions, number.number(), offset);
         }
         TableEdit::Open {
             process,

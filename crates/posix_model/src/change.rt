@@ -7,6 +7,7 @@ use call_types::errno::Errno;
 use call_types::outcome::{Outcome, Reply};
 use process_table::process::Parked;
 use process_table::table::DescriptorTable;
+use slots::ticket::Ticket;
 
 /// Which bytes go into a pipe.
 #[derive(Clone, Copy)]
@@ -106,7 +107,7 @@ pub enum TableEdit {
     Nothing,
     /// A description has another offset, in bytes.
     Offset {
-        number: usize,
+        number: Ticket,
         offset: u64,
     },
     /// A free descriptor refers to a new description.
@@ -133,7 +134,7 @@ pub enum TableEdit {
     Entry {
         process: usize,
         fd: usize,
-        entry: Option<usize>,
+        entry: Option<Ticket>,
     },
 }
 

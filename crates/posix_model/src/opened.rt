@@ -1,9 +1,10 @@
 use call_types::description::Description;
+use slots::ticket::Ticket;
 
 /// An open descriptor of a process: its number, the number of the open file description, and that description.
-#[derive(Clone, Copy)]
+#[derive(Drop)]
 pub struct OpenDescriptor {
     pub fd: usize,
-    pub number: usize,
+    pub number: Ticket,
     pub description: Description,
 }

@@ -1,6 +1,6 @@
 //! The plain world can be read as itself.
 
-ghost use Rattle.std.specs.Prelude.{◌≡◌};
+ghost use Rattle.std.specs.Prelude.{◌≡◌, option_copied};
 ghost use Rattle.slots.specs.Slots.{slot};
 ghost use Rattle.posix_model.specs.Descriptors.{opened_number, bytes_of};
 ghost use Rattle.process_table.specs.Processes.{table_of};
@@ -14,27 +14,28 @@ use call_types::bounded::Content;
 use process_table::process::{Parked, Process};
 use process_table::table::DescriptorTable;
 use slots::dense::Slots;
+use slots::ticket::Ticket;
 use std::alloc::{AllocError, Global};
 
 /// The number of the description that a descriptor of a process refers to, if it is open.
-fn entry_of(processes: &Slots<Process>, process: usize, fd: usize) -> Option<usize>
-    ensures { result ≡ slot (table_of (slot processes.now process)) fd }
+fn entry_of(processes: &Slots<Process>, process: usize, fd: usize) -> Option<&Ticket>
+    ensures { option_copied result ≡ slot (table_of (slot processes.now process)) fd }
 {
     match processes.get(process) {
-        Some(process) => process.table.get(fd),
+        Some(process) => process.table.ticket(fd),
         None => None,
     }
 }
 
 /// What a descriptor refers to, by the number of its description.
-fn opened_number(world: &World, fd: usize, number: Option<usize>) -> Option<OpenDescriptor>
-    ensures { result ≡ opened_number world.now fd number }
+fn opened_number(world: &World, fd: usize, number: Option<&Ticket>) -> Option<OpenDescriptor>
+    ensures { result ≡ opened_number world.now fd (option_copied number.entry) }
 {
     let number = number?;
-    let description = *world.descriptions.get(number)?;
+    let description = *world.descriptions.get(number.number())?;
     Some(OpenDescriptor {
         fd,
-        number,
+        number: number.again(),
         description,
     })
 }

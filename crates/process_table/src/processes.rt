@@ -6,14 +6,22 @@ ghost use Rattle.process_table.specs.Processes.{table_of, copied_table, parked_o
 
 use crate::process::{Parked, Process};
 use crate::table::DescriptorTable;
-use slots::numbered::Numbered;
+use slots::keyed::Keyed;
+use slots::ticket::Ticket;
 use std::alloc::{AllocError, Global};
 use std::marker::Model;
+
+/// The ticket of a process: as long as none has gone, each stands under the key that is its number.
+fn first_look(process: usize) -> Ticket
+    ensures { result ≡ process }
+{
+    Ticket::new(process, process)
+}
 
 /// The live processes. Contracts see a slot for each number that was ever given, and for how many more processes there is room.
 #[derive(Drop)]
 pub struct ProcessTable {
-    processes: Numbered<Process>,
+    processes: Keyed<Process>,
 }
 
 impl Model for ProcessTable {
@@ -31,7 +39,7 @@ impl ProcessTable {
         ensures { result.0 ≡ [] }
     {
         ProcessTable {
-            processes: Numbered::new(alloc),
+            processes: Keyed::new(alloc),
         }
     }
 
@@ -53,7 +61,7 @@ impl ProcessTable {
     pub fn get(&self, process: usize) -> Option<&Process>
         ensures { option_copied result ≡ slot self.now.0 process }
     {
-        self.processes.get(process)
+        self.processes.get(&first_look(process))
     }
 
     /// Whether a process is live and has a connection.
@@ -117,6 +125,16 @@ impl ProcessTable {
         }
     }
 
+    /// What a descriptor of a process refers to, if it is open, with the key under which that stands.
+    pub fn ticket(&self, process: usize, fd: usize) -> Option<&Ticket>
+        ensures { option_copied result ≡ slot (table_of (slot self.now.0 process)) fd }
+    {
+        match self.get(process) {
+            Some(process) => process.table.ticket(fd),
+            None => None,
+        }
+    }
+
     /// A copy of the descriptors of a process (page of fork); of one that is not live none is open.
     pub fn copy_table(&self, alloc: Global, process: usize) -> Result<DescriptorTable, AllocError>
         ensures { IfOk result (λ table. table ≡ copied_table (slot self.now.0 process)) }
@@ -147,13 +165,13 @@ impl ProcessTable {
     }
 
     /// Lets a descriptor of a live process refer to a description, or frees it; what it referred to before.
-    pub fn set_fd(&mut self, process: usize, fd: usize, entry: Option<usize>) -> Option<usize>
+    pub fn set_fd(&mut self, process: usize, fd: usize, entry: Option<Ticket>) -> Option<Ticket>
         requires { is_some (slot self.old.0 process) ≡ true }
         ensures slots { self.new.0 ≡ edited process (with_entry fd entry) self.old.0 }
         ensures room { self.new.1 ≡ self.old.1 }
         ensures old { result ≡ slot (table_of (slot self.old.0 process)) fd }
     {
-        self.processes.value_mut(process).table.replace(fd, entry)
+        self.processes.value_mut(&first_look(process)).table.replace(fd, entry)
     }
 
     /// A live process has its connection.
@@ -162,7 +180,7 @@ impl ProcessTable {
         ensures slots { self.new.0 ≡ edited process with_connection self.old.0 }
         ensures room { self.new.1 ≡ self.old.1 }
     {
-        self.processes.value_mut(process).attached = true;
+        self.processes.value_mut(&first_look(process)).attached = true;
     }
 
     /// A live process waits in a call.
@@ -171,7 +189,7 @@ impl ProcessTable {
         ensures slots { self.new.0 ≡ edited process (with_parked (Some parked)) self.old.0 }
         ensures room { self.new.1 ≡ self.old.1 }
     {
-        self.processes.value_mut(process).parked = Some(parked);
+        self.processes.value_mut(&first_look(process)).parked = Some(parked);
     }
 
     /// The call that a live process waits in, if it waits in one, has moved so many bytes in all.
@@ -180,7 +198,7 @@ impl ProcessTable {
         ensures slots { self.new.0 ≡ edited process (with_total moved) self.old.0 }
         ensures room { self.new.1 ≡ self.old.1 }
     {
-        if let Some(parked) = &mut self.processes.value_mut(process).parked {
+        if let Some(parked) = &mut self.processes.value_mut(&first_look(process)).parked {
             parked.moved = moved;
         }
     }
@@ -191,7 +209,7 @@ impl ProcessTable {
         ensures slots { self.new.0 ≡ edited process (with_parked None) self.old.0 }
         ensures room { self.new.1 ≡ self.old.1 }
     {
-        self.processes.value_mut(process).parked = None;
+        self.processes.value_mut(&first_look(process)).parked = None;
     }
 
     /// A process goes, and its number is not given again. Of a number that is gone nothing goes.
@@ -200,6 +218,6 @@ impl ProcessTable {
         ensures room { self.old.1 ≤ self.new.1 }
         ensures most { self.new.1 ≤ self.old.1 + 1 }
     {
-        self.processes.remove(process);
+        self.processes.remove(&first_look(process));
     }
 }

@@ -1,14 +1,15 @@
-ghost use Rattle.std.specs.Prelude.{◌≡◌, ◌<◌, None, Some, length, replicate, slice_set, IfOk, IfSome};
+ghost use Rattle.std.specs.Prelude.{◌≡◌, ◌<◌, None, Some, length, replicate, slice_set, option_copied, IfOk, IfSome};
 ghost use Rattle.slots.specs.Slots.{slot, lowest};
 ghost use Rattle.process_table.specs.Tables.{two_lowest};
 
 use call_types::limits::OPEN_MAX;
 use slots::dense::Slots;
+use slots::ticket::Ticket;
 use std::alloc::{AllocError, Global};
 use std::marker::Model;
 
 /// The first slot that is free.
-fn first_free(slots: &[Option<usize>]) -> Option<usize>
+fn first_free(slots: &[Option<Ticket>]) -> Option<usize>
     ensures { result ≡ lowest slots.now }
 {
     slots.iter().position(|slot| slot.is_none())
@@ -18,7 +19,7 @@ fn first_free(slots: &[Option<usize>]) -> Option<usize>
 /// Contracts see the list of them, by number.
 #[derive(Drop)]
 pub struct DescriptorTable {
-    slots: Slots<usize>,
+    slots: Slots<Ticket>,
 }
 
 impl Model for DescriptorTable {
@@ -50,7 +51,7 @@ impl DescriptorTable {
     }
 
     /// All descriptors, in the order of their numbers.
-    pub fn entries(&self) -> &[Option<usize>]
+    pub fn entries(&self) -> &[Option<Ticket>]
         ensures { result.now ≡ self.now }
     {
         self.slots.all()
@@ -60,7 +61,17 @@ impl DescriptorTable {
     pub fn get(&self, fd: usize) -> Option<usize>
         ensures { result ≡ slot self.now fd }
     {
-        self.slots.get(fd).copied()
+        match self.slots.get(fd) {
+            Some(ticket) => Some(ticket.number()),
+            None => None,
+        }
+    }
+
+    /// What a descriptor refers to, if it is open, with the key under which that stands.
+    pub fn ticket(&self, fd: usize) -> Option<&Ticket>
+        ensures { option_copied result ≡ slot self.now fd }
+    {
+        self.slots.get(fd)
     }
 
     /// The lowest free descriptor (XSH 2.14, File Descriptor Allocation).

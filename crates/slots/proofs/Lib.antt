@@ -1,3 +1,4 @@
 pub mod SlotLaws
 pub mod EntryLaws
 pub mod UseLaws
+pub mod KeyLaws

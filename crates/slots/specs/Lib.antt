@@ -2,3 +2,5 @@ pub mod Slots
 pub mod Entries
 pub mod Lends
 pub mod Uses
+pub mod Keys
+pub mod KeyedLends

@@ -1,8 +1,10 @@
 ghost use Rattle.std.specs.Prelude.{◌≡◌, ◌∷◌, [], ◌++◌, List, Option, length, replicate, slice_set, IfOk, OnOk, OnErr, None, option_copied, if◌then◌else◌};
 ghost use Rattle.slots.specs.Slots.{slot, lowest, live};
 
+use crate::ticket::Ticket;
 use std::alloc::{AllocError, Global};
 use std::marker::Model;
+use std::mem;
 
 /// Numbered slots: the position of a value is its number, and a slot that is `None` is gone for good or free.
 /// Contracts see the list of the slots.
@@ -66,7 +68,7 @@ impl<T> Slots<T> {
     }
 }
 
-impl Slots<usize> {
+impl Slots<Ticket> {
     /// So many slots, all of them free.
     pub fn free(alloc: Global, len: usize) -> Result<Self, AllocError>
         ensures { IfOk result (λ slots. slots ≡ replicate len None) }
@@ -105,6 +107,18 @@ impl<T: Drop> Slots<T> {
     {
         if number < self.items.len() {
             self.items[number] = value;
+        }
+    }
+
+    /// Puts a value at a number, or empties its slot, and gives back what stood there; past the last slot it does nothing.
+    pub fn replace(&mut self, number: usize, value: Option<T>) -> Option<T>
+        ensures value { result ≡ slot self.old number }
+        ensures after { self.new ≡ slice_set self.old number value }
+    {
+        if number < self.items.len() {
+            mem::replace(&mut self.items[number], value)
+        } else {
+            None
         }
     }
 

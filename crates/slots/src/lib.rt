@@ -2,5 +2,7 @@
 #![tactic(auto)]
 
 pub mod dense;
+pub mod keyed;
 pub mod numbered;
+pub mod ticket;
 pub mod used;

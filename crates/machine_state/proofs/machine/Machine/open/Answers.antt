@@ -32,10 +32,10 @@ pub invariant_of-self : goal.invariant_of-self
 invariant_of-self c =
     let can = rw (← c.self.view_is) at c.requires.fits in
     let few = rw (← c.self.view_is) at c.requires.few in
-    rw (c.set_fd.ensures.slots, c.add.ensures.slots, c.add_end.ensures.slots, c.pipe_of_target.ensures, c.hold_file.ensures, c.file_of_target.ensures, c.next-number.ensures)
+    rw (c.set_fd.ensures.slots, c.add-ticket.ensures.slots, c.add_end.ensures.slots, c.pipe_of_target.ensures, c.hold_file.ensures, c.file_of_target.ensures, c.add-ticket.ensures.number)
     (after_open (stored_in c.self.inside) c.self.invariant c.args.process c.args.fd c.args.description can few)
 
 pub returns-clause-world : goal.returns-clause-world
 returns-clause-world c =
-    rw (← c.self.view_is, c.set_fd.ensures.slots, c.add.ensures.slots, c.add_end.ensures.slots, c.pipe_of_target.ensures, c.hold_file.ensures, c.file_of_target.ensures, c.next-number.ensures)
+    rw (← c.self.view_is, c.set_fd.ensures.slots, c.add-ticket.ensures.slots, c.add_end.ensures.slots, c.pipe_of_target.ensures, c.hold_file.ensures, c.file_of_target.ensures, c.add-ticket.ensures.number)
     (opened_world (stored_in c.self.inside) c.self.invariant c.args.process c.args.fd c.args.description)
