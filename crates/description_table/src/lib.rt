@@ -91,30 +91,31 @@ impl DescriptionTable {
     }
 
     /// The description of a number, if it is live.
-    pub fn get(&self, number: &Ticket) -> Option<&Description>
-        ensures { option_copied result ≡ value_at (slot self.now.0 number.now) }
+    #[inline(always)]
+    pub fn get(&self, ticket: &Ticket) -> Option<&Description>
+        ensures { option_copied result ≡ value_at (slot self.now.0 ticket.now) }
     {
-        match self.descriptions.get(number) {
+        match self.descriptions.get(ticket) {
             Some(used) => Some(&used.value),
             None => None,
         }
     }
 
     /// The offset of a description, in bytes, if it is live.
-    pub fn offset(&self, number: &Ticket) -> Option<u64>
-        ensures { result ≡ option_map (λ description. description.offset) (value_at (slot self.now.0 number.now)) }
+    pub fn offset(&self, ticket: &Ticket) -> Option<u64>
+        ensures { result ≡ option_map (λ description. description.offset) (value_at (slot self.now.0 ticket.now)) }
     {
-        match self.get(number) {
+        match self.get(ticket) {
             Some(description) => Some(description.offset),
             None => None,
         }
     }
 
     /// The flags of a description, of those that stay with it, if it is live (page of fcntl, F_GETFL).
-    pub fn flags(&self, number: &Ticket) -> Option<OpenFlags>
-        ensures { result ≡ option_map flags_of (value_at (slot self.now.0 number.now)) }
+    pub fn flags(&self, ticket: &Ticket) -> Option<OpenFlags>
+        ensures { result ≡ option_map flags_of (value_at (slot self.now.0 ticket.now)) }
     {
-        match self.get(number) {
+        match self.get(ticket) {
             Some(description) => Some(flags_of(*description)),
             None => None,
         }
@@ -140,7 +141,7 @@ impl DescriptionTable {
         self.descriptions.reserve_more(2)
     }
 
-    /// Gives the next number to a description, for which there is room, with one reference.
+    /// Gives the next number to a description, for which there is room, with one reference; its ticket.
     pub fn add(&mut self, description: Description) -> Ticket
         requires { 0 < self.old.1 }
         ensures number { result ≡ length self.old.0 }
@@ -154,23 +155,23 @@ impl DescriptionTable {
     }
 
     /// A description has one reference more.
-    pub fn hold(&mut self, number: &Ticket)
-        requires there { is_some (slot self.old.0 number.now) ≡ true }
-        requires few { uses_at (slot self.old.0 number.now) < 2 ^ 63 }
-        ensures slots { self.new.0 ≡ use_added number.now self.old.0 }
+    pub fn hold(&mut self, ticket: &Ticket)
+        requires there { is_some (slot self.old.0 ticket.now) ≡ true }
+        requires few { uses_at (slot self.old.0 ticket.now) < 2 ^ 63 }
+        ensures slots { self.new.0 ≡ use_added ticket.now self.old.0 }
         ensures room { self.new.1 ≡ self.old.1 }
     {
-        self.descriptions.add_use(number);
+        self.descriptions.add_use(ticket);
     }
 
     /// A description has one reference less, and goes with its last one (page of close). Of a number that is gone nothing goes.
-    pub fn drop_one(&mut self, number: &Ticket) -> Dropped
-        ensures slots { self.new.0 ≡ use_dropped number.now self.old.0 }
+    pub fn drop_one(&mut self, ticket: &Ticket) -> Dropped
+        ensures slots { self.new.0 ≡ use_dropped ticket.now self.old.0 }
         ensures room { self.old.1 ≤ self.new.1 }
         ensures most { self.new.1 ≤ self.old.1 + 1 }
-        ensures told { result ≡ dropped (last_value (slot self.old.0 number.now)) }
+        ensures told { result ≡ dropped (last_value (slot self.old.0 ticket.now)) }
     {
-        match self.descriptions.drop_use(number) {
+        match self.descriptions.drop_use(ticket) {
             Some(description) => Dropped::Gone {
                 target: description.target,
                 mode: description.mode,
@@ -180,11 +181,12 @@ impl DescriptionTable {
     }
 
     /// Gives a live description another offset, in bytes, below 2^63.
-    pub fn set_offset(&mut self, number: &Ticket, offset: u64)
-        requires { is_some (slot self.old.0 number.now) ≡ true }
-        ensures slots { self.new.0 ≡ edited number.now (with_value (at_offset offset)) self.old.0 }
+    #[inline(always)]
+    pub fn set_offset(&mut self, ticket: &Ticket, offset: u64)
+        requires { is_some (slot self.old.0 ticket.now) ≡ true }
+        ensures slots { self.new.0 ≡ edited ticket.now (with_value (at_offset offset)) self.old.0 }
         ensures room { self.new.1 ≡ self.old.1 }
     {
-        self.descriptions.value_mut(number).value.offset = offset;
+        self.descriptions.value_mut(ticket).value.offset = offset;
     }
 }

@@ -13,8 +13,8 @@ use posix_model::opened::OpenDescriptor;
 use posix_model::reader::WorldReader;
 
 /// From where the offset is counted, in bytes: the start, the offset or the end.
-fn base_of<R: WorldReader>(state: &R, descriptor: OpenDescriptor, whence: Whence) -> u64
-    ensures { result ≡ base_of (R.world state.now) descriptor whence }
+fn base_of<R: WorldReader>(state: &R, descriptor: &OpenDescriptor, whence: Whence) -> u64
+    ensures { result ≡ base_of (R.world state.now) descriptor.now whence }
 {
     match whence {
         Whence::Set => 0,

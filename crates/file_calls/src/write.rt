@@ -19,8 +19,8 @@ use posix_model::reader::WorldReader;
 use std::alloc::{AllocError, Global};
 
 /// Where a write begins, in bytes: at the end under append, else at the offset.
-fn write_start<R: WorldReader>(state: &R, descriptor: OpenDescriptor) -> u64
-    ensures { result ≡ write_start descriptor.description (length (bytes_of (R.world state.now) (file_at descriptor))) }
+fn write_start<R: WorldReader>(state: &R, descriptor: &OpenDescriptor) -> u64
+    ensures { result ≡ write_start descriptor.now.description (length (bytes_of (R.world state.now) (file_at descriptor.now))) }
 {
     if descriptor.description.append {
         state.length_of(file_at(descriptor)) as u64
@@ -89,7 +89,16 @@ pub fn decide_write<R: WorldReader>(
     match pipe_at(descriptor.description.target) {
         None => Ok(write_file(bounds, start, bytes, &descriptor)),
         Some(pipe) => {
-            decide_write_end(state, alloc, bounds, process, call, bytes, &descriptor, pipe)
+            decide_write_end(
+                state,
+                alloc,
+                bounds,
+                process,
+                call,
+                bytes,
+                &descriptor,
+                pipe,
+            )
         }
     }
 }

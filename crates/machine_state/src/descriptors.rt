@@ -43,12 +43,12 @@ pub(crate) fn pipe_of_fifo(fifo: Option<Fifo>) -> Option<usize>
 impl Machine {
     /// Gives a description another offset, in bytes.
     #[inline(always)]
-    pub(crate) fn set_offset(&mut self, number: usize, offset: u64)
-        requires { IsThere self.old.world.descriptions number }
-        ensures world { self.new.world ≡ with_offset self.old.world number offset }
+    pub(crate) fn set_offset(&mut self, ticket: &Ticket, offset: u64)
+        requires { IsThere self.old.world.descriptions ticket.now }
+        ensures world { self.new.world ≡ with_offset self.old.world ticket.now offset }
         ensures capacity { self.new.room.capacity ≡ self.old.room.capacity }
     {
-        self.descriptions.set_offset(number, offset);
+        self.descriptions.set_offset(ticket, offset);
     }
 
     /// Lets a free descriptor refer to a new description.
@@ -145,7 +145,7 @@ impl Machine {
     /// Lets a descriptor refer to a description that is there, or frees it. The description that it referred to before
     /// goes with its last use, and so do the pipe and the file of that one.
     #[inline(always)]
-    pub(crate) fn set_entry(&mut self, process: usize, fd: usize, entry: Option<usize>)
+    pub(crate) fn set_entry(&mut self, process: usize, fd: usize, entry: Option<Ticket>)
         requires fits { CanSet self.old.world process fd entry }
         requires theirs { EndsAreTheirs self.old.world }
         ensures world { self.new.world ≡ sweep (with_descriptor self.old.world process fd entry) }

@@ -90,7 +90,7 @@ impl Machine {
         let _closed = &self.closed;
     }
 
-    /// Closes a descriptor of a process; one that is not open stays so.
+    /// Closes a descriptor of a process.
     fn close_one(&mut self, process: usize, fd: usize)
         requires there { IsThere self.old.world.processes process }
         requires below { fd < OPEN_MAX }
@@ -98,14 +98,11 @@ impl Machine {
         ensures world { self.new.world ≡ sweep (with_descriptor self.old.world process fd None) }
         ensures capacity { self.new.room.capacity ≡ self.old.room.capacity }
     {
-        sweep_releases();
         self.is_settled();
-        if self.processes.descriptor(process, fd).is_some() {
-            self.set_entry(process, fd, None);
-        }
+        self.set_entry(process, fd, None);
     }
 
-    /// Closes all descriptors of a process, one after another.
+    /// Closes all descriptors of a process, one open one after another.
     fn close_all(&mut self, process: usize)
         requires there { IsThere self.old.world.processes process }
         requires theirs { EndsAreTheirs self.old.world }
@@ -113,8 +110,12 @@ impl Machine {
         ensures capacity { self.new.room.capacity ≡ self.old.room.capacity }
     {
         sweep_leaves_wanted();
-        for fd in 0..OPEN_MAX {
+        sweep_releases();
+        self.is_settled();
+        let mut from = 0;
+        while let Some(fd) = self.processes.next_open(process, from) {
             self.close_one(process, fd);
+            from = fd + 1;
         }
     }
 

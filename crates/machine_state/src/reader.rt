@@ -18,7 +18,7 @@ impl WorldReader for Machine {
 
     #[inline(always)]
     fn opened_at(&self, process: usize, fd: usize) -> Option<OpenDescriptor> {
-        let ticket = self.processes.ticket(process, fd)?;
+        let ticket = self.processes.descriptor(process, fd)?;
         let description = *self.descriptions.get(ticket)?;
         Some(OpenDescriptor {
             fd,

@@ -53,11 +53,11 @@ fn fifo_of<R: WorldReader>(state: &R, target: Target) -> Option<Fifo>
 /// Whether an open of an end of a FIFO can go on: an opposite end is open, or was opened since it waits.
 fn open_ready<R: WorldReader>(
     state: &R,
-    descriptor: OpenDescriptor,
+    descriptor: &OpenDescriptor,
     pipe: usize,
     openings: u64,
 ) -> bool
-    ensures { result ≡ open_ready (R.world state.now) descriptor pipe openings }
+    ensures { result ≡ open_ready (R.world state.now) descriptor.now pipe openings }
 {
     let mode = descriptor.description.mode;
     let fifo = fifo_of(state, descriptor.description.target);

@@ -198,12 +198,7 @@ fn make_processes(world: &mut World, edit: ProcessEdit) -> Result<(), AllocError
 }
 
 /// Lets a descriptor of a process refer to a description, or frees it.
-fn set_descriptor(
-    processes: &mut Slots<Process>,
-    number: usize,
-    fd: usize,
-    entry: Option<Ticket>,
-)
+fn set_descriptor(processes: &mut Slots<Process>, number: usize, fd: usize, entry: Option<Ticket>)
     ensures { processes.new ≡ edited number (with_entry fd entry) processes.old }
 {
     if let Some(mut process) = processes.take(number) {
@@ -233,7 +228,12 @@ fn add_description(
 {
     let number = world.descriptions.len();
     world.descriptions.push(description)?;
-    set_descriptor(&mut world.processes, process, fd, Some(Ticket::new(number, number)));
+    set_descriptor(
+        &mut world.processes,
+        process,
+        fd,
+        Some(Ticket::new(number, number)),
+    );
     Ok(())
 }
 

@@ -22,7 +22,7 @@ fn entry_of(processes: &Slots<Process>, process: usize, fd: usize) -> Option<&Ti
     ensures { option_copied result ≡ slot (table_of (slot processes.now process)) fd }
 {
     match processes.get(process) {
-        Some(process) => process.table.ticket(fd),
+        Some(process) => process.table.get(fd),
         None => None,
     }
 }

@@ -1,10 +1,13 @@
-use Rattle.std.proofs.Common.{◌≡◌, ◌<◌, ℕ, zero, suc, ◌+◌, ◌-◌, ◌∙◌, List, [], ◌∷◌, Option, None, Some, length, length-set, set, take, drop, refl, ap, sym, arith}
-use Rattle.std.specs.Prelude.{is_none}
+use Rattle.std.proofs.Common.{◌≡◌, ◌<◌, ◌≤◌, false, inl, inr, ℕ, zero, suc, ◌+◌, ◌-◌, ◌∙◌, List, [], ◌∷◌, Option, None, Some, length, length-set, set, take, drop, refl, ap, sym, arith}
+use Rattle.std.specs.Prelude.{is_none, is_some}
 use Rattle.std.specs.Option.{option_map}
 use Rattle.std.specs.List.{position_from}
 use Rattle.std.proofs.lemmas.List.{take_rest}
 use Rattle.std.proofs.lemmas.Iterator.Adapters.{position_from-zero}
-use Rattle.slots.specs.Slots.{lowest}
+use Rattle.std.proofs.lemmas.Bool.{cases_order}
+use Rattle.std.proofs.Math.ListN.{get_or-eq_default}
+use Rattle.slots.specs.Slots.{slot, lowest}
+use Rattle.process_table.specs.Tables.{IsFreeFrom}
 
 -- a search that counts from a number finds what one from zero does, so much higher
 counted_from : (start k : ℕ) (xs : List (Option ℕ)) → position_from is_none (start + k) xs ≡ option_map (λ n. start + n) (position_from is_none k xs)
@@ -55,3 +58,22 @@ lowest_below xs n is = omega (arith, found_below 0 xs n (sym (position_from-zero
 -- and so are the two lowest free ones
 pub pair_below : (xs : List (Option ℕ)) (most first second : ℕ) → length xs ≡ most → lowest xs ≡ Some first → lowest (set xs first (Some 0)) ≡ Some second → (first < most) × (second < most)
 pair_below xs most first second all is next = (omega (arith, lowest_below xs first is, all), omega (arith, lowest_below (set xs first (Some 0)) second next, length-set xs first (Some 0), all))
+
+empty_of : (x : Option ℕ) → is_some x ≡ false → x ≡ None
+empty_of None is = refl
+empty_of (Some n) is = cc
+
+-- one more descriptor that is not open
+pub one_past : (xs : List (Option ℕ)) (from fd : ℕ) → ((k : ℕ) → from ≤ k → k < fd → slot xs k ≡ None) → is_some (slot xs fd) ≡ false →
+    (k : ℕ) → from ≤ k → k < fd + 1 → slot xs k ≡ None
+one_past xs from fd least here k after before = elim (cases_order k fd) [
+  | inl same ↦ rw same (empty_of (slot xs fd) here)
+  | inr apart ↦ elim apart [ inl below ↦ least k after below | inr above ↦ absurd (omega (arith, above, before)) ]
+]
+
+-- past the last descriptor none is open
+pub free_from : (xs : List (Option ℕ)) (from most : ℕ) → length xs ≤ most → ((k : ℕ) → from ≤ k → k < most → slot xs k ≡ None) → IsFreeFrom xs from
+free_from xs from most all least k after = elim (cases_order k most) [
+  | inl same ↦ get_or-eq_default xs None (omega (arith, same, all))
+  | inr apart ↦ elim apart [ inl below ↦ least k after below | inr above ↦ get_or-eq_default xs None (omega (arith, above, all)) ]
+]

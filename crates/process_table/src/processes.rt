@@ -1,27 +1,23 @@
-ghost use Rattle.std.specs.Prelude.{◌≡◌, ◌+◌, ◌<◌, ◌≤◌, ◌∷◌, ◌++◌, [], Some, None, true, is_some, length, slice_set, option_copied, IfOk, IfSome, OnOk, IsOk};
+ghost use Rattle.std.specs.Prelude.{◌≡◌, ◌+◌, ◌<◌, ◌≤◌, ◌∷◌, ◌++◌, [], Some, None, true, is_some, length, slice_set, option_copied, IfOk, IfSome, IfNone, OnOk, IsOk};
 ghost use Rattle.slots.specs.Slots.{slot, live, lowest, edited};
 ghost use Rattle.call_types.specs.declared.limits.TheConstants.{OPEN_MAX};
-ghost use Rattle.process_table.specs.Tables.{two_lowest};
+ghost use Rattle.process_table.specs.Tables.{two_lowest, IsNextOpen, IsFreeFrom};
 ghost use Rattle.process_table.specs.Processes.{table_of, copied_table, parked_of, with_entry, with_connection, with_parked, with_total, is_here, awaits};
 
 use crate::process::{Parked, Process};
 use crate::table::DescriptorTable;
+use call_types::limits::PROCESSES_MAX;
 use slots::keyed::Keyed;
 use slots::ticket::Ticket;
 use std::alloc::{AllocError, Global};
 use std::marker::Model;
 
-/// The ticket of a process: as long as none has gone, each stands under the key that is its number.
-fn first_look(process: usize) -> Ticket
-    ensures { result ≡ process }
-{
-    Ticket::new(process, process)
-}
-
 /// The live processes. Contracts see a slot for each number that was ever given, and for how many more processes there is room.
 #[derive(Drop)]
 pub struct ProcessTable {
     processes: Keyed<Process>,
+    // By the rest of a number: the key to look under first. A wrong one costs time only.
+    keys: [usize; PROCESSES_MAX],
 }
 
 impl Model for ProcessTable {
@@ -40,6 +36,7 @@ impl ProcessTable {
     {
         ProcessTable {
             processes: Keyed::new(alloc),
+            keys: [0; PROCESSES_MAX],
         }
     }
 
@@ -57,14 +54,24 @@ impl ProcessTable {
         self.processes.live()
     }
 
+    /// A number, with the key under which its process is looked for first.
+    #[inline(always)]
+    fn ticket(&self, process: usize) -> Ticket
+        ensures { result ≡ process }
+    {
+        Ticket::new(process, self.keys[process % PROCESSES_MAX])
+    }
+
     /// The process of a number, if it is live.
+    #[inline(always)]
     pub fn get(&self, process: usize) -> Option<&Process>
         ensures { option_copied result ≡ slot self.now.0 process }
     {
-        self.processes.get(&first_look(process))
+        self.processes.get(&self.ticket(process))
     }
 
     /// Whether a process is live and has a connection.
+    #[inline(always)]
     pub fn is_here(&self, process: usize) -> bool
         ensures { result ≡ is_here (slot self.now.0 process) }
     {
@@ -75,6 +82,7 @@ impl ProcessTable {
     }
 
     /// Whether a process is live and has no connection yet.
+    #[inline(always)]
     pub fn awaits(&self, process: usize) -> bool
         ensures { result ≡ awaits (slot self.now.0 process) }
     {
@@ -85,6 +93,7 @@ impl ProcessTable {
     }
 
     /// The call that a process waits in.
+    #[inline(always)]
     pub fn parked(&self, process: usize) -> Option<&Parked>
         ensures { option_copied result ≡ parked_of (slot self.now.0 process) }
     {
@@ -116,8 +125,9 @@ impl ProcessTable {
     }
 
     /// What a descriptor of a process refers to, if it is open.
-    pub fn descriptor(&self, process: usize, fd: usize) -> Option<usize>
-        ensures { result ≡ slot (table_of (slot self.now.0 process)) fd }
+    #[inline(always)]
+    pub fn descriptor(&self, process: usize, fd: usize) -> Option<&Ticket>
+        ensures { option_copied result ≡ slot (table_of (slot self.now.0 process)) fd }
     {
         match self.get(process) {
             Some(process) => process.table.get(fd),
@@ -125,12 +135,14 @@ impl ProcessTable {
         }
     }
 
-    /// What a descriptor of a process refers to, if it is open, with the key under which that stands.
-    pub fn ticket(&self, process: usize, fd: usize) -> Option<&Ticket>
-        ensures { option_copied result ≡ slot (table_of (slot self.now.0 process)) fd }
+    /// The least descriptor of a process from a number on that is open.
+    pub fn next_open(&self, process: usize, from: usize) -> Option<usize>
+        ensures least { IfSome result (IsNextOpen (table_of (slot self.now.0 process)) from) }
+        ensures none { IfNone result (IsFreeFrom (table_of (slot self.now.0 process)) from) }
+        ensures within { IfSome result (λ fd. fd < OPEN_MAX) }
     {
         match self.get(process) {
-            Some(process) => process.table.ticket(fd),
+            Some(process) => process.table.next_open(from),
             None => None,
         }
     }
@@ -161,7 +173,8 @@ impl ProcessTable {
         ensures slots { self.new.0 ≡ self.old.0 ++ Some process ∷ [] }
         ensures room { self.new.1 + 1 ≡ self.old.1 }
     {
-        self.processes.push(process);
+        let ticket = self.processes.push(process);
+        self.keys[ticket.number() % PROCESSES_MAX] = ticket.key();
     }
 
     /// Lets a descriptor of a live process refer to a description, or frees it; what it referred to before.
@@ -171,7 +184,8 @@ impl ProcessTable {
         ensures room { self.new.1 ≡ self.old.1 }
         ensures old { result ≡ slot (table_of (slot self.old.0 process)) fd }
     {
-        self.processes.value_mut(&first_look(process)).table.replace(fd, entry)
+        let ticket = self.ticket(process);
+        self.processes.value_mut(&ticket).table.replace(fd, entry)
     }
 
     /// A live process has its connection.
@@ -180,7 +194,8 @@ impl ProcessTable {
         ensures slots { self.new.0 ≡ edited process with_connection self.old.0 }
         ensures room { self.new.1 ≡ self.old.1 }
     {
-        self.processes.value_mut(&first_look(process)).attached = true;
+        let ticket = self.ticket(process);
+        self.processes.value_mut(&ticket).attached = true;
     }
 
     /// A live process waits in a call.
@@ -189,7 +204,8 @@ impl ProcessTable {
         ensures slots { self.new.0 ≡ edited process (with_parked (Some parked)) self.old.0 }
         ensures room { self.new.1 ≡ self.old.1 }
     {
-        self.processes.value_mut(&first_look(process)).parked = Some(parked);
+        let ticket = self.ticket(process);
+        self.processes.value_mut(&ticket).parked = Some(parked);
     }
 
     /// The call that a live process waits in, if it waits in one, has moved so many bytes in all.
@@ -198,7 +214,8 @@ impl ProcessTable {
         ensures slots { self.new.0 ≡ edited process (with_total moved) self.old.0 }
         ensures room { self.new.1 ≡ self.old.1 }
     {
-        if let Some(parked) = &mut self.processes.value_mut(&first_look(process)).parked {
+        let ticket = self.ticket(process);
+        if let Some(parked) = &mut self.processes.value_mut(&ticket).parked {
             parked.moved = moved;
         }
     }
@@ -209,7 +226,8 @@ impl ProcessTable {
         ensures slots { self.new.0 ≡ edited process (with_parked None) self.old.0 }
         ensures room { self.new.1 ≡ self.old.1 }
     {
-        self.processes.value_mut(&first_look(process)).parked = None;
+        let ticket = self.ticket(process);
+        self.processes.value_mut(&ticket).parked = None;
     }
 
     /// A process goes, and its number is not given again. Of a number that is gone nothing goes.
@@ -218,6 +236,7 @@ impl ProcessTable {
         ensures room { self.old.1 ≤ self.new.1 }
         ensures most { self.new.1 ≤ self.old.1 + 1 }
     {
-        self.processes.remove(&first_look(process));
+        let ticket = self.ticket(process);
+        self.processes.remove(&ticket);
     }
 }

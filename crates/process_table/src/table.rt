@@ -1,6 +1,6 @@
-ghost use Rattle.std.specs.Prelude.{◌≡◌, ◌<◌, None, Some, length, replicate, slice_set, option_copied, IfOk, IfSome};
+ghost use Rattle.std.specs.Prelude.{◌≡◌, ◌<◌, None, Some, length, replicate, slice_set, option_copied, IfOk, IfSome, IfNone};
 ghost use Rattle.slots.specs.Slots.{slot, lowest};
-ghost use Rattle.process_table.specs.Tables.{two_lowest};
+ghost use Rattle.process_table.specs.Tables.{two_lowest, IsNextOpen, IsFreeFrom};
 
 use call_types::limits::OPEN_MAX;
 use slots::dense::Slots;
@@ -58,20 +58,26 @@ impl DescriptorTable {
     }
 
     /// What a descriptor refers to, if it is open.
-    pub fn get(&self, fd: usize) -> Option<usize>
-        ensures { result ≡ slot self.now fd }
-    {
-        match self.slots.get(fd) {
-            Some(ticket) => Some(ticket.number()),
-            None => None,
-        }
-    }
-
-    /// What a descriptor refers to, if it is open, with the key under which that stands.
-    pub fn ticket(&self, fd: usize) -> Option<&Ticket>
+    #[inline(always)]
+    pub fn get(&self, fd: usize) -> Option<&Ticket>
         ensures { option_copied result ≡ slot self.now fd }
     {
         self.slots.get(fd)
+    }
+
+    /// The least descriptor from a number on that is open.
+    pub fn next_open(&self, from: usize) -> Option<usize>
+        ensures least { IfSome result (IsNextOpen self.now from) }
+        ensures none { IfNone result (IsFreeFrom self.now from) }
+        ensures within { IfSome result (λ fd. fd < OPEN_MAX) }
+    {
+        let _slots = &self.slots;
+        for fd in from..OPEN_MAX {
+            if self.get(fd).is_some() {
+                return Some(fd);
+            }
+        }
+        None
     }
 
     /// The lowest free descriptor (XSH 2.14, File Descriptor Allocation).
@@ -102,17 +108,15 @@ impl DescriptorTable {
     }
 
     /// Lets a descriptor refer to this description, or frees it; what it referred to before. Past the last descriptor it does nothing.
-    pub fn replace(&mut self, fd: usize, entry: Option<usize>) -> Option<usize>
+    pub fn replace(&mut self, fd: usize, entry: Option<Ticket>) -> Option<Ticket>
         ensures old { result ≡ slot self.old fd }
         ensures table { self.new ≡ slice_set self.old fd entry }
     {
-        let old = self.get(fd);
-        self.slots.put(fd, entry);
-        old
+        self.slots.replace(fd, entry)
     }
 
     /// Frees a descriptor (page of close); what it referred to.
-    pub fn clear(&mut self, fd: usize) -> Option<usize>
+    pub fn clear(&mut self, fd: usize) -> Option<Ticket>
         ensures old { result ≡ slot self.old fd }
         ensures table { self.new ≡ slice_set self.old fd None }
     {

@@ -168,8 +168,8 @@ module _ {T : Type 0} (next : ℕ) (es : List (Option (Entry T))) (n key : ℕ) 
         let number = its_number e is in
         let fs = set es key (Some (record { number = e.number; value = v })) in
         slots_one next es fs n (Some v) are edited_numbered (one_found es fs next next key n (Some v) are edited_numbered others its_number
-          (λ d this. ap (λ (d : Entry T). d.number) (new_one d this) ∙ number)
-          (ap (found fs) (sym number) ∙ found_at fs next key (record { number = e.number; value = v }) edited_numbered now))
+        (λ d this. ap (λ (d : Entry T). d.number) (new_one d this) ∙ number)
+        (ap (found fs) (sym number) ∙ found_at fs next key (record { number = e.number; value = v }) edited_numbered now))
 
     live_edited : count_by is_some (set es key (Some (record { number = e.number; value = v }))) ≡ count_by is_some es
     live_edited =
@@ -261,7 +261,7 @@ module _ {T : Type 0} where
   live_slots next (None ∷ es) are =
       let rest = live_slots next es (tail_numbered None es next are) in
       let same : slots_of next (None ∷ es) ≡ slots_of next es = same_slots (slots_of next (None ∷ es)) (slots_of next es) (length_slots next (None ∷ es) ∙ sym (length_slots next es))
-        (λ q _. slot_slots next (None ∷ es) q are ∙ sym (slot_slots next es q (tail_numbered None es next are))) in
+      (λ q _. slot_slots next (None ∷ es) q are ∙ sym (slot_slots next es q (tail_numbered None es next are))) in
       ap live same ∙ omega (arith, rest, sum_by-cons (λ (x : Option (Entry T)). one (is_some x)) None es)
   live_slots next (Some e ∷ es) are =
       let less = tail_numbered (Some e) es next are in
