@@ -1,5 +1,5 @@
 -- Processes that come, change and go.
-use Rattle.std.proofs.Common.{◌≡◌, ℕ, zero, suc, ◌≤◌, ◌<◌, ◌∙◌, Bool, true, false, List, [], ◌∷◌, ◌++◌, Option, None, Some, length, set, refl, ap, sym, arith}
+use Rattle.std.proofs.Common.{◌≡◌, ℕ, zero, suc, ◌≤◌, ◌<◌, ◌+◌, ◌-◌, ◌∙◌, Bool, true, false, List, [], ◌∷◌, ◌++◌, Option, None, Some, length, set, refl, ap, sym, arith}
 use Rattle.std.specs.Prelude.{is_some}
 use Rattle.call_types.specs.declared.limits.TheConstants.{OPEN_MAX, PROCESSES_MAX}
 use Rattle.slots.specs.Slots.{slot, live, edited}
@@ -8,6 +8,9 @@ use Rattle.process_table.specs.Processes.{with_entry, table_of, process_with}
 use Rattle.posix_model.specs.Change.{with_processes}
 use Rattle.posix_model.specs.Whole.{EachThere, IsThere}
 use Rattle.posix_model.specs.Fits.{CanAdd, CanSet}
+use Rattle.posix_model.specs.Sweep.{sweep}
+use Rattle.posix_model.specs.Descriptors.{with_descriptor}
+use Rattle.posix_model.specs.Drops.{closed_below}
 use Rattle.machine_state.specs.Types.{World, Process, Description}
 use Rattle.posix_model.specs.declared.change.ProcessEdit.TheVariants as on_process
 use Rattle.slots.specs.Uses.{values_in}
@@ -108,11 +111,6 @@ still_there (None ∷ ps) zero fd entry there = cc
 still_there (Some x ∷ ps) zero fd entry there = refl
 still_there (x ∷ ps) (suc p) fd entry there = still_there ps p fd entry there
 
--- what is not taken is free
-pub is_free : (entry : Option ℕ) → is_some entry ≡ false → entry ≡ None
-is_free None free = refl
-is_free (Some n) free = cc
-
 -- what is free stays the same where it is freed
 cleared : {X : Type 0} (xs : List (Option X)) (n : ℕ) → slot xs n ≡ None → set xs n None ≡ xs
 cleared [] n free = refl
@@ -125,3 +123,21 @@ freed_again [] p fd free = refl
 freed_again (None ∷ ps) zero fd free = refl
 freed_again (Some x ∷ ps) zero fd free = ap (λ table. Some (record x { table = table }) ∷ ps) (cleared x.table fd free)
 freed_again (x ∷ ps) (suc p) fd free = ap (λ qs. x ∷ qs) (freed_again ps p fd free)
+
+-- where the descriptors from a number on are not open, closing them too changes nothing
+closed_on : (p from more : ℕ) (w u : World) → u ≡ closed_below p from w → sweep u ≡ u → ((k : ℕ) → from ≤ k → k < from + more → slot (table_of (slot u.processes p)) k ≡ None) →
+    closed_below p (from + more) w ≡ u
+closed_on p from zero w u is settled free =
+    let place : from + 0 ≡ from = omega arith in
+    ap (λ n. closed_below p n w) place ∙ sym is
+closed_on p from (suc more) w u is settled free =
+    let before = closed_on p from more w u is settled (λ k after below. free k after (omega (arith, below))) in
+    let place : from + suc more ≡ suc (from + more) = omega arith in
+    let same = freed_again u.processes p (from + more) (free (from + more) (omega arith) (omega arith)) in
+    ap (λ n. closed_below p n w) place ∙ ap (λ v. sweep (with_descriptor v p (from + more) None)) before ∙ ap (λ ps. sweep (record u { processes = ps })) same ∙ settled
+
+pub closed_to : (p from to : ℕ) (w u : World) → from ≤ to → u ≡ closed_below p from w → sweep u ≡ u → ((k : ℕ) → from ≤ k → k < to → slot (table_of (slot u.processes p)) k ≡ None) →
+    closed_below p to w ≡ u
+closed_to p from to w u after is settled free =
+    let place : to ≡ from + (to - from) = omega (arith, after) in
+    ap (λ n. closed_below p n w) place ∙ closed_on p from (to - from) w u is settled (λ k from_on below. free k from_on (omega (arith, below, after)))

@@ -16,7 +16,7 @@ ghost use Rattle.machine_state.specs.Room.{KeepsOpenRoom};
 use crate::entries::hold_entries;
 use crate::machine::Machine;
 use call_types::limits::OPEN_MAX;
-use posix_model::laws::{exits_close, sweep_leaves_wanted, sweep_releases};
+use posix_model::laws::{exits_close, sweep_leaves_wanted, sweep_releases, sweep_settles};
 use process_table::process::{Parked, Process};
 use process_table::table::DescriptorTable;
 
@@ -111,6 +111,7 @@ impl Machine {
     {
         sweep_leaves_wanted();
         sweep_releases();
+        sweep_settles();
         self.is_settled();
         let mut from = 0;
         while let Some(fd) = self.processes.next_open(process, from) {

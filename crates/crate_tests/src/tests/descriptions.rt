@@ -3,6 +3,7 @@ use bitflags::Flags;
 use call_types::description::{Description, Mode, Target};
 use call_types::flags::OpenFlags;
 use description_table::{DescriptionTable, Dropped};
+use slots::ticket::Ticket;
 use std::test::Fail;
 
 /// A description of file 3, for reading and appending, with its offset at byte 5.
@@ -20,13 +21,13 @@ fn reader_and_appender() -> Description {
 fn description_goes_with_its_last_reference(rt: HostRuntime) -> Result<(), Fail> {
     let mut table = DescriptionTable::new(rt.alloc());
     table.reserve()?;
-    table.add(reader_and_appender());
-    table.hold(0);
-    assert!(rt; matches!(table.drop_one(0), Dropped::Still));
+    let ticket = table.add(reader_and_appender());
+    table.hold(&ticket);
+    assert!(rt; matches!(table.drop_one(&ticket), Dropped::Still));
     assert_eq!(rt; table.live(), 1);
     assert!(rt;
         matches!(
-            table.drop_one(0),
+            table.drop_one(&ticket),
             Dropped::Gone {
                 target: Target::Regular { file: 3 },
                 mode: Mode::ReadWrite,
@@ -34,7 +35,7 @@ fn description_goes_with_its_last_reference(rt: HostRuntime) -> Result<(), Fail>
         )
     );
     assert_eq!(rt; (table.live(), table.next()), (0, 1));
-    assert!(rt; table.get(0).is_none());
+    assert!(rt; table.get(&ticket).is_none());
     Ok(())
 }
 
@@ -42,18 +43,24 @@ fn description_goes_with_its_last_reference(rt: HostRuntime) -> Result<(), Fail>
 fn offset_and_flags_are_told_while_it_lives(rt: HostRuntime) -> Result<(), Fail> {
     let mut table = DescriptionTable::new(rt.alloc());
     table.reserve()?;
-    table.add(reader_and_appender());
-    assert_eq!(rt; table.offset(0), Some(5));
-    table.set_offset(0, 9);
-    assert_eq!(rt; table.offset(0), Some(9));
+    let ticket = table.add(reader_and_appender());
+    let misled = Ticket::new(ticket.number(), ticket.key() + 1);
     assert_eq!(rt;
-        table.flags(0),
+        (table.offset(&ticket), table.offset(&misled)),
+        (Some(5), Some(5))
+    );
+    table.set_offset(&misled, 9);
+    assert_eq!(rt;
+        table.flags(&ticket),
         Some(
             OpenFlags::READ
                 .union(OpenFlags::WRITE)
                 .union(OpenFlags::APPEND)
         )
     );
-    assert_eq!(rt; (table.offset(0), table.offset(1)), (Some(9), None));
+    assert_eq!(rt;
+        (table.offset(&ticket), table.offset(&Ticket::new(1, 0))),
+        (Some(9), None)
+    );
     Ok(())
 }

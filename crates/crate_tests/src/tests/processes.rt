@@ -2,7 +2,16 @@
 use process_table::process::Process;
 use process_table::processes::ProcessTable;
 use process_table::table::DescriptorTable;
+use slots::ticket::Ticket;
 use std::test::Fail;
+
+/// The number of what a descriptor refers to.
+fn number_of(entry: Option<&Ticket>) -> Option<usize> {
+    match entry {
+        Some(ticket) => Some(ticket.number()),
+        None => None,
+    }
+}
 
 #[test]
 fn lowest_descriptors_are_free_first_and_are_copied(rt: HostRuntime) -> Result<(), Fail> {
@@ -12,16 +21,18 @@ fn lowest_descriptors_are_free_first_and_are_copied(rt: HostRuntime) -> Result<(
     processes.reserve()?;
     processes.add(Process::new(table, true));
     assert_eq!(rt; processes.lowest_free(0), Some(0));
-    assert_eq!(rt; processes.set_fd(0, 0, Some(7)), None);
+    assert!(rt; processes.set_fd(0, 0, Some(Ticket::new(7, 0))).is_none());
     assert_eq!(rt; processes.two_lowest_free(0), Some((1, 2)));
     let mut copy = processes.copy_table(alloc, 0)?;
-    assert!(rt;
-        processes
-            .get(0)
-            .is_some_and(|process| process.table.entries() == copy.entries())
-    );
-    assert_eq!(rt; copy.clear(0), Some(7));
+    assert_eq!(rt; number_of(copy.get(0)), Some(7));
+    assert_eq!(rt; (copy.next_open(0), copy.next_open(1)), (Some(0), None));
+    let cleared = copy.clear(0);
+    assert_eq!(rt; number_of(cleared.as_ref()), Some(7));
     assert_eq!(rt; copy.lowest_free(), Some(0));
-    assert_eq!(rt; processes.lowest_free(0), Some(1));
+    assert_eq!(rt; number_of(processes.descriptor(0, 0)), Some(7));
+    assert_eq!(rt;
+        (processes.lowest_free(0), processes.next_open(0, 0)),
+        (Some(1), Some(0))
+    );
     Ok(())
 }
