@@ -101,6 +101,16 @@ impl DescriptionTable {
         }
     }
 
+    /// How many descriptors refer to a description; none where it is gone.
+    pub fn references(&self, ticket: &Ticket) -> usize
+        ensures { result ≡ uses_at (slot self.now.0 ticket.now) }
+    {
+        match self.descriptions.get(ticket) {
+            Some(used) => used.uses,
+            None => 0,
+        }
+    }
+
     /// The offset of a description, in bytes, if it is live.
     pub fn offset(&self, ticket: &Ticket) -> Option<u64>
         ensures { result ≡ option_map (λ description. description.offset) (value_at (slot self.now.0 ticket.now)) }

@@ -104,6 +104,16 @@ impl FileTable {
         }
     }
 
+    /// How many names and holders a file has; none where it is gone.
+    pub fn uses(&self, file: usize) -> usize
+        ensures { result ≡ uses_at (slot self.now.0 file) }
+    {
+        match self.files.get(file) {
+            Some(used) => used.uses,
+            None => 0,
+        }
+    }
+
     /// Makes room for one more file; an error says that memory or numbers ran out.
     pub fn reserve(&mut self) -> Result<(), AllocError>
         ensures slots { self.new.0 ≡ self.old.0 }

@@ -5,6 +5,7 @@
 #![tactic(auto)]
 
 mod apply;
+mod counts;
 mod descriptors;
 mod entries;
 mod files;

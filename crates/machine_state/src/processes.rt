@@ -83,7 +83,7 @@ impl Machine {
     }
 
     /// Each process has all its descriptors, and nothing waits for a sweep. It does nothing.
-    pub(crate) fn is_settled(&self)
+    pub fn is_settled(&self)
         ensures tables { EachThere (λ process. length process.table ≡ OPEN_MAX) self.now.world.processes }
         ensures settled { IsSettled self.now.world }
     {

@@ -70,11 +70,11 @@ impl WorldReader for Machine {
     }
 
     fn has_reader(&self, pipe: usize) -> bool {
-        self.pipes.readers(pipe) > 0
+        self.readers(pipe) > 0
     }
 
     fn has_writer(&self, pipe: usize) -> bool {
-        self.pipes.writers(pipe) > 0
+        self.writers(pipe) > 0
     }
 
     fn name_count(&self) -> usize {

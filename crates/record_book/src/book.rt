@@ -1,11 +1,13 @@
 ghost use Rattle.std.specs.Prelude.{◌≡◌, IfOk};
-ghost use Rattle.record_book.specs.Book.{new_book};
+ghost use Rattle.posix_model.specs.Released.{IsSettled};
+ghost use Rattle.record_book.specs.Book.{new_book, world_now};
 ghost use Rattle.record_book.specs.Counting.{CountsOf};
 
 use crate::journal::Journal;
 use byte_ledger::ledgers::{Blanks, Ledgers};
 use byte_ledger::tallies::{Shares, Sums, Tallies};
 use call_types::limits::Limits;
+use machine_state::machine::Machine;
 use posix_model::pipe_laws::bytes_of_pipe;
 use std::alloc::{AllocError, Global};
 use std::marker::Model;
@@ -51,14 +53,24 @@ impl<L: Ledgers> Book<L> {
         })
     }
 
+    /// The state to which the records led. What it tells of references, names, holders and ends it has counted as it went, and each
+    /// count is the one that the model takes afresh.
+    pub fn machine(&self) -> &Machine
+        ensures { result.now.world ≡ world_now self.now }
+    {
+        &self.journal.machine
+    }
+
     /// How many records the book holds, and how many bytes they took and gave. The records are a run of the model. In this run each
-    /// pipe holds the bytes that were put into it and not yet taken out, and the data of a write of at most 512 bytes (PIPE_BUF) went
-    /// in unbroken (page of write).
+    /// pipe holds the bytes that were put into it and not yet taken out, the data of a write of at most 512 bytes (PIPE_BUF) went in
+    /// unbroken (page of write), and each description, pipe and file that is live is referred to (page of close).
     pub fn counts(&self) -> Sums
-        ensures { CountsOf self.now result }
+        ensures sums { CountsOf self.now result }
+        ensures settled { IsSettled (world_now self.now) }
     {
         bytes_of_pipe();
         self.journal.is_run();
+        self.journal.is_settled();
         self.tallies.sums()
     }
 }

@@ -4,6 +4,7 @@ ghost use Rattle.std.specs.Prelude.{◌≡◌, ◌≤◌, ◌+◌, false, true, 
 ghost use Rattle.slots.specs.Slots.{slot};
 ghost use Rattle.process_table.specs.Processes.{awaits};
 ghost use Rattle.posix_model.specs.History.{legal};
+ghost use Rattle.posix_model.specs.Released.{IsSettled};
 ghost use Rattle.record_book.specs.Book.{new_book, world_now, exits_left};
 
 use crate::history::History;
@@ -66,6 +67,13 @@ impl Journal {
         ensures short { length self.now.history + exits_left (world_now self.now) ≤ 1000000 }
     {
         let _records = self.limits.records();
+    }
+
+    /// Promises that nothing is live that nothing refers to. It does nothing.
+    pub(crate) fn is_settled(&self)
+        ensures { IsSettled (world_now self.now) }
+    {
+        self.machine.is_settled();
     }
 
     /// Whether its run is closed.

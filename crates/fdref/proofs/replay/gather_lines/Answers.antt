@@ -20,5 +20,5 @@ returns-in_err-write_totals-clause-fault g c =
 
 pub returns-clause-lines : goal.returns-clause-lines
 returns-clause-lines g c = run_ends c.args.script.now.read c.args.book.now c.run_all.new.book c.new-seats.result.0 c.run_all.new.seats.0 c.in_ok-lines.lines.items c.run_all.new.lines.items c.write_totals.new.out.items
-    c.in_ok-run_all.ensures.ok c.new-seats.ensures c.in_ok-lines.ensures.items c.counts-counts.ensures.is_legal
-    (rw (c.counts-counts.ensures.records, c.counts-counts.ensures.bytes_in, c.counts-counts.ensures.bytes_out) at c.in_ok-write_totals.ensures)
+    c.in_ok-run_all.ensures.ok c.new-seats.ensures c.in_ok-lines.ensures.items c.counts-counts.ensures.sums.is_legal
+    (rw (c.counts-counts.ensures.sums.records, c.counts-counts.ensures.sums.bytes_in, c.counts-counts.ensures.sums.bytes_out) at c.in_ok-write_totals.ensures)
