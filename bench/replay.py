@@ -13,14 +13,16 @@ the output going to a file. The growth is the cost of an act over its cost in th
 
 `churn` makes a file, writes 64 bytes, gives it a second name, takes both away, reads the bytes back through
 the descriptor and closes it, among 300 names of a set of 500. `wide` has 60 processes with 15 descriptors
-each beside 1,000 names, and writes, seeks, reads, asks, opens and closes among them. `dups` duplicates
+each beside 1,000 names, and writes, seeks, reads, asks, opens and closes among them: no contract says that a
+descriptor finds its description at the first look, and a search among 900 would show here. `dups` duplicates
 descriptors, to the lowest free number, to one that is free and over one that is open, and closes them.
 `forks` forks and attaches children, which write through the offset that they share with their parent and
 exit; at most 60 processes are live. `pipes` writes 64 bytes into a pipe and reads them. `parks` has writes of
 2,000 bytes that wait, and that two resumes take to their end, between reads. `big` has writes of 65,536 bytes
 to a pipe, each resumed 63 times and read by 1,024 bytes: `big 61*65536` of one byte, `big x6162..` of bytes
 that differ. `9,000 files` are made, written one byte at their end, unlinked and closed, one after another:
-what went must not stay in memory, so a peak of 80 MiB fails.
+what went must not stay in memory, so a peak of 80 MiB fails. `1,000 holes` are files that stay, of 1 MiB with
+one byte at the end: what nobody wrote must take no memory, so a peak of 40 MiB fails.
 
 `64 KiB, ..` has writes of 65,536 bytes spread over files of sixteen writes each, since a file holds
 1,048,576 bytes. In the spelling `61*65536` there are 1,000 of them. In the spelling `x6162..` each
@@ -58,6 +60,7 @@ from support.plain_model import PIPE_CAPACITY, SCRIPT_MOST
 from support.plain_model import TRANSFER_MAX as BIG
 
 GIVEN_BACK_MOST = 80 * 2**20
+HOLES_MOST = 40 * 2**20
 RECORDS_MOST = 1_000_000
 BURST = 40
 BURST_ACTS = 2 * BURST + 6
@@ -336,6 +339,17 @@ def resumed(path: str, name: str, count: int, spell: Callable[[int], str]) -> Sc
     return script.done()
 
 
+def holes(path: str, count: int) -> Script:
+    """Files that stay, each of the greatest length, with one byte at its end."""
+    script = Script(f"{count:,} holes", path)
+    script.act("join")
+    for at in range(count):
+        script.act(f"p0 open h{at} w,creat")
+        script.pwrite(0, FILE_MOST - 1, "x61", 1)
+        script.act("p0 close 0")
+    return script.done()
+
+
 def ends(path: str, files: int) -> Script:
     """Files that are made, written one byte at their end and unlinked while they are open, one after another."""
     script = Script(f"{files:,} files", path)
@@ -472,6 +486,7 @@ def table(program: str, runs: int, folder: str) -> None:
         many = line(kind(path, 999_000), few)
         print(f"an act of it over a small act: {few / costs[0]:.2f} of 10,000, {many / costs[-1]:.2f} of 999,000")
     line(ends(path, 9_000), most=GIVEN_BACK_MOST)
+    line(holes(path, 1_000), most=HOLES_MOST)
     line(big(path, "64 KiB, 61*65536", 1_000, counted))
     line(big(path, "64 KiB, x6162..", 127, spelled))
     line(resumed(path, "big 61*65536", 100, counted))
