@@ -11,9 +11,11 @@ use call_types::flags::OpenFlags;
 use call_types::limits::Limits;
 use call_types::outcome::{Outcome, Reply};
 use call_types::refusal::Refusal;
+use posix_model::reader::WorldReader;
 use record_book::book::Book;
 use record_book::opening::Opened;
 use record_book::seat::{Receipt, Seat};
+use slots::ticket::Ticket;
 use std::alloc::Global;
 use std::marker::Brand;
 use std::process::Abort;
@@ -92,6 +94,65 @@ fn opens<L: Ledgers>(alloc: Global, book: &mut Book<L>, seat: &mut Seat<L>) -> b
         Ok(receipt) => is_number(&receipt, 1, 0),
         Err(_) => false,
     }
+}
+
+/// Whether the process of a seat gives that file a second name, duplicates the descriptor of it, and makes a pipe.
+fn links_duplicates_and_makes_a_pipe<L: Ledgers>(
+    alloc: Global,
+    book: &mut Book<L>,
+    seat: &mut Seat<L>,
+) -> bool {
+    let (old, new) = match (Name::copied(alloc, b"a"), Name::copied(alloc, b"b")) {
+        (Ok(old), Ok(new)) => (old, new),
+        _ => return false,
+    };
+    book.start(alloc, seat, Call::Link { old, new }).is_ok()
+        && book.start(alloc, seat, Call::Dup { fd: 0 }).is_ok()
+        && book.start(alloc, seat, Call::Pipe).is_ok()
+}
+
+/// What is counted of that: two descriptors of the file's description, its two names and one holder, and one end of each kind.
+fn counts_what_it_did<L: Ledgers>(
+    rt: &impl Abort,
+    alloc: Global,
+    book: &mut Book<L>,
+) -> Result<(), Fail> {
+    let mut seat = joined(alloc, book)?;
+    assert!(rt; opens(alloc, book, &mut seat));
+    assert!(rt; links_duplicates_and_makes_a_pipe(alloc, book, &mut seat));
+    let machine = book.machine();
+    let description = Ticket::new(0, 0);
+    assert_eq!(rt;
+        (
+            machine.references(&description),
+            machine.references(&Ticket::new(3, 0))
+        ),
+        (2, 0)
+    );
+    assert_eq!(rt; (machine.links(0), machine.holders(0)), (2, 1));
+    assert_eq!(rt; (machine.readers(0), machine.writers(0)), (1, 1));
+    assert_eq!(rt;
+        (machine.live_descriptions(), machine.live_processes()),
+        (3, 1)
+    );
+    Ok(())
+}
+
+/// The same, in a new book.
+fn counts_in_a_new_book<L: Ledgers>(
+    rt: &impl Abort,
+    alloc: Global,
+    blanks: Blanks,
+) -> Result<(), Fail>
+    requires { blanks ≡ L.names }
+{
+    let mut book = Book::<L>::new(alloc, Limits::new(10)?, blanks)?;
+    counts_what_it_did(rt, alloc, &mut book)
+}
+
+#[test]
+fn state_is_counted_as_it_goes(rt: HostRuntime) -> Result<(), Fail> {
+    counts_in_a_new_book::<Brand>(&rt, rt.alloc(), Blanks::new())
 }
 
 /// Whether the process of a seat makes so many children.

@@ -3,6 +3,7 @@ use process_table::process::Process;
 use process_table::processes::ProcessTable;
 use process_table::table::DescriptorTable;
 use slots::ticket::Ticket;
+use std::alloc::Global;
 use std::test::Fail;
 
 /// The number of what a descriptor refers to.
@@ -34,5 +35,35 @@ fn lowest_descriptors_are_free_first_and_are_copied(rt: HostRuntime) -> Result<(
         (processes.lowest_free(0), processes.next_open(0, 0)),
         (Some(1), Some(0))
     );
+    Ok(())
+}
+
+/// So many processes come and go, each with all its descriptors free.
+fn come_and_go(alloc: Global, processes: &mut ProcessTable, count: usize) -> Result<(), Fail> {
+    for _process in 0..count {
+        let number = processes.next();
+        processes.reserve()?;
+        processes.add(Process::new(DescriptorTable::free(alloc)?, true));
+        processes.remove(number);
+    }
+    Ok(())
+}
+
+#[test]
+fn processes_that_are_looked_for_at_one_place_are_apart(rt: HostRuntime) -> Result<(), Fail> {
+    let alloc = rt.alloc();
+    let mut processes = ProcessTable::new(alloc);
+    processes.reserve()?;
+    processes.add(Process::new(DescriptorTable::free(alloc)?, true));
+    come_and_go(alloc, &mut processes, 63)?;
+    processes.reserve()?;
+    processes.add(Process::new(DescriptorTable::free(alloc)?, false));
+    assert_eq!(rt; (processes.live(), processes.next()), (2, 65));
+    assert_eq!(rt; (processes.is_here(0), processes.awaits(0)), (true, false));
+    assert_eq!(rt;
+        (processes.is_here(64), processes.awaits(64)),
+        (false, true)
+    );
+    assert!(rt; processes.get(1).is_none() && processes.get(128).is_none());
     Ok(())
 }
