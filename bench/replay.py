@@ -14,7 +14,9 @@ the output going to a file. The growth is the cost of an act over its cost in th
 `churn` makes a file, writes 64 bytes, gives it a second name, takes both away, reads the bytes back through
 the descriptor and closes it, among 300 names of a set of 500. `wide` has 60 processes with 15 descriptors
 each beside 1,000 names, and writes, seeks, reads, asks, opens and closes among them: no contract says that a
-descriptor finds its description at the first look, and a search among 900 would show here. `dups` duplicates
+descriptor finds its description at the first look, and a search among 900 would show here. In `elders` 1,100 other
+processes have come and gone after these 60, so a process that lost its place among the first looks would show.
+`dups` duplicates
 descriptors, to the lowest free number, to one that is free and over one that is open, and closes them.
 `forks` forks and attaches children, which write through the offset that they share with their parent and
 exit; at most 60 processes are live. `pipes` writes 64 bytes into a pipe and reads them. `parks` has writes of
@@ -231,12 +233,19 @@ def churn(path: str, acts: int) -> Script:
     return script.filled(acts)
 
 
-def wide(path: str, acts: int) -> Script:
-    """Small acts, opens and closes of 60 processes with 15 descriptors each, beside 1,000 names."""
-    script = Script(f"wide {acts:,}", path)
+def wide(path: str, acts: int, later: int = 0) -> Script:
+    """Small acts, opens and closes of 60 processes with 15 descriptors each, beside 1,000 names.
+
+    So many other processes have come and gone after them before that.
+    """
+    script = Script(f"{'elders' if later else 'wide'} {acts:,}", path)
     script.processes = 60
     for _ in range(script.processes):
         script.act("join")
+    for child in range(script.processes, script.processes + later):
+        script.act("p0 fork")
+        script.act(f"p{child} attach")
+        script.act(f"p{child} exit")
     for at in range(1_000):
         script.act(f"p0 open n{at} w,creat")
         script.act("p0 close 0")
@@ -447,7 +456,8 @@ def instructions(program: str, script: Script, target: str) -> int:
 def count_instructions(program: str, path: str, target: str) -> None:
     """Prints the instructions of an act of each script of 10,000 acts."""
     small = 0.0
-    kinds: list[Callable[[str, int], Script]] = [mix, partial(scattered, size=1024), churn, wide]
+    elders = partial(wide, later=1_100)
+    kinds: list[Callable[[str, int], Script]] = [mix, partial(scattered, size=1024), churn, wide, elders]
     for kind in [*kinds, dups, forks, pipes, parks]:
         script = kind(path, 10_000)
         whole_run, acts = instructions(program, script, target), script.acts
@@ -481,7 +491,7 @@ def table(program: str, runs: int, folder: str) -> None:
     for acts in (10_000, 100_000, 999_000):
         costs.append(line(mix(path, acts), costs[-1] if costs else None))
     print(f"growth of the cost of an act from 10,000 to 999,000 acts: {costs[-1] / costs[0]:.2f}")
-    for kind in (churn, wide, dups, forks, pipes, parks):
+    for kind in (churn, wide, partial(wide, later=1_100), dups, forks, pipes, parks):
         few = line(kind(path, 10_000))
         many = line(kind(path, 999_000), few)
         print(f"an act of it over a small act: {few / costs[0]:.2f} of 10,000, {many / costs[-1]:.2f} of 999,000")

@@ -14,7 +14,7 @@ impl Machine {
         self.descriptions.references(description)
     }
 
-    /// How many open file descriptions hold a file; none where it is gone. Of its uses, they are those that are no names.
+    /// How many open file descriptions hold a file; none where it is gone: its uses that are not names.
     pub fn holders(&self, file: usize) -> usize
         ensures { result ≡ holders self.now.world.descriptions file }
     {

@@ -102,7 +102,7 @@ impl Machine {
         self.set_entry(process, fd, None);
     }
 
-    /// Closes all descriptors of a process, one open one after another.
+    /// Closes the open descriptors of a process, one after another.
     fn close_all(&mut self, process: usize)
         requires there { IsThere self.old.world.processes process }
         requires theirs { EndsAreTheirs self.old.world }

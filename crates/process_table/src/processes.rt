@@ -6,18 +6,24 @@ ghost use Rattle.process_table.specs.Processes.{table_of, copied_table, parked_o
 
 use crate::process::{Parked, Process};
 use crate::table::DescriptorTable;
-use call_types::limits::PROCESSES_MAX;
 use slots::keyed::Keyed;
 use slots::ticket::Ticket;
 use std::alloc::{AllocError, Global};
 use std::marker::Model;
 
+/// How many places there are for keys: many more than processes may be live, so that few of these share one.
+const PLACES: usize = 1024;
+
+/// At a place, that no live process has it.
+const NOBODY: usize = usize::MAX;
+
 /// The live processes. Contracts see a slot for each number that was ever given, and for how many more processes there is room.
 #[derive(Drop)]
 pub struct ProcessTable {
     processes: Keyed<Process>,
-    // By the rest of a number: the key to look under first. A wrong one costs time only.
-    keys: [usize; PROCESSES_MAX],
+    // By a number modulo 1,024: the live process that has the place, and the key to look under first. A process that found its place
+    // taken is looked for among all. What stands here costs time if it is wrong, and changes no answer.
+    places: [(usize, usize); PLACES],
 }
 
 impl Model for ProcessTable {
@@ -36,7 +42,7 @@ impl ProcessTable {
     {
         ProcessTable {
             processes: Keyed::new(alloc),
-            keys: [0; PROCESSES_MAX],
+            places: [(NOBODY, 0); PLACES],
         }
     }
 
@@ -59,7 +65,8 @@ impl ProcessTable {
     fn ticket(&self, process: usize) -> Ticket
         ensures { result ≡ process }
     {
-        Ticket::new(process, self.keys[process % PROCESSES_MAX])
+        let (_owner, key) = self.places[process % PLACES];
+        Ticket::new(process, key)
     }
 
     /// The process of a number, if it is live.
@@ -174,7 +181,10 @@ impl ProcessTable {
         ensures room { self.new.1 + 1 ≡ self.old.1 }
     {
         let ticket = self.processes.push(process);
-        self.keys[ticket.number() % PROCESSES_MAX] = ticket.key();
+        let place = ticket.number() % PLACES;
+        if self.places[place].0 == NOBODY {
+            self.places[place] = (ticket.number(), ticket.key());
+        }
     }
 
     /// Lets a descriptor of a live process refer to a description, or frees it; what it referred to before.
@@ -238,5 +248,9 @@ impl ProcessTable {
     {
         let ticket = self.ticket(process);
         self.processes.remove(&ticket);
+        let place = process % PLACES;
+        if self.places[place].0 == process {
+            self.places[place] = (NOBODY, 0);
+        }
     }
 }

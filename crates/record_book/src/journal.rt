@@ -69,7 +69,7 @@ impl Journal {
         let _records = self.limits.records();
     }
 
-    /// Promises that nothing is live that nothing refers to. It does nothing.
+    /// Promises that all that is live is referred to. It does nothing.
     pub(crate) fn is_settled(&self)
         ensures { IsSettled (world_now self.now) }
     {

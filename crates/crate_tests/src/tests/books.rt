@@ -96,8 +96,8 @@ fn opens<L: Ledgers>(alloc: Global, book: &mut Book<L>, seat: &mut Seat<L>) -> b
     }
 }
 
-/// Whether the process of a seat gives that file a second name, duplicates the descriptor of it, and makes a pipe.
-fn links_duplicates_and_makes_a_pipe<L: Ledgers>(
+/// Whether the process of a seat gives that file a second name, makes a child, and then a pipe.
+fn links_forks_and_makes_a_pipe<L: Ledgers>(
     alloc: Global,
     book: &mut Book<L>,
     seat: &mut Seat<L>,
@@ -107,7 +107,7 @@ fn links_duplicates_and_makes_a_pipe<L: Ledgers>(
         _ => return false,
     };
     book.start(alloc, seat, Call::Link { old, new }).is_ok()
-        && book.start(alloc, seat, Call::Dup { fd: 0 }).is_ok()
+        && book.start(alloc, seat, Call::Fork).is_ok()
         && book.start(alloc, seat, Call::Pipe).is_ok()
 }
 
@@ -119,7 +119,7 @@ fn counts_what_it_did<L: Ledgers>(
 ) -> Result<(), Fail> {
     let mut seat = joined(alloc, book)?;
     assert!(rt; opens(alloc, book, &mut seat));
-    assert!(rt; links_duplicates_and_makes_a_pipe(alloc, book, &mut seat));
+    assert!(rt; links_forks_and_makes_a_pipe(alloc, book, &mut seat));
     let machine = book.machine();
     let description = Ticket::new(0, 0);
     assert_eq!(rt;
@@ -133,7 +133,7 @@ fn counts_what_it_did<L: Ledgers>(
     assert_eq!(rt; (machine.readers(0), machine.writers(0)), (1, 1));
     assert_eq!(rt;
         (machine.live_descriptions(), machine.live_processes()),
-        (3, 1)
+        (3, 2)
     );
     Ok(())
 }

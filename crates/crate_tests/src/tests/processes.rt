@@ -55,15 +55,15 @@ fn processes_that_are_looked_for_at_one_place_are_apart(rt: HostRuntime) -> Resu
     let mut processes = ProcessTable::new(alloc);
     processes.reserve()?;
     processes.add(Process::new(DescriptorTable::free(alloc)?, true));
-    come_and_go(alloc, &mut processes, 63)?;
+    come_and_go(alloc, &mut processes, 1_023)?;
     processes.reserve()?;
     processes.add(Process::new(DescriptorTable::free(alloc)?, false));
-    assert_eq!(rt; (processes.live(), processes.next()), (2, 65));
+    assert_eq!(rt; (processes.live(), processes.next()), (2, 1_025));
     assert_eq!(rt; (processes.is_here(0), processes.awaits(0)), (true, false));
     assert_eq!(rt;
-        (processes.is_here(64), processes.awaits(64)),
+        (processes.is_here(1_024), processes.awaits(1_024)),
         (false, true)
     );
-    assert!(rt; processes.get(1).is_none() && processes.get(128).is_none());
+    assert!(rt; processes.get(1).is_none() && processes.get(2_048).is_none());
     Ok(())
 }
