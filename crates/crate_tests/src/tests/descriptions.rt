@@ -55,7 +55,7 @@ fn offset_and_flags_are_told_while_it_lives(rt: HostRuntime) -> Result<(), Fail>
     let mut table = DescriptionTable::new(rt.alloc());
     table.reserve()?;
     let ticket = table.add(reader_and_appender());
-    let misled = Ticket::new(ticket.number(), ticket.key() + 1);
+    let misled = Ticket::new(ticket.number(), 7);
     assert_eq!(rt;
         (table.offset(&ticket), table.offset(&misled)),
         (Some(5), Some(5))
