@@ -12,15 +12,15 @@ pub enum FileType {
     Pipe,
 }
 
-/// What fstat tells: the kind, the size in bytes and the number of names.
+/// What fstat tells: the size in bytes, the number of names and the kind.
 #[derive(Clone, Copy, Debug, PartialEq, Eq)]
 pub struct Stat {
-    /// What the file is.
-    pub kind: FileType,
     /// The size in bytes, at most 1,048,576.
     pub size: u64,
     /// How many names the file has.
     pub links: u32,
+    /// What the file is.
+    pub kind: FileType,
 }
 
 /// The answer that ends a call.
