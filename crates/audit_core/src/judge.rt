@@ -6,6 +6,7 @@ ghost use Rattle.posix_model.specs.Step.{given, comes_to, stepped};
 ghost use Rattle.audit_core.specs.Judging.{fresh_judge, one_more, Judges, CanMake};
 ghost use Rattle.audit_core.specs.Verdict.{JudgesAll};
 
+use crate::state::Audited;
 use call_types::act::{Act, Record};
 use call_types::limits::Bounds;
 use call_types::outcome::Outcome;
@@ -20,7 +21,7 @@ use table_calls::given::given;
 /// A judge of records: the machine that those so far led to, and how many they were. It keeps none of them.
 #[derive(Drop)]
 pub struct Judge {
-    machine: Machine,
+    state: Audited,
     bounds: Bounds,
     place: u64,
 }
@@ -53,7 +54,9 @@ impl Judge {
         ensures { result ≡ fresh_judge bounds }
     {
         Judge {
-            machine: Machine::new(alloc, bounds.pipe_capacity as usize),
+            state: Audited {
+                machine: Machine::new(alloc, bounds.pipe_capacity as usize),
+            },
             bounds,
             place: 0,
         }
@@ -70,7 +73,7 @@ impl Judge {
     fn comes_to(&self, alloc: Global, actor: u32, act: &Act) -> Result<Option<Decided>, AllocError>
         ensures { IfOk result (λ d. d ≡ comes_to self.now.bounds self.now.world actor act.now) }
     {
-        decide(&self.machine, alloc, self.bounds, actor as usize, act)
+        decide(&self.state, alloc, self.bounds, actor as usize, act)
     }
 
     /// What an act comes to can be made. It does nothing.
@@ -81,7 +84,7 @@ impl Judge {
         let _actor = actor;
         let _act = act;
         let _decided = decided;
-        let _machine = &self.machine;
+        let _machine = &self.state.machine;
         numbers_rise();
         acts_are_sound();
     }
@@ -93,8 +96,8 @@ impl Judge {
         ensures ok { IfOk result (λ _. self.new ≡ one_more self.old (stepped self.old.world (given act.now) decided).world) }
         ensures err { OnErr result (self.new ≡ self.old) }
     {
-        self.machine.reserve_for(&decided.change)?;
-        self.machine.apply(given(act), decided.change);
+        self.state.machine.reserve_for(&decided.change)?;
+        self.state.machine.apply(given(act), decided.change);
         self.place = self.place.saturating_add(1);
         Ok(())
     }

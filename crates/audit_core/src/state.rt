@@ -1,0 +1,130 @@
+//! The state of an audit, read as a world.
+
+use call_types::bounded::Content;
+use machine_state::machine::Machine;
+use posix_model::opened::OpenDescriptor;
+use posix_model::reader::WorldReader;
+use posix_model::world::Fifo;
+use process_table::process::Parked;
+use process_table::table::DescriptorTable;
+use std::alloc::{AllocError, Global};
+
+/// The machine of an audit, and nothing more. Calls are compiled for each type of state that they read. As a type of its own it
+/// has them for itself, and so has the machine of a recorded run: each call then has one caller in a program, in which it stands
+/// inline.
+#[derive(Drop)]
+pub(crate) struct Audited {
+    pub(crate) machine: Machine,
+}
+
+impl WorldReader for Audited {
+    ghost world = { λ a. a.machine.world };
+
+    #[inline(always)]
+    fn opened(&self, process: usize, fd: i32) -> Option<OpenDescriptor> {
+        self.machine.opened(process, fd)
+    }
+
+    #[inline(always)]
+    fn opened_at(&self, process: usize, fd: usize) -> Option<OpenDescriptor> {
+        self.machine.opened_at(process, fd)
+    }
+
+    fn lowest_free(&self, process: usize) -> Option<usize> {
+        self.machine.lowest_free(process)
+    }
+
+    fn two_lowest_free(&self, process: usize) -> Option<(usize, usize)> {
+        self.machine.two_lowest_free(process)
+    }
+
+    fn length_of(&self, file: usize) -> usize {
+        self.machine.length_of(file)
+    }
+
+    fn read_at(
+        &self,
+        alloc: Global,
+        file: usize,
+        start: usize,
+        count: usize,
+    ) -> Result<Content, AllocError> {
+        self.machine.read_at(alloc, file, start, count)
+    }
+
+    fn file_of(&self, name: &[u8]) -> Option<usize> {
+        self.machine.file_of(name)
+    }
+
+    fn fifo_at(&self, file: usize) -> Option<Fifo> {
+        self.machine.fifo_at(file)
+    }
+
+    fn links(&self, file: usize) -> usize {
+        self.machine.links(file)
+    }
+
+    fn held_in(&self, pipe: usize) -> usize {
+        self.machine.held_in(pipe)
+    }
+
+    fn peek(&self, alloc: Global, pipe: usize, count: usize) -> Result<Content, AllocError> {
+        self.machine.peek(alloc, pipe, count)
+    }
+
+    fn has_reader(&self, pipe: usize) -> bool {
+        self.machine.has_reader(pipe)
+    }
+
+    fn has_writer(&self, pipe: usize) -> bool {
+        self.machine.has_writer(pipe)
+    }
+
+    fn name_count(&self) -> usize {
+        self.machine.name_count()
+    }
+
+    fn live_descriptions(&self) -> usize {
+        self.machine.live_descriptions()
+    }
+
+    fn live_processes(&self) -> usize {
+        self.machine.live_processes()
+    }
+
+    fn next_file(&self) -> usize {
+        self.machine.next_file()
+    }
+
+    fn next_pipe(&self) -> usize {
+        self.machine.next_pipe()
+    }
+
+    fn next_process(&self) -> usize {
+        self.machine.next_process()
+    }
+
+    fn is_here(&self, process: usize) -> bool {
+        self.machine.is_here(process)
+    }
+
+    fn is_live(&self, process: usize) -> bool {
+        self.machine.is_live(process)
+    }
+
+    fn awaits(&self, process: usize) -> bool {
+        self.machine.awaits(process)
+    }
+
+    fn copied_table(&self, alloc: Global, process: usize) -> Result<DescriptorTable, AllocError> {
+        self.machine.copied_table(alloc, process)
+    }
+
+    fn parked(&self, process: usize) -> Option<&Parked> {
+        self.machine.parked(process)
+    }
+
+    fn is_closed(&self) -> bool {
+        self.machine.is_closed()
+    }
+}
