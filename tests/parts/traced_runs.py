@@ -27,6 +27,8 @@ A_WHILE = 0.3
 ANYBODY = "p?"
 # The records of which no client is told.
 UNTOLD = re.compile(r"[0-9]+ (p[0-9]+ exit|house close-run) = ok")
+# The records of which a client is told without asking, and so perhaps not before the server is killed.
+RESUMED = re.compile(r"[0-9]+ p([0-9]+) resume = .*")
 
 
 # ---- a plan: the acts of a script that clients can make
@@ -102,6 +104,8 @@ class Player:
         self.client = client
         self.number = number
         self.waits = False
+        # the place of the last record that it was told of
+        self.place = -1
 
 
 class LiveRun:
@@ -126,7 +130,7 @@ class LiveRun:
         else:
             text = plain_model.act_text(act)
             player.client.ask(text.partition(" ")[2])
-            self.hear(player, text)
+            self.hear(player, text, player.client.answer())
 
     def open(self, act: plain_model.Act) -> None:
         """A client connects and joins, or attaches."""
@@ -144,11 +148,12 @@ class LiveRun:
         else:
             client.vanish()
 
-    def hear(self, player: Player, text: str) -> None:
-        """Hears the next answer to a client, which is that of the act with this text."""
-        place, _, outcome = player.client.answer().partition(" ")
+    def hear(self, player: Player, text: str, answer: str) -> None:
+        """Hears an answer to a client, which is that of the act with this text."""
+        place, _, outcome = answer.partition(" ")
         if place != "-":
             self.keep(place, f"{text} = {outcome}")
+            player.place = int(place)
         elif player.waits:
             # the session ends where its resume is refused
             del self.players[player.number]
@@ -162,8 +167,18 @@ class LiveRun:
     def is_awake(self, player: Player, seconds: float = A_WHILE) -> bool:
         """Whether a client need not wait, after it has waited for a while at most."""
         while player.waits and player.client.has_answer(seconds):
-            self.hear(player, f"p{player.number} resume")
+            self.hear_resume(player, player.client.answer())
         return not player.waits and player.number in self.players
+
+    def hear_resume(self, player: Player, answer: str) -> None:
+        """Hears an answer to a client whose call waited."""
+        self.hear(player, f"p{player.number} resume", answer)
+
+    def hear_out(self) -> None:
+        """Hears what clients whose calls wait were told, once the server is gone."""
+        for player in self.left():
+            for answer in player.client.answers_left():
+                self.hear_resume(player, answer)
 
     def end(self, player: Player) -> None:
         """Ends a process, and waits until the server has hung up, which is when its exit is recorded."""
@@ -179,8 +194,6 @@ class LiveRun:
         while awake := [it for it in self.left() if self.is_awake(it, 0 if it.number in stuck else A_WHILE)]:
             # who exits may wake others
             self.end(awake[0])
-        for player in self.left():
-            player.client.vanish()
         return not self.players
 
     def left(self) -> list[Player]:
@@ -210,13 +223,16 @@ def checked(program: str, seed: str, number: int) -> Checked:
         has_ended = live.close(plan)
         is_as_planned = has_ended or plan.waiting() or not live.goes_as_planned
         require(is_as_planned, "a call waits that the model does not let wait")
-        said = ended(server, has_ended, max(live.told, default=-1))
+        last = max(live.told, default=-1)
+        said = ended(server, has_ended, last)
+        live.hear_out()
         with open(server.trace, "rb") as file:
             trace = file.read()
     audit = Audit(trace)
     lines = audit.frames.lines
-    is_told(lines, live.told, has_ended)
+    is_told(lines, live, last)
     if has_ended:
+        is_closed(lines)
         world = audit.judge.world
         same((0, report(plan.sessions, len(lines), world.bytes_in, world.bytes_out), b""), said)
     same(legal(len(lines), 0 if has_ended else audit.frames.rest), audit.verdict)
@@ -248,21 +264,33 @@ def records_in(path: str) -> int:
     return count
 
 
-def is_told(lines: list[str], told: dict[int, str], has_ended: bool) -> None:
-    """Each record was told to a client as it is in the trace, but for exits and the closing."""
+def is_told(lines: list[str], live: LiveRun, last: int) -> None:
+    """Each record was told to a client as it is in the trace, but for exits, the closing, and what a killed server
+    had no time to tell. What was told up to the last place that was waited for is in the trace."""
+    told = live.told
     for place, line in enumerate(lines):
         wanted = f"{place} {told.get(place, '')}"
         if place not in told:
-            require(UNTOLD.fullmatch(line), f"nobody was told of {line}")
+            require(UNTOLD.fullmatch(line) or is_late(place, line, live), f"nobody was told of {line}")
         else:
             is_it = line.endswith(told[place].removeprefix(ANYBODY)) if ANYBODY in told[place] else line == wanted
             require(is_it, f"a client was told {wanted}, the trace has {line}")
-    lost = [f"{place} {text}" for place, text in told.items() if place >= len(lines)]
+    lost = [f"{place} {text}" for place, text in told.items() if len(lines) <= place <= last]
     require(not lost, f"clients were told what is not in the trace: {lost[:3]}")
-    if has_ended:
-        same(f"{len(lines) - 1} house close-run = ok", lines[-1])
-        came = sum(re.search(r" (join|fork) = [0-9]+$", line) is not None for line in lines)
-        same(came, sum(line.endswith(" exit = ok") for line in lines))
+
+
+def is_late(place: int, line: str, live: LiveRun) -> bool:
+    """Whether a record is of a call that waited when the server was killed, after all that its client was told."""
+    resumed = RESUMED.fullmatch(line)
+    player = live.players.get(int(resumed[1])) if resumed else None
+    return player is not None and player.waits and player.place < place
+
+
+def is_closed(lines: list[str]) -> None:
+    """The run was closed, and each process that came has exited."""
+    same(f"{len(lines) - 1} house close-run = ok", lines[-1])
+    came = sum(re.search(r" (join|fork) = [0-9]+$", line) is not None for line in lines)
+    same(came, sum(line.endswith(" exit = ok") for line in lines))
 
 
 def is_read(program: str, trace: bytes, audit: Audit) -> None:
