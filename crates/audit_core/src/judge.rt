@@ -108,8 +108,11 @@ impl Judge {
         ensures judged { IfOk result (λ judged. Judges self.old self.new told.now judged) }
         ensures err { OnErr result (self.new ≡ self.old) }
     {
-        let Some(decided) = self.comes_to(alloc, told.actor, &told.act)? else {
-            return Ok(Judged::Differs { expected: None });
+        // A match, since `?` would move what was decided once more.
+        let decided = match self.comes_to(alloc, told.actor, &told.act) {
+            Ok(Some(decided)) => decided,
+            Ok(None) => return Ok(Judged::Differs { expected: None }),
+            Err(error) => return Err(error),
         };
         if !decided.outcome.is_same(&told.outcome) {
             return Ok(Judged::Differs {

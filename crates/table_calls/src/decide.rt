@@ -92,8 +92,12 @@ pub fn decide<R: WorldReader>(
 {
     match act {
         Act::Join if actor == state.next_process() => Ok(Some(decide_join(state, alloc)?)),
+        // A match, since `?` would move what was decided once more.
         Act::Call(call) if can_call(state, actor) => {
-            Ok(Some(decide_call(state, alloc, bounds, actor, call)?))
+            match decide_call(state, alloc, bounds, actor, call) {
+                Ok(decided) => Ok(Some(decided)),
+                Err(error) => Err(error),
+            }
         }
         Act::Attach => Ok(Some(decide_attach(state, actor))),
         Act::Resume => decide_resume(state, alloc, bounds, actor),
