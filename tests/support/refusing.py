@@ -16,16 +16,18 @@ NEVER = 2**63
 NO_MEMORY = Ran(5, b"", b"no memory\n")
 GIVEN_AGAIN = b"given again: 1\n"
 
-# Counts allocations in a file, and refuses those from REFUSE_FIRST to REFUSE_LAST. The kit's clang
-# has no headers.
+# Counts allocations in a file, and refuses those from REFUSE_FIRST to REFUSE_LAST, of all threads together. The kit's
+# clang has no headers.
 REFUSES = """
 typedef unsigned long size_t;
 extern void *__libc_malloc(size_t);
+extern void *__libc_calloc(size_t, size_t);
 extern void *__libc_realloc(void *, size_t);
+extern int *__errno_location(void);
 extern char *getenv(const char *);
 extern unsigned long strtoul(const char *, char **, int);
 extern void *mmap(void *, size_t, int, int, int, long);
-enum { READ_AND_WRITE = 3, SHARED = 1 };
+enum { READ_AND_WRITE = 3, SHARED = 1, NO_MEMORY = 12 };
 
 static unsigned long *count, first, last;
 
@@ -39,11 +41,16 @@ __attribute__((constructor)) static void begin(void) {
 static int refused(void) {
     if (!count)
         return 0;
-    ++*count;
-    return first <= *count && *count <= last;
+    unsigned long now = __atomic_add_fetch(count, 1, __ATOMIC_SEQ_CST);
+    if (now < first || last < now)
+        return 0;
+    *__errno_location() = NO_MEMORY;
+    return 1;
 }
 
 void *malloc(size_t size) { return refused() ? 0 : __libc_malloc(size); }
+
+void *calloc(size_t count, size_t size) { return refused() ? 0 : __libc_calloc(count, size); }
 
 void *realloc(void *old, size_t size) { return refused() ? 0 : __libc_realloc(old, size); }
 """
@@ -111,26 +118,37 @@ class Refuser:
             self.plain += 1
         else:
             self.refusing += 1
-        for file, content in zip(self.files, (bytes(8), stdin, b"", b""), strict=True):
+        self.begin()
+        for file, content in zip(self.files[1:], (stdin, b"", b""), strict=True):
             write_anew(file, content)
         status = self.wait(words, first, last)
-        count = struct.unpack("L", read_all(self.told))[0]
-        return Counted(Ran(status, read_all(self.stdout), read_all(self.stderr)), count)
+        return Counted(Ran(status, read_all(self.stdout), read_all(self.stderr)), self.counted())
 
-    def wait(self, words: Sequence[str], first: int, last: int) -> int:
-        """The exit status of a command."""
-        environment = {
+    def environment(self, first: int, last: int) -> dict[str, str]:
+        """What a program has to find where its allocations from `first` to `last` are refused."""
+        return {
             "LD_PRELOAD": self.library,
             "REFUSE_FIRST": str(first),
             "REFUSE_LAST": str(last),
             "REFUSE_TOLD": str(self.told.fileno()),
         }
+
+    def begin(self) -> None:
+        """No allocation was asked for."""
+        write_anew(self.told, bytes(8))
+
+    def counted(self) -> int:
+        """How many allocations were asked for."""
+        return int(struct.unpack("L", read_all(self.told))[0])
+
+    def wait(self, words: Sequence[str], first: int, last: int) -> int:
+        """The exit status of a command."""
         process = subprocess.Popen(
             words,
             stdin=self.stdin,
             stdout=self.stdout,
             stderr=self.stderr,
-            env=environment,
+            env=self.environment(first, last),
             pass_fds=[self.told.fileno()],
         )
         signal.alarm(SECONDS)
