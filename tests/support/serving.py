@@ -42,12 +42,14 @@ class Server:
         env: Mapping[str, str] | None = None,
         trace: str | None = None,
         before: Callable[[], None] | None = None,
+        files: Sequence[int] = (),
     ) -> None:
         self.folder = tempfile.TemporaryDirectory(prefix="fdref-", dir=SCRATCH)
         self.path = os.path.join(self.folder.name, "socket")
         self.trace = trace or os.path.join(self.folder.name, "trace")
         self.clients: list[Client] = []
-        self.process = started(serve_words(program, self.path, count, records, self.trace), stdout, env, before)
+        words = serve_words(program, self.path, count, records, self.trace)
+        self.process = started(words, stdout, env, before, files)
 
     def __enter__(self) -> Self:
         return self
@@ -90,8 +92,10 @@ def started(
     stdout: int | IO[bytes] = subprocess.PIPE,
     env: Mapping[str, str] | None = None,
     before: Callable[[], None] | None = None,
+    files: Sequence[int] = (),
 ) -> Process:
-    """A process in a group of its own, so that what it leaves can be seen. `before` is called in it at its start."""
+    """A process in a group of its own, so that what it leaves can be seen. `before` is called in it at its start, and it
+    has these open files."""
     return subprocess.Popen(
         words,
         stdin=subprocess.DEVNULL,
@@ -101,6 +105,7 @@ def started(
         env=env,
         start_new_session=True,
         preexec_fn=before,
+        pass_fds=files,
     )
 
 
@@ -143,6 +148,10 @@ def report(
 # ---- clients
 
 
+class HungUp(Failure):
+    """The server hung up in place of an answer."""
+
+
 class Client:
     """A connection, whose waits are all bounded."""
 
@@ -172,7 +181,8 @@ class Client:
                 piece = self.socket.recv(count - len(some))
             except TimeoutError:
                 raise Failure(f"no answer in {SECONDS} seconds") from None
-            require(piece, f"hung up after {some.hex() or 'nothing'}")
+            if not piece:
+                raise HungUp(f"hung up after {some.hex() or 'nothing'}")
             some += piece
         return some
 

@@ -1,0 +1,219 @@
+#!/usr/bin/env python3
+"""Does the live server end rightly where any of its allocations is refused? (a minute)
+
+usage: tests/shortages.py [--program PATH]
+
+The program is crates/fdref/out/fdref where no PATH is given. A library that comes before the C library
+(LD_PRELOAD) refuses allocations by their number. As a server of two sessions, with a trace, the program is run
+for each N from 1 to the number of allocations that it asks for when nothing is refused,
+
+  - with allocation N refused alone,
+  - with N and all later ones refused.
+
+Its clients open a file, write, read, and make a pipe and a child, which is the second client and waits for bytes
+of the first. They give a request again that is refused for want of memory, and may be hung up on at any time.
+
+Each of these runs must end by itself, while all clients are answered or hung up on, and in one of these ways:
+
+  - with status 0 and a line that says what the trace holds, which has all that clients were told,
+  - with status 4 and a line, where the trace is not whole or no connection could be taken,
+  - with status 5, `no memory` or `no thread`, and nothing on standard output.
+
+A trace that was begun is legal to its last whole record. Where one allocation is refused, one act is refused for
+want of memory at most. A failure is told in one line. The last line is `N passed, M failed`, and the exit status
+is 1 where M is above 0.
+"""
+
+import argparse
+import collections
+import contextlib
+import os
+import re
+import sys
+import tempfile
+from functools import partial
+from pathlib import Path
+from typing import NamedTuple
+
+from support.auditing import Audit, legal
+from support.counting import Count, Failure, require, same
+from support.options import add_path, end_without
+from support.places import FDREF, SCRATCH
+from support.refusing import NEVER, Refuser, build
+from support.running import Ran
+from support.serving import SECONDS, Client, HungUp, Server, outcome_of, report
+
+RECORDS = 50
+SESSIONS = 2
+TRIES = 3
+
+# How often runs ended with a status and a text on standard error.
+Ways = collections.Counter[tuple[int, bytes]]
+
+REFUSED = "- refused NoMemory"
+ENDS = [(0, b""), (4, b"trace fault\n"), (4, b"cannot listen\n"), (5, b"no memory\n"), (5, b"no thread\n")]
+LINE = re.compile(rb"sessions [0-2] records \d+ in \d+ out \d+ trace (\d+)\n")
+
+OF_PARENT = ["join", "open f rw,creat", "write 0 x616263", "pread 0 0 3", "pipe", "fork"]
+# Of its pipe the child keeps the reading end alone, so that it waits no longer than its parent is there.
+OF_CHILD = ["attach", "close 2", "read 1 4"]
+WAKES = "write 2 x7879"
+WAITS = "parked 0"
+
+
+class Asker:
+    """A client that is one process, and gives a request again that is refused for want of memory."""
+
+    def __init__(self, client: Client, number: str) -> None:
+        self.client = client
+        self.number = number
+        self.is_answered = True
+        self.told: list[str] = []
+        self.refused = 0
+
+    def hear(self, text: str) -> str:
+        """The outcome in the next answer, which is that of an act with this text; nothing where the server hung up."""
+        try:
+            answer = self.client.answer()
+        except (HungUp, ConnectionError):
+            self.is_answered = False
+            return ""
+        place, _, outcome = answer.partition(" ")
+        if place != "-":
+            self.told.append(f"{place} p{self.number} {text} = {outcome}")
+        self.refused += answer == REFUSED
+        return outcome if place != "-" else answer
+
+    def ask(self, text: str) -> str:
+        """The outcome of a request, as above."""
+        outcome = REFUSED
+        for _ in range(TRIES):
+            if self.is_answered and outcome == REFUSED:
+                with contextlib.suppress(ConnectionError):
+                    self.client.ask(f"attach {self.number}" if text == "attach" else text)
+                outcome = self.hear(text)
+        return outcome if self.is_answered else ""
+
+    def leave(self) -> None:
+        """Says that nothing more will be asked, and waits until the server hangs up."""
+        if self.is_answered:
+            self.client.stop()
+        require(self.client.is_hung_up(SECONDS), f"the server does not hang up on p{self.number}")
+
+
+def connected(server: Server) -> Client | None:
+    """A client of a server, or none where it has ended."""
+    try:
+        return server.client()
+    except Failure:
+        if server.is_running():
+            raise
+        return None
+
+
+def converse(server: Server) -> list[Asker]:
+    """Two clients that ask what they can."""
+    first = connected(server)
+    if first is None:
+        return []
+    parent = Asker(first, "0")
+    outcomes = [parent.ask(text) for text in OF_PARENT]
+    second = connected(server)
+    if second is None:
+        return [parent]
+    child = Asker(second, outcomes[-1])
+    waits = outcomes[-1].isdigit() and [child.ask(text) for text in OF_CHILD][-1] == WAITS
+    if waits:
+        parent.ask(WAKES)
+    parent.leave()
+    if waits:
+        # woken by the bytes, or else by the end of the parent
+        child.hear("resume")
+    child.leave()
+    return [parent, child]
+
+
+class Run(NamedTuple):
+    """How a server ended, what it left of a trace, and its clients."""
+
+    ran: Ran
+    trace: bytes | None
+    clients: list[Asker]
+
+
+def served(program: str, refuser: Refuser, first: int, last: int) -> Run:
+    """A server and its clients, with its allocations from `first` to `last` refused."""
+    refuser.begin()
+    environment = refuser.environment(first, last)
+    with Server(program, SESSIONS, RECORDS, env=environment, files=[refuser.told.fileno()]) as server:
+        clients = converse(server)
+        ran = outcome_of(server.process)
+        trace = Path(server.trace).read_bytes() if os.path.exists(server.trace) else None
+    return Run(ran, trace, clients)
+
+
+def is_right(run: Run) -> None:
+    """A run ended in one of the ways that are allowed."""
+    ran = run.ran
+    require((ran.status, ran.stderr) in ENDS, ran.said())
+    audit = Audit(run.trace or b"")
+    lines = audit.frames.lines
+    same(legal(len(lines), audit.frames.rest), audit.verdict)
+    if ran.status == 5:
+        same(b"", ran.stdout)
+    elif ran.status == 4:
+        told = LINE.fullmatch(ran.stdout)
+        require(told and int(told[1]) == len(lines), ran.said())
+    else:
+        is_whole(run, audit)
+
+
+def is_whole(run: Run, audit: Audit) -> None:
+    """The line and the clients were told what the trace holds."""
+    lines, world = audit.frames.lines, audit.judge.world
+    same(report(SESSIONS, len(lines), world.bytes_in, world.bytes_out), run.ran.stdout)
+    same(0, audit.frames.rest)
+    lost = [line for client in run.clients for line in client.told if line not in lines]
+    require(not lost, f"told and not in the trace: {lost[:3]}")
+
+
+def check(program: str, refuser: Refuser, first: int, last: int, ways: Ways) -> None:
+    """One run with refusals."""
+    run = served(program, refuser, first, last)
+    is_right(run)
+    refused = sum(client.refused for client in run.clients)
+    require(first != last or refused <= 1, f"{refused} acts are refused for want of memory")
+    ways[run.ran.status, run.ran.stderr] += 1
+
+
+def main() -> int:
+    """Serves without any refusal, and then with each."""
+    parser = argparse.ArgumentParser(description="Checks the live server with its allocations refused.")
+    add_path(parser, "--program", "the program", FDREF)
+    program = parser.parse_args().program
+    status = end_without(program)
+    if status is not None:
+        return status
+    count = Count()
+    ways: Ways = collections.Counter()
+    with tempfile.TemporaryDirectory(prefix="fdref-", dir=SCRATCH) as folder:
+        refuser = Refuser(build(folder))
+        whole = served(program, refuser, NEVER, NEVER)
+        asked = refuser.counted()
+        count.check("nothing refused", partial(is_right, whole))
+        wanted = len(OF_PARENT) + len(OF_CHILD) + 2
+        count.check("nothing refused, all told", partial(same, wanted, sum(len(it.told) for it in whole.clients)))
+        for first in range(1, asked + 1):
+            for last in (first, NEVER - 1):
+                what = f"allocation {first} refused" + (" and all later ones" if last != first else "")
+                count.check(what, partial(check, program, refuser, first, last, ways))
+    for (ended, stderr), runs in sorted(ways.items()):
+        print(f"{runs} runs: status {ended} {stderr.decode().strip()}".rstrip())
+    for end in ENDS:
+        if end[0] in (0, 5):
+            count.check(f"some runs end so: {end}", partial(require, ways[end], "none does"))
+    return count.end()
+
+
+if __name__ == "__main__":
+    sys.exit(main())
