@@ -7,7 +7,7 @@ usage: tests/edits.py [CRATE ..]
 An edit is a file that names a file of a crate, an old text in it and a new one in its place, with which the crate must
 not be proved. The gate tries those in `crates/CRATE/must-fail`. This tries those in `tests/edits/CRATE`, of the crates
 that are named or of all, in a copy of the tree, with what was proved there before; else the crates below are proved
-first, which takes 20 minutes and more. The last line is `N passed, M failed`.
+first, which takes half an hour and more. The last line is `N passed, M failed`.
 
 With `--list` nothing is tried. It prints a line for each edit of both folders: the crate, `gate` or `here` for who
 tries it, its name, the file, and the old and the new text, which are cut short where they are long.
