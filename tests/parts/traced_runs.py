@@ -5,12 +5,12 @@ import re
 import signal
 import tempfile
 import time
+from pathlib import Path
 from typing import NamedTuple
 
 from support import plain_model
 from support.auditing import Audit, legal, shown
 from support.counting import require, same
-from support.frames import TRACE_HEADER
 from support.places import SCRATCH
 from support.plain_model import RECORDS_DEFAULT
 from support.running import Ran, run
@@ -27,8 +27,6 @@ A_WHILE = 0.3
 ANYBODY = "p?"
 # The records of which no client is told.
 UNTOLD = re.compile(r"[0-9]+ (p[0-9]+ exit|house close-run) = ok")
-# The records of which a client is told without asking, and so perhaps not before the server is killed.
-RESUMED = re.compile(r"[0-9]+ p([0-9]+) resume = .*")
 
 
 # ---- a plan: the acts of a script that clients can make
@@ -104,8 +102,6 @@ class Player:
         self.client = client
         self.number = number
         self.waits = False
-        # the place of the last record that it was told of
-        self.place = -1
 
 
 class LiveRun:
@@ -115,7 +111,6 @@ class LiveRun:
         self.server = server
         self.players: dict[int, Player] = {}
         self.told: dict[int, str] = {}
-        self.goes_as_planned = True
 
     def take(self, act: plain_model.Act) -> None:
         """Lets a client make an act and waits until that is done, or until its call waits."""
@@ -124,13 +119,13 @@ class LiveRun:
         player = self.players.get(act.actor) if isinstance(act.actor, int) else None
         if player is None or not self.is_awake(player):
             # another one got what it waits for, or the run is full
-            self.goes_as_planned = False
-        elif act.word == "exit":
+            return
+        if act.word == "exit":
             self.end(player)
         else:
             text = plain_model.act_text(act)
             player.client.ask(text.partition(" ")[2])
-            self.hear(player, text, player.client.answer())
+            self.hear(player, text)
 
     def open(self, act: plain_model.Act) -> None:
         """A client connects and joins, or attaches."""
@@ -148,12 +143,11 @@ class LiveRun:
         else:
             client.vanish()
 
-    def hear(self, player: Player, text: str, answer: str) -> None:
-        """Hears an answer to a client, which is that of the act with this text."""
-        place, _, outcome = answer.partition(" ")
+    def hear(self, player: Player, text: str) -> None:
+        """Hears the next answer to a client, which is that of the act with this text."""
+        place, _, outcome = player.client.answer().partition(" ")
         if place != "-":
             self.keep(place, f"{text} = {outcome}")
-            player.place = int(place)
         elif player.waits:
             # the session ends where its resume is refused
             del self.players[player.number]
@@ -167,18 +161,8 @@ class LiveRun:
     def is_awake(self, player: Player, seconds: float = A_WHILE) -> bool:
         """Whether a client need not wait, after it has waited for a while at most."""
         while player.waits and player.client.has_answer(seconds):
-            self.hear_resume(player, player.client.answer())
+            self.hear(player, f"p{player.number} resume")
         return not player.waits and player.number in self.players
-
-    def hear_resume(self, player: Player, answer: str) -> None:
-        """Hears an answer to a client whose call waited."""
-        self.hear(player, f"p{player.number} resume", answer)
-
-    def hear_out(self) -> None:
-        """Hears what clients whose calls wait were told, once the server is gone."""
-        for player in self.left():
-            for answer in player.client.answers_left():
-                self.hear_resume(player, answer)
 
     def end(self, player: Player) -> None:
         """Ends a process, and waits until the server has hung up, which is when its exit is recorded."""
@@ -187,14 +171,33 @@ class LiveRun:
         require(player.client.is_hung_up(SECONDS), "the server does not hang up")
 
     def close(self, plan: Plan) -> bool:
-        """Ends what is left, and connects as often as the server awaits: whether it ends by itself."""
+        """Connects as often as the server awaits, and ends whoever can be ended: whether the server ends by itself."""
         for _ in range(plan.sessions - len(self.server.clients)):
             self.server.client().stop()
-        stuck = {process.number for process in plan.waiting()}
-        while awake := [it for it in self.left() if self.is_awake(it, 0 if it.number in stuck else A_WHILE)]:
-            # who exits may wake others
-            self.end(awake[0])
-        return not self.players
+        until = time.monotonic() + SECONDS
+        while self.players:
+            awake = [player for player in self.left() if self.is_awake(player, 0)]
+            if awake:
+                # who exits may wake others
+                self.end(awake[0])
+                until = time.monotonic() + SECONDS
+            elif self.is_settled(Audit(Path(self.server.trace).read_bytes())):
+                return False
+            else:
+                require(time.monotonic() < until, f"for {SECONDS} seconds a call could go on, or its end was not told")
+                time.sleep(0.005)
+        return True
+
+    def is_settled(self, audit: Audit) -> bool:
+        """Whether a trace holds what was told and but for exits nothing else, and by the model nobody left can go on."""
+        lines, world = audit.frames.lines, audit.judge.world
+        waits = {process.number: process.waits for process in world.processes.values() if process.waits}
+        return (
+            all(place < len(lines) for place in self.told)
+            and all(place in self.told or UNTOLD.fullmatch(line) for place, line in enumerate(lines))
+            and not any(call.is_ready(world) for call in waits.values())
+            and set(self.players) == set(waits)
+        )
 
     def left(self) -> list[Player]:
         """The clients that are there still."""
@@ -221,18 +224,13 @@ def checked(program: str, seed: str, number: int) -> Checked:
         for act in plan.acts:
             live.take(act)
         has_ended = live.close(plan)
-        is_as_planned = has_ended or plan.waiting() or not live.goes_as_planned
-        require(is_as_planned, "a call waits that the model does not let wait")
-        last = max(live.told, default=-1)
-        said = ended(server, has_ended, last)
-        live.hear_out()
+        said = ended(server, has_ended)
         with open(server.trace, "rb") as file:
             trace = file.read()
     audit = Audit(trace)
     lines = audit.frames.lines
-    is_told(lines, live, last)
+    is_told(lines, live.told, has_ended)
     if has_ended:
-        is_closed(lines)
         world = audit.judge.world
         same((0, report(plan.sessions, len(lines), world.bytes_in, world.bytes_out), b""), said)
     same(legal(len(lines), 0 if has_ended else audit.frames.rest), audit.verdict)
@@ -240,57 +238,30 @@ def checked(program: str, seed: str, number: int) -> Checked:
     return Checked(len(lines), has_ended)
 
 
-def ended(server: Server, by_itself: bool, last: int) -> Ran | None:
-    """The end of a server: by itself, or by a signal once the trace holds the record at the last place told."""
+def ended(server: Server, by_itself: bool) -> Ran | None:
+    """The end of a server: by itself, or by a signal."""
     if by_itself:
         return outcome_of(server.process)
-    until = time.monotonic() + SECONDS
-    while records_in(server.trace) <= last:
-        require(time.monotonic() < until, f"the trace lacks records that were told {SECONDS} seconds ago")
-        time.sleep(0.002)
     os.killpg(server.process.pid, signal.SIGKILL)
     server.process.wait()
     return None
 
 
-def records_in(path: str) -> int:
-    """How many whole records a trace has."""
-    with open(path, "rb") as file:
-        some = file.read()
-    at, count = len(TRACE_HEADER), 0
-    while len(some) - at >= 4:
-        at += 4 + int.from_bytes(some[at : at + 4], "big")
-        count += at <= len(some)
-    return count
-
-
-def is_told(lines: list[str], live: LiveRun, last: int) -> None:
-    """Each record was told to a client as it is in the trace, but for exits, the closing, and what a killed server
-    had no time to tell. What was told up to the last place that was waited for is in the trace."""
-    told = live.told
+def is_told(lines: list[str], told: dict[int, str], has_ended: bool) -> None:
+    """Each record was told to a client as it is in the trace, but for exits and the closing."""
     for place, line in enumerate(lines):
         wanted = f"{place} {told.get(place, '')}"
         if place not in told:
-            require(UNTOLD.fullmatch(line) or is_late(place, line, live), f"nobody was told of {line}")
+            require(UNTOLD.fullmatch(line), f"nobody was told of {line}")
         else:
             is_it = line.endswith(told[place].removeprefix(ANYBODY)) if ANYBODY in told[place] else line == wanted
             require(is_it, f"a client was told {wanted}, the trace has {line}")
-    lost = [f"{place} {text}" for place, text in told.items() if len(lines) <= place <= last]
+    lost = [f"{place} {text}" for place, text in told.items() if place >= len(lines)]
     require(not lost, f"clients were told what is not in the trace: {lost[:3]}")
-
-
-def is_late(place: int, line: str, live: LiveRun) -> bool:
-    """Whether a record is of a call that waited when the server was killed, after all that its client was told."""
-    resumed = RESUMED.fullmatch(line)
-    player = live.players.get(int(resumed[1])) if resumed else None
-    return player is not None and player.waits and player.place < place
-
-
-def is_closed(lines: list[str]) -> None:
-    """The run was closed, and each process that came has exited."""
-    same(f"{len(lines) - 1} house close-run = ok", lines[-1])
-    came = sum(re.search(r" (join|fork) = [0-9]+$", line) is not None for line in lines)
-    same(came, sum(line.endswith(" exit = ok") for line in lines))
+    if has_ended:
+        same(f"{len(lines) - 1} house close-run = ok", lines[-1])
+        came = sum(re.search(r" (join|fork) = [0-9]+$", line) is not None for line in lines)
+        same(came, sum(line.endswith(" exit = ok") for line in lines))
 
 
 def is_read(program: str, trace: bytes, audit: Audit) -> None:
