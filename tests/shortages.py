@@ -20,7 +20,8 @@ Each of these runs must end by itself, while all clients are answered or hung up
   - with status 5, `no memory` or `no thread`, and nothing on standard output.
 
 A trace that was begun is legal to its last whole record. Where one allocation is refused, one act is refused for
-want of memory at most. A failure is told in one line. The last line is `N passed, M failed`, and the exit status
+want of memory at most, and if nobody was hung up on, all requests were answered. Some acts are refused so and given
+again. A failure is told in one line. The last line is `N passed, M failed`, and the exit status
 is 1 where M is above 0.
 """
 
@@ -52,13 +53,15 @@ Ways = collections.Counter[tuple[int, bytes]]
 
 REFUSED = "- refused NoMemory"
 ENDS = [(0, b""), (4, b"trace fault\n"), (4, b"cannot listen\n"), (5, b"no memory\n"), (5, b"no thread\n")]
-LINE = re.compile(rb"sessions [0-2] records \d+ in \d+ out \d+ trace (\d+)\n")
+LINE = re.compile(rb"sessions [0-2] records (\d+) in \d+ out \d+ trace (\d+)\n")
 
 OF_PARENT = ["join", "open f rw,creat", "write 0 x616263", "pread 0 0 3", "pipe", "fork"]
 # Of its pipe the child keeps the reading end alone, so that it waits no longer than its parent is there.
 OF_CHILD = ["attach", "close 2", "read 1 4"]
 WAKES = "write 2 x7879"
 WAITS = "parked 0"
+# With the write and the end of the read.
+ALL_TOLD = len(OF_PARENT) + len(OF_CHILD) + 2
 
 
 class Asker:
@@ -127,8 +130,8 @@ def converse(server: Server) -> list[Asker]:
         parent.ask(WAKES)
     parent.leave()
     if waits:
-        # woken by the bytes, or else by the end of the parent
-        child.hear("resume")
+        # woken by the bytes, or else by the end of the parent; where a resume is refused the session ends
+        child.is_answered = child.hear("resume") not in ("", REFUSED)
     child.leave()
     return [parent, child]
 
@@ -161,29 +164,64 @@ def is_right(run: Run) -> None:
     same(legal(len(lines), audit.frames.rest), audit.verdict)
     if ran.status == 5:
         same(b"", ran.stdout)
-    elif ran.status == 4:
+    elif ran.stderr == b"trace fault\n":
         told = LINE.fullmatch(ran.stdout)
-        require(told and int(told[1]) == len(lines), ran.said())
+        require(told and int(told[2]) == len(lines) <= int(told[1]), ran.said())
+        are_told(run, lines, len(lines))
     else:
         is_whole(run, audit)
 
 
 def is_whole(run: Run, audit: Audit) -> None:
-    """The line and the clients were told what the trace holds."""
+    """The line tells what the trace holds, and of as many sessions as were served."""
     lines, world = audit.frames.lines, audit.judge.world
-    same(report(SESSIONS, len(lines), world.bytes_in, world.bytes_out), run.ran.stdout)
+    told = LINE.fullmatch(run.ran.stdout)
+    sessions = run.ran.stdout.split()[1] if told else b""
+    require(sessions == b"%d" % SESSIONS or run.ran.status == 4, run.ran.said())
+    same(report(int(sessions), len(lines), world.bytes_in, world.bytes_out), run.ran.stdout)
     same(0, audit.frames.rest)
-    lost = [line for client in run.clients for line in client.told if line not in lines]
+    are_told(run, lines, len(lines) + 1)
+
+
+def are_told(run: Run, lines: list[str], most: int) -> None:
+    """What clients were told of the first places is in the trace."""
+    told = [line for client in run.clients for line in client.told if int(line.split()[0]) < most]
+    lost = [line for line in told if line not in lines]
     require(not lost, f"told and not in the trace: {lost[:3]}")
 
 
-def check(program: str, refuser: Refuser, first: int, last: int, ways: Ways) -> None:
-    """One run with refusals."""
-    run = served(program, refuser, first, last)
-    is_right(run)
-    refused = sum(client.refused for client in run.clients)
-    require(first != last or refused <= 1, f"{refused} acts are refused for want of memory")
-    ways[run.ran.status, run.ran.stderr] += 1
+class Check:
+    """The runs of a program, how they ended, and in how many an act was refused and given again."""
+
+    def __init__(self, program: str, refuser: Refuser) -> None:
+        self.program = program
+        self.refuser = refuser
+        self.ways: Ways = collections.Counter()
+        self.given_again = 0
+
+    def run(self, first: int, last: int) -> None:
+        """One run with refusals, or without."""
+        run = served(self.program, self.refuser, first, last)
+        is_right(run)
+        if first == last:
+            self.is_answered(run)
+        self.ways[run.ran.status, run.ran.stderr] += 1
+
+    def is_answered(self, run: Run) -> None:
+        """Whoever was not hung up on was answered, where one allocation was refused at most."""
+        refused = sum(client.refused for client in run.clients)
+        require(refused <= 1, f"{refused} acts are refused for want of memory")
+        if run.ran.status == 0 and all(client.is_answered for client in run.clients):
+            same(ALL_TOLD, sum(len(client.told) for client in run.clients))
+            self.given_again += refused
+
+    def ended(self, end: tuple[int, bytes]) -> None:
+        """Some runs ended so."""
+        require(self.ways[end], "no run does")
+
+    def gave_again(self) -> None:
+        """Some act was refused and given again, and the conversation went on to its end."""
+        require(self.given_again, "no act is")
 
 
 def main() -> int:
@@ -195,23 +233,20 @@ def main() -> int:
     if status is not None:
         return status
     count = Count()
-    ways: Ways = collections.Counter()
     with tempfile.TemporaryDirectory(prefix="fdref-", dir=SCRATCH) as folder:
         refuser = Refuser(build(folder))
-        whole = served(program, refuser, NEVER, NEVER)
-        asked = refuser.counted()
-        count.check("nothing refused", partial(is_right, whole))
-        wanted = len(OF_PARENT) + len(OF_CHILD) + 2
-        count.check("nothing refused, all told", partial(same, wanted, sum(len(it.told) for it in whole.clients)))
-        for first in range(1, asked + 1):
-            for last in (first, NEVER - 1):
-                what = f"allocation {first} refused" + (" and all later ones" if last != first else "")
-                count.check(what, partial(check, program, refuser, first, last, ways))
-    for (ended, stderr), runs in sorted(ways.items()):
-        print(f"{runs} runs: status {ended} {stderr.decode().strip()}".rstrip())
+        check = Check(program, refuser)
+        if count.check("nothing refused", partial(check.run, NEVER, NEVER)):
+            for first in range(1, refuser.counted() + 1):
+                count.check(f"allocation {first} refused", partial(check.run, first, first))
+                count.check(f"allocation {first} refused and all later ones", partial(check.run, first, NEVER - 1))
+    for (ended, stderr), runs in sorted(check.ways.items()):
+        print(f"{runs} runs: status {ended} {stderr.decode()}".rstrip())
+    print(f"{check.given_again} acts refused and given again")
     for end in ENDS:
         if end[0] in (0, 5):
-            count.check(f"some runs end so: {end}", partial(require, ways[end], "none does"))
+            count.check(f"ending so: {end}", partial(check.ended, end))
+    count.check("an act given again", check.gave_again)
     return count.end()
 
 

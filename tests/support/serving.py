@@ -1,6 +1,5 @@
 """A server as the tests run it, and clients of it, whose waits are all bounded."""
 
-import contextlib
 import os
 import re
 import select
@@ -188,25 +187,9 @@ class Client:
 
     def answer(self) -> str:
         """The next answer, as lines have it: `PLACE OUTCOME`, or `- refused WHY`."""
-        return self.line(self.receive(int.from_bytes(self.receive(4), "big")))
-
-    @staticmethod
-    def line(payload: bytes) -> str:
-        """The line of an answer, from what its frame holds."""
+        payload = self.receive(int.from_bytes(self.receive(4), "big"))
         place, _, outcome = frames.line_of("answers", payload, 0).partition(" p0 fork = ")
         return f"{place} {outcome}"
-
-    def answers_left(self) -> list[str]:
-        """The whole answers that are there still, of a server that is gone."""
-        some = b""
-        with contextlib.suppress(ConnectionResetError):
-            while piece := self.socket.recv(65536):
-                some += piece
-        answers = []
-        while len(some) >= 4 and len(some) >= (end := 4 + int.from_bytes(some[:4], "big")):
-            answers.append(self.line(some[4:end]))
-            some = some[end:]
-        return answers
 
     def gets(self, wanted: str) -> None:
         """The next answer is this one."""
