@@ -16,8 +16,9 @@ NEVER = 2**63
 NO_MEMORY = Ran(5, b"", b"no memory\n")
 GIVEN_AGAIN = b"given again: 1\n"
 
-# Counts allocations in a file, and refuses those from REFUSE_FIRST to REFUSE_LAST, of all threads together. The programs
-# ask by malloc and realloc alone, and the C library for their threads by calloc. The kit's clang has no headers.
+# Counts allocations in a file, and refuses those from REFUSE_FIRST to REFUSE_LAST, of all threads together. The
+# programs ask by malloc and realloc alone, and the C library for their threads by calloc. The kit's clang has no
+# headers.
 REFUSES = """
 typedef unsigned long size_t;
 extern void *__libc_malloc(size_t);

@@ -93,8 +93,8 @@ def started(
     before: Callable[[], None] | None = None,
     files: Sequence[int] = (),
 ) -> Process:
-    """A process in a group of its own, so that what it leaves can be seen. `before` is called in it at its start, and it
-    has these open files."""
+    """A process in a group of its own, so that what it leaves can be seen. `before` is called in it at its start, and
+    it has these open files."""
     return subprocess.Popen(
         words,
         stdin=subprocess.DEVNULL,
