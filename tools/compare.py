@@ -827,7 +827,8 @@ def check_all(args: argparse.Namespace, totals: Totals, driver: str) -> None:
     """Compares all scripts that are asked for."""
     program = shlex.split(args.program)
     if program == [PROGRAM] and not os.path.exists(PROGRAM):
-        raise CannotRun(f"no program at {PROGRAM}: './fdref build' makes it; --program './fdref --unproved' takes the unproved one")
+        ways = "'./fdref build' makes it; --program './fdref --unproved' takes the unproved one"
+        raise CannotRun(f"no program at {PROGRAM}: {ways}")
     asked = Asked(program, shlex.split(driver))
     for name, lines in scripts_in(args.paths):
         check_one(asked, totals, name, lines, False, args.keep)

@@ -189,7 +189,7 @@ class LiveRun:
         return True
 
     def is_settled(self, audit: Audit) -> bool:
-        """Whether a trace holds what was told, nothing else but exits, and by the model nobody who is left can go on."""
+        """Whether a trace holds what was told, nothing else but exits, and by the model nobody left can go on."""
         lines, world = audit.frames.lines, audit.judge.world
         waits = {process.number: process.waits for process in world.processes.values() if process.waits}
         return (
