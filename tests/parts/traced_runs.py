@@ -73,9 +73,19 @@ class Plan:
         return [it for it in self.world.processes.values() if it.waits]
 
     def wake_all(self) -> None:
-        """Wakes one process after another, as long as there is one that somebody can wake."""
-        while wakers := [act for it in self.waiting() if (act := self.waker(it))]:
-            self.take(wakers[0])
+        """Wakes one process after another, as long as somebody can."""
+        while any(self.wakes(act) for it in self.waiting() if (act := self.waker(it))):
+            continue
+
+    def wakes(self, act: plain_model.Act) -> bool:
+        """Plans an act that may let a call go on: whether one did. An open for which there is no room lets none."""
+        before = self.moved()
+        self.take(act)
+        return self.moved() != before
+
+    def moved(self) -> dict[int, int]:
+        """How many bytes each call has moved that waits."""
+        return {it.number: it.waits.moved for it in self.waiting() if it.waits}
 
     def waker(self, sleeper: plain_model.Process) -> plain_model.Act | None:
         """An act of another process that lets the call of a process go on."""
