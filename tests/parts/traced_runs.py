@@ -201,12 +201,13 @@ class LiveRun:
     def is_settled(self, audit: Audit) -> bool:
         """Whether a trace holds what was told, nothing else but exits, and by the model nobody left can go on."""
         lines, world = audit.frames.lines, audit.judge.world
-        waits = {process.number: process.waits for process in world.processes.values() if process.waits}
+        # with those whose exits the trace does not hold yet
+        here = {process.number: process.waits for process in world.processes.values() if process.attached}
         return (
             all(place < len(lines) for place in self.told)
             and all(place in self.told or UNTOLD.fullmatch(line) for place, line in enumerate(lines))
-            and not any(call.is_ready(world) for call in waits.values())
-            and set(self.players) == set(waits)
+            and set(self.players) == set(here)
+            and all(call and not call.is_ready(world) for call in here.values())
         )
 
     def left(self) -> list[Player]:
