@@ -3,3 +3,5 @@ pub mod Acts
 pub mod System
 pub mod Events
 pub mod Says
+pub mod Stirred
+pub mod Sleepers

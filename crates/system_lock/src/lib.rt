@@ -6,4 +6,6 @@ mod bells;
 pub mod kernel;
 pub mod lock;
 pub mod one_book;
+mod sleepers;
+mod stirred;
 pub mod system;

@@ -1,10 +1,10 @@
 //! A book, and the processes that sleep: what stands under the lock of a run.
 
-ghost use Rattle.std.specs.Prelude.{◌≡◌, [], Some, false, true, not, All, IfOk};
+ghost use Rattle.std.specs.Prelude.{◌≡◌, [], Some, false, true, All, IfOk};
 ghost use Rattle.rtrb.specs.Ring.{received};
 ghost use Rattle.system_lock.specs.Kernel.{IsOpening, OpensBy, CallsBy, HangsUpBy};
 ghost use Rattle.system_lock.specs.Acts.{TriesBy};
-ghost use Rattle.system_lock.specs.System.{SleepsSound, is_ready_in};
+ghost use Rattle.system_lock.specs.System.{is_ready_in};
 ghost use Rattle.system_lock.specs.Events.{OpensIn, CallsIn, ExitsIn, TriesIn, still_asleep, with_sleeper};
 ghost use Rattle.record_book.specs.Book.{new_book};
 
@@ -12,6 +12,8 @@ use crate::acts;
 use crate::acts::{Tried, TriedIn};
 use crate::bells::Bells;
 use crate::kernel::{EndedIn, Why};
+use crate::sleepers::Sleepers;
+use crate::stirred::{Stirred, events_spare, pipe_waited};
 use byte_ledger::ledgers::{Blanks, Ledgers};
 use call_types::call::Call;
 use call_types::limits::{Limits, PROCESSES_MAX};
@@ -25,41 +27,23 @@ use std::marker::Model;
 use trace_ring::trace_ring::TraceEnd;
 
 /// A book, which has the limits that its type names, whose house has no receipt, and from which the end of the trace was taken; and the
-/// numbers of the processes that sleep until the call that they wait in is ready. None of these is ready.
+/// processes that sleep until the call that they wait in is ready. None of these is ready, and the pipe of each is known.
 #[derive(Drop)]
 pub struct System<L: Ledgers> {
     book: Book<L>,
-    asleep: Vec<u32>,
+    sleepers: Sleepers,
 }
 
 impl<L: Ledgers> Model for System<L> {
     ghost use Rattle.std.specs.Prelude.{◌≡◌, [], Some, true};
-    ghost use Rattle.system_lock.specs.System.{SystemState, SleepsSound};
+    ghost use Rattle.system_lock.specs.System.{SystemState};
+    ghost use Rattle.system_lock.specs.Sleepers.{SleepersSound};
 
     ghost Value = { SystemState };
 
-    ghost view = { λ s. record { book_is = s.book; asleep_are = s.asleep.items } };
+    ghost view = { λ s. record { book_is = s.book; asleep_are = s.sleepers.asleep.items } };
 
-    ghost invariant = { λ s. SleepsSound s.book s.asleep.items × (L.limits ≡ Some s.book.limits) × (s.book.house ≡ Some []) × (s.book.is_traced ≡ true) };
-}
-
-/// Whether a process that sleeps is to sleep on, since its call is not ready; else it is woken.
-fn sleeps_on<L: Ledgers>(book: &Book<L>, bells: &Bells, process: u32) -> bool
-    ensures { result ≡ not (is_ready_in book.now process) }
-{
-    let ready = book.is_ready(process);
-    if ready {
-        bells.of(process).notify_all();
-    }
-    !ready
-}
-
-/// Takes the processes that wait in a call that is ready out of those that sleep, and wakes them.
-fn wake_ready<L: Ledgers>(asleep: &mut Vec<u32>, book: &Book<L>, bells: &Bells)
-    ensures none_ready { SleepsSound book.now asleep.new.items }
-    ensures others { asleep.new.items ≡ still_asleep book.now asleep.old.items }
-{
-    asleep.retain(|process| sleeps_on(book, bells, *process));
+    ghost invariant = { λ s. SleepersSound s.book s.sleepers × (L.limits ≡ Some s.book.limits) × (s.book.house ≡ Some []) × (s.book.is_traced ≡ true) };
 }
 
 impl<L: Ledgers> System<L> {
@@ -75,9 +59,13 @@ impl<L: Ledgers> System<L> {
         ensures trace { IfOk result (λ pair. received pair.1 ≡ []) }
     {
         let asleep = Vec::with_capacity(alloc, PROCESSES_MAX)?;
+        let pipes = Vec::with_capacity(alloc, PROCESSES_MAX)?;
         let mut book = Book::new(alloc, limits, blanks)?;
         match book.trace_end() {
-            Some(trace) => Ok((System { book, asleep }, trace)),
+            Some(trace) => {
+                let sleepers = Sleepers { asleep, pipes };
+                Ok((System { book, sleepers }, trace))
+            }
             None => unreachable!(),
         }
     }
@@ -87,7 +75,7 @@ impl<L: Ledgers> System<L> {
         ensures those { result.now ≡ self.now.asleep_are }
         ensures none_ready { All (λ process. is_ready_in self.now.book_is process ≡ false) result.now }
     {
-        self.asleep.as_slice()
+        self.sleepers.asleep.as_slice()
     }
 
     /// The book. Its house has no receipt yet, and the end of its trace was taken.
@@ -102,7 +90,7 @@ impl<L: Ledgers> System<L> {
 
     /// Whether a process sleeps.
     pub(crate) fn sleeps(&self, process: u32) -> bool {
-        self.asleep.contains(&process)
+        self.sleepers.asleep.contains(&process)
     }
 
     /// Opens a process.
@@ -118,7 +106,7 @@ impl<L: Ledgers> System<L> {
         ensures asleep { self.new.asleep_are ≡ still_asleep self.new.book_is self.old.asleep_are }
     {
         let opened = acts::open(&mut self.book, alloc, request);
-        wake_ready(&mut self.asleep, &self.book, bells);
+        self.sleepers.wake(&self.book, bells, Stirred::Anybody);
         opened
     }
 
@@ -134,8 +122,10 @@ impl<L: Ledgers> System<L> {
         ensures event { CallsIn self.old.book_is self.new.book_is seat.old seat.new call result }
         ensures asleep { self.new.asleep_are ≡ still_asleep self.new.book_is self.old.asleep_are }
     {
+        events_spare();
+        let stirred = Stirred::by(self.book.machine(), seat.pid(), &call);
         let told = acts::call(&mut self.book, alloc, seat, call);
-        wake_ready(&mut self.asleep, &self.book, bells);
+        self.sleepers.wake(&self.book, bells, stirred.told(&told));
         told
     }
 
@@ -145,16 +135,28 @@ impl<L: Ledgers> System<L> {
         ensures event { TriesIn self.old.book_is self.new.book_is seat result }
         ensures asleep { self.new.asleep_are ≡ still_asleep self.new.book_is (with_sleeper self.old.asleep_are result) }
     {
+        events_spare();
         let process = seat.pid();
-        let tried = match acts::resume(&mut self.book, alloc, seat) {
-            Tried::Still(seat) => match self.asleep.push(process) {
+        let pipe = pipe_waited(self.book.machine(), process);
+        match acts::resume(&mut self.book, alloc, seat) {
+            Tried::Still(seat) => match self.sleepers.fall_asleep(process, pipe) {
                 Ok(()) => Tried::Still(seat),
-                Err(_) => Tried::Ended(acts::exit(&mut self.book, seat, Why::NoMemory)),
+                Err(_) => {
+                    let ended = acts::exit(&mut self.book, seat, Why::NoMemory);
+                    self.sleepers.wake(&self.book, bells, Stirred::Anybody);
+                    Tried::Ended(ended)
+                }
             },
-            tried => tried,
-        };
-        wake_ready(&mut self.asleep, &self.book, bells);
-        tried
+            Tried::Resumed { seat, receipt } => {
+                let stirred = Stirred::at(process, pipe);
+                self.sleepers.wake(&self.book, bells, stirred);
+                Tried::Resumed { seat, receipt }
+            }
+            Tried::Ended(ended) => {
+                self.sleepers.wake(&self.book, bells, Stirred::Anybody);
+                Tried::Ended(ended)
+            }
+        }
     }
 
     /// Records the exit of a process, and wakes whom it concerns.
@@ -164,7 +166,7 @@ impl<L: Ledgers> System<L> {
         ensures asleep { self.new.asleep_are ≡ still_asleep self.new.book_is self.old.asleep_are }
     {
         let ended = acts::exit(&mut self.book, seat, Why::HungUp);
-        wake_ready(&mut self.asleep, &self.book, bells);
+        self.sleepers.wake(&self.book, bells, Stirred::Anybody);
         ended
     }
 }

@@ -1,0 +1,76 @@
+-- What an event of a book leaves of those that sleep: all whom it does not stir.
+use Rattle.std.proofs.Common.{◌≡◌, ◌∙◌, ℕ, List, [], ◌∷◌, ◌++◌, Ok, Err, refl, ap, sym, subst}
+use Rattle.call_types.specs.declared.act.Act.{Act}
+use Rattle.call_types.specs.declared.act.Act.TheVariants as act
+use Rattle.call_types.specs.declared.act.Record.{Record}
+use Rattle.call_types.specs.declared.limits.Bounds.{Bounds}
+use Rattle.call_types.specs.declared.limits.Limits.{Limits}
+use Rattle.posix_model.specs.declared.world.World.{World}
+use Rattle.posix_model.specs.Released.{SweptIsSettled, SettledStays}
+use Rattle.posix_model.specs.Sound.{ActsAreSound}
+use Rattle.posix_model.specs.Laws.{HistoryIsWhole, HistorySettles}
+use Rattle.posix_model.specs.History.{empty_world, after_act, after, world_from, world_of}
+use Rattle.posix_model.specs.Resume.{is_ready}
+use Rattle.record_book.specs.Seat.{Receipted}
+use Rattle.record_book.specs.Book.{BookState, world_now, Appends}
+use Rattle.system_lock.specs.Stirred.{pipe_waited, stirred_at, stirred_by, stirred_with, Spares}
+use Rattle.system_lock.specs.Sleepers.{SparesIn, CallsSpare, ResumesSpare}
+use Rattle.system_lock.specs.declared.stirred.Stirred.{Stirred}
+use Rattle.system_lock.specs.declared.stirred.Stirred.TheVariants as stirred
+use Rattle.system_lock.proofs.StirActs.{Grounds, call_spares, resume_spares}
+
+-- where nothing changes
+pub same_spared : (old new : BookState) (s : Stirred) → new ≡ old → SparesIn old new s
+same_spared old new s same = subst (λ (b : BookState). SparesIn old b s) (sym same) (record { ready = λ q apart. refl; pipe = λ q other. refl })
+
+-- whatever changes
+pub any_spared : (old new : BookState) → SparesIn old new stirred.Anybody
+any_spared old new = record { ready = λ q apart. cc; pipe = λ q other. cc }
+
+-- the world after one record more
+world_further : (bounds : Bounds) (w : World) (h : List Record) (r : Record) → world_from bounds w (h ++ r ∷ []) ≡ after bounds (world_from bounds w h) r
+world_further bounds w [] r = refl
+world_further bounds w (x ∷ xs) r = world_further bounds (after bounds w x) xs r
+
+world_appended : (old new : BookState) (actor : ℕ) (a : Act) (receipt : Receipted) → Appends old new actor a receipt → world_now new ≡ after_act old.limits.bounds (world_now old) actor a
+world_appended old new actor a receipt h =
+    let bounds = old.limits.bounds in
+    let w = world_now old in
+    let r = receipt.record_is in
+    ap (λ (l : Limits). world_of l.bounds new.history) h.limits ∙
+    (ap (world_of bounds) h.history ∙
+    (world_further bounds empty_world old.history r ∙ (ap (λ (n : ℕ). after_act bounds w n r.act) h.actor_is ∙ ap (λ (x : Act). after_act bounds w actor x) h.act_is)))
+
+-- a book is spared as its world is
+spared_by : (old new : BookState) (v : World) (s : Stirred) → new.limits ≡ old.limits → world_now new ≡ v → Spares old.limits.bounds (world_now old) v s → SparesIn old new s
+spared_by old new v s same is spares = record {
+  ready = λ q apart.
+      ap (λ (l : Limits). is_ready l.bounds (world_now new) q) same ∙ (ap (λ (x : World). is_ready old.limits.bounds x q) is ∙ spares.ready q apart);
+  pipe = λ q other. ap (λ (x : World). pipe_waited x q) is ∙ spares.pipe q other;
+}
+
+-- what is known of all acts and histories
+pub record Known : Type 0 where
+  pub settles : SweptIsSettled
+  pub stays : SettledStays
+  pub sound : ActsAreSound
+  pub swept : HistorySettles
+  pub whole : HistoryIsWhole
+
+grounds : Known → (b : BookState) → Grounds (world_now b)
+grounds k b = record { settles = k.settles; stays = k.stays; sound = k.sound; swept = k.swept b.limits.bounds b.history; whole = k.whole b.limits.bounds b.history }
+
+pub calls_spare : Known → CallsSpare
+calls_spare k old new s t call (Ok receipt) h =
+    let bounds = old.limits.bounds in
+    let w = world_now old in
+    let o = receipt.record_is.outcome in
+    spared_by old new (after_act bounds w s.pid (act.Call call)) (stirred_with o (stirred_by w s.pid call)) h.appends.limits (world_appended old new s.pid (act.Call call) receipt h.appends)
+    (call_spares bounds w (grounds k old) s.pid call o h.appends.outcome)
+calls_spare k old new s t call (Err refusal) h = same_spared old new stirred.Nobody h.0
+
+pub resumes_spare : Known → ResumesSpare
+resumes_spare k old new s t receipt h =
+    let bounds = old.limits.bounds in
+    let w = world_now old in
+    spared_by old new (after_act bounds w s.pid act.Resume) (stirred_at s.pid (pipe_waited w s.pid)) h.appends.limits (world_appended old new s.pid act.Resume receipt h.appends) (resume_spares bounds w (grounds k old) s.pid)

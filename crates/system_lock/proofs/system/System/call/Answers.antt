@@ -1,0 +1,18 @@
+use Rattle.std.proofs.Common.{◌≡◌, ◌∙◌, ℕ, ap, sym, subst}
+use Rattle.posix_model.specs.declared.world.World.{World}
+use Rattle.record_book.specs.Book.{world_now}
+use Rattle.system_lock.specs.Stirred.{stirred_by, stirred_told}
+use Rattle.system_lock.specs.Sleepers.{SparesIn}
+use Rattle.system_lock.proofs.system.System.call.Goals as goal
+
+-- the call spares all whom it was said not to stir
+pub wake-requires : goal.wake-requires
+wake-requires g c =
+    let b = c.self.inside.book in
+    let s = c.args.seat.now in
+    let call = c.args.call in
+    let told = c.call-told.result in
+    let asked : c.by-stirred.result ≡ stirred_by (world_now b) s.pid call =
+    c.by-stirred.ensures ∙ (ap (λ (w : World). stirred_by w c.pid.result call) c.machine.ensures ∙ ap (λ (n : ℕ). stirred_by (world_now b) n call) c.pid.ensures) in
+    let is : c.told.result ≡ stirred_told told (stirred_by (world_now b) s.pid call) = c.told.ensures ∙ ap (stirred_told told) asked in
+    record { spared = (b, c.self.invariant.0, subst (SparesIn b c.call-told.new.book) (sym is) (c.events_spare.ensures.calls b c.call-told.new.book s c.call-told.new.seat call told c.call-told.ensures.event)) }
