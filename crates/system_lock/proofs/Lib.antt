@@ -2,6 +2,8 @@ pub mod KernelLaws
 pub mod OpeningLaws
 pub mod SaysLaws
 pub mod StirLaws
+pub mod OwnLaws
+pub mod OwnCalls
 pub mod StirCalls
 pub mod StirActs
 pub mod StirEvents

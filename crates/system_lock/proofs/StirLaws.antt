@@ -381,7 +381,7 @@ if_same : (b : Bool) (x y : Option Try) → is_some y ≡ is_some x → is_some 
 if_same true x y same = same
 if_same false x y same = refl
 
-neither : (a b : Bool) → (a || b) ≡ false → (a ≡ false) × (b ≡ false)
+pub neither : (a b : Bool) → (a || b) ≡ false → (a ≡ false) × (b ≡ false)
 neither true b h = cc
 neither false b h = (refl, h)
 

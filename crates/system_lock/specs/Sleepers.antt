@@ -4,13 +4,18 @@ use Rattle.std.specs.List.{remove}
 use Rattle.call_types.specs.declared.act.Act.TheVariants as act
 use Rattle.call_types.specs.declared.call.Call.{Call}
 use Rattle.call_types.specs.declared.refusal.Refusal.{Refusal}
+use Rattle.call_types.specs.declared.request.Request.{Request}
+use Rattle.call_types.specs.declared.request.Request.TheVariants as request
 use Rattle.record_book.specs.Seat.{Receipted, SeatState}
 use Rattle.record_book.specs.Book.{BookState, world_now, Records}
-use Rattle.system_lock.specs.Events.{CallsIn}
+use Rattle.record_book.specs.Openings.{Opened, next_pid}
+use Rattle.system_lock.specs.Events.{OpensIn, CallsIn, ExitsIn}
 use Rattle.system_lock.specs.Stirred.{pipe_waited, is_by, stirs, stirred_at, stirred_by, stirred_told}
 use Rattle.system_lock.specs.System.{SleepsSound, is_ready_in}
 use Rattle.system_lock.specs.declared.sleepers.Sleepers.{Sleepers}
+use Rattle.system_lock.specs.declared.kernel.Why.{Why}
 use Rattle.system_lock.specs.declared.stirred.Stirred.{Stirred}
+use Rattle.system_lock.specs.declared.stirred.Stirred.TheVariants as stirred
 
 -- the pipe on which the call of a process waits, if it waits in one
 abbrev pub pipe_in : BookState → ℕ → Option ℕ
@@ -54,10 +59,24 @@ pub record LooksAt (b : BookState) (s : Stirred) (old new : Sleepers) (at next :
 abbrev pub pipe_then : BookState → Stirred → ℕ → Option ℕ → Option ℕ
 pipe_then b s process pipe = if is_by s process then pipe_in b process else pipe
 
+-- the process that an opening is of: the one that it opens
+abbrev pub opener : BookState → Request → ℕ
+opener b request.Join = next_pid b
+opener b (request.Attach process) = process
+opener b (request.Call call) = 0
+
 -- a call spares all whom it does not stir (own)
 abbrev pub CallsSpare : Type 0
 CallsSpare = (old new : BookState) (s t : SeatState) (call : Call) (told : Result Receipted Refusal) → CallsIn old new s t call told → SparesIn old new (stirred_told told (stirred_by (world_now old) s.pid call))
 
--- and so does a resume (own)
+-- a resume (own)
 abbrev pub ResumesSpare : Type 0
 ResumesSpare = (old new : BookState) (s t : SeatState) (receipt : Receipted) → Records old new s t act.Resume receipt → SparesIn old new (stirred_at s.pid (pipe_in old s.pid))
+
+-- an opening (own)
+abbrev pub OpensSpare : Type 0
+OpensSpare = (old new : BookState) (request : Request) (told : Result Opened Refusal) → OpensIn old new request told → SparesIn old new (stirred.Anybody (opener old request))
+
+-- and an exit (own)
+abbrev pub ExitsSpare : Type 0
+ExitsSpare = (old new : BookState) (s t : SeatState) (reason : Why) → ExitsIn old new s t reason → SparesIn old new (stirred.Anybody s.pid)

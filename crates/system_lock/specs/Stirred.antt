@@ -32,15 +32,15 @@ pipe_waited w process = pipe_for w process (parked_of (slot w.processes process)
 abbrev pub is_by : Stirred → ℕ → Bool
 is_by stirred.Nobody process = false
 is_by (stirred.Around other pipe) process = other == process
-is_by stirred.Anybody process = true
+is_by (stirred.Anybody other) process = other == process
 
--- whether an event is one of this pipe
+-- whether an event may be one of this pipe
 abbrev pub is_on : Stirred → ℕ → Bool
 is_on stirred.Nobody pipe = false
 is_on (stirred.Around process other) pipe = other == pipe
-is_on stirred.Anybody pipe = true
+is_on (stirred.Anybody process) pipe = true
 
--- whether an event is one of the pipe on which a call waits
+-- whether an event may be one of the pipe on which a call waits
 abbrev pub is_on_its : Stirred → Option ℕ → Bool
 is_on_its s None = false
 is_on_its s (Some pipe) = is_on s pipe
@@ -63,7 +63,7 @@ stirred_by w process (call.Pwrite fd start bytes) = stirred.Nobody
 stirred_by w process (call.Lseek fd offset from) = stirred.Nobody
 stirred_by w process (call.Ftruncate fd len) = stirred.Nobody
 stirred_by w process (call.Fstat fd) = stirred.Nobody
-stirred_by w process other = stirred.Anybody
+stirred_by w process other = stirred.Anybody process
 
 -- whom a call stirs that has this outcome: an error stirs nobody
 abbrev pub stirred_with : Outcome → Stirred → Stirred

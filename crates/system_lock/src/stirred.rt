@@ -2,15 +2,20 @@
 
 ghost use Rattle.std.specs.Prelude.{◌≡◌};
 ghost use Rattle.system_lock.specs.Stirred.{pipe_of, pipe_waited, is_by, is_on, is_on_its, stirs, stirred_at, stirred_by, stirred_with, stirred_told};
-ghost use Rattle.system_lock.specs.Sleepers.{CallsSpare, ResumesSpare};
+ghost use Rattle.system_lock.specs.Sleepers.{opener, CallsSpare, ResumesSpare, OpensSpare, ExitsSpare};
 
+use byte_ledger::ledgers::Ledgers;
 use call_types::call::Call;
 use call_types::outcome::{Outcome, Reply};
 use call_types::refusal::Refusal;
+use call_types::request::Request;
 use pipe_calls::targets::pipe_at;
-use posix_model::laws::{acts_are_sound, numbers_rise, sweep_releases, sweep_settles};
+use posix_model::laws::{
+    acts_are_sound, numbers_rise, sweep_leaves_wanted, sweep_releases, sweep_settles,
+};
 use posix_model::opened::OpenDescriptor;
 use posix_model::reader::WorldReader;
+use record_book::book::Book;
 use record_book::seat::Receipt;
 
 /// Whom an event may have made ready, of those that sleep.
@@ -19,7 +24,8 @@ pub(crate) enum Stirred {
     Nobody,
     /// The process of the event, and those that wait on this pipe.
     Around { process: u32, pipe: usize },
-    Anybody,
+    /// The process of the event, and all that wait on a pipe.
+    Anybody { process: u32 },
 }
 
 impl Stirred {
@@ -46,7 +52,7 @@ impl Stirred {
             | Call::Lseek { .. }
             | Call::Ftruncate { .. }
             | Call::Fstat { .. } => Stirred::Nobody,
-            _ => Stirred::Anybody,
+            _ => Stirred::Anybody { process },
         }
     }
 
@@ -76,8 +82,9 @@ impl Stirred {
     {
         match self {
             Stirred::Nobody => false,
-            Stirred::Around { process: other, .. } => other == process,
-            Stirred::Anybody => true,
+            Stirred::Around { process: other, .. } | Stirred::Anybody { process: other } => {
+                other == process
+            }
         }
     }
 
@@ -88,7 +95,7 @@ impl Stirred {
         match self {
             Stirred::Nobody => false,
             Stirred::Around { pipe: other, .. } => other == pipe,
-            Stirred::Anybody => true,
+            Stirred::Anybody { .. } => true,
         }
     }
 
@@ -130,13 +137,27 @@ pub(crate) fn pipe_waited<R: WorldReader>(state: &R, process: u32) -> Option<usi
     }
 }
 
-/// A call and a resume spare all whom they do not stir. It does nothing.
+/// The process that an opening is of: the one that it opens.
+pub(crate) fn opener<L: Ledgers>(book: &Book<L>, request: &Request) -> u32
+    ensures { result ≡ opener book.now request.now }
+{
+    match request {
+        Request::Join => book.next_pid(),
+        Request::Attach { process } => *process,
+        Request::Call(_) => 0,
+    }
+}
+
+/// Each event spares all whom it does not stir. It does nothing.
 pub(crate) fn events_spare()
     ensures calls { CallsSpare }
     ensures resumes { ResumesSpare }
+    ensures opens { OpensSpare }
+    ensures exits { ExitsSpare }
 {
     acts_are_sound();
     numbers_rise();
+    sweep_leaves_wanted();
     sweep_releases();
     sweep_settles();
 }

@@ -13,7 +13,7 @@ use crate::acts::{Tried, TriedIn};
 use crate::bells::Bells;
 use crate::kernel::{EndedIn, Why};
 use crate::sleepers::Sleepers;
-use crate::stirred::{Stirred, events_spare, pipe_waited};
+use crate::stirred::{Stirred, events_spare, opener, pipe_waited};
 use byte_ledger::ledgers::{Blanks, Ledgers};
 use call_types::call::Call;
 use call_types::limits::{Limits, PROCESSES_MAX};
@@ -105,8 +105,11 @@ impl<L: Ledgers> System<L> {
         ensures event { OpensIn self.old.book_is self.new.book_is request result }
         ensures asleep { self.new.asleep_are ≡ still_asleep self.new.book_is self.old.asleep_are }
     {
+        events_spare();
+        let process = opener(&self.book, &request);
         let opened = acts::open(&mut self.book, alloc, request);
-        self.sleepers.wake(&self.book, bells, Stirred::Anybody);
+        self.sleepers
+            .wake(&self.book, bells, Stirred::Anybody { process });
         opened
     }
 
@@ -143,7 +146,8 @@ impl<L: Ledgers> System<L> {
                 Ok(()) => Tried::Still(seat),
                 Err(_) => {
                     let ended = acts::exit(&mut self.book, seat, Why::NoMemory);
-                    self.sleepers.wake(&self.book, bells, Stirred::Anybody);
+                    self.sleepers
+                        .wake(&self.book, bells, Stirred::Anybody { process });
                     Tried::Ended(ended)
                 }
             },
@@ -153,7 +157,8 @@ impl<L: Ledgers> System<L> {
                 Tried::Resumed { seat, receipt }
             }
             Tried::Ended(ended) => {
-                self.sleepers.wake(&self.book, bells, Stirred::Anybody);
+                self.sleepers
+                    .wake(&self.book, bells, Stirred::Anybody { process });
                 Tried::Ended(ended)
             }
         }
@@ -165,8 +170,11 @@ impl<L: Ledgers> System<L> {
         ensures event { ExitsIn self.old.book_is self.new.book_is seat result.seat result.why }
         ensures asleep { self.new.asleep_are ≡ still_asleep self.new.book_is self.old.asleep_are }
     {
+        events_spare();
+        let process = seat.pid();
         let ended = acts::exit(&mut self.book, seat, Why::HungUp);
-        self.sleepers.wake(&self.book, bells, Stirred::Anybody);
+        self.sleepers
+            .wake(&self.book, bells, Stirred::Anybody { process });
         ended
     }
 }

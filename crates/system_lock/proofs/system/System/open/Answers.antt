@@ -1,5 +1,10 @@
-use Rattle.system_lock.proofs.StirEvents.{any_spared}
+use Rattle.std.proofs.Common.{ℕ, sym, subst}
+use Rattle.system_lock.specs.Sleepers.{SparesIn}
+use Rattle.system_lock.specs.declared.stirred.Stirred.TheVariants as stirred
 use Rattle.system_lock.proofs.system.System.open.Goals as goal
 
 pub wake-requires : goal.wake-requires
-wake-requires g c = record { spared = (c.self.inside.book, c.self.invariant.0, any_spared c.self.inside.book c.open-opened.new.book) }
+wake-requires g c =
+    let b = c.self.inside.book in
+    let new = c.open-opened.new.book in
+    record { spared = (b, c.self.invariant.0, subst (λ (n : ℕ). SparesIn b new (stirred.Anybody n)) (sym c.opener-process.ensures) (c.events_spare.ensures.opens b new c.args.request c.open-opened.result c.open-opened.ensures.event)) }

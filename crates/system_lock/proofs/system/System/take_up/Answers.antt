@@ -6,7 +6,7 @@ use Rattle.system_lock.specs.System.{SystemState, is_ready_in}
 use Rattle.system_lock.specs.Stirred.{pipe_waited, stirred_at}
 use Rattle.system_lock.specs.Sleepers.{pipe_in, SleepersSound, SparesIn}
 use Rattle.system_lock.proofs.SleeperLaws.{unchanged_sound, asleep_sound, all_asleep}
-use Rattle.system_lock.proofs.StirEvents.{any_spared}
+use Rattle.system_lock.specs.declared.stirred.Stirred.TheVariants as stirred
 use Rattle.system_lock.proofs.system.System.take_up.Goals as goal
 
 -- a process that falls asleep is not ready, and its pipe is known
@@ -34,10 +34,22 @@ returns-in-Ok-clause-asleep g c =
     ap (λ (n : ℕ). before ++ n ∷ []) its ∙ ap (λ (x : SystemState). x.asleep_are ++ c.in-Still.seat.pid ∷ []) c.self.view_is in
     all_asleep c.resume.new.book c.fall_asleep.new.self (c.args.self.now.asleep_are ++ c.in-Still.seat.pid ∷ []) is.0 (◌∙◌ {A = List ℕ} c.in-Ok.ensures.asleep now)
 
+-- so it is where there is no room for it
 pub wake-requires : goal.wake-requires
 wake-requires g c =
     let b = c.self.inside.book in
-    record { spared = (b, unchanged_sound b c.self.inside.sleepers c.fall_asleep.new.self c.self.invariant.0 c.in-Err.ensures.unchanged, any_spared b c.exit-ended.new.book) }
+    let still = c.in-Still.ensures.event in
+    let same = unchanged_sound b c.self.inside.sleepers c.fall_asleep.new.self c.self.invariant.0 c.in-Err.ensures.unchanged in
+    let its : c.pid-process.result ≡ c.in-Still.seat.pid = c.pid-process.ensures ∙ sym (ap (λ (s : SeatState). s.pid) still.2) in
+    let new = c.exit-ended.new.book in
+    let spares = c.events_spare.ensures.exits c.resume.new.book new c.in-Still.seat c.exit-ended.result.seat c.exit-ended.result.why c.exit-ended.ensures.event in
+    record {
+      spared = (
+        c.resume.new.book,
+        subst (λ (x : BookState). SleepersSound x c.fall_asleep.new.self) (sym still.1) same,
+        subst (λ (n : ℕ). SparesIn c.resume.new.book new (stirred.Anybody n)) (sym its) spares,
+      );
+    }
 
 -- a resume spares all but its own process and those on its pipe
 pub wake-requires-in-Resumed : goal.wake-requires-in-Resumed
@@ -52,4 +64,8 @@ wake-requires-in-Resumed g c =
     record { spared = (b, c.self.invariant.0, subst (SparesIn b new) (sym is) (c.events_spare.ensures.resumes b new s c.in-Resumed.seat c.in-Resumed.receipt c.in-Resumed.ensures.event.1)) }
 
 pub wake-requires-in-Ended : goal.wake-requires-in-Ended
-wake-requires-in-Ended g c = record { spared = (c.self.inside.book, c.self.invariant.0, any_spared c.self.inside.book c.resume.new.book) }
+wake-requires-in-Ended g c =
+    let b = c.self.inside.book in
+    let new = c.resume.new.book in
+    let spares = c.events_spare.ensures.exits b new c.args.seat c.in-Ended.ended.seat c.in-Ended.ended.why c.in-Ended.ensures.event.0 in
+    record { spared = (b, c.self.invariant.0, subst (λ (n : ℕ). SparesIn b new (stirred.Anybody n)) (sym c.pid-process.ensures) spares) }
