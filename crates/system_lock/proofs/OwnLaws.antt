@@ -26,6 +26,7 @@ use Rattle.posix_model.specs.Laws.{SweepLeaves}
 use Rattle.posix_model.specs.Whole.{IsWhole}
 use Rattle.posix_model.specs.Resume.{try_on, try_opened, try_parked, is_ready}
 use Rattle.system_lock.specs.Stirred.{pipe_of, pipe_for, pipe_waited}
+use Rattle.system_lock.proofs.StirLaws.{set_other}
 
 -- what a process waits with: its call, and its descriptors
 record Waiter : Type 0 where
@@ -58,13 +59,6 @@ keeps_same a w v same_processes same_descriptions = record {
 
 keeps_twice : (a : ℕ) (u v w : World) → Keeps a u v → Keeps a v w → Keeps a u w
 keeps_twice a u v w h k = record { waiters = λ q other. k.waiters q other ∙ h.waiters q other; targets = λ n t is. k.targets n t (h.targets n t is) }
-
-set_other : {T : Type 0} (xs : List (Option T)) (n m : ℕ) (y : Option T) → n ≢ m → slot (set xs n y) m ≡ slot xs m
-set_other [] n m y apart = refl
-set_other (x ∷ xs) zero zero y apart = absurd (apart refl)
-set_other (x ∷ xs) zero (suc m) y apart = refl
-set_other (x ∷ xs) (suc n) zero y apart = refl
-set_other (x ∷ xs) (suc n) (suc m) y apart = set_other xs n m y (λ same. apart (ap suc same))
 
 -- a new process waits in no call
 waiter_pushed : (ps : List (Option Process)) (table : List (Option ℕ)) (attached : Bool) (q : ℕ) → waiter (slot (ps ++ Some (process_with table attached) ∷ []) q) ≡ waiter (slot ps q)

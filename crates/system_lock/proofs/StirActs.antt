@@ -29,7 +29,7 @@ use Rattle.system_lock.specs.declared.stirred.Stirred.{Stirred}
 use Rattle.system_lock.specs.declared.stirred.Stirred.TheVariants as stirred
 use Rattle.system_lock.proofs.StirLaws.{IsSlight, neither, slight_spares}
 use Rattle.system_lock.proofs.OwnLaws.{IsOwn, own_pipe, unpiped}
-use Rattle.system_lock.proofs.OwnCalls.{Own, page_own}
+use Rattle.system_lock.proofs.OwnCalls.{Own, own_page}
 use Rattle.system_lock.proofs.StirCalls.{Slight, SlightOrOwn, MaybeSlight, nothing_slight, slight_at, call_slight, resume_slight}
 
 -- where nothing changes
@@ -70,7 +70,7 @@ pub act_spares : (bounds : Bounds) (w : World) → Grounds w → (actor : ℕ) (
 act_spares bounds w g actor a s all = at (comes_to bounds w actor a) refl
   where
     slight : (s : Stirred) (d : Decided) → comes_to bounds w actor a ≡ Some d → SlightOrOwn s d → Spares bounds w (sweep (changed w (given a) d.change)) s
-    slight (stirred.Anybody process) d is h = own_spares bounds w g process (given a) d.change h
+    slight (stirred.Anybody process) d is h = own_spares bounds w g process (given a) d.change h.change
     slight stirred.Nobody d is h = slight_spares g.settles g.stays stirred.Nobody bounds w (given a) d.change g.swept h ((g.sound bounds w actor a d is).fits g.whole)
     slight (stirred.Around process pipe) d is h =
         slight_spares g.settles g.stays (stirred.Around process pipe) bounds w (given a) d.change g.swept h ((g.sound bounds w actor a d is).fits g.whole)
@@ -93,17 +93,17 @@ told_of w bytes (Some x) d o is h = let same : x ≡ d = cc in let told : x.outc
 pub join_spares : (bounds : Bounds) (w : World) → Grounds w → (actor : ℕ) → Spares bounds w (after_act bounds w actor act.Join) (stirred.Anybody actor)
 join_spares bounds w g actor =
     act_spares bounds w g actor act.Join (stirred.Anybody actor)
-    (λ d is. subst (Own actor) (comes_of (actor == length w.processes) (decided_by (join w)) d is) (page_own actor (join w) (record { process = tt; table = tt })))
+    (λ d is. subst (Own actor) (comes_of (actor == length w.processes) (decided_by (join w)) d is) (own_page actor (join w) (record { change = record { process = tt; table = tt } })))
 
 pub attach_spares : (bounds : Bounds) (w : World) → Grounds w → (actor : ℕ) → Spares bounds w (after_act bounds w actor act.Attach) (stirred.Anybody actor)
 attach_spares bounds w g actor =
     act_spares bounds w g actor act.Attach (stirred.Anybody actor)
-    (λ d is. subst (Own actor) (comes_of true (decided_by (attach w actor)) d is) (page_own actor (attach w actor) (record { process = refl; table = tt })))
+    (λ d is. subst (Own actor) (comes_of true (decided_by (attach w actor)) d is) (own_page actor (attach w actor) (record { change = record { process = refl; table = tt } })))
 
 pub exit_spares : (bounds : Bounds) (w : World) → Grounds w → (actor : ℕ) → Spares bounds w (after_act bounds w actor act.Exit) (stirred.Anybody actor)
 exit_spares bounds w g actor =
     act_spares bounds w g actor act.Exit (stirred.Anybody actor)
-    (λ d is. subst (Own actor) (comes_of (is_some (slot w.processes actor)) (exit actor) d is) (record { process = refl; table = tt }))
+    (λ d is. subst (Own actor) (comes_of (is_some (slot w.processes actor)) (exit actor) d is) (record { change = record { process = refl; table = tt } }))
 
 -- an error stirs nobody, and any other outcome whom its call may stir
 by_outcome : (s : Stirred) (d : Decided) (o : Outcome) → ((error : Errno) → o ≡ Replied (Error error) → d.change ≡ no_change) → SlightOrOwn s d → SlightOrOwn (stirred_with o s) d

@@ -1,5 +1,5 @@
 -- What each call stirs: its change is slight for that.
-use Rattle.std.proofs.Common.{◌≡◌, ℕ, pos, ◌+◌, ◌-◌, Bool, true, false, not, cond, List, [], Option, None, Some, length, take, refl, eqb, leb, eq-eqb, nat_abs}
+use Rattle.std.proofs.Common.{◌≡◌, ℕ, pos, ◌+◌, ◌-◌, Bool, true, false, not, cond, List, [], Option, None, Some, length, take, refl, eqb, leb, eq-eqb}
 use Rattle.std.specs.Option.{option_map}
 use Rattle.slots.specs.Slots.{slot}
 use Rattle.process_table.specs.Processes.{is_here, parked_of}
@@ -29,23 +29,13 @@ use Rattle.posix_model.specs.Pwrite.{pwrite}
 use Rattle.posix_model.specs.Lseek.{lseek}
 use Rattle.posix_model.specs.Ftruncate.{ftruncate}
 use Rattle.posix_model.specs.Fstat.{fstat}
-use Rattle.call_types.specs.Names.{file_of}
-use Rattle.posix_model.specs.Open.{open_file}
-use Rattle.posix_model.specs.Close.{close}
-use Rattle.posix_model.specs.Dup.{dup}
-use Rattle.posix_model.specs.Dup2.{dup2}
-use Rattle.posix_model.specs.Pipe.{pipe as pipe_page}
-use Rattle.posix_model.specs.Mkfifo.{mkfifo}
-use Rattle.posix_model.specs.Link.{link}
-use Rattle.posix_model.specs.Unlink.{unlink}
-use Rattle.posix_model.specs.Fork.{fork}
 use Rattle.posix_model.specs.Resume.{read_ready, write_ready, open_ready, try_again, try_on, try_opened, try_parked, resume}
 use Rattle.posix_model.specs.Step.{decided}
 use Rattle.system_lock.specs.Stirred.{pipe_of, pipe_for, pipe_waited, is_by, is_on, stirred_at, stirred_by}
 use Rattle.system_lock.specs.declared.stirred.Stirred.{Stirred}
 use Rattle.system_lock.specs.declared.stirred.Stirred.TheVariants as stirred
 use Rattle.system_lock.proofs.StirLaws.{FilesSlight, IsSlight}
-use Rattle.system_lock.proofs.OwnCalls.{Own, nothing_own, page_own, open_own, if_own, found_own}
+use Rattle.system_lock.proofs.OwnCalls.{Own, call_own}
 
 -- what was decided is slight
 abbrev pub Slight : Stirred → Decided → Type 0
@@ -174,17 +164,7 @@ call_slight bounds w process (call.Pwrite fd start bytes) =
 call_slight bounds w process (call.Lseek fd offset from) = open_slight stirred.Nobody (opened w process fd) (lseek w offset from) (λ o. record { files = tt; process = tt; table = tt })
 call_slight bounds w process (call.Ftruncate fd len) = open_slight stirred.Nobody (opened w process fd) (ftruncate bounds len) (λ o. record { files = tt; process = tt; table = tt })
 call_slight bounds w process (call.Fstat fd) = open_slight stirred.Nobody (opened w process fd) (fstat w) (λ o. nothing_slight stirred.Nobody)
-call_slight bounds w process (call.Open name flags) = page_own process (open_file w process name flags) (found_own w process name flags (file_of name w.names))
-call_slight bounds w process (call.Close fd) = open_own process (opened w process fd) (close process) (λ o. record { process = tt; table = refl })
-call_slight bounds w process (call.Dup fd) = open_own process (opened w process fd) (dup w process) (λ o. record { process = tt; table = refl })
-call_slight bounds w process (call.Dup2 fd to) =
-    open_own process (opened w process fd) (dup2 process to)
-    (λ o. if_own process (eqb (nat_abs to) o.fd) (tells (Number (nat_abs to))) (does (Number (nat_abs to)) on_files.Nothing (on_table.Entry process (nat_abs to) (Some o.number))) (nothing_own process) (record { process = tt; table = refl }))
-call_slight bounds w process call.Pipe = page_own process (pipe_page w process) (record { process = tt; table = refl })
-call_slight bounds w process (call.Mkfifo name) = page_own process (mkfifo w name) (record { process = tt; table = tt })
-call_slight bounds w process (call.Link old new) = page_own process (link w old new) (record { process = tt; table = tt })
-call_slight bounds w process (call.Unlink name) = page_own process (unlink w name) (record { process = tt; table = tt })
-call_slight bounds w process call.Fork = page_own process (fork w process) (record { process = tt; table = tt })
+call_slight bounds w process other = call_own bounds w process other
 
 -- what a resume comes to, if it comes to anything
 abbrev pub MaybeSlight : Stirred → Option Decided → Type 0

@@ -100,7 +100,7 @@ sum_set f (x ∷ xs) zero y e = omega (arith, e, sum_by-cons f x xs, sum_by-cons
 sum_set f (x ∷ xs) (suc m) y e = omega (arith, sum_set f xs m y e, sum_by-cons f x xs, sum_by-cons f x (set xs m y))
 
 -- the other places are as they were
-set_other : {T : Type 0} (xs : List (Option T)) (n m : ℕ) (y : Option T) → n ≢ m → slot (set xs n y) m ≡ slot xs m
+pub set_other : {T : Type 0} (xs : List (Option T)) (n m : ℕ) (y : Option T) → n ≢ m → slot (set xs n y) m ≡ slot xs m
 set_other [] n m y apart = refl
 set_other (x ∷ xs) zero zero y apart = absurd (apart refl)
 set_other (x ∷ xs) zero (suc m) y apart = refl
