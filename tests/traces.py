@@ -1,7 +1,7 @@
 #!/usr/bin/env python3
 """Are traces written, judged and shown rightly, whole, cut and damaged ones? (two minutes)
 
-usage: tests/traces.py [--program PATH] [--seed WORD] [--runs N] [--changed N] [--jobs J] [--only WORD]
+usage: tests/traces.py [--program PATH] [--seed WORD] [--runs N] [--changed N] [--stride N] [--jobs J] [--only WORD]
 
 The program is crates/fdref/out/fdref where no PATH is given. What it must say of a trace is what the plain
 auditor says, tests/support/auditing.py. It is run
@@ -15,8 +15,11 @@ auditor says, tests/support/auditing.py. It is run
     were told must be what the trace holds, which must be right to the last record, and which `replay` makes
     again out of its acts. Where a call waits for ever the server is killed: its trace must hold all that was
     told. Run K of a seed has the same acts each time,
-  - on what the system refuses: files that cannot be read or written, a disk that is full, a server that is
-    killed, words that are no command line,
+  - on what the system refuses: files that cannot be read or written, a server that is killed, words that are
+    no command line,
+  - as a server whose trace cannot be written: on disks that fill up after every number of bytes (of a long trace
+    one in 5,003, or one in that many as `--stride` says), and at every write of one byte, that fail to sync, and
+    that are interrupted,
 
 and the client in clients/python and its example write traces and read them.
 
@@ -29,7 +32,6 @@ import multiprocessing
 import os
 import random
 import re
-import resource
 import signal
 import subprocess
 import sys
@@ -40,17 +42,17 @@ from functools import partial
 from pathlib import Path
 from typing import NamedTuple
 
-from parts import python_traces, traced_runs
+from parts import failing_disks, python_traces, traced_runs
 from parts.written_traces import SHORT, Named, changed_bytes, random_records, written_out
 from support import plain_model
 from support.auditing import Frames, audited, illegal, legal, shown
 from support.counting import FAULTS, Case, Count, require, same
-from support.frames import ERRORS, TRACE_HEADER, record_frame, trace_of, u32
+from support.frames import ERRORS, TRACE_HEADER, trace_of, u32
 from support.options import add_count, add_path, add_seed, end_without
 from support.places import FDREF, SCRATCH
 from support.running import Ran, run
 from support.runs import line_of
-from support.serving import A_WHILE, SECONDS, Server, outcome_of, report, serve_words, started
+from support.serving import A_WHILE, SECONDS, Server, outcome_of, serve_words, started
 from support.sources import changed, numbered, source
 from support.texts import difference
 
@@ -291,79 +293,6 @@ def cannot_make_trace(program: str, trace: str, folder: str) -> None:
     require(not os.path.exists(path), "a socket was made")
 
 
-# A conversation of which the first records are those of the short trace.
-CALLS = [("join", "0 0"), ("pipe", "1 0 1")]
-
-
-def converse(server: Server) -> None:
-    """A client that joins, makes a pipe, and goes: it is answered, whatever becomes of the trace."""
-    client = server.client()
-    for request, wanted in CALLS:
-        client.ask(request)
-        client.gets(wanted)
-    client.vanish()
-
-
-CONVERSED = SHORT + record_frame("house close-run = ok")
-
-
-def is_written(program: str) -> None:
-    """A short run's trace, to the byte, over a longer file that was there."""
-    with tempfile.NamedTemporaryFile(prefix="fdref-") as file:
-        file.write(bytes(1_000))
-        file.flush()
-        with Server(program, 1, trace=file.name) as server:
-            converse(server)
-            server.ended(report(1, 4))
-        same(CONVERSED.hex(), Path(file.name).read_bytes().hex())
-
-
-def disk_is_full(program: str) -> None:
-    """A trace that takes no byte."""
-    with Server(program, 1, trace="/dev/full") as server:
-        converse(server)
-        server.ended(report(1, 4, traced=0), 4, b"trace fault\n")
-
-
-def disk_is_full_at(program: str, size: int) -> None:
-    """A trace that takes so many bytes and then fails: they are the first ones, and the line counts whole records."""
-
-    def limit() -> None:
-        signal.signal(signal.SIGXFSZ, signal.SIG_IGN)
-        resource.setrlimit(resource.RLIMIT_FSIZE, (size, size))
-
-    whole = int(audited(CONVERSED[:size]).stdout.split()[1])
-    with tempfile.TemporaryDirectory(prefix="fdref-") as folder:
-        trace = os.path.join(folder, "trace")
-        with Server(program, 1, trace=trace, before=limit) as server:
-            converse(server)
-            is_whole = size >= len(CONVERSED)
-            server.ended(report(1, 4, traced=whole), 0 if is_whole else 4, b"" if is_whole else b"trace fault\n")
-        same(CONVERSED[:size].hex(), Path(trace).read_bytes().hex())
-
-
-def cannot_be_synced(program: str) -> None:
-    """A trace that takes all bytes, and does not say that they will stay."""
-    with Server(program, 1, trace="/dev/null") as server:
-        converse(server)
-        server.ended(report(1, 4), 4, b"trace fault\n")
-
-
-def two_faults(program: str) -> None:
-    """A trace that takes nothing, and a connection that cannot be taken: the second is told."""
-    with Server(program, 2, trace="/dev/full") as server:
-        client = server.client()
-        client.ask("join")
-        client.gets("0 0")
-        highest = max(int(fd) for fd in os.listdir(f"/proc/{server.process.pid}/fd"))
-        resource.prlimit(server.process.pid, resource.RLIMIT_NOFILE, (highest + 1,) * 2)
-        server.client()
-        client.ask("pipe")
-        client.gets("1 0 1")
-        client.vanish()
-        server.ended(report(1, 4, traced=0), 4, b"cannot listen\n")
-
-
 def killed(program: str, pause: float) -> None:
     """A server that is killed in mid-run leaves the beginning of a right trace, with all that was told long ago."""
     with Server(program, 2) as server:
@@ -407,12 +336,6 @@ def system_cases(program: str) -> Iterator[Case]:
             yield f"{word} to a full device", partial(output_is_full, program, [word, trace])
         for what, path in (("in no folder", f"{gone}/trace"), ("that is a folder", folder), ("without a name", "")):
             yield f"a trace {what}", partial(cannot_make_trace, program, path, folder)
-    yield "a trace to the byte", partial(is_written, program)
-    yield "a full device as the trace", partial(disk_is_full, program)
-    for size in [0, 1, 8, 9, 25, 26, 30, 53, 54, len(CONVERSED) - 1, len(CONVERSED)]:
-        yield f"a trace of {size} bytes at most", partial(disk_is_full_at, program, size)
-    yield "a trace that cannot be synced", partial(cannot_be_synced, program)
-    yield "a full device as the trace, and a connection that cannot be taken", partial(two_faults, program)
     for pause in (0, A_WHILE):
         yield f"a server that is killed after {pause} seconds", partial(killed, program, pause)
 
@@ -454,6 +377,7 @@ def main(words: Sequence[str]) -> int:
     add_seed(parser)
     add_count(parser, "--runs", 4_000, "random runs of a live server")
     add_count(parser, "--changed", 2_000, "traces with a record that is changed")
+    add_count(parser, "--stride", 5_003, "of the sizes of a file for a long trace, take one in N")
     add_count(parser, "--jobs", 2, "how many run at a time")
     parser.add_argument("--only", default="", metavar="WORD", help="only the parts that have this word in their name")
     args = parser.parse_args(words)
@@ -468,6 +392,7 @@ def main(words: Sequence[str]) -> int:
         ("changed records", lambda count: check_changed(count, program, args.seed, args.changed, args.jobs)),
         ("what is shown", lambda count: check_shown(count, program)),
         ("command lines and the system", lambda count: count.check_all(system_cases(program))),
+        ("disks that fail", lambda count: count.check_all(failing_disks.cases(program, args.stride))),
         ("the client in Python", lambda count: count.check_all(python_traces.cases(program, args.seed))),
         ("a live server", lambda count: check_live(count, program, args.seed, args.runs, args.jobs)),
     ]

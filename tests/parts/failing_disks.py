@@ -1,0 +1,275 @@
+"""A live server whose trace cannot be written: all clients are answered, and what is left is a front of the trace."""
+
+import contextlib
+import os
+import resource
+import signal
+import subprocess
+import tempfile
+from collections.abc import Callable, Iterator
+from functools import partial
+from pathlib import Path
+from typing import NamedTuple
+
+from parts.written_traces import SHORT
+from support import plain_model
+from support.auditing import audited
+from support.counting import Case, require, same
+from support.frames import record_frame, trace_of
+from support.places import SCRATCH
+from support.refusing import build
+from support.serving import Server, report
+
+PAGE = 4_096
+
+
+class Talk(NamedTuple):
+    """What a client asks and is told until it goes, how many bytes the run takes and gives, and its trace."""
+
+    calls: list[tuple[str, str]]
+    bytes_in: int
+    bytes_out: int
+    trace: bytes
+
+    def records(self) -> int:
+        """How many records the run has."""
+        return whole_in(self.trace)
+
+
+def whole_in(trace: bytes) -> int:
+    """How many records are whole in a front of a trace."""
+    return int(audited(trace).stdout.split()[1])
+
+
+# A client that joins, makes a pipe, and goes; and then the run is closed.
+BRIEF = Talk([("join", "0 0"), ("pipe", "1 0 1")], 0, 0, SHORT + record_frame("house close-run = ok"))
+
+
+def lengthy() -> Talk:
+    """A client that writes and reads much, so that its trace has many pages and is written in several pieces."""
+    many = bytes(range(256)) * 256
+    calls = ["open a rw,creat", f"pwrite 0 0 x{many.hex()}", "pread 0 0 5000", f"pwrite 0 65536 x{many[:40_000].hex()}"]
+    requests = ["join", *calls, "fstat 0"]
+    script = "join\n" + "".join(f"p0 {call}\n" for call in [*requests[1:], "exit"]) + "close-run\n"
+    *lines, totals = plain_model.replay(script.encode()).stdout.decode().splitlines()
+    told = [f"{line.split()[0]} {line.partition(' = ')[2]}" for line in lines]
+    _, _, _, bytes_in, _, bytes_out = totals.split()
+    return Talk(list(zip(requests, told, strict=False)), int(bytes_in), int(bytes_out), trace_of(lines))
+
+
+def converse(server: Server, talk: Talk) -> None:
+    """A client that asks all this and goes: it is answered, whatever becomes of the trace."""
+    client = server.client()
+    for request, wanted in talk.calls:
+        client.ask(request)
+        client.gets(wanted)
+    client.vanish()
+
+
+def line_of(talk: Talk, kept: int) -> bytes:
+    """The line of a run of which so many bytes are in the trace."""
+    return report(1, talk.records(), talk.bytes_in, talk.bytes_out, whole_in(talk.trace[:kept]))
+
+
+def ends(server: Server, talk: Talk, kept: int, is_synced: bool) -> None:
+    """The server goes on to its end, and its trace has so many bytes."""
+    is_well = is_synced and kept == len(talk.trace)
+    server.ended(line_of(talk, kept), 0 if is_well else 4, b"" if is_well else b"trace fault\n")
+    if os.path.isfile(server.trace):
+        left = Path(server.trace).read_bytes()
+        require(left == talk.trace[:kept], f"these {len(left)} bytes are not the first {kept} of the trace")
+
+
+# ---- files and devices
+
+
+def is_written_over(program: str) -> None:
+    """A short run's trace, to the byte, over a longer file that was there."""
+    with tempfile.NamedTemporaryFile(prefix="fdref-") as file:
+        file.write(bytes(1_000))
+        file.flush()
+        with Server(program, 1, trace=file.name) as server:
+            converse(server, BRIEF)
+            ends(server, BRIEF, len(BRIEF.trace), is_synced=True)
+
+
+def is_full(program: str) -> None:
+    """A device that takes no byte."""
+    with Server(program, 1, trace="/dev/full") as server:
+        converse(server, BRIEF)
+        ends(server, BRIEF, 0, is_synced=False)
+
+
+def cannot_be_synced(program: str) -> None:
+    """A device that takes all bytes, and does not say that they will stay."""
+    with Server(program, 1, trace="/dev/null") as server:
+        converse(server, BRIEF)
+        ends(server, BRIEF, len(BRIEF.trace), is_synced=False)
+
+
+def two_faults(program: str) -> None:
+    """A trace that takes nothing, and a connection that cannot be taken: the second is told."""
+    with Server(program, 2, trace="/dev/full") as server:
+        client = server.client()
+        client.ask("join")
+        client.gets("0 0")
+        highest = max(int(fd) for fd in os.listdir(f"/proc/{server.process.pid}/fd"))
+        resource.prlimit(server.process.pid, resource.RLIMIT_NOFILE, (highest + 1,) * 2)
+        server.client()
+        client.ask("pipe")
+        client.gets("1 0 1")
+        client.vanish()
+        server.ended(report(1, 4, traced=0), 4, b"cannot listen\n")
+
+
+# ---- disks that fill up
+
+
+def limited_to(size: int) -> Callable[[], None]:
+    """What a process calls at its start so that its files take so many bytes at most; a write past them fails."""
+
+    def limit() -> None:
+        signal.signal(signal.SIGXFSZ, signal.SIG_IGN)
+        resource.setrlimit(resource.RLIMIT_FSIZE, (size, size))
+
+    return limit
+
+
+def fills_up(program: str, talk: Talk, size: int) -> None:
+    """A trace whose file takes so many bytes: they are the first ones."""
+    with Server(program, 1, before=limited_to(size)) as server:
+        converse(server, talk)
+        ends(server, talk, min(size, len(talk.trace)), is_synced=True)
+
+
+@contextlib.contextmanager
+def small_disk(size: int) -> Iterator[str | None]:
+    """A folder on a file system of so many bytes, or none where this process may not mount one."""
+    with tempfile.TemporaryDirectory(prefix="fdref-") as folder:
+        words = ["mount", "-t", "tmpfs", "-o", f"size={size}", "tmpfs", folder]
+        is_mounted = subprocess.run(words, stderr=subprocess.DEVNULL, check=False).returncode == 0
+        try:
+            yield folder if is_mounted else None
+        finally:
+            if is_mounted:
+                subprocess.run(["umount", folder], check=True)
+
+
+def disk_fills_up(program: str, talk: Talk, size: int) -> None:
+    """A trace on a file system that has so many bytes; where none can be mounted, its file takes so many."""
+    with small_disk(size) as folder:
+        if folder is None:
+            fills_up(program, talk, size)
+            return
+        with Server(program, 1, trace=os.path.join(folder, "trace")) as server:
+            converse(server, talk)
+            ends(server, talk, min(size, len(talk.trace)), is_synced=True)
+
+
+# ---- a disk that does as it is told
+
+# Comes before the C library, and answers writes and syncs of regular files in its place: a write takes DISK_MOST bytes
+# at most; those numbered DISK_AT to DISK_LAST, from 1, take none, and answer 0 or the error DISK_ERROR; the syncs up
+# to DISK_SYNCS answer the error DISK_SYNC_ERROR. It is built as the library that refuses allocations, without headers.
+FAILS = r"""
+extern long lseek(int, long, int);
+extern long syscall(long, ...);
+extern char *getenv(const char *);
+extern unsigned long strtoul(const char *, char **, int);
+extern int *__errno_location(void);
+enum { WRITE = 1, FSYNC = 74, CURRENT = 1, STANDARD_ERROR = 2 };
+
+static unsigned long writes, syncs;
+
+static unsigned long told(const char *name) { return strtoul(getenv(name), 0, 10); }
+
+static int is_file(int fd) { return fd > STANDARD_ERROR && lseek(fd, 0, CURRENT) >= 0; }
+
+static long answer(unsigned long error) {
+    *__errno_location() = (int)error;
+    return error ? -1 : 0;
+}
+
+long write(int fd, const void *bytes, unsigned long count) {
+    if (!is_file(fd))
+        return syscall(WRITE, fd, bytes, count);
+    ++writes;
+    if (told("DISK_AT") <= writes && writes <= told("DISK_LAST"))
+        return answer(told("DISK_ERROR"));
+    return syscall(WRITE, fd, bytes, count < told("DISK_MOST") ? count : told("DISK_MOST"));
+}
+
+int fsync(int fd) {
+    return (int)(++syncs <= told("DISK_SYNCS") ? answer(told("DISK_SYNC_ERROR")) : syscall(FSYNC, fd));
+}
+"""
+
+INTERRUPTED, FAILED, FULL = 4, 5, 28
+ANY = 2**31
+
+
+class Trouble(NamedTuple):
+    """How a disk answers: the most bytes that a write takes; how many writes and syncs take nothing, from which write
+    on, and by which error, where 0 is none."""
+
+    most: int = ANY
+    first: int = 1
+    writes: int = 0
+    error: int = 0
+    syncs: int = 0
+    sync_error: int = 0
+
+    def environment(self) -> dict[str, str]:
+        """What the library has to find."""
+        numbers = {
+            "DISK_MOST": self.most,
+            "DISK_AT": self.first,
+            "DISK_LAST": self.first + self.writes - 1,
+            "DISK_ERROR": self.error,
+            "DISK_SYNCS": self.syncs,
+            "DISK_SYNC_ERROR": self.sync_error,
+        }
+        return {name: str(number) for name, number in numbers.items()}
+
+
+def in_trouble(program: str, library: str, trouble: Trouble, kept: int, is_synced: bool) -> None:
+    """A disk that does as it is told: after its first fault nothing more is written."""
+    with Server(program, 1, env={**os.environ, "LD_PRELOAD": library, **trouble.environment()}) as server:
+        converse(server, BRIEF)
+        ends(server, BRIEF, kept, is_synced)
+
+
+def troubles() -> Iterator[tuple[str, Trouble, int, bool]]:
+    """What befalls a disk, how many bytes of the trace it takes, and whether it is synced where it takes all."""
+    length = len(BRIEF.trace)
+    for number in range(1, length + 2):
+        yield f"write {number} of one byte fails", Trouble(1, number, 1, FULL), number - 1, True
+    for number in (1, 9, 31, length):
+        yield f"write {number} of one byte answers 0", Trouble(1, number, 1), number - 1, True
+        yield f"write {number} is interrupted 15 times", Trouble(1, number, 15, INTERRUPTED), length, True
+        yield f"write {number} is interrupted 16 times", Trouble(1, number, 16, INTERRUPTED), number - 1, True
+    yield "the first sync fails", Trouble(syncs=1, sync_error=FAILED), length, False
+    yield "the first sync fails, after many writes", Trouble(1, syncs=1, sync_error=FAILED), length, False
+    yield "a sync is interrupted 100 times", Trouble(syncs=100, sync_error=INTERRUPTED), length, True
+
+
+# ---- all of them
+
+
+def cases(program: str, stride: int) -> Iterator[Case]:
+    """Servers whose trace cannot be written; of the sizes of a disk in bytes one in so many."""
+    yield "a trace over a longer file", partial(is_written_over, program)
+    yield "a full device as the trace", partial(is_full, program)
+    yield "a trace that cannot be synced", partial(cannot_be_synced, program)
+    yield "a full device as the trace, and a connection that cannot be taken", partial(two_faults, program)
+    for size in range(len(BRIEF.trace) + 1):
+        yield f"a trace of {size} bytes at most", partial(fills_up, program, BRIEF, size)
+    long = lengthy()
+    for size in range(PAGE, len(long.trace) + PAGE, PAGE):
+        yield f"a disk of {size} bytes", partial(disk_fills_up, program, long, size)
+    for size in range(1, len(long.trace), stride):
+        yield f"a long trace of {size} bytes at most", partial(fills_up, program, long, size)
+    with tempfile.TemporaryDirectory(prefix="fdref-", dir=SCRATCH) as folder:
+        library = build(folder, FAILS)
+        for name, trouble, kept, is_synced in troubles():
+            yield f"a disk of which {name}", partial(in_trouble, program, library, trouble, kept, is_synced)
