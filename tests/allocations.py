@@ -28,8 +28,10 @@ allocation was refused, and else for one act of each run, which is another one f
 
 The trial is crates/memory_trial/out/memory_trial where no PATH is given. It runs a script as the
 program does, but gives an act again that is refused for want of memory, once it has looked that the
-refusal changed nothing. It is run on the same scripts, where the program ends with status 0, with
-each allocation refused alone, and may end in two ways, and in no other:
+refusal changed nothing. It does so in two ways: as `script`, where the book runs each act as one of a
+script, and as `calls`, where each act is given by the call of the book for its kind, as a session gives
+it. Both are run on the same scripts, where the program ends with status 0, with each allocation refused
+alone, and may end in two ways, and in no other:
 
   - with status 0 and the lines that the program prints when nothing is refused, byte for byte; where
     an act was given again, standard error says `given again: 1`,
@@ -37,6 +39,7 @@ each allocation refused alone, and may end in two ways, and in no other:
     was made.
 
 Where an act of the script is recorded that is no exit or closing, some run must have given an act again.
+An exit or a closing that is refused for want of memory is a fault of the trial.
 
 What is not built is skipped, which is told; a PATH that is given and not there is a failure, and so
 is nothing to run. A run that fails is told in one line. The last line is `N passed, M failed`, and
@@ -70,6 +73,9 @@ from support.texts import difference, shown
 
 LONG = 1_000
 STRIDE = 41
+
+# How the trial gives its acts.
+WAYS = ["script", "calls"]
 
 AS_WANTED = "as with nothing refused"
 REFUSED = b" = refused NoMemory\n"
@@ -339,15 +345,17 @@ def program_rows(refuser: Refuser, program: str) -> Makers:
 
 
 def trial_rows(refuser: Refuser, trial: str) -> Makers:
-    """All rows of the trial: the scripts that end with status 0."""
+    """All rows of the trial: the scripts that end with status 0, given in each of its ways."""
     for script in scripts():
         if script.wanted.status == 0:
-            words = [trial, *records_of(script.words)]
-            yield f"trial of {script.name}", functools.partial(TrialRow, refuser, words, script.text, script.wanted)
+            for way in WAYS:
+                words = [trial, way, *records_of(script.words)]
+                name = f"trial by {way} of {script.name}"
+                yield name, functools.partial(TrialRow, refuser, words, script.text, script.wanted)
 
 
 def records_of(words: list[str]) -> list[str]:
-    """The number in `--records N` or `--records=N`, which the trial has as its one word."""
+    """The number in `--records N` or `--records=N`, which the trial has as its last word."""
     return [word.removeprefix("--records=") for word in words if word != "--records"]
 
 

@@ -1,8 +1,12 @@
-//! The program `memory_trial N`: runs the script on standard input in a run of at most N records (10,000 where there is no
-//! word), and prints the lines that `fdref replay` prints. An act for which memory is wanting must have left all as it was, and is given
-//! again. `tests/allocations.py`, at the top of the repository, refuses it each of its allocations in turn.
+//! The program `memory_trial WAY N`: runs the script on standard input in a run of at most N records (10,000 where there is no
+//! number), and prints the lines that `fdref replay` prints. WAY is `script`, where `Book::run_act` runs each act and keeps the seats; or
+//! `calls`, where each act is given by the call of `Book` for its kind (`join`, `attach`, `start`, `resume`, `exit`, `close_run`), as a
+//! session gives it, and the seats are kept here. An act for which memory is wanting must have left all as it was, and is given again; an
+//! exit or a closing must never be one. `tests/allocations.py`, at the top of the repository, refuses it each of its allocations in turn.
 #![tactic(auto)]
 
+mod caller;
+mod giver;
 mod lines;
 mod stand;
 mod trial;
@@ -10,6 +14,7 @@ mod trial_fault;
 
 use byte_ledger::ledgers::Blanks;
 use call_types::limits::Limits;
+use giver::Way;
 use std::alloc::Global;
 use std::io;
 use std::io::{Read, Write};
@@ -21,14 +26,24 @@ use trial_fault::TrialFault;
 /// The records of a run for which no number is given.
 const DEFAULT_RECORDS: u64 = 10_000;
 
-/// What the run may take, as the words of the command line say.
-fn limits_of(words: &[String]) -> Result<Limits, TrialFault> {
-    let records = match words {
-        [_] => DEFAULT_RECORDS,
-        [_, word] => word.parse::<u64>().map_err(|_| TrialFault::Usage)?,
+/// The way of a word.
+fn way_of(word: &str) -> Result<Way, TrialFault> {
+    match word {
+        "script" => Ok(Way::Script),
+        "calls" => Ok(Way::Calls),
+        _ => Err(TrialFault::Usage),
+    }
+}
+
+/// How acts are given, and what the run may take, as the words of the command line say.
+fn job_of(words: &[String]) -> Result<(Way, Limits), TrialFault> {
+    let (way, records) = match words {
+        [_, way] => (way, DEFAULT_RECORDS),
+        [_, way, word] => (way, word.parse::<u64>().map_err(|_| TrialFault::Usage)?),
         _ => return Err(TrialFault::Usage),
     };
-    Limits::new(records).map_err(|_| TrialFault::Usage)
+    let limits = Limits::new(records).map_err(|_| TrialFault::Usage)?;
+    Ok((way_of(way.as_str())?, limits))
 }
 
 /// The words of the command line.
@@ -41,15 +56,20 @@ fn words_of(rt: &HostRuntime) -> Result<Vec<String>, TrialFault> {
 }
 
 /// The run of the script that a reader gives.
-fn tried_on<R: Read + Drop>(alloc: Global, reader: R, limits: Limits) -> Result<Ran, TrialFault> {
-    tried::<R, Brand>(alloc, reader, limits, Blanks::new())
+fn tried_on<R: Read + Drop>(
+    alloc: Global,
+    reader: R,
+    way: Way,
+    limits: Limits,
+) -> Result<Ran, TrialFault> {
+    tried::<R, Brand>(alloc, reader, way, limits, Blanks::new())
 }
 
 /// Runs the script on standard input, and prints its lines, and how many acts were given again as an error.
 fn run(rt: &HostRuntime) -> Result<(), TrialFault> {
     let words = words_of(rt)?;
-    let limits = limits_of(words.as_slice())?;
-    let ran = tried_on(rt.alloc(), rt.reader(), limits)?;
+    let (way, limits) = job_of(words.as_slice())?;
+    let ran = tried_on(rt.alloc(), rt.reader(), way, limits)?;
     let mut out = io::writer(rt);
     if out.write_all(ran.lines.as_slice()).is_err() || out.flush().is_err() {
         return Err(TrialFault::CannotWrite);

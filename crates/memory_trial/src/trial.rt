@@ -2,6 +2,7 @@
 
 ghost use Rattle.std.specs.Prelude.{◌≡◌};
 
+use crate::giver::{Giver, Way};
 use crate::lines::gather;
 use crate::stand::Stand;
 use crate::trial_fault::TrialFault;
@@ -11,7 +12,6 @@ use call_types::limits::Limits;
 use call_types::refusal::Refusal;
 use record_book::book::Book;
 use record_book::run::ScriptAnswer;
-use record_book::seats::Seats;
 use script_text::lines::write_totals;
 use script_text::script::{SCRIPT_MAX, Script};
 use std::alloc::{AllocError, Global};
@@ -28,6 +28,11 @@ fn is_wanting(told: &ScriptAnswer<'_>) -> bool {
     )
 }
 
+/// Whether an act takes no memory.
+fn is_end(act: &ScriptAct) -> bool {
+    matches!(act, ScriptAct::Exit { .. } | ScriptAct::CloseRun)
+}
+
 /// A run that is over.
 #[derive(Drop)]
 pub(crate) struct Ran {
@@ -41,7 +46,7 @@ pub(crate) struct Ran {
 #[derive(Drop)]
 struct Run<L: Ledgers> {
     book: Book<L>,
-    seats: Seats<L>,
+    giver: Giver<L>,
     lines: Vec<u8>,
     /// How many acts were given.
     acts: u64,
@@ -49,13 +54,13 @@ struct Run<L: Ledgers> {
 }
 
 impl<L: Ledgers> Run<L> {
-    /// A run without records, counted by these ledgers.
-    fn new(alloc: Global, limits: Limits, blanks: Blanks) -> Result<Self, AllocError>
+    /// A run without records, counted by these ledgers, to which acts are given in this way.
+    fn new(alloc: Global, way: Way, limits: Limits, blanks: Blanks) -> Result<Self, AllocError>
         requires { blanks ≡ L.names }
     {
         Ok(Run {
             book: Book::new(alloc, limits, blanks)?,
-            seats: Seats::new(alloc),
+            giver: Giver::new(alloc, way)?,
             lines: Vec::new(alloc),
             acts: 0,
             again: 0,
@@ -68,16 +73,19 @@ impl<L: Ledgers> Run<L> {
         alloc: Global,
         act: &'a ScriptAct,
     ) -> Result<ScriptAnswer<'a>, TrialFault> {
-        let before = Stand::of(&self.book, &self.seats);
-        let told = self.book.run_act(alloc, &mut self.seats, act);
+        let before = Stand::of(&self.book, &self.giver);
+        let told = self.giver.give(alloc, &mut self.book, act)?;
         if !is_wanting(&told) {
             return Ok(told);
         }
-        if Stand::of(&self.book, &self.seats) != before {
+        if is_end(act) {
+            return Err(TrialFault::EndRefused { act: self.acts });
+        }
+        if Stand::of(&self.book, &self.giver) != before {
             return Err(TrialFault::Changed { act: self.acts });
         }
         self.again = self.again.saturating_add(1);
-        let told = self.book.run_act(alloc, &mut self.seats, act);
+        let told = self.giver.give(alloc, &mut self.book, act)?;
         if is_wanting(&told) {
             return Err(TrialFault::RefusedTwice { act: self.acts });
         }
@@ -116,10 +124,11 @@ fn give_all<L: Ledgers>(
     Ok(())
 }
 
-/// The run of the script that a reader gives, counted by these ledgers.
+/// The run of the script that a reader gives, counted by these ledgers, whose acts are given in this way.
 pub(crate) fn tried<R: Read + Drop, L: Ledgers>(
     alloc: Global,
     reader: R,
+    way: Way,
     limits: Limits,
     blanks: Blanks,
 ) -> Result<Ran, TrialFault>
@@ -127,7 +136,7 @@ pub(crate) fn tried<R: Read + Drop, L: Ledgers>(
 {
     let text = read_text(alloc, reader)?;
     let mut script = Script::new(text.as_slice())?;
-    let mut run = Run::<L>::new(alloc, limits, blanks)?;
+    let mut run = Run::<L>::new(alloc, way, limits, blanks)?;
     give_all(alloc, &mut script, &mut run)?;
     let counts = run.book.counts();
     write_totals(

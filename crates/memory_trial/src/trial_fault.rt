@@ -10,6 +10,10 @@ pub enum TrialFault {
     Changed { act: u64 },
     /// An act was refused for want of memory, and so it was when it was given again.
     RefusedTwice { act: u64 },
+    /// An exit or a closing was refused for want of memory, of which it takes none.
+    EndRefused { act: u64 },
+    /// An act was recorded, and its seat has no receipt of it.
+    NoReceipt,
     /// The words are none that the program takes.
     Usage,
     /// A line of the script is no act, or it has too many bytes.
@@ -26,7 +30,10 @@ impl TrialFault {
     /// The exit status of the program; 1 says that the book is at fault.
     pub fn status(self) -> u8 {
         match self {
-            TrialFault::Changed { .. } | TrialFault::RefusedTwice { .. } => 1,
+            TrialFault::Changed { .. }
+            | TrialFault::RefusedTwice { .. }
+            | TrialFault::EndRefused { .. }
+            | TrialFault::NoReceipt => 1,
             TrialFault::Usage => 2,
             TrialFault::BadScript => 3,
             TrialFault::CannotRead | TrialFault::CannotWrite => 4,
@@ -40,7 +47,9 @@ impl fmt::Display for TrialFault {
         match self {
             TrialFault::Changed { act } => write!(f, "act {act}: its refusal changed something\n"),
             TrialFault::RefusedTwice { act } => write!(f, "act {act}: refused twice\n"),
-            TrialFault::Usage => f.write_str("usage: memory_trial [RECORDS]\n"),
+            TrialFault::EndRefused { act } => write!(f, "act {act}: an end is refused\n"),
+            TrialFault::NoReceipt => f.write_str("no receipt\n"),
+            TrialFault::Usage => f.write_str("usage: memory_trial script|calls [RECORDS]\n"),
             TrialFault::BadScript => f.write_str("not a script\n"),
             TrialFault::CannotRead => f.write_str("cannot read\n"),
             TrialFault::CannotWrite => f.write_str("cannot write\n"),
