@@ -15,25 +15,30 @@ from parts.written_traces import SHORT
 from support import plain_model
 from support.auditing import audited
 from support.counting import Case, require, same
-from support.frames import record_frame, trace_of
+from support.frames import trace_of
 from support.places import SCRATCH
 from support.refusing import build
-from support.serving import Server, report
+from support.serving import SECONDS, Client, Server, report
 
 PAGE = 4_096
 
 
 class Talk(NamedTuple):
-    """What a client asks and is told until it goes, how many bytes the run takes and gives, and its trace."""
+    """What clients ask and are told, one after another, how many bytes the run takes and gives, and its trace."""
 
-    calls: list[tuple[str, str]]
+    steps: list[tuple[str, str, str]]
     bytes_in: int
     bytes_out: int
     trace: bytes
 
-    def records(self) -> int:
-        """How many records the run has."""
-        return whole_in(self.trace)
+    def sessions(self) -> int:
+        """How many clients there are."""
+        return len({actor for actor, _, _ in self.steps})
+
+    def line(self, kept: int) -> bytes:
+        """The line of its run, of which so many bytes are in the trace."""
+        records, whole = whole_in(self.trace), whole_in(self.trace[:kept])
+        return report(self.sessions(), records, self.bytes_in, self.bytes_out, whole)
 
 
 def whole_in(trace: bytes) -> int:
@@ -41,40 +46,51 @@ def whole_in(trace: bytes) -> int:
     return int(audited(trace).stdout.split()[1])
 
 
-# A client that joins, makes a pipe, and goes; and then the run is closed.
-BRIEF = Talk([("join", "0 0"), ("pipe", "1 0 1")], 0, 0, SHORT + record_frame("house close-run = ok"))
+def talk_of(acts: list[str]) -> Talk:
+    """The talk whose run has these acts, as the plain model answers them."""
+    script = "".join(f"{act}\n" for act in acts)
+    *lines, totals = plain_model.replay(script.encode()).stdout.decode().splitlines()
+    steps = []
+    for line in lines[:-1]:
+        act, _, outcome = line.partition(" = ")
+        place, actor, request = act.split(" ", 2)
+        steps.append((actor, request, f"{place} {outcome}"))
+    _, _, _, bytes_in, _, bytes_out = totals.split()
+    return Talk(steps, int(bytes_in), int(bytes_out), trace_of(lines))
+
+
+# The run of the short trace, and its closing.
+BRIEF = talk_of(["join", "p0 pipe", "p0 exit", "close-run"])
 
 
 def lengthy() -> Talk:
-    """A client that writes and reads much, so that its trace has many pages and is written in several pieces."""
+    """Two clients that write and read much, so that the trace has many pages and is written in several pieces."""
     many = bytes(range(256)) * 256
-    calls = ["open a rw,creat", f"pwrite 0 0 x{many.hex()}", "pread 0 0 5000", f"pwrite 0 65536 x{many[:40_000].hex()}"]
-    requests = ["join", *calls, "fstat 0"]
-    script = "join\n" + "".join(f"p0 {call}\n" for call in [*requests[1:], "exit"]) + "close-run\n"
-    *lines, totals = plain_model.replay(script.encode()).stdout.decode().splitlines()
-    told = [f"{line.split()[0]} {line.partition(' = ')[2]}" for line in lines]
-    _, _, _, bytes_in, _, bytes_out = totals.split()
-    return Talk(list(zip(requests, told, strict=False)), int(bytes_in), int(bytes_out), trace_of(lines))
+    first = ["join", "p0 open a rw,creat", f"p0 pwrite 0 0 x{many.hex()}"]
+    second = ["join", "p1 open a r", "p1 read 0 5000"]
+    last = [f"p0 pwrite 0 65536 x{many[:40_000].hex()}", "p0 exit", "p1 fstat 0", "p1 exit", "close-run"]
+    return talk_of([*first, *second, *last])
 
 
 def converse(server: Server, talk: Talk) -> None:
-    """A client that asks all this and goes: it is answered, whatever becomes of the trace."""
-    client = server.client()
-    for request, wanted in talk.calls:
-        client.ask(request)
-        client.gets(wanted)
-    client.vanish()
-
-
-def line_of(talk: Talk, kept: int) -> bytes:
-    """The line of a run of which so many bytes are in the trace."""
-    return report(1, talk.records(), talk.bytes_in, talk.bytes_out, whole_in(talk.trace[:kept]))
+    """The clients of a talk: each is answered until it leaves, whatever becomes of the trace."""
+    clients: dict[str, Client] = {}
+    for actor, request, wanted in talk.steps:
+        if actor not in clients:
+            clients[actor] = server.client()
+        client = clients[actor]
+        if request == "exit":
+            client.stop()
+            require(client.is_hung_up(SECONDS), f"the server does not hang up on {actor}")
+        else:
+            client.ask(request)
+            client.gets(wanted)
 
 
 def ends(server: Server, talk: Talk, kept: int, is_synced: bool) -> None:
     """The server goes on to its end, and its trace has so many bytes."""
     is_well = is_synced and kept == len(talk.trace)
-    server.ended(line_of(talk, kept), 0 if is_well else 4, b"" if is_well else b"trace fault\n")
+    server.ended(talk.line(kept), 0 if is_well else 4, b"" if is_well else b"trace fault\n")
     if os.path.isfile(server.trace):
         left = Path(server.trace).read_bytes()
         require(left == talk.trace[:kept], f"these {len(left)} bytes are not the first {kept} of the trace")
@@ -85,6 +101,7 @@ def ends(server: Server, talk: Talk, kept: int, is_synced: bool) -> None:
 
 def is_written_over(program: str) -> None:
     """A short run's trace, to the byte, over a longer file that was there."""
+    same(SHORT, BRIEF.trace[: len(SHORT)])
     with tempfile.NamedTemporaryFile(prefix="fdref-") as file:
         file.write(bytes(1_000))
         file.flush()
@@ -137,7 +154,7 @@ def limited_to(size: int) -> Callable[[], None]:
 
 def fills_up(program: str, talk: Talk, size: int) -> None:
     """A trace whose file takes so many bytes: they are the first ones."""
-    with Server(program, 1, before=limited_to(size)) as server:
+    with Server(program, talk.sessions(), before=limited_to(size)) as server:
         converse(server, talk)
         ends(server, talk, min(size, len(talk.trace)), is_synced=True)
 
@@ -161,7 +178,7 @@ def disk_fills_up(program: str, talk: Talk, size: int) -> None:
         if folder is None:
             fills_up(program, talk, size)
             return
-        with Server(program, 1, trace=os.path.join(folder, "trace")) as server:
+        with Server(program, talk.sessions(), trace=os.path.join(folder, "trace")) as server:
             converse(server, talk)
             ends(server, talk, min(size, len(talk.trace)), is_synced=True)
 
