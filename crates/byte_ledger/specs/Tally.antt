@@ -1,5 +1,5 @@
 -- A tally, and what is said where shares of it are missing (own).
-use Rattle.std.specs.Prelude.{◌≡◌, ℕ, ◌<◌, List, length}
+use Rattle.std.specs.Prelude.{◌≡◌, ℕ, ◌<◌}
 use Rattle.byte_ledger.specs.declared.gather.Missing.{Missing}
 
 -- the sum of all that was added, and how many shares were opened
@@ -7,8 +7,14 @@ pub record TallyState : Type 0 where
   pub total : ℕ
   pub opened : ℕ
 
--- fewer shares are there than were opened
-pub record Misses (tally : TallyState) (shares : List ℕ) (missing : Missing) : Type 0 where
-  pub held : missing.held ≡ length shares
-  pub opened : missing.opened ≡ tally.opened
+-- a tally, how many of its shares are brought together, and their sum
+pub record MergedState : Type 0 where
+  pub tally : TallyState
+  pub held : ℕ
+  pub sum : ℕ
+
+-- so many shares are there, fewer than were opened
+pub record Misses (opened held : ℕ) (missing : Missing) : Type 0 where
+  pub held_is : missing.held ≡ held
+  pub opened_is : missing.opened ≡ opened
   pub fewer : missing.held < missing.opened

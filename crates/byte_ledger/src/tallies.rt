@@ -1,13 +1,12 @@
 //! The three tallies of a run, and the shares of each who adds to them.
 
-ghost use Rattle.std.specs.Prelude.{◌≡◌, ◌<◌, ◌+◌, ◌^◌, map, sum, length, IfOk, IfErr, OnOk, vec_len, vec_capacity};
+ghost use Rattle.std.specs.Prelude.{◌≡◌, ◌<◌, ◌+◌, ◌^◌, map, sum, length, IfOk, IfErr, OnOk};
 ghost use Rattle.byte_ledger.specs.Counted.{counted_more};
-ghost use Rattle.byte_ledger.specs.Gathering.{FailsToGather};
+ghost use Rattle.byte_ledger.specs.Tally.{Misses};
 
-use crate::gather::{Missing, gather};
+use crate::gather::{Merged, Missing};
 use crate::ledgers::{Blanks, BytesIn, BytesOut, Ledgers, Records};
 use crate::tally::{Share, Tally};
-use std::alloc::{AllocError, Global};
 use std::marker::Model;
 
 /// How many records were counted, and how many bytes in and out.
@@ -51,14 +50,6 @@ impl<L: Ledgers> Model for Tallies<L> {
     ghost view = { λ t. record { opened = t.records.opened; counted = record { records = t.records.total; bytes_in = t.bytes_in.total; bytes_out = t.bytes_out.total } } };
 
     ghost invariant = { λ t. (t.bytes_in.opened ≡ t.records.opened) × (t.bytes_out.opened ≡ t.records.opened) };
-}
-
-/// Why shares could not be gathered.
-#[derive(Clone, Copy, Debug, PartialEq, Eq)]
-pub enum GatherFault {
-    NoMemory,
-    /// Some are missing.
-    Missing(Missing),
 }
 
 impl<L: Ledgers> Tallies<L> {
@@ -113,62 +104,27 @@ impl<L: Ledgers> Tallies<L> {
         self.bytes_out.add(&mut shares.bytes_out, bytes_out);
     }
 
-    /// The sums of all shares that were opened, which are those of the tallies; or that some are missing.
-    pub fn gather(self, alloc: Global, shares: Vec<Shares<L>>) -> Result<Sums, GatherFault>
+    /// The sums of all shares that were opened, which are those of the tallies; or that some are missing. It takes no memory.
+    pub fn gather(self, shares: Vec<Shares<L>>) -> Result<Sums, Missing>
         ensures records { IfOk result (λ sums. sums.records ≡ sum (map (λ s. s.records) shares.items)) }
         ensures bytes_in { IfOk result (λ sums. sums.bytes_in ≡ sum (map (λ s. s.bytes_in) shares.items)) }
         ensures bytes_out { IfOk result (λ sums. sums.bytes_out ≡ sum (map (λ s. s.bytes_out) shares.items)) }
         ensures counted { IfOk result (λ sums. record { records = sums.records; bytes_in = sums.bytes_in; bytes_out = sums.bytes_out } ≡ self.counted) }
         ensures all { OnOk result (length shares.items ≡ self.opened) }
-        ensures missing { IfErr result (FailsToGather self.opened (length shares.items)) }
+        ensures missing { IfErr result (Misses self.opened (length shares.items)) }
     {
-        let parts = match part(alloc, shares) {
-            Ok(parts) => parts,
-            Err(_) => return Err(GatherFault::NoMemory),
-        };
-        match (
-            gather(self.records, parts.records),
-            gather(self.bytes_in, parts.bytes_in),
-            gather(self.bytes_out, parts.bytes_out),
-        ) {
-            (Ok(records), Ok(bytes_in), Ok(bytes_out)) => Ok(Sums {
-                records,
-                bytes_in,
-                bytes_out,
-            }),
-            (Err(missing), _, _) | (_, Err(missing), _) | (_, _, Err(missing)) => {
-                Err(GatherFault::Missing(missing))
-            }
+        let mut records = Merged::of(self.records);
+        let mut bytes_in = Merged::of(self.bytes_in);
+        let mut bytes_out = Merged::of(self.bytes_out);
+        for held in shares {
+            records.merge(held.records);
+            bytes_in.merge(held.bytes_in);
+            bytes_out.merge(held.bytes_out);
         }
+        Ok(Sums {
+            records: records.sum()?,
+            bytes_in: bytes_in.sum()?,
+            bytes_out: bytes_out.sum()?,
+        })
     }
-}
-
-/// Shares by their ledgers.
-#[derive(Drop)]
-struct Parts<L: Ledgers> {
-    records: Vec<Share<Records<L>>>,
-    bytes_in: Vec<Share<BytesIn<L>>>,
-    bytes_out: Vec<Share<BytesOut<L>>>,
-}
-
-/// Parts shares by their ledgers.
-fn part<L: Ledgers>(alloc: Global, shares: Vec<Shares<L>>) -> Result<Parts<L>, AllocError>
-    ensures records { IfOk result (λ parts. parts.records.items ≡ map (λ s. s.records) shares.items) }
-    ensures bytes_in { IfOk result (λ parts. parts.bytes_in.items ≡ map (λ s. s.bytes_in) shares.items) }
-    ensures bytes_out { IfOk result (λ parts. parts.bytes_out.items ≡ map (λ s. s.bytes_out) shares.items) }
-    ensures all { IfOk result (λ parts. (vec_len parts.records ≡ length shares.items) × (vec_len parts.bytes_in ≡ length shares.items) × (vec_len parts.bytes_out ≡ length shares.items)) }
-{
-    let mut records = Vec::with_capacity(alloc, shares.len())?;
-    let mut bytes_in = Vec::with_capacity(alloc, shares.len())?;
-    let mut bytes_out = Vec::with_capacity(alloc, shares.len())?;
-    for held in shares {
-        records.push_reserved(held.records);
-        bytes_in.push_reserved(held.bytes_in);
-        bytes_out.push_reserved(held.bytes_out);
-    }
-    Ok(Parts {
-        records,
-        bytes_in,
-        bytes_out,
-    })
 }

@@ -4,15 +4,15 @@ ghost use Rattle.std.specs.Prelude.{◌≡◌, map, sum, length, IfOk, IfErr, On
 ghost use Rattle.std.specs.List.{slice_get};
 ghost use Rattle.std.specs.Option.{option_copied};
 ghost use Rattle.posix_model.specs.Turns.{bytes_in, bytes_out};
-ghost use Rattle.byte_ledger.specs.Gathering.{FailsToGather};
+ghost use Rattle.byte_ledger.specs.Tally.{Misses};
 ghost use Rattle.record_book.specs.Counting.{CountsOf, seats_given};
 
+use byte_ledger::gather::Missing;
 use byte_ledger::ledgers::Ledgers;
-use byte_ledger::tallies::{GatherFault, Shares, Sums, Tallies};
+use byte_ledger::tallies::{Shares, Sums, Tallies};
 use call_types::act::Record;
 use call_types::limits::Limits;
 use posix_model::pipe_laws::bytes_of_pipe;
-use std::alloc::Global;
 use std::marker::Model;
 use std::sync::Arc;
 
@@ -66,8 +66,8 @@ impl<L: Ledgers> ClosedBook<L> {
     }
 
     /// Gathers the shares of all seats and of the house. Returns their sums, which are those of the records; or an error, if some
-    /// are missing or memory ran out.
-    pub fn gather(self, alloc: Global, shares: Vec<Shares<L>>) -> Result<Sums, GatherFault>
+    /// are missing. It takes no memory.
+    pub fn gather(self, shares: Vec<Shares<L>>) -> Result<Sums, Missing>
         ensures records { IfOk result (λ sums. sums.records ≡ length self.history) }
         ensures bytes_in { IfOk result (λ sums. sums.bytes_in ≡ bytes_in self.limits.bounds self.history) }
         ensures bytes_out { IfOk result (λ sums. sums.bytes_out ≡ bytes_out self.limits.bounds self.history) }
@@ -75,8 +75,8 @@ impl<L: Ledgers> ClosedBook<L> {
         ensures shares_bytes_in { IfOk result (λ sums. sums.bytes_in ≡ sum (map (λ s. s.bytes_in) shares.items)) }
         ensures shares_bytes_out { IfOk result (λ sums. sums.bytes_out ≡ sum (map (λ s. s.bytes_out) shares.items)) }
         ensures all { OnOk result (length shares.items ≡ seats_given self) }
-        ensures missing { IfErr result (FailsToGather (seats_given self) (length shares.items)) }
+        ensures missing { IfErr result (Misses (seats_given self) (length shares.items)) }
     {
-        self.tallies.gather(alloc, shares)
+        self.tallies.gather(shares)
     }
 }

@@ -14,8 +14,6 @@ use Rattle.record_book.specs.Book.{BookState, world_now}
 use Rattle.record_book.specs.Counting.{only_records, seats_given}
 use Rattle.record_book.specs.Exits.{closing_records, receipts_from}
 use Rattle.byte_ledger.specs.Counted.{Counted}
-use Rattle.byte_ledger.specs.declared.tallies.GatherFault.{GatherFault}
-use Rattle.byte_ledger.specs.declared.tallies.GatherFault.TheVariants as gathered
 use Rattle.run_core.specs.declared.closing.CloseFault.{CloseFault}
 use Rattle.run_core.specs.declared.closing.CloseFault.TheVariants as fault
 use Rattle.session_core.specs.declared.end.End.{End}
@@ -24,8 +22,6 @@ use Rattle.session_core.specs.Said.{ClosedSaid, EndSaid}
 use Rattle.session_core.specs.Served.{SessionState, Serves}
 use Rattle.system_lock.specs.Says.{IsEnded, IsNotOpened}
 use Rattle.logged_streams.specs.Streams.{LogState}
-use Rattle.run_core.specs.declared.report.RunFault.{RunFault}
-use Rattle.run_core.specs.declared.report.RunFault.TheVariants as run_fault
 
 -- what a seat holds beside its counts
 abbrev pub held_in : SeatState → Held
@@ -197,16 +193,6 @@ pub record IsRun (told : RunTold) : Type 0 where
   pub closing : IsClosing before book house
   pub run : IsRunOf told.limits_are told.records told.taken told.given book house (counted_by connections) (map (λ s. held_by s.process) told.ends) told.received
   pub trace : IsTold told.trace book.history
-
--- what a fault of gathering is for a run
-abbrev pub close_fault_of : GatherFault → CloseFault
-close_fault_of gathered.NoMemory = fault.NoMemory
-close_fault_of (gathered.Missing missing) = fault.Missing missing
-
--- what a fault of gathering is for a run of sessions
-abbrev pub run_fault_of : GatherFault → RunFault
-run_fault_of gathered.NoMemory = run_fault.NoMemory
-run_fault_of (gathered.Missing missing) = run_fault.Missing
 
 -- why a run comes to no totals: seats are missing, or none is and this is the least place that does not agree
 abbrev pub ClosesFor : BookState → List SeatState → List Record → CloseFault → Type 0

@@ -13,7 +13,7 @@ use crate::comparison::{HasReceipts, compare};
 use crate::report::RunFault;
 use byte_ledger::gather::Missing;
 use byte_ledger::ledgers::Ledgers;
-use byte_ledger::tallies::{GatherFault, Shares, Sums};
+use byte_ledger::tallies::{Shares, Sums};
 use call_types::act::Record;
 use record_book::book::Book;
 use record_book::closed::ClosedBook;
@@ -73,16 +73,13 @@ impl From<AllocError> for CloseFault {
     }
 }
 
-impl From<GatherFault> for CloseFault {
-    ghost use Rattle.run_core.specs.Run.{close_fault_of};
+impl From<Missing> for CloseFault {
+    ghost use Rattle.run_core.specs.declared.closing.CloseFault.TheVariants as close_fault;
 
-    ghost from_gives = { λ told fault. fault ≡ close_fault_of told };
+    ghost from_gives = { λ missing fault. fault ≡ close_fault.Missing missing };
 
-    fn from(fault: GatherFault) -> CloseFault {
-        match fault {
-            GatherFault::NoMemory => CloseFault::NoMemory,
-            GatherFault::Missing(missing) => CloseFault::Missing(missing),
-        }
+    fn from(missing: Missing) -> CloseFault {
+        CloseFault::Missing(missing)
     }
 }
 
@@ -179,7 +176,7 @@ pub fn close_run<L: Ledgers>(
     let checked = compare_and_part(alloc, &book, seats, traced.received.as_slice())?;
     let Checked { least, parted } = checked;
     let Parted { receipts, shares } = parted;
-    let sums = book.gather(alloc, shares)?;
+    let sums = book.gather(shares)?;
     if least.is_some() && is_torn(traced, sums.records) {
         return Err(CloseFault::NoMemory);
     }
@@ -270,7 +267,7 @@ pub(crate) fn end_run<L: Ledgers, T: HasReceipts>(
     let received = traced.received.as_slice();
     let compared = compare_with_house(alloc, &book, house, holders, shares, received)?;
     let Compared { least, shares } = compared;
-    let sums = book.gather(alloc, shares)?;
+    let sums = book.gather(shares)?;
     if least.is_some() && is_torn(traced, sums.records) {
         return Err(RunFault::NoMemory);
     }

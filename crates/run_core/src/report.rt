@@ -4,7 +4,7 @@ ghost use Rattle.std.specs.Prelude.{◌≡◌};
 ghost use Rattle.run_core.specs.Receipts.{held_by};
 
 use crate::comparison::HasReceipts;
-use byte_ledger::tallies::GatherFault;
+use byte_ledger::gather::Missing;
 use logged_streams::stream_log::StreamLog;
 use record_book::seat::Receipt;
 use session_core::end::End;
@@ -135,15 +135,12 @@ impl From<AllocError> for RunFault {
     }
 }
 
-impl From<GatherFault> for RunFault {
-    ghost use Rattle.run_core.specs.Run.{run_fault_of};
+impl From<Missing> for RunFault {
+    ghost use Rattle.run_core.specs.declared.report.RunFault.TheVariants as run_fault;
 
-    ghost from_gives = { λ told fault. fault ≡ run_fault_of told };
+    ghost from_gives = { λ _ fault. fault ≡ run_fault.Missing };
 
-    fn from(fault: GatherFault) -> RunFault {
-        match fault {
-            GatherFault::NoMemory => RunFault::NoMemory,
-            GatherFault::Missing(_) => RunFault::Missing,
-        }
+    fn from(_missing: Missing) -> RunFault {
+        RunFault::Missing
     }
 }

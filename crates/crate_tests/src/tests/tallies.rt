@@ -4,7 +4,7 @@ ghost use Rattle.std.specs.Prelude.{◌≡◌};
 
 use byte_ledger::gather::Missing;
 use byte_ledger::ledgers::{Blanks, Ledgers};
-use byte_ledger::tallies::{GatherFault, Shares, Sums, Tallies};
+use byte_ledger::tallies::{Shares, Sums, Tallies};
 use std::alloc::Global;
 use std::marker::Brand;
 use std::process::Abort;
@@ -35,7 +35,7 @@ fn both_have_the_sum<L: Ledgers>(rt: &impl Abort, alloc: Global, blanks: Blanks)
         bytes_in: 7,
         bytes_out: 0,
     };
-    assert!(rt; tallies.gather(alloc, shares) == Ok(sums));
+    assert!(rt; tallies.gather(shares) == Ok(sums));
     Ok(())
 }
 
@@ -52,7 +52,7 @@ fn one_is_missed<L: Ledgers>(rt: &impl Abort, alloc: Global, blanks: Blanks) -> 
     let mut shares = Vec::with_capacity(alloc, 1)?;
     shares.push(first)?;
     let missing = Missing { held: 1, opened: 2 };
-    assert!(rt; tallies.gather(alloc, shares) == Err(GatherFault::Missing(missing)));
+    assert!(rt; tallies.gather(shares) == Err(missing));
     Ok(())
 }
 
