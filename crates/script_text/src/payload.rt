@@ -102,8 +102,26 @@ fn put_zeros(out: &mut Vec<u8>, count: usize)
     }
 }
 
-/// Appends the digits of bytes.
-fn put_hex_bytes(out: &mut Vec<u8>, bytes: &[u8])
+/// Appends the digits of a few bytes. They are gathered in an array, where one more costs less than in a vector.
+fn put_few_pairs(out: &mut Vec<u8>, bytes: &[u8])
+    requires few { length bytes.now ≤ WRITTEN_OUT_MAX }
+    requires room { HasRoom out.old (2 * length bytes.now) }
+    ensures text { out.new.items ≡ out.old.items ++ flat_map hex_pair bytes.now }
+    ensures room { UsesRoom out.old out.new (2 * length bytes.now) }
+{
+    let mut digits = [0; 2 * WRITTEN_OUT_MAX];
+    let mut end = 0;
+    for byte in bytes {
+        let [high, low] = hex_digits(*byte);
+        digits[end] = high;
+        digits[end + 1] = low;
+        end += 2;
+    }
+    put(out, &digits[..end]);
+}
+
+/// Appends the digits of bytes, which may be many.
+fn put_many_pairs(out: &mut Vec<u8>, bytes: &[u8])
     requires few { length bytes.now ≤ GIVEN_BYTES_MAX }
     requires room { HasRoom out.old (2 * length bytes.now) }
     ensures text { out.new.items ≡ out.old.items ++ flat_map hex_pair bytes.now }
@@ -125,7 +143,11 @@ fn put_digits(out: &mut Vec<u8>, bytes: &[u8])
     ensures room { UsesRoom out.old out.new (2 * length bytes.now + 1) }
 {
     out.push_reserved(b'x');
-    put_hex_bytes(out, bytes);
+    if bytes.len() <= WRITTEN_OUT_MAX {
+        put_few_pairs(out, bytes);
+    } else {
+        put_many_pairs(out, bytes);
+    }
 }
 
 /// Appends a byte, a `*` and a count.
@@ -169,29 +191,6 @@ fn put_slice(out: &mut Vec<u8>, bytes: &[u8])
     }
 }
 
-/// Appends the digits of a byte, so many times.
-fn put_pairs(out: &mut Vec<u8>, byte: u8, count: usize)
-    requires { HasRoom out.old (2 * count) }
-    ensures text { out.new.items ≡ out.old.items ++ flat_map hex_pair (replicate count byte) }
-    ensures room { UsesRoom out.old out.new (2 * count) }
-{
-    let digits = hex_digits(byte);
-    for _pair in 0..count {
-        put(out, &digits);
-    }
-}
-
-/// Appends an `x` and the digits of a byte, so many times.
-fn put_few(out: &mut Vec<u8>, byte: u8, count: usize)
-    requires few { count ≤ WRITTEN_OUT_MAX }
-    requires room { HasRoom out.old (2 * count + 1) }
-    ensures text { out.new.items ≡ out.old.items ++ (codes "x" ++ flat_map hex_pair (replicate count byte)) }
-    ensures room { UsesRoom out.old out.new (2 * count + 1) }
-{
-    out.push_reserved(b'x');
-    put_pairs(out, byte, count);
-}
-
 /// Appends data of one byte, which stands so many times.
 fn put_same(out: &mut Vec<u8>, byte: u8, count: usize)
     requires { HasRoom out.old (data_room (replicate count byte)) }
@@ -200,9 +199,9 @@ fn put_same(out: &mut Vec<u8>, byte: u8, count: usize)
 {
     if count > WRITTEN_OUT_MAX {
         put_repeated(out, byte, count as u64);
-        return;
+    } else {
+        put_digits(out, &[byte; WRITTEN_OUT_MAX][..count]);
     }
-    put_few(out, byte, count);
 }
 
 /// Appends data.

@@ -3,7 +3,7 @@ use Rattle.std.specs.List.{flat_map}
 use Rattle.std.proofs.lemmas.Slice.{overwrites}
 use Rattle.script_text.specs.Lines.{hex_pair}
 use Rattle.script_text.proofs.Hex.{encoded}
-use Rattle.script_text.proofs.payload.put_hex_bytes.Goals as goal
+use Rattle.script_text.proofs.payload.put_many_pairs.Goals as goal
 
 pub returns-clause-text : goal.returns-clause-text
 returns-clause-text c =
