@@ -4,7 +4,7 @@
 usage: examples/emulator_trace.py [--mistake] FILE
 
 The emulator has one process and one file. It runs a few calls, and writes FILE. `fdref audit FILE` then tells
-whether POSIX calls come to the same. With --mistake, its pread moves the offset of the file, and the audit names
+whether fdref's calls come to the same. With --mistake, its pread moves the offset of the file, and the audit names
 the first record that is wrong and what it should have been.
 """
 

@@ -4,8 +4,8 @@
 usage: examples/shared_pipe.py --socket PATH
        examples/shared_pipe.py --program PROGRAM
 
-PATH is where `fdref serve --socket PATH --trace FILE --sessions 2 --records 100` listens. With PROGRAM,
-which is the built program or `./fdref`, the example starts a server of its own and ends when that has ended.
+PATH is where `fdref serve --socket PATH --trace FILE --sessions 2 --records 100` listens. With PROGRAM, which is
+the built program, `./fdref` or './fdref --unproved', the example starts a server of its own and ends when that ends.
 
 A parent makes a pipe and forks. The child reads it and waits, since nothing is there. The parent writes
 more than the child has asked for, and then reads what is left. Each line has the place of its record.
@@ -13,6 +13,7 @@ more than the child has asked for, and then reads what is left. Each line has th
 
 import argparse
 import os
+import shlex
 import subprocess
 import sys
 import tempfile
@@ -77,7 +78,7 @@ def main(words: Sequence[str]) -> int:
     parser = argparse.ArgumentParser(description="Who gets which bytes of a pipe?")
     which = parser.add_mutually_exclusive_group(required=True)
     which.add_argument("--socket", metavar="PATH", help="where a server listens")
-    which.add_argument("--program", help="the program, to start a server of its own")
+    which.add_argument("--program", help="the program and its first words, to start a server of its own")
     args = parser.parse_args(words)
     if args.socket:
         with fdref.join(args.socket) as parent:
@@ -86,7 +87,8 @@ def main(words: Sequence[str]) -> int:
     with tempfile.TemporaryDirectory() as folder:
         path = os.path.join(folder, "socket")
         trace = os.path.join(folder, "trace")
-        serve = [args.program, "serve", "--socket", path, "--trace", trace, "--sessions", "2", "--records", "100"]
+        program = shlex.split(args.program)
+        serve = [*program, "serve", "--socket", path, "--trace", trace, "--sessions", "2", "--records", "100"]
         with subprocess.Popen(serve) as server:
             try:
                 with fdref.join(path, within=SECONDS) as parent:

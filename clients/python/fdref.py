@@ -33,13 +33,24 @@ trace, which `fdref audit FILE` judges:
 
     records = [
         fdref.Record(0, "join", (), 0),
-        fdref.Record(0, "open", ("a", os.O_RDWR | os.O_CREAT), 0),
-        fdref.Record(0, "write", (0, b"hello"), 5),
+        fdref.Record(0, "mkfifo", ("f",)),
+        fdref.Record(0, "fork", (), 1),
+        fdref.Record(1, "attach"),
+        fdref.Record(0, "open", ("f", os.O_RDONLY), fdref.Parked(0)),
+        fdref.Record(1, "open", ("f", os.O_WRONLY), 0),
+        fdref.Record(0, "resume", (), 0),
+        fdref.Record(1, "write", (0, b"hello"), 5),
+        fdref.Record(0, "read", (0, 9), b"hello"),
         fdref.Record(0, "read", (7, 5), fdref.Error("EBADF")),
+        fdref.Record(1, "exit"),
         fdref.Record(0, "exit"),
         fdref.CLOSE_RUN,
     ]
     fdref.write_trace("trace", records)
+
+The records stand in the order in which the calls took effect. Processes have the numbers 0, 1, 2 and so on, in the
+order of their joins and forks, and the first begins with no descriptor open. A number as an outcome is a value, and
+never an errno. `Record` tells how all else is noted.
 
 docs/FORMATS.md has the bytes of requests, answers and traces, and docs/PROFILE.md what each call does.
 """
@@ -539,13 +550,14 @@ class Record(NamedTuple):
     `pid` is the number of the process. `act` is "join", "attach", "resume", "exit", "close-run", or the name of a call,
     whose arguments `args` are those of its method, in their order. `outcome` is
 
-      - what the method returns: None, a number, bytes, a pair of descriptors, or a Stat;
+      - what the method returns: None (`ok`), a number, bytes, a pair of descriptors, or a Stat;
       - Error, or an OSError with an `errno`, where the call failed;
       - Parked where it has to wait; its reply is then the outcome of a later "resume";
       - Part where it waits on after a resume.
 
-    A join has the number of the new process as its outcome and as its `pid`. A trace holds any of these, right or
-    wrong, and so may a record that no run can have.
+    A join has the number of the new process as its outcome and as its `pid`. An attach has the number of the child as
+    its `pid`, and the outcome None, as an exit and a close-run have. A trace holds any of these, right or wrong, and so
+    may a record that no run can have.
     """
 
     pid: int

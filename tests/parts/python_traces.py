@@ -4,6 +4,7 @@ import errno
 import os
 import sys
 import tempfile
+import textwrap
 from collections.abc import Iterator, Sequence
 from functools import partial
 from pathlib import Path
@@ -124,6 +125,15 @@ def example(program: str, trace: str, words: Sequence[str], wanted: Ran) -> None
     same(wanted, run([program, "audit", trace]))
 
 
+def documented(program: str, folder: str) -> None:
+    """The trace that the client's documentation shows is legal."""
+    text = fdref.__doc__ or ""
+    start, end = text.index("    records = ["), text.index("The records stand")
+    imports = f"import os, sys\nsys.path.insert(0, {str(CLIENT)!r})\nimport fdref\n"
+    same(Ran(0, b"", b""), run([sys.executable, "-c", imports + textwrap.dedent(text[start:end])], folder=folder))
+    same(legal(13), run([program, "audit", os.path.join(folder, "trace")]))
+
+
 def cases(program: str, seed: str) -> Iterator[Case]:
     """Traces of the client in Python."""
     with tempfile.TemporaryDirectory(prefix="fdref-", dir=SCRATCH) as folder:
@@ -141,5 +151,6 @@ def cases(program: str, seed: str) -> Iterator[Case]:
             pick = source(f"{seed} read", number)
             trace = changed(pick, trace_of(random_records(pick)))
             yield numbered("the client reads trace", seed, number), partial(reads, path, trace)
+        yield "the trace of the documentation", partial(documented, program, folder)
         yield "the example", partial(example, program, path, [], legal(9))
         yield "the example with a mistake", partial(example, program, path, ["--mistake"], illegal(5, "x6c6c6f"))
