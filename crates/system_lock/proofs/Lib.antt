@@ -8,3 +8,4 @@ pub mod StirCalls
 pub mod StirActs
 pub mod StirEvents
 pub mod SleeperLaws
+pub mod DueLaws

@@ -1,5 +1,5 @@
 -- What one holding of the lock does to the book, and to those that sleep (own).
-use Rattle.std.specs.Prelude.{◌≡◌, ℕ, true, not, is_some, List, [], ◌∷◌, ◌++◌, Some, Result, Ok, Err}
+use Rattle.std.specs.Prelude.{◌≡◌, ℕ, true, not, is_some, List, [], ◌∷◌, ◌++◌, None, Some, Result, Ok, Err}
 use Rattle.std.specs.List.{filter}
 use Rattle.call_types.specs.declared.act.Act.TheVariants as act
 use Rattle.call_types.specs.declared.call.Call.{Call}
@@ -38,9 +38,9 @@ abbrev pub ExitsIn : BookState → BookState → SeatState → SeatState → Why
 ExitsIn old new s t why.Foreign = (new ≡ old) × (t ≡ s) × (is_some (exit_refusal old s) ≡ true)
 ExitsIn old new s t other = Exits old new s t
 
--- why a call that waits and can go on may end its process: the run is full, memory is wanting, or the book knows no such seat
+-- why a call that waits may end its process: memory is wanting, where no refusal is due; the run is full; or the book knows no such seat
 abbrev pub IsDueEnd : BookState → SeatState → Why → Type 0
-IsDueEnd b s why.NoMemory = Unit {0}
+IsDueEnd b s why.NoMemory = resume_refusal b s ≡ None
 IsDueEnd b s why.RunFull = resume_refusal b s ≡ Some refusal.RunFull
 IsDueEnd b s why.Foreign = Unit {0}
 IsDueEnd b s why.HungUp = ⊥
@@ -51,6 +51,11 @@ abbrev pub TriesIn : BookState → BookState → SeatState → Tried → Type 0
 TriesIn old new s (tried.Resumed t receipt) = Resumes old new s t (resumed.Recorded receipt)
 TriesIn old new s (tried.Still t) = Resumes old new s t resumed.Still
 TriesIn old new s (tried.Ended ended) = ExitsIn old new s ended.seat ended.why × IsDueEnd old s ended.why
+
+-- a call is told to wait on only where no refusal is due
+abbrev pub StillIsDue : BookState → SeatState → Tried → Type 0
+StillIsDue b s (tried.Still t) = resume_refusal b s ≡ None
+StillIsDue b s other = Unit {0}
 
 -- those that sleep on: of them, whose call is not ready
 abbrev pub still_asleep : BookState → List ℕ → List ℕ

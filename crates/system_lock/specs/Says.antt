@@ -1,5 +1,5 @@
 -- What the lock of a run says of ends and of refusals (own).
-use Rattle.std.specs.Prelude.{◌≡◌, true, is_some, Some, List, []}
+use Rattle.std.specs.Prelude.{◌≡◌, true, is_some, Some}
 use Rattle.call_types.specs.declared.call.Call.{Call}
 use Rattle.call_types.specs.declared.refusal.Refusal.{Refusal}
 use Rattle.call_types.specs.declared.refusal.Refusal.TheVariants as refusal
