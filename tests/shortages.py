@@ -1,7 +1,7 @@
 #!/usr/bin/env python3
-"""Does the live server end rightly where any of its allocations is refused? (a minute)
+"""Do the live server and a run of sessions end rightly where any allocation is refused? (a minute)
 
-usage: tests/shortages.py [--program PATH]
+usage: tests/shortages.py [--program PATH] [--trial PATH] [--rounds N]
 
 The program is crates/fdref/out/fdref where no PATH is given. A library that comes before the C library
 (LD_PRELOAD) refuses allocations by their number. As a server of two sessions, with a trace, the program is run
@@ -21,8 +21,15 @@ Each of these runs must end by itself, while all clients are answered or hung up
 
 A trace that was begun is legal to its last whole record. Where one allocation is refused, one act is refused for
 want of memory at most, and if nobody was hung up on, all requests were answered. Some acts are refused so and given
-again. A failure is told in one line. The last line is `N passed, M failed`, and the exit status
-is 1 where M is above 0.
+again.
+
+The trial is crates/run_trial/out/run_trial where no PATH is given. It is a run of two sessions over memory, without
+sockets. Each of its allocations is refused in the same two ways, again and again (10 times, or as `--rounds` says),
+since its threads take turns as they like. It must end by itself, with status 0 and its report, in which sessions may
+have ended for want of memory or with a writer that failed, and the trace may have a fault; or with the status of
+`no memory` or of `no thread`. Where one allocation is refused, one thing goes another way at most.
+
+A failure is told in one line. The last line is `N passed, M failed`, and the exit status is 1 where M is above 0.
 """
 
 import argparse
@@ -36,10 +43,11 @@ from functools import partial
 from pathlib import Path
 from typing import NamedTuple
 
+from parts import run_shortages
 from support.auditing import Audit, legal
 from support.counting import Count, Failure, require, same
-from support.options import add_path, end_without
-from support.places import FDREF, SCRATCH
+from support.options import add_count, add_path, end_without
+from support.places import FDREF, RUN_TRIAL, SCRATCH
 from support.refusing import NEVER, Refuser, build
 from support.running import Ran
 from support.serving import SECONDS, Client, HungUp, Server, outcome_of, report
@@ -224,22 +232,13 @@ class Check:
         require(self.given_again, "no act is")
 
 
-def main() -> int:
+def check_server(count: Count, program: str, refuser: Refuser) -> None:
     """Serves without any refusal, and then with each."""
-    parser = argparse.ArgumentParser(description="Checks the live server with its allocations refused.")
-    add_path(parser, "--program", "the program", FDREF)
-    program = parser.parse_args().program
-    status = end_without(program)
-    if status is not None:
-        return status
-    count = Count()
-    with tempfile.TemporaryDirectory(prefix="fdref-", dir=SCRATCH) as folder:
-        refuser = Refuser(build(folder))
-        check = Check(program, refuser)
-        if count.check("nothing refused", partial(check.run, NEVER, NEVER)):
-            for first in range(1, refuser.counted() + 1):
-                count.check(f"allocation {first} refused", partial(check.run, first, first))
-                count.check(f"allocation {first} refused and all later ones", partial(check.run, first, NEVER - 1))
+    check = Check(program, refuser)
+    if count.check("nothing refused", partial(check.run, NEVER, NEVER)):
+        for first in range(1, refuser.counted() + 1):
+            count.check(f"allocation {first} refused", partial(check.run, first, first))
+            count.check(f"allocation {first} refused and all later ones", partial(check.run, first, NEVER - 1))
     for (ended, stderr), runs in sorted(check.ways.items()):
         print(f"{runs} runs: status {ended} {stderr.decode()}".rstrip())
     print(f"{check.given_again} acts refused and given again")
@@ -247,6 +246,24 @@ def main() -> int:
         if end[0] in (0, 5):
             count.check(f"ending so: {end}", partial(check.ended, end))
     count.check("an act given again", check.gave_again)
+
+
+def main() -> int:
+    """Refuses the server and the trial their allocations: the exit status."""
+    parser = argparse.ArgumentParser(description="Refuses the live server and a run over memory their allocations.")
+    add_path(parser, "--program", "the program", FDREF)
+    add_path(parser, "--trial", "the trial", RUN_TRIAL)
+    add_count(parser, "--rounds", 10, "how often each allocation of the trial is refused")
+    asked = parser.parse_args()
+    for path, what in ((asked.program, "program"), (asked.trial, "trial")):
+        status = end_without(path, what)
+        if status is not None:
+            return status
+    count = Count()
+    with tempfile.TemporaryDirectory(prefix="fdref-", dir=SCRATCH) as folder:
+        refuser = Refuser(build(folder))
+        check_server(count, asked.program, refuser)
+        count.part("a run over memory", run_shortages.cases(asked.trial, refuser, asked.rounds))
     return count.end()
 
 

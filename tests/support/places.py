@@ -22,6 +22,7 @@ FDREF = built("fdref")
 MEMORY_TRIAL = built("memory_trial")
 FRAME_TRIAL = built("frame_trial")
 SESSION_TRIAL = built("session_trial")
+RUN_TRIAL = built("run_trial")
 
 # Where short-lived files are made quickly: in memory, where the system has a folder for that.
 SCRATCH = "/dev/shm" if os.access("/dev/shm", os.W_OK) else None

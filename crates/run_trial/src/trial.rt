@@ -1,0 +1,43 @@
+//! A run of two sessions over memory.
+
+ghost use Rattle.std.specs.Prelude.{◌≡◌, Some};
+
+use crate::trial_fault::TrialFault;
+use crate::waiting::{SESSIONS, Waiting};
+use byte_ledger::ledgers::{Blanks, Ledgers};
+use call_types::limits::Limits;
+use run_core::report::Report;
+use run_core::sessions::run_sessions;
+use session_core::gate::OpenGate;
+use session_core::memory::{MemoryReader, MemoryWriter};
+use std::alloc::Global;
+use std::sync::Wait;
+use std::thread::Threads;
+use std::time::Clock;
+use trace_writer::memory::{Manner, MemorySink};
+
+/// The report of the run, counted by these ledgers.
+pub(crate) fn ran<
+    Rt: Threads + Wait + Clock + Copy + Send + 'static,
+    L: Ledgers + Send + Sync + 'static,
+>(
+    rt: Rt,
+    alloc: Global,
+    limits: Limits,
+    blanks: Blanks,
+) -> Result<Report<MemoryReader, MemoryWriter, MemorySink>, TrialFault>
+    requires ledgers { blanks ≡ L.names }
+    requires limits { L.limits ≡ Some limits }
+{
+    let mut source = Waiting::new(alloc)?;
+    Ok(run_sessions::<Rt, Waiting, OpenGate, L, MemorySink>(
+        rt,
+        alloc,
+        &mut source,
+        SESSIONS,
+        limits,
+        blanks,
+        OpenGate,
+        MemorySink::new(alloc, Manner::sound()),
+    )?)
+}

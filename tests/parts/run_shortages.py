@@ -1,0 +1,142 @@
+"""A run of two sessions over memory, by a program that is refused its allocations in turn.
+
+Each session joins and asks about a descriptor that is not open. With nothing refused there are two joins, two calls,
+two exits and the closing, and each session gives two answers.
+"""
+
+import collections
+import re
+from collections.abc import Iterator
+from functools import partial
+from typing import NamedTuple
+
+from support.counting import Case, Failure, require, same
+from support.refusing import NEVER, Refuser
+from support.running import Ran
+
+RECORDS = "100"
+WHOLE = Ran(0, b"sessions 2 records 7 in 0 out 0 trace 7\nend Closed answers 2\nend Closed answers 2\n", b"")
+NO_MEMORY = Ran(5, b"", b"no memory\n")
+NO_THREAD = Ran(6, b"", b"no thread\n")
+
+LINES = re.compile(
+    r"sessions 2 records (\d+) in 0 out 0 trace (\d+)\n"
+    r"end (Closed|NoMemory|WriteFault \{ sent: \d+ \}) answers (\d)\n"
+    r"end (Closed|NoMemory|WriteFault \{ sent: \d+ \}) answers (\d)\n"
+    r"(?:trace fault (Write|NoMemory)\n)?"
+)
+
+# How a run may end.
+ENDS = ["no memory", "no thread", "a whole report"]
+# What went another way in a run with a report.
+NO_RECORD, NO_SESSION, NO_WRITE, NO_TRACE = "a call refused", "a session ended", "a writer failed", "a trace cut off"
+ENDS += [NO_RECORD, NO_SESSION, NO_WRITE, NO_TRACE]
+
+
+class Report(NamedTuple):
+    """What a report tells: the records, those in the trace, the end and the answers of each session, and the fault."""
+
+    records: int
+    traced: int
+    ends: list[tuple[str, int]]
+    fault: str | None
+
+
+def report_in(text: str) -> Report:
+    """The report that is spelled so."""
+    told = LINES.fullmatch(text)
+    if told is None:
+        raise Failure(f"this is no report of a run that was refused memory: {text!r}")
+    records, traced, one, its_answers, other, others_answers, fault = told.groups()
+    return Report(int(records), int(traced), [(one, int(its_answers)), (other, int(others_answers))], fault)
+
+
+def records_of(end: str, answers: int) -> range:
+    """How many records a session may have that ended so: its join, its call, and its exit; one may be unanswered."""
+    if end == "Closed":
+        # the first request was answered by a record, and the second by one or by a refusal
+        same(2, answers)
+        return range(2, 4)
+    require(answers <= 2, f"{answers} answers")
+    return range(0, 4)
+
+
+def is_right(report: Report) -> None:
+    """A report whose numbers go together."""
+    counts = [records_of(*end) for end in report.ends]
+    # a session with any record has an exit too
+    possible = {1 + one + other for one in counts[0] for other in counts[1] if 1 not in (one, other)}
+    require(report.records in possible, f"{report.records} records, and {sorted(possible)} are possible")
+    if report.fault is None:
+        same(report.records, report.traced)
+    require(report.traced <= report.records, f"{report.traced} records in the trace, of {report.records}")
+
+
+def faults_of(report: Report) -> list[str]:
+    """What went another way than with nothing refused."""
+    found = []
+    for end, _ in report.ends:
+        found += [NO_SESSION] * (end == "NoMemory")
+        found += [NO_WRITE] * end.startswith("WriteFault")
+    found += [NO_TRACE] * (report.fault is not None)
+    return found or [NO_RECORD] * (7 - report.records)
+
+
+class Runs:
+    """The runs of a trial, and how they ended."""
+
+    def __init__(self, trial: str, refuser: Refuser) -> None:
+        self.words = [trial, RECORDS]
+        self.refuser = refuser
+        self.ways: collections.Counter[str] = collections.Counter()
+        self.allocations = 0
+
+    def run(self, first: int, last: int) -> list[str]:
+        """One run with its allocations from `first` to `last` refused: how it ended."""
+        ran, self.allocations = self.refuser.run(self.words, b"", first, last)
+        if ran == NO_MEMORY:
+            return ["no memory"]
+        if ran == NO_THREAD:
+            return ["no thread"]
+        require(ran.status == 0 and not ran.stderr, ran.said())
+        report = report_in(ran.stdout.decode())
+        is_right(report)
+        return faults_of(report) or ["a whole report"]
+
+    def whole(self) -> None:
+        """Nothing is refused."""
+        ran, self.allocations = self.refuser.run(self.words)
+        same(WHOLE, ran)
+        require(self.allocations, "no allocation is seen: it does not take its memory by the C library's malloc")
+
+    def alone(self, number: int) -> None:
+        """One allocation is refused, by which one thing goes another way at most."""
+        ways = self.run(number, number)
+        require(len(ways) == 1, f"one refusal, and {ways}")
+        self.ways.update(ways)
+
+    def with_later(self, number: int) -> None:
+        """An allocation is refused, and all later ones."""
+        self.ways.update(self.run(number, NEVER - 1))
+
+    def ended(self, way: str) -> None:
+        """Some run ended so."""
+        require(self.ways[way], "no run does")
+
+
+def cases(trial: str, refuser: Refuser, rounds: int) -> Iterator[Case]:
+    """Each allocation refused, alone and with all later ones, so many times, since threads take turns as they like."""
+    runs = Runs(trial, refuser)
+    for _ in range(rounds):
+        yield "a run with nothing refused", runs.whole
+        number = 1
+        runs.allocations = number
+        # the last number is past all that are asked for
+        while number <= runs.allocations + 1:
+            yield f"allocation {number} of a run refused and all later ones", partial(runs.with_later, number)
+            yield f"allocation {number} of a run refused", partial(runs.alone, number)
+            number += 1
+    for way in ENDS:
+        yield f"a run that ends so: {way}", partial(runs.ended, way)
+    counts = ", ".join(f"{count} {way}" for way, count in sorted(runs.ways.items()))
+    print(f"runs over memory with refusals: {counts}")
