@@ -159,12 +159,20 @@ def fills_up(program: str, talk: Talk, size: int) -> None:
         ends(server, talk, min(size, len(talk.trace)), is_synced=True)
 
 
+def mounts(folder: str, size: int) -> bool:
+    """Puts a file system of so many bytes at a folder, if this process may: whether it did."""
+    words = ["mount", "-t", "tmpfs", "-o", f"size={size}", "tmpfs", folder]
+    try:
+        return subprocess.run(words, stderr=subprocess.DEVNULL, check=False).returncode == 0
+    except FileNotFoundError:
+        return False
+
+
 @contextlib.contextmanager
 def small_disk(size: int) -> Iterator[str | None]:
     """A folder on a file system of so many bytes, or none where this process may not mount one."""
     with tempfile.TemporaryDirectory(prefix="fdref-") as folder:
-        words = ["mount", "-t", "tmpfs", "-o", f"size={size}", "tmpfs", folder]
-        is_mounted = subprocess.run(words, stderr=subprocess.DEVNULL, check=False).returncode == 0
+        is_mounted = mounts(folder, size)
         try:
             yield folder if is_mounted else None
         finally:
