@@ -16,7 +16,7 @@ use Rattle.system_lock.specs.Says.{IsEnded, IsNotOpened, IsRefused}
 pub ended_in : (old new : BookState) (s t : SeatState) (reason : Why) → ExitsIn old new s t reason → IsDueEnd old s reason → IsEnded s reason
 ended_in old new s t why.Foreign exits due = (old, exits.2)
 ended_in old new s t why.RunFull exits due = (old, due)
-ended_in old new s t why.NoMemory exits due = (old, tt)
+ended_in old new s t why.NoMemory exits due = (old, due)
 ended_in old new s t why.HungUp exits due = (old, tt)
 ended_in old new s t why.Lost exits due = absurd due
 

@@ -1,5 +1,5 @@
 -- What the lock of a run says of ends and of refusals (own).
-use Rattle.std.specs.Prelude.{◌≡◌, true, is_some, Some}
+use Rattle.std.specs.Prelude.{◌≡◌, true, is_some, None, Some}
 use Rattle.call_types.specs.declared.call.Call.{Call}
 use Rattle.call_types.specs.declared.refusal.Refusal.{Refusal}
 use Rattle.call_types.specs.declared.refusal.Refusal.TheVariants as refusal
@@ -17,12 +17,12 @@ IsNotOpenedIn b request.Join told = IsDue (join_refusal b) told
 IsNotOpenedIn b (request.Attach process) told = IsDue (attach_refusal b process) told
 IsNotOpenedIn b (request.Call call) told = ⊥
 
--- why a process may end in this book: it is hung up, memory is wanting, the book does not know its seat, or is full for its resume.
--- A call is never given up
+-- why a process may end in this book: it is hung up; memory is wanting, where no refusal of its resume is due; the book does not know
+-- its seat, or is full for its resume. A call is never given up
 abbrev pub IsEndIn : BookState → SeatState → Why → Type 0
 IsEndIn b s why.Foreign = is_some (exit_refusal b s) ≡ true
 IsEndIn b s why.RunFull = resume_refusal b s ≡ Some refusal.RunFull
-IsEndIn b s why.NoMemory = Unit {0}
+IsEndIn b s why.NoMemory = resume_refusal b s ≡ None
 IsEndIn b s why.HungUp = Unit {0}
 IsEndIn b s why.Lost = ⊥
 
