@@ -35,8 +35,8 @@ alone, and may end in two ways, and in no other:
 
   - with status 0 and the lines that the program prints when nothing is refused, byte for byte; where
     an act was given again, standard error says `given again: 1`,
-  - with status 5, `no memory`, and nothing on standard output, where the script was read or the book
-    was made.
+  - with status 5, `no memory`, and nothing on standard output, where the trial wants memory of its own:
+    to read the script, to make the book, to keep a line or a seat.
 
 Where an act of the script is recorded that is no exit or closing, some run must have given an act again.
 An exit or a closing that is refused for want of memory is a fault of the trial.

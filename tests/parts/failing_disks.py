@@ -14,7 +14,7 @@ from typing import NamedTuple
 from parts.written_traces import SHORT
 from support import plain_model
 from support.auditing import audited
-from support.counting import Case, require, same
+from support.counting import Case, Failure, require, same
 from support.frames import trace_of
 from support.places import SCRATCH
 from support.refusing import build
@@ -177,15 +177,14 @@ def small_disk(size: int) -> Iterator[str | None]:
             yield folder if is_mounted else None
         finally:
             if is_mounted:
-                subprocess.run(["umount", folder], check=True)
+                subprocess.run(["umount", "-l", folder], check=True)
 
 
 def disk_fills_up(program: str, talk: Talk, size: int) -> None:
-    """A trace on a file system that has so many bytes; where none can be mounted, its file takes so many."""
+    """A trace on a file system that has so many bytes."""
     with small_disk(size) as folder:
         if folder is None:
-            fills_up(program, talk, size)
-            return
+            raise Failure("no disk can be mounted any more")
         with Server(program, talk.sessions(), trace=os.path.join(folder, "trace")) as server:
             converse(server, talk)
             ends(server, talk, min(size, len(talk.trace)), is_synced=True)
@@ -234,8 +233,11 @@ ANY = 2**31
 
 
 class Trouble(NamedTuple):
-    """How a disk answers: the most bytes that a write takes; how many writes and syncs take nothing, from which write
-    on, and by which error, where 0 is none."""
+    """How a disk answers.
+
+    How many bytes a write takes at most; how many writes, from which on, take nothing, and the error that they answer,
+    or 0; and how many syncs fail, and by which error.
+    """
 
     most: int = ANY
     first: int = 1
@@ -290,8 +292,13 @@ def cases(program: str, stride: int) -> Iterator[Case]:
     for size in range(len(BRIEF.trace) + 1):
         yield f"a trace of {size} bytes at most", partial(fills_up, program, BRIEF, size)
     long = lengthy()
+    with small_disk(PAGE) as folder:
+        can_mount = folder is not None
     for size in range(PAGE, len(long.trace) + PAGE, PAGE):
-        yield f"a disk of {size} bytes", partial(disk_fills_up, program, long, size)
+        if can_mount:
+            yield f"a disk of {size} bytes", partial(disk_fills_up, program, long, size)
+        else:
+            yield f"a trace of {size} bytes at most, as no disk is to be had", partial(fills_up, program, long, size)
     for size in range(1, len(long.trace), stride):
         yield f"a long trace of {size} bytes at most", partial(fills_up, program, long, size)
     with tempfile.TemporaryDirectory(prefix="fdref-", dir=SCRATCH) as folder:
