@@ -5,7 +5,7 @@ usage: examples/shared_pipe.py --socket PATH
        examples/shared_pipe.py --program PROGRAM
 
 PATH is where `fdref serve --socket PATH --trace FILE --sessions 2 --records 100` listens. With PROGRAM, which is
-the built program, `./fdref` or './fdref --unproved', the example starts a server of its own and ends when that ends.
+`./fdref`, or './fdref --unproved' once that is built, the example starts a server of its own and ends with it.
 
 A parent makes a pipe and forks. The child reads it and waits, since nothing is there. The parent writes
 more than the child has asked for, and then reads what is left. Each line has the place of its record.

@@ -3,6 +3,7 @@
 import errno
 import os
 import queue
+import shlex
 import socket
 import stat
 import sys
@@ -169,7 +170,8 @@ def example(program: str, has_own_server: bool) -> None:
     """The example gives its lines, with a server that it starts itself or with one that is there."""
     words = [sys.executable, str(EXAMPLES / "shared_pipe.py")]
     if has_own_server:
-        same((0, EXAMPLE + report(2, 11, 11, 11), b""), outcome_of(started([*words, "--program", program])))
+        words += ["--program", shlex.quote(program)]
+        same((0, EXAMPLE + report(2, 11, 11, 11), b""), outcome_of(started(words)))
         return
     with Server(program, 2) as server:
         while not is_listening(server.path):
