@@ -29,6 +29,10 @@ outcome_length (outcome.Part moved) = 5
 abbrev pub record_length : Record → ℕ
 record_length r = 4 + (act_length r.act + outcome_length r.outcome)
 
+-- a record is no longer than a record may be
+abbrev pub IsShortRecord : Record → Type 0
+IsShortRecord r = record_length r ≤ RECORD_LENGTH_MAX
+
 -- no field of an act is longer than a call may give it
 abbrev pub IsShort : Act → Type 0
 IsShort (act.Call c) = FieldsShort (parts c).entry.fields (parts c).values
@@ -37,4 +41,4 @@ IsShort other = Unit {0}
 -- so no record of a step from a world in which nothing refers to what is gone is longer than a record may be
 abbrev pub StepIsShort : Type 0
 StepIsShort = (bounds : Bounds) (w : World) (actor : ℕ) (act : Act) (s : Stepped) → IsWhole w → step bounds w actor act ≡ Some s → IsShort act →
-    record_length (record { actor = actor; act = act; outcome = s.outcome }) ≤ RECORD_LENGTH_MAX
+    IsShortRecord (record { actor = actor; act = act; outcome = s.outcome })

@@ -16,6 +16,7 @@ use Rattle.process_table.specs.Processes.{is_here}
 use Rattle.posix_model.specs.Step.{is_parked, can_call, decided, Stepped, given, comes_to, stepped, step}
 use Rattle.posix_model.specs.Sound.{ActsAreSound, adds}
 use Rattle.posix_model.specs.Laws.{Counts, StepPlansProcesses, HistoryIsWhole}
+use Rattle.posix_model.specs.Lengths.{IsShort, StepIsShort}
 use Rattle.posix_model.specs.declared.change.Decided.{Decided}
 use Rattle.posix_model.specs.declared.world.World.{World}
 use Rattle.record_book.specs.Book.{BookState, world_now, world_after, exits_left}
@@ -55,9 +56,9 @@ few_added w (act.Call call.Fork) = elim (is_full w) as (λ b. cond b 0 1 ≤ 1) 
 few_added w (act.Call other) = omega arith
 few_added w other = omega arith
 
-pub plans : ActsAreSound → StepPlansProcesses → HistoryIsWhole → (b : BookState) (actor : ℕ) (a : Act) (d : Decided) → b.limits.bounds.file_size ≤ OFFSET_MAX →
+pub plans : ActsAreSound → StepPlansProcesses → HistoryIsWhole → StepIsShort → (b : BookState) (actor : ℕ) (a : Act) (d : Decided) → IsShort a → b.limits.bounds.file_size ≤ OFFSET_MAX →
     comes_to b.limits.bounds (world_now b) actor a ≡ Some d → is_too_full b actor a ≡ false → IsPlanned b actor a d
-plans sound planned whole b actor a d small is roomy =
+plans sound planned whole brief b actor a d short small is roomy =
     let w = world_now b in
     let s = stepped w (given a) d in
     let stands = sound b.limits.bounds w actor a d is in
@@ -75,6 +76,7 @@ plans sound planned whole b actor a d small is roomy =
       processes =
           let P : Option Stepped → Type 0 = λ t. length (option_map_or (λ t. t.world) t w).processes ≤ length w.processes + 1 in
           subst P (sym steps) (omega (arith, counts.all, few_added w a));
+      short = brief b.limits.bounds w actor a s (whole b.limits.bounds b.history) steps short;
       few = stands.few;
     }
 

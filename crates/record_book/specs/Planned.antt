@@ -6,13 +6,14 @@ use Rattle.posix_model.specs.Whole.{IsWhole}
 use Rattle.posix_model.specs.Step.{given, comes_to, stepped}
 use Rattle.posix_model.specs.Sound.{data_of, adds, ended, closes, IsTold}
 use Rattle.posix_model.specs.Laws.{Counts}
+use Rattle.posix_model.specs.Lengths.{IsShortRecord}
 use Rattle.posix_model.specs.Turns.{took}
 use Rattle.posix_model.specs.declared.change.Decided.{Decided}
 use Rattle.record_book.specs.Book.{BookState, world_now, world_after}
 use Rattle.record_book.specs.Refusals.{is_too_full}
 
 -- what was decided is what the act comes to; its change can be made in the world, in which nothing refers to what is gone; and its
--- record fits into the run
+-- record fits into the run, and is no longer than a record may be
 pub record IsPlanned (b : BookState) (actor : ℕ) (act : Act) (d : Decided) : Type 0 where
   pub comes_to_is : comes_to b.limits.bounds (world_now b) actor act ≡ Some d
   pub fits : Fits (world_now b) (given act) d.change
@@ -23,4 +24,5 @@ pub record IsPlanned (b : BookState) (actor : ℕ) (act : Act) (d : Decided) : T
   pub told : IsTold (world_now b) act d.outcome d.change.process
   pub roomy : is_too_full b actor act ≡ false
   pub processes : length (world_after b actor act).processes ≤ length (world_now b).processes + 1
+  pub short : IsShortRecord (record { actor = actor; act = act; outcome = d.outcome })
   pub few : took (world_now b) (record { actor = actor; act = act; outcome = d.outcome }) ≤ length (data_of (world_now b) actor act)

@@ -1,5 +1,6 @@
 ghost use Rattle.std.specs.Prelude.{◌≡◌, false, IfOk, OnErr};
 ghost use Rattle.std.specs.Arc.{arc_value};
+ghost use Rattle.posix_model.specs.Lengths.{IsShortRecord};
 ghost use Rattle.posix_model.specs.Sound.{ended, closes};
 ghost use Rattle.record_book.specs.Book.{Appends};
 ghost use Rattle.record_book.specs.Planned.{IsPlanned};
@@ -26,6 +27,7 @@ struct Shared {
 /// Allocates a record that will stand at this place, and shares it. An error says that memory ran out.
 #[inline(always)]
 fn shared_at(alloc: Global, place: u64, entry: Record) -> Result<Shared, AllocError>
+    requires short { IsShortRecord entry }
     ensures item { IfOk result (λ s. arc_value s.item ≡ entry) }
     ensures traced { IfOk result (λ s. arc_value s.traced ≡ entry) }
     ensures place { IfOk result (λ s. s.receipt.place ≡ place) }

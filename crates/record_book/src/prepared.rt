@@ -1,5 +1,6 @@
 ghost use Rattle.std.specs.Prelude.{◌≡◌, IfOk};
 ghost use Rattle.std.specs.Arc.{arc_value};
+ghost use Rattle.posix_model.specs.Lengths.{IsShortRecord};
 ghost use Rattle.call_types.specs.declared.outcome.Outcome.TheVariants.{Reply as Replied};
 ghost use Rattle.call_types.specs.declared.outcome.Reply.TheVariants.{Done};
 
@@ -33,6 +34,7 @@ impl Model for Prepared {
 impl Prepared {
     /// The record of an act whose reply is ok.
     pub(crate) fn new(alloc: Global, actor: u32, act: Act) -> Result<Self, AllocError>
+        requires short { IsShortRecord (record { actor = actor; act = act; outcome = Replied Done }) }
         ensures { IfOk result (λ p. p ≡ record { actor = actor; act = act; outcome = Replied Done }) }
     {
         let kept = Arc::new(

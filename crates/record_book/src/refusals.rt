@@ -8,6 +8,7 @@ ghost use Rattle.posix_model.specs.Step.{can_call, comes_to, decided};
 ghost use Rattle.record_book.specs.Book.{world_now};
 ghost use Rattle.record_book.specs.Openings.{next_pid};
 ghost use Rattle.record_book.specs.Refusals.{exit_refusal, start_refusal, is_too_full};
+ghost use Rattle.posix_model.specs.Lengths.{IsShort};
 ghost use Rattle.record_book.specs.Planned.{IsPlanned};
 
 use crate::journal::Journal;
@@ -18,12 +19,21 @@ use call_types::call::Call;
 use call_types::refusal::Refusal;
 use pipe_calls::resume::decide_resume;
 use posix_model::change::Decided;
-use posix_model::laws::{acts_are_sound, numbers_rise, processes_are_counted};
+use posix_model::laws::{acts_are_sound, numbers_rise, processes_are_counted, records_are_short};
 use posix_model::reader::WorldReader;
 use std::alloc::{AllocError, Global};
 use table_calls::attach::decide_attach;
 use table_calls::decide::{call_adds, decide_call, join_adds};
 use table_calls::join::{decide_join, is_full};
+
+/// Promises that no field of an act is longer than a call may give it. It does nothing.
+fn act_is_short(act: &Act)
+    ensures { IsShort act.now }
+{
+    if let Act::Call(call) = act {
+        call.fields_are_short();
+    }
+}
 
 impl Journal {
     /// The number that the next process will have.
@@ -133,8 +143,9 @@ impl Journal {
         ensures { IsPlanned self.now actor act.now decided.now }
     {
         let _actor = actor;
-        let _act = act;
         let _decided = decided;
+        act_is_short(act);
+        records_are_short();
         numbers_rise();
         acts_are_sound();
         processes_are_counted();

@@ -1,5 +1,6 @@
 ghost use Rattle.std.specs.Prelude.{◌≡◌, ◌+◌, ◌<◌, ◌++◌, ◌∷◌, [], ◌^◌, max, IfOk};
 ghost use Rattle.std.specs.Arc.{arc_value};
+ghost use Rattle.posix_model.specs.Lengths.{IsShortRecord};
 ghost use Rattle.record_book.specs.Seat.{Receipted, SeatState};
 
 use byte_ledger::ledgers::Ledgers;
@@ -23,10 +24,15 @@ impl Model for Receipt {
     ghost Value = { Receipted };
 
     ghost view = { λ r. record { place = r.place; record_is = arc_value r.item } };
+
+    ghost use Rattle.posix_model.specs.Lengths.{IsShortRecord};
+
+    ghost invariant = { λ r. IsShortRecord (arc_value r.item) };
 }
 
 impl Receipt {
     pub(crate) fn new(place: u64, item: Arc<Record>) -> Self
+        requires short { IsShortRecord (arc_value item) }
         ensures place { result.place ≡ place }
         ensures item { result.record_is ≡ arc_value item }
     {
@@ -40,9 +46,10 @@ impl Receipt {
         self.place
     }
 
-    /// The record.
+    /// The record. It has at most `RECORD_LENGTH_MAX` bytes where it is sent.
     pub fn record(&self) -> &Record
-        ensures { result.now ≡ self.now.record_is }
+        ensures record { result.now ≡ self.now.record_is }
+        ensures short { IsShortRecord result.now }
     {
         &self.item
     }
