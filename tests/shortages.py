@@ -24,10 +24,12 @@ want of memory at most, and if nobody was hung up on, all requests were answered
 again.
 
 The trial is crates/run_trial/out/run_trial where no PATH is given. It is a run of two sessions over memory, without
-sockets. Each of its allocations is refused in the same two ways, again and again (10 times, or as `--rounds` says),
-since its threads take turns as they like. It must end by itself, with status 0 and its report, in which sessions may
-have ended for want of memory or with a writer that failed, and the trace may have a fault; or with the status of
-`no memory` or of `no thread`. Where one allocation is refused, one thing goes another way at most.
+sockets, in which a gate holds the answer at place 0 back until an answer of the other session was let through. Each of
+its allocations is refused in the same two ways, again and again (10 times, or as `--rounds` says), since its threads
+take turns as they like. It must end by itself, with status 0 and its report, in which sessions may have ended for want
+of memory, with a writer that failed, or with an answer that was held back to the end, and the trace may have a fault;
+or with the status of `no memory` or of `no thread`. Where one allocation is refused, one thing goes another way at
+most, besides what is held back for it.
 
 A failure is told in one line. The last line is `N passed, M failed`, and the exit status is 1 where M is above 0.
 """

@@ -1,7 +1,8 @@
 """A run of two sessions over memory, by a program that is refused its allocations in turn.
 
-Each session joins and asks about a descriptor that is not open. With nothing refused there are two joins, two calls,
-two exits and the closing, and each session gives two answers.
+Each session joins and asks about a descriptor that is not open. A gate holds the answer at place 0 back until an answer
+of the other session was let through. With nothing refused there are two joins, two calls, two exits and the closing, and
+each session gives two answers.
 """
 
 import collections
@@ -15,14 +16,15 @@ from support.refusing import NEVER, Refuser
 from support.running import Ran
 
 RECORDS = "100"
+WHOLE_RECORDS = 7
 WHOLE = Ran(0, b"sessions 2 records 7 in 0 out 0 trace 7\nend Closed answers 2\nend Closed answers 2\n", b"")
 NO_MEMORY = Ran(5, b"", b"no memory\n")
 NO_THREAD = Ran(6, b"", b"no thread\n")
 
 LINES = re.compile(
     r"sessions 2 records (\d+) in 0 out 0 trace (\d+)\n"
-    r"end (Closed|NoMemory|WriteFault \{ sent: \d+ \}) answers (\d)\n"
-    r"end (Closed|NoMemory|WriteFault \{ sent: \d+ \}) answers (\d)\n"
+    r"end (Closed|NoMemory|WriteFault \{ sent: \d+ \}) answers (\d)( held back)?\n"
+    r"end (Closed|NoMemory|WriteFault \{ sent: \d+ \}) answers (\d)( held back)?\n"
     r"(?:trace fault (Write|NoMemory)\n)?"
 )
 
@@ -30,15 +32,26 @@ LINES = re.compile(
 ENDS = ["no memory", "no thread", "a whole report"]
 # What went another way in a run with a report.
 NO_RECORD, NO_SESSION, NO_WRITE, NO_TRACE = "a call refused", "a session ended", "a writer failed", "a trace cut off"
-ENDS += [NO_RECORD, NO_SESSION, NO_WRITE, NO_TRACE]
+HELD = "a session held back"
+ENDS += [NO_RECORD, NO_SESSION, NO_WRITE, NO_TRACE, HELD]
+
+NOTHING_SENT = "WriteFault { sent: 0 }"
+
+
+class End(NamedTuple):
+    """How a session ended, how many answers it gave, and whether the gate held the last one back for good."""
+
+    how: str
+    answers: int
+    is_held: bool
 
 
 class Report(NamedTuple):
-    """What a report tells: the records, those in the trace, the end and the answers of each session, and the fault."""
+    """What a report tells: the records, those in the trace, how each session ended, and the fault."""
 
     records: int
     traced: int
-    ends: list[tuple[str, int]]
+    ends: list[End]
     fault: str | None
 
 
@@ -47,39 +60,44 @@ def report_in(text: str) -> Report:
     told = LINES.fullmatch(text)
     if told is None:
         raise Failure(f"this is no report of a run that was refused memory: {text!r}")
-    records, traced, one, its_answers, other, others_answers, fault = told.groups()
-    return Report(int(records), int(traced), [(one, int(its_answers)), (other, int(others_answers))], fault)
+    records, traced, one, ones_answers, one_held, other, others_answers, other_held, fault = told.groups()
+    ends = [End(one, int(ones_answers), bool(one_held)), End(other, int(others_answers), bool(other_held))]
+    return Report(int(records), int(traced), ends, fault)
 
 
-def records_of(end: str, answers: int) -> range:
+def records_of(end: End) -> range:
     """How many records a session may have that ended so: its join, its call, and its exit; one may be unanswered."""
-    if end == "Closed":
+    if end.how == "Closed":
         # the first request was answered by a record, and the second by one or by a refusal
-        same(2, answers)
+        same(2, end.answers)
         return range(2, 4)
-    require(answers <= 2, f"{answers} answers")
+    require(end.answers <= 2, f"{end.answers} answers")
     return range(0, 4)
 
 
 def is_right(report: Report) -> None:
     """A report whose numbers go together."""
-    counts = [records_of(*end) for end in report.ends]
+    counts = [records_of(end) for end in report.ends]
     # a session with any record has an exit too
     possible = {1 + one + other for one in counts[0] for other in counts[1] if 1 not in (one, other)}
     require(report.records in possible, f"{report.records} records, and {sorted(possible)} are possible")
     if report.fault is None:
         same(report.records, report.traced)
     require(report.traced <= report.records, f"{report.traced} records in the trace, of {report.records}")
+    for end, other in zip(report.ends, reversed(report.ends), strict=True):
+        if end.is_held:
+            same(NOTHING_SENT, end.how)
+            require(other.how != "Closed", "an answer is held back though all of the other session's were let through")
 
 
 def faults_of(report: Report) -> list[str]:
-    """What went another way than with nothing refused."""
+    """What went another way than with nothing refused. That a session is held back comes of what befell the other."""
     found = []
-    for end, _ in report.ends:
-        found += [NO_SESSION] * (end == "NoMemory")
-        found += [NO_WRITE] * end.startswith("WriteFault")
+    for end in report.ends:
+        found += [NO_SESSION] * (end.how == "NoMemory")
+        found += [NO_WRITE] * (end.how.startswith("WriteFault") and not end.is_held)
     found += [NO_TRACE] * (report.fault is not None)
-    return found or [NO_RECORD] * (7 - report.records)
+    return found or [NO_RECORD] * (report.records < WHOLE_RECORDS)
 
 
 class Runs:
@@ -101,6 +119,7 @@ class Runs:
         require(ran.status == 0 and not ran.stderr, ran.said())
         report = report_in(ran.stdout.decode())
         is_right(report)
+        self.ways[HELD] += any(end.is_held for end in report.ends)
         return faults_of(report) or ["a whole report"]
 
     def whole(self) -> None:

@@ -1,17 +1,20 @@
 //! The program `run_trial RECORDS`: a run of two sessions over memory, of at most RECORDS records, with its trace in memory too.
 //!
-//! Each session joins and asks about descriptor 0, which is not open; no gate holds an answer back. The program prints the line of the
-//! report as `fdref serve` does, how each session ended and how many answers it gave, and what went wrong with the trace, if something
-//! did. Where there is no report its exit status says why. `tests/shortages.py`, at the top of the repository, refuses it each of its
-//! allocations in turn.
+//! Each session joins and asks about descriptor 0, which is not open. A gate holds the answer at place 0 back until an answer of the
+//! other session was let through. The program prints the line of the report as `fdref serve` does, how each session ended and how many
+//! answers it gave, whether its last one was held back to the end, and what went wrong with the trace, if something did. Where there
+//! is no report its exit status says why. `tests/shortages.py`, at the top of the repository, refuses it each of its allocations in
+//! turn.
 #![tactic(auto)]
 
+mod others_first;
 mod trial;
 mod trial_fault;
 mod waiting;
 
 use byte_ledger::ledgers::Blanks;
 use call_types::limits::Limits;
+use logged_streams::stream_log::REFUSALS_MAX;
 use run_core::report::{Report, RunFault, Session};
 use session_core::memory::{MemoryReader, MemoryWriter};
 use std::io;
@@ -50,6 +53,9 @@ fn print_session(
 ) -> io::Result<()> {
     let end = session.end;
     let answers = session.answers.len();
+    if session.writes.refusals() == REFUSALS_MAX {
+        return print!(rt; "end {end:?} answers {answers} held back\n");
+    }
     print!(rt; "end {end:?} answers {answers}\n")
 }
 

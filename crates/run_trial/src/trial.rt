@@ -2,13 +2,13 @@
 
 ghost use Rattle.std.specs.Prelude.{◌≡◌, Some};
 
+use crate::others_first::OthersFirst;
 use crate::trial_fault::TrialFault;
 use crate::waiting::{SESSIONS, Waiting};
 use byte_ledger::ledgers::{Blanks, Ledgers};
 use call_types::limits::Limits;
 use run_core::report::Report;
 use run_core::sessions::run_sessions;
-use session_core::gate::OpenGate;
 use session_core::memory::{MemoryReader, MemoryWriter};
 use std::alloc::Global;
 use std::sync::Wait;
@@ -30,14 +30,14 @@ pub(crate) fn ran<
     requires limits { L.limits ≡ Some limits }
 {
     let mut source = Waiting::new(alloc)?;
-    Ok(run_sessions::<Rt, Waiting, OpenGate, L, MemorySink>(
+    Ok(run_sessions::<Rt, Waiting, OthersFirst, L, MemorySink>(
         rt,
         alloc,
         &mut source,
         SESSIONS,
         limits,
         blanks,
-        OpenGate,
+        OthersFirst::new(),
         MemorySink::new(alloc, Manner::sound()),
     )?)
 }
