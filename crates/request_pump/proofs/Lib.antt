@@ -1,0 +1,3 @@
+pub mod PushLemmas
+pub mod PumpLemmas
+pub mod ReadLemmas

@@ -1,0 +1,28 @@
+use Rattle.std.proofs.Common.{rules, ◌<◌, ℕ, arith, inr, ap, subst, sym}
+use Rattle.logged_streams.specs.Streams.{LogState}
+use Rattle.request_pump.proofs.ReadLemmas as laws
+use Rattle.request_pump.proofs.pump.pump_often.Goals as goal
+
+pub loop-turn-init : goal.loop-turn-init
+loop-turn-init g c = record {
+  room = c.requires.room;
+  few = laws.few_first c.args.source.now.log c.requires.unread;
+  calls = ap (λ (log : LogState). log.calls) c.requires.unread;
+  ring = search rules;
+  pumped = laws.pumped_none _ _ _ c.requires.unfed;
+}
+
+pub returns-in-Some-clause-pumps : goal.returns-in-Some-clause-pumps
+returns-in-Some-clause-pumps g c = laws.pumped_all _ _ _ _ _ _ _ _ _ _ c.loop-turn.invariant.pumped c.in-Some.ensures.pumps
+
+pub loop-turn-preserved : goal.loop-turn-preserved
+loop-turn-preserved g c = record {
+  room = subst (λ (n : ℕ). 0 < n) (sym c.pump_on.ensures.long) c.loop-turn.invariant.room;
+  few = c.in-None.ensures.pumps.may;
+  calls = laws.counted_more _ c.loop-turn._turn _ (omega arith) c.loop-turn.invariant.calls c.in-None.ensures.pumps.calls;
+  ring = search rules;
+  pumped = laws.pumped_more _ _ _ _ _ _ _ _ _ c.loop-turn.invariant.pumped c.in-None.ensures.pumps;
+}
+
+pub returns-clause-pumps : goal.returns-clause-pumps
+returns-clause-pumps g c = laws.pumped_enough c.cuts_do_not_matter.ensures.requests _ _ _ _ _ _ c.loop-turn.invariant.pumped (inr (omega (arith, c.loop-turn.invariant.calls)))

@@ -1,0 +1,4 @@
+pub mod Input
+pub mod Pushing
+pub mod Pump
+pub mod Pumping

@@ -1,0 +1,137 @@
+//! Reading, and pushing what is read.
+
+ghost use Rattle.std.specs.Prelude.{◌≡◌, ◌<◌, ◌≤◌, length};
+ghost use Rattle.rtrb.specs.Ring.{sent, producer_capacity, SameProducer};
+ghost use Rattle.frame_codec.specs.Decoding.{fresh};
+ghost use Rattle.logged_streams.specs.Streams.{fresh_log};
+ghost use Rattle.request_pump.specs.Pump.{Pumps};
+ghost use Rattle.request_pump.specs.Pumping.{PumpsPiece, IsPieceEnd, PumpsOn, PumpsAll};
+ghost use Rattle.request_pump.specs.declared.pump.TheConstants.{READS_MAX};
+
+use crate::inlet::{Bell, Inlet};
+use crate::pumped::{PumpEnd, Pumped};
+use frame_codec::decoder::{Decoder, Progress};
+use frame_codec::frame_kind::Requests;
+use frame_codec::laws::cuts_do_not_matter;
+use logged_streams::reader::LoggedReader;
+use logged_streams::stream_log::{Gave, INTERRUPTIONS_MAX, StreamLog};
+use std::alloc::Global;
+use std::io::Read;
+
+/// How many reads a pump has.
+pub const READS_MAX: u32 = 1_048_576;
+
+/// How many bytes a read asks for.
+const PIECE: usize = 65_536;
+
+/// Pushes the requests that a piece completes.
+fn pump_piece<B: Bell>(
+    decoder: &mut Decoder<Requests>,
+    ring: &mut Inlet<B>,
+    piece: &[u8],
+) -> Option<PumpEnd>
+    ensures ring { SameProducer ring.old.producer ring.new.producer }
+    ensures pumps { PumpsPiece (producer_capacity ring.new.producer) piece.now decoder.old decoder.new (sent ring.old.producer) (sent ring.new.producer) result }
+    ensures end { IsPieceEnd result }
+{
+    cuts_do_not_matter();
+    let fed = match decoder.feed(piece) {
+        Ok(fed) => fed,
+        Err(_) => return Some(PumpEnd::NoMemory),
+    };
+    let progress = fed.progress;
+    match ring.push_all(fed.values) {
+        Ok(()) => {}
+        Err(_) => return Some(PumpEnd::Ahead),
+    }
+    ring.bell.end_of_piece();
+    match progress {
+        Progress::More => None,
+        _ => Some(PumpEnd::Malformed),
+    }
+}
+
+/// Reads once more, and pushes what that gives.
+fn pump_on<R: Read, B: Bell>(
+    source: &mut LoggedReader<R>,
+    decoder: &mut Decoder<Requests>,
+    ring: &mut Inlet<B>,
+    buffer: &mut [u8],
+) -> Option<PumpEnd>
+    requires room { 0 < length buffer.old }
+    requires few { source.old.log.interruptions < 16 }
+    ensures ring { SameProducer ring.old.producer ring.new.producer }
+    ensures pumps { PumpsOn (producer_capacity ring.new.producer) source.old source.new decoder.old decoder.new (sent ring.old.producer) (sent ring.new.producer) result }
+    ensures long { length buffer.new ≡ length buffer.old }
+{
+    cuts_do_not_matter();
+    match source.read(buffer) {
+        Gave::Bytes(count) => {
+            let (piece, _) = buffer.split_at(count);
+            pump_piece(decoder, ring, piece)
+        }
+        Gave::Nothing => Some(PumpEnd::Closed),
+        Gave::Interrupted => {
+            if source.log().interruptions() < INTERRUPTIONS_MAX {
+                None
+            } else {
+                Some(PumpEnd::ReadFault)
+            }
+        }
+        Gave::Failed => Some(PumpEnd::ReadFault),
+    }
+}
+
+/// Reads as often as a pump may, and pushes what that gives, until an end is met.
+fn pump_often<R: Read, B: Bell>(
+    source: &mut LoggedReader<R>,
+    decoder: &mut Decoder<Requests>,
+    ring: &mut Inlet<B>,
+    buffer: &mut [u8],
+) -> PumpEnd
+    requires room { 0 < length buffer.old }
+    requires unread { source.old.log ≡ fresh_log }
+    requires unfed { decoder.old ≡ fresh }
+    ensures ring { SameProducer ring.old.producer ring.new.producer }
+    ensures few { source.new.log.calls ≤ READS_MAX }
+    ensures pumps { PumpsAll (producer_capacity ring.new.producer) source.old source.new (sent ring.old.producer) (sent ring.new.producer) result }
+{
+    cuts_do_not_matter();
+    for _turn in 0..READS_MAX {
+        match pump_on(source, decoder, ring, buffer) {
+            Some(end) => return end,
+            None => {}
+        }
+    }
+    PumpEnd::ReadFault
+}
+
+/// Reads pieces of a reader, and pushes the requests that they complete into a ring, until an end is met. Where the ring is full,
+/// it asks for room and tries once more. It waits for nobody.
+pub fn pump<R: Read, B: Bell>(alloc: Global, reader: R, ring: Inlet<B>) -> Pumped<R, B>
+    ensures ring { SameProducer ring.producer result.producer }
+    ensures pumps { Pumps (R.remaining reader) ring.producer result }
+{
+    let mut buffer = match vec![in alloc; 0u8; PIECE] {
+        Ok(buffer) => buffer,
+        Err(_) => {
+            return Pumped {
+                end: PumpEnd::NoMemory,
+                reader,
+                reads: StreamLog::new(),
+                ring,
+            };
+        }
+    };
+    let mut ring = ring;
+    let mut decoder = Decoder::new(alloc);
+    let mut source = LoggedReader::new(reader);
+    let end = pump_often(&mut source, &mut decoder, &mut ring, buffer.as_mut_slice());
+    let (reader, reads) = source.into_parts();
+    Pumped {
+        end,
+        reader,
+        reads,
+        ring,
+    }
+}

@@ -1,0 +1,39 @@
+//! What a pump has come to.
+
+use crate::inlet::{Bell, Inlet};
+use logged_streams::stream_log::StreamLog;
+use std::io::Read;
+use std::marker::Model;
+
+/// Why a pump has ended.
+#[derive(Clone, Copy, Debug, PartialEq, Eq)]
+pub enum PumpEnd {
+    /// The reader's end was met.
+    Closed,
+    /// The reader failed, was interrupted sixteen times in a row, or was read 1,048,576 times.
+    ReadFault,
+    /// Bytes that are no frame of a request. All requests before them are in the ring.
+    Malformed,
+    /// Memory ran out, for the buffer or for the requests of a piece. Where it ran out for the buffer, nothing was read.
+    NoMemory,
+    /// The ring was full, and still was when room had been asked for. The request that came next is dropped.
+    Ahead,
+}
+
+/// A pump that is over. Contracts see it as a `PumpState`.
+#[derive(Drop)]
+pub struct Pumped<R: Read, B: Bell> {
+    pub end: PumpEnd,
+    pub reader: R,
+    /// What became of the reads.
+    pub reads: StreamLog,
+    pub ring: Inlet<B>,
+}
+
+impl<R: Read, B: Bell> Model for Pumped<R, B> {
+    ghost use Rattle.request_pump.specs.Pump.{PumpState};
+
+    ghost Value = { PumpState };
+
+    ghost view = { λ s. record { remaining = R.remaining s.reader; reads = s.reads; producer = s.ring.producer; end_is = s.end } };
+}
