@@ -90,4 +90,8 @@ impl<L: Ledgers> Kernel<Seat<L>, SpentSeat<L>> for Stranger<L> {
             _ => self.book.hang_up(rt, seat),
         }
     }
+
+    fn lost<R: Wait>(&self, rt: &R, process: u32) {
+        self.book.lost(rt, process);
+    }
 }

@@ -9,3 +9,5 @@ pub mod StirActs
 pub mod StirEvents
 pub mod SleeperLaws
 pub mod DueLaws
+pub mod FewLaws
+pub mod DoorLaws

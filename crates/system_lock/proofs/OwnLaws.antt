@@ -1,4 +1,4 @@
--- No act changes on which pipe another process waits.
+-- No act changes on which pipe another process waits, or ends it.
 use Rattle.std.proofs.Common.{◌≡◌, ◌≢◌, ◌∙◌, ℕ, zero, suc, ◌<◌, pos, Bool, true, false, cond, List, [], ◌∷◌, ◌++◌, Option, None, Some, length, set, refl, ap, sym, arith, eq-eqb}
 use Rattle.std.specs.Option.{option_map, is_some}
 use Rattle.std.specs.List.{count_by}
@@ -46,19 +46,25 @@ abbrev target_of : Option Description → Option Target
 target_of None = None
 target_of (Some d) = Some d.target
 
--- another process waits as before, and a description that is there refers to the same
+-- another process waits as before, and one that is live stays so; and a description that is there refers to the same
 record Keeps (a : ℕ) (w v : World) : Type 0 where
   waiters : (q : ℕ) → a ≢ q → waiter (slot v.processes q) ≡ waiter (slot w.processes q)
+  live : (q : ℕ) → a ≢ q → is_some (slot w.processes q) ≡ true → is_some (slot v.processes q) ≡ true
   targets : (n : ℕ) (t : Target) → target_of (slot w.descriptions n) ≡ Some t → target_of (slot v.descriptions n) ≡ Some t
 
 keeps_same : (a : ℕ) (w v : World) → v.processes ≡ w.processes → v.descriptions ≡ w.descriptions → Keeps a w v
 keeps_same a w v same_processes same_descriptions = record {
   waiters = λ q other. ap (λ (ps : List (Option Process)). waiter (slot ps q)) same_processes;
+  live = λ q other there. ap (λ (ps : List (Option Process)). is_some (slot ps q)) same_processes ∙ there;
   targets = λ n t h. ap (λ (ds : List (Option Description)). target_of (slot ds n)) same_descriptions ∙ h;
 }
 
 keeps_twice : (a : ℕ) (u v w : World) → Keeps a u v → Keeps a v w → Keeps a u w
-keeps_twice a u v w h k = record { waiters = λ q other. k.waiters q other ∙ h.waiters q other; targets = λ n t is. k.targets n t (h.targets n t is) }
+keeps_twice a u v w h k = record {
+  waiters = λ q other. k.waiters q other ∙ h.waiters q other;
+  live = λ q other there. k.live q other (h.live q other there);
+  targets = λ n t is. k.targets n t (h.targets n t is);
+}
 
 -- a new process waits in no call
 waiter_pushed : (ps : List (Option Process)) (table : List (Option ℕ)) (attached : Bool) (q : ℕ) → waiter (slot (ps ++ Some (process_with table attached) ∷ []) q) ≡ waiter (slot ps q)
@@ -66,6 +72,11 @@ waiter_pushed [] table attached zero = refl
 waiter_pushed [] table attached (suc q) = refl
 waiter_pushed (p ∷ ps) table attached zero = refl
 waiter_pushed (p ∷ ps) table attached (suc q) = waiter_pushed ps table attached q
+
+live_pushed : (ps : List (Option Process)) (p : Option Process) (q : ℕ) → is_some (slot ps q) ≡ true → is_some (slot (ps ++ p ∷ []) q) ≡ true
+live_pushed [] p q h = cc
+live_pushed (x ∷ ps) p zero h = h
+live_pushed (x ∷ ps) p (suc q) h = live_pushed ps p q h
 
 target_pushed : (ds : List (Option Description)) (d : Option Description) (n : ℕ) (t : Target) → target_of (slot ds n) ≡ Some t → target_of (slot (ds ++ d ∷ []) n) ≡ Some t
 target_pushed [] d n t h = cc
@@ -111,6 +122,7 @@ not_own p a q is other same = other (sym is ∙ same)
 own_edit : (a : ℕ) (w : World) (p : ℕ) (x : Option Process) → p ≡ a → Keeps a w (record w { processes = set w.processes p x })
 own_edit a w p x is = record {
   waiters = λ q other. ap waiter (set_other w.processes p q x (not_own p a q is other));
+  live = λ q other there. ap is_some (set_other w.processes p q x (not_own p a q is other)) ∙ there;
   targets = λ n t h. h;
 }
 
@@ -120,7 +132,11 @@ files_keep a w bytes other = keeps_same a w (with_files w bytes other) refl refl
 
 processes_keep : (a : ℕ) (w : World) (e : ProcessEdit) → ProcessOwn a e → Keeps a w (with_processes w e)
 processes_keep a w on_process.Nothing own = keeps_same a w w refl refl
-processes_keep a w (on_process.Add table attached) own = record { waiters = λ q other. waiter_pushed w.processes table attached q; targets = λ n t h. h }
+processes_keep a w (on_process.Add table attached) own = record {
+  waiters = λ q other. waiter_pushed w.processes table attached q;
+  live = λ q other there. live_pushed w.processes (Some (process_with table attached)) q there;
+  targets = λ n t h. h;
+}
 processes_keep a w (on_process.Attach p) own = own_edit a w p (option_map with_connection (slot w.processes p)) own
 processes_keep a w (on_process.Park p parked) own = own_edit a w p (option_map (with_parked (Some parked)) (slot w.processes p)) own
 processes_keep a w (on_process.Total p moved) own = own_edit a w p (option_map (with_total moved) (slot w.processes p)) own
@@ -132,12 +148,17 @@ processes_keep a w on_process.Close own = keeps_same a w (with_processes w on_pr
 entry_keeps : (a : ℕ) (w v : World) (p : ℕ) (x : Option Process) (d : Option Description) → p ≡ a → v.processes ≡ set w.processes p x → v.descriptions ≡ w.descriptions ++ d ∷ [] → Keeps a w v
 entry_keeps a w v p x d is processes descriptions = record {
   waiters = λ q other. ap (λ (ps : List (Option Process)). waiter (slot ps q)) processes ∙ ap waiter (set_other w.processes p q x (not_own p a q is other));
+  live = λ q other there. ap (λ (ps : List (Option Process)). is_some (slot ps q)) processes ∙ (ap is_some (set_other w.processes p q x (not_own p a q is other)) ∙ there);
   targets = λ n t h. ap (λ (ds : List (Option Description)). target_of (slot ds n)) descriptions ∙ target_pushed w.descriptions d n t h;
 }
 
 table_keeps : (a : ℕ) (w : World) (e : TableEdit) → TableOwn a e → Keeps a w (with_table w e)
 table_keeps a w on_table.Nothing own = keeps_same a w w refl refl
-table_keeps a w (on_table.Offset number offset) own = record { waiters = λ q other. refl; targets = λ n t h. target_moved w.descriptions number offset n ∙ h }
+table_keeps a w (on_table.Offset number offset) own = record {
+  waiters = λ q other. refl;
+  live = λ q other there. there;
+  targets = λ n t h. target_moved w.descriptions number offset n ∙ h;
+}
 table_keeps a w (on_table.Open p fd d) own = entry_keeps a w (with_table w (on_table.Open p fd d)) p _ (Some d) own refl refl
 table_keeps a w (on_table.OpenPair p reading writing) own = pair
   where
@@ -145,6 +166,8 @@ table_keeps a w (on_table.OpenPair p reading writing) own = pair
     pair = record {
       waiters = λ q other.
           ap waiter (set_other _ p q _ (not_own p a q own other)) ∙ ap waiter (set_other w.processes p q _ (not_own p a q own other));
+      live = λ q other there.
+          ap is_some (set_other _ p q _ (not_own p a q own other)) ∙ (ap is_some (set_other w.processes p q _ (not_own p a q own other)) ∙ there);
       targets = λ n t h. target_pushed _ _ n t (target_pushed w.descriptions _ n t h);
     }
 table_keeps a w (on_table.OpenEnd p fd f d) own = entry_keeps a w (with_table w (on_table.OpenEnd p fd f d)) p _ (Some d) own refl refl
@@ -253,6 +276,10 @@ own_pipe leaves a w bytes c own whole q other = pipe_is (sweep v) q ∙ (ap (pip
     at : (there : Option Process) → slot w.processes q ≡ there → pipe_by (sweep (changed w bytes c)).descriptions (waiter there) ≡ pipe_by w.descriptions (waiter there)
     at None is = refl
     at (Some x) is = call x x.parked is refl
+
+-- each process but the act's own lives on
+pub own_live : SweepLeaves → (a : ℕ) (w : World) (bytes : List ℕ) (c : Change) → IsOwn a c → (q : ℕ) → a ≢ q → is_some (slot w.processes q) ≡ true → is_some (slot (sweep (changed w bytes c)).processes q) ≡ true
+own_live leaves a w bytes c own q other there = ap (λ (ps : List (Option Process)). is_some (slot ps q)) (leaves (changed w bytes c)).processes ∙ (change_keeps a w bytes c own).live q other there
 
 -- one that waits on no pipe is not ready
 pub unpiped : (bounds : Bounds) (w : World) (q : ℕ) → pipe_waited w q ≡ None → is_ready bounds w q ≡ false

@@ -18,7 +18,7 @@ ended_in old new s t why.Foreign exits due = (old, exits.2)
 ended_in old new s t why.RunFull exits due = (old, due)
 ended_in old new s t why.NoMemory exits due = (old, due)
 ended_in old new s t why.HungUp exits due = (old, tt)
-ended_in old new s t why.Lost exits due = absurd due
+ended_in old new s t why.Lost exits due = (old, due)
 
 pub hung_up_in : (old new : BookState) (s t : SeatState) (reason : Why) → ExitsIn old new s t reason → IsWhyHungUp reason → IsEnded s reason
 hung_up_in old new s t why.Foreign exits is = (old, exits.2)

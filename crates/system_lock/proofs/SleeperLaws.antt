@@ -1,16 +1,16 @@
 -- Lists of those that sleep, and of their pipes, of which one place after the other is looked at.
-use Rattle.std.proofs.Common.{◌≡◌, ◌∙◌, ℕ, zero, suc, ◌+◌, ◌≤◌, ◌<◌, Bool, true, false, not, ◌&&◌, cond, List, [], ◌∷◌, ◌++◌, Option, None, Some, length, map, set, get_or, take, drop, refl, ap, sym, subst, arith}
+use Rattle.std.proofs.Common.{◌≡◌, ◌∙◌, ℕ, zero, suc, ◌+◌, ◌≤◌, ◌<◌, Bool, true, false, not, ◌&&◌, ◌||◌, cond, List, [], ◌∷◌, ◌++◌, Option, None, Some, length, map, set, get_or, take, drop, refl, ap, sym, subst, arith}
 use Rattle.std.specs.List.{All, filter, remove}
 use Rattle.std.proofs.lemmas.List.Edits.{length-remove}
 use Rattle.std.proofs.lemmas.List.Elements.{All-nil, All-head, All-tail, All-append, All-take, All-drop, All-more, All-push, All-get_or, All-weaker}
 use Rattle.record_book.specs.Book.{BookState}
-use Rattle.system_lock.specs.System.{is_ready_in}
-use Rattle.system_lock.specs.Events.{still_asleep}
+use Rattle.system_lock.specs.System.{is_live_in, is_ready_in, wakes_in}
 use Rattle.system_lock.specs.Stirred.{is_by, is_on_its, stirs}
 use Rattle.system_lock.specs.Sleepers.{pipe_in, SleepersSound, SparesIn, without_if, next_if, pipe_then}
 use Rattle.system_lock.specs.declared.stirred.Stirred.{Stirred}
 use Rattle.system_lock.specs.declared.stirred.Stirred.TheVariants as stirred
 use Rattle.system_lock.specs.declared.sleepers.Sleepers.{Sleepers}
+use Rattle.system_lock.proofs.StirLaws.{neither}
 
 -- before a place that is taken out, all stays
 take_removed : {T : Type 0} (xs : List T) (i : ℕ) → take i (remove xs i) ≡ take i xs
@@ -19,7 +19,7 @@ take_removed [] (suc i) = refl
 take_removed (x ∷ xs) zero = refl
 take_removed (x ∷ xs) (suc i) = ap (λ l. x ∷ l) (take_removed xs i)
 
-map_removed : {S T : Type 0} (f : S → T) (xs : List S) (i : ℕ) → map f (remove xs i) ≡ remove (map f xs) i
+pub map_removed : {S T : Type 0} (f : S → T) (xs : List S) (i : ℕ) → map f (remove xs i) ≡ remove (map f xs) i
 map_removed f [] zero = refl
 map_removed f [] (suc i) = refl
 map_removed f (x ∷ xs) zero = refl
@@ -39,7 +39,7 @@ get_mapped f [] i d e below = absurd (omega arith)
 get_mapped f (x ∷ xs) zero d e below = refl
 get_mapped f (x ∷ xs) (suc i) d e below = get_mapped f xs i d e (omega arith)
 
-length_mapped : {S T : Type 0} (f : S → T) (xs : List S) → length (map f xs) ≡ length xs
+pub length_mapped : {S T : Type 0} (f : S → T) (xs : List S) → length (map f xs) ≡ length xs
 length_mapped f [] = refl
 length_mapped f (x ∷ xs) = ap suc (length_mapped f xs)
 
@@ -138,12 +138,26 @@ all_looked ready s f old now pipes at h full = subst (All (λ q. ready q ≡ fal
 pub all_left : (ready : ℕ → Bool) (s : Stirred) (f : ℕ → Option ℕ) (old now : List ℕ) (pipes : List (Option ℕ)) (at : ℕ) → IsLooked ready s f old now pipes at → length now ≤ at → now ≡ filter (λ q. not (ready q)) old
 all_left ready s f old now pipes at h full = sym (filter_all ready now (all_looked ready s f old now pipes at h full)) ∙ h.left
 
+pub both_no : (a b : Bool) → a ≡ false → b ≡ false → (a || b) ≡ false
+both_no a b e f = cc
+
+pub not_false : (b : Bool) → not b ≡ false → b ≡ true
+not_false true e = refl
+not_false false e = sym e
+
+-- one that is not to be woken, and that an event does not stir, is not to be woken after it
+sleeps_on : (was b : BookState) (s : Stirred) → SparesIn was b s → (q : ℕ) → wakes_in was q ≡ false → stirs s q (pipe_in was q) ≡ false → wakes_in b q ≡ false
+sleeps_on was b s spares q h apart =
+    let sleeps = neither (is_ready_in was q) (not (is_live_in was q)) h in
+    let far = neither (is_by s q) (is_on_its s (pipe_in was q)) apart in
+    both_no (is_ready_in b q) (not (is_live_in b q)) (spares.ready q apart ∙ sleeps.0) (ap not (spares.live q far.0 (not_false (is_live_in was q) sleeps.1)))
+
 -- those that were sound, and that an event spared, may be looked at
 pub spared_starts : (was b : BookState) (s : Stirred) (sleepers : Sleepers) → SleepersSound was sleepers → SparesIn was b s →
-    StartsLook (λ q. is_ready_in b q) s (pipe_in was) sleepers.asleep.items sleepers.pipes.items
+    StartsLook (λ q. wakes_in b q) s (pipe_in was) sleepers.asleep.items sleepers.pipes.items
 spared_starts was b s sleepers sound spares = record {
   pipes = sound.pipes;
-  spared = All-weaker (λ q. is_ready_in was q ≡ false) (λ q. stirs s q (pipe_in was q) ≡ false → is_ready_in b q ≡ false) (λ q h apart. spares.ready q apart ∙ h) sleepers.asleep.items sound.none_ready;
+  spared = All-weaker (λ q. wakes_in was q ≡ false) (λ q. stirs s q (pipe_in was q) ≡ false → wakes_in b q ≡ false) (λ q h apart. sleeps_on was b s spares q h apart) sleepers.asleep.items sound.none_wakes;
 }
 
 nobody_on : (x : Option ℕ) → is_on_its stirred.Nobody x ≡ false
@@ -153,7 +167,7 @@ nobody_on (Some pipe) = refl
 -- an event that stirs nobody leaves them so
 pub nobody_ready : (was b : BookState) (sleepers : Sleepers) → SleepersSound was sleepers → SparesIn was b stirred.Nobody → SleepersSound b sleepers
 nobody_ready was b sleepers sound spares = record {
-  none_ready = All-weaker (λ q. is_ready_in was q ≡ false) (λ q. is_ready_in b q ≡ false) (λ q h. spares.ready q (nobody_on (pipe_in was q)) ∙ h) sleepers.asleep.items sound.none_ready;
+  none_wakes = All-weaker (λ q. wakes_in was q ≡ false) (λ q. wakes_in b q ≡ false) (λ q h. sleeps_on was b stirred.Nobody spares q h (nobody_on (pipe_in was q))) sleepers.asleep.items sound.none_wakes;
   pipes = sound.pipes ∙ map_agrees (pipe_in was) (pipe_in b) (λ q. sym (spares.pipe q refl)) sleepers.asleep.items;
 }
 
@@ -165,31 +179,20 @@ pipe_known was b s spares q = at (is_by s q) refl
     at true e = refl
     at false e = sym (spares.pipe q e)
 
--- those whose lists are as they were are as sound
-pub unchanged_sound : (b : BookState) (was now : Sleepers) → SleepersSound b was → (now.asleep.items ≡ was.asleep.items) × (now.pipes.items ≡ was.pipes.items) → SleepersSound b now
-unchanged_sound b was now sound same = record {
-  none_ready = subst (All (λ q. is_ready_in b q ≡ false)) (sym same.0) sound.none_ready;
-  pipes = same.1 ∙ (sound.pipes ∙ ap (map (pipe_in b)) (sym same.0));
-}
-
 map_pushed : {S T : Type 0} (f : S → T) (xs : List S) (x : S) → map f (xs ++ x ∷ []) ≡ map f xs ++ f x ∷ []
 map_pushed f [] x = refl
 map_pushed f (y ∷ xs) x = ap (λ l. f y ∷ l) (map_pushed f xs x)
 
--- with one more, whose call is not ready and whose pipe is known
-pub asleep_sound : (b : BookState) (was now : Sleepers) (process : ℕ) (pipe : Option ℕ) → SleepersSound b was → is_ready_in b process ≡ false → pipe ≡ pipe_in b process →
+-- with one more, which is live, whose call is not ready and whose pipe is known
+pub asleep_sound : (b : BookState) (was now : Sleepers) (process : ℕ) (pipe : Option ℕ) → SleepersSound b was → wakes_in b process ≡ false → pipe ≡ pipe_in b process →
     now.asleep.items ≡ was.asleep.items ++ process ∷ [] → now.pipes.items ≡ was.pipes.items ++ pipe ∷ [] → SleepersSound b now
 asleep_sound b was now process pipe sound still its more more_pipes =
     let xs = was.asleep.items in
     record {
-      none_ready = subst (All (λ q. is_ready_in b q ≡ false)) (sym more) (All-push (λ q. is_ready_in b q ≡ false) xs process sound.none_ready still);
+      none_wakes = subst (All (λ q. wakes_in b q ≡ false)) (sym more) (All-push (λ q. wakes_in b q ≡ false) xs process sound.none_wakes still);
       pipes = more_pipes ∙ (ap (λ (l : List (Option ℕ)). l ++ pipe ∷ []) sound.pipes ∙
           (ap (λ (x : Option ℕ). map (pipe_in b) xs ++ x ∷ []) its ∙ (sym (map_pushed (pipe_in b) xs process) ∙ ap (map (pipe_in b)) (sym more))));
     }
-
--- where none is ready, all sleep on
-pub all_asleep : (b : BookState) (now : Sleepers) (all : List ℕ) → SleepersSound b now → now.asleep.items ≡ all → now.asleep.items ≡ still_asleep b all
-all_asleep b now all sound same = sym (filter_all (is_ready_in b) now.asleep.items sound.none_ready) ∙ ap (still_asleep b) same
 
 -- one pipe more is asked for
 pub renewed : {S T : Type 0} (f g : S → T) (xs : List S) (i : ℕ) (d : S) → i < length xs → set (map g (take i xs) ++ map f (drop i xs)) i (g (get_or xs i d)) ≡ map g (take (suc i) xs) ++ map f (drop (suc i) xs)

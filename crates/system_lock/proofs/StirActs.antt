@@ -28,13 +28,13 @@ use Rattle.system_lock.specs.Stirred.{pipe_waited, is_on_its, stirred_at, stirre
 use Rattle.system_lock.specs.declared.stirred.Stirred.{Stirred}
 use Rattle.system_lock.specs.declared.stirred.Stirred.TheVariants as stirred
 use Rattle.system_lock.proofs.StirLaws.{IsSlight, neither, slight_spares}
-use Rattle.system_lock.proofs.OwnLaws.{IsOwn, own_pipe, unpiped}
+use Rattle.system_lock.proofs.OwnLaws.{IsOwn, own_pipe, own_live, unpiped}
 use Rattle.system_lock.proofs.OwnCalls.{Own, own_page}
 use Rattle.system_lock.proofs.StirCalls.{Slight, SlightOrOwn, MaybeSlight, nothing_slight, slight_at, call_slight, resume_slight}
 
 -- where nothing changes
 pub same_spares : (bounds : Bounds) (w : World) (s : Stirred) → Spares bounds w w s
-same_spares bounds w s = record { ready = λ q apart. refl; pipe = λ q other. refl }
+same_spares bounds w s = record { ready = λ q apart. refl; pipe = λ q other. refl; live = λ q other there. there }
 
 -- what is known of all acts, and of the world before this one
 pub record Grounds (w : World) : Type 0 where
@@ -53,7 +53,7 @@ no_pipe a (Some pipe) h = cc
 apart : (a q : ℕ) → (a == q) ≡ false → a ≢ q
 apart a q h same = let bad : true ≡ false = sym (eq-eqb a q same) ∙ h in cc
 
--- an act that changes its own process alone stirs none that waits on no pipe, and no other process waits on another pipe after it
+-- an act that changes its own process alone stirs none that waits on no pipe, and no other process waits on another pipe after it, or ends
 own_spares : (bounds : Bounds) (w : World) → Grounds w → (a : ℕ) (bytes : List ℕ) (c : Change) → IsOwn a c → Spares bounds w (sweep (changed w bytes c)) (stirred.Anybody a)
 own_spares bounds w g a bytes c own = record {
   ready = λ q far.
@@ -62,6 +62,7 @@ own_spares bounds w g a bytes c own = record {
       let is : pipe_waited (sweep (changed w bytes c)) q ≡ None = own_pipe g.leaves a w bytes c own g.whole q (apart a q none.0) ∙ was in
       unpiped bounds (sweep (changed w bytes c)) q is ∙ sym (unpiped bounds w q was);
   pipe = λ q other. own_pipe g.leaves a w bytes c own g.whole q (apart a q other);
+  live = λ q other there. own_live g.leaves a w bytes c own q (apart a q other) there;
 }
 
 -- an act whose change is slight, or changes its own process alone

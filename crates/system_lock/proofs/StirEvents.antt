@@ -1,5 +1,7 @@
 -- What an event of a book leaves of those that sleep: all whom it does not stir.
 use Rattle.std.proofs.Common.{◌≡◌, ◌∙◌, ℕ, List, [], ◌∷◌, ◌++◌, Ok, Err, refl, ap, sym, subst}
+use Rattle.std.specs.Option.{is_some}
+use Rattle.slots.specs.Slots.{slot}
 use Rattle.call_types.specs.declared.act.Act.{Act}
 use Rattle.call_types.specs.declared.act.Act.TheVariants as act
 use Rattle.call_types.specs.declared.act.Record.{Record}
@@ -25,7 +27,7 @@ use Rattle.system_lock.proofs.StirActs.{Grounds, call_spares, resume_spares, joi
 
 -- where nothing changes
 pub same_spared : (old new : BookState) (s : Stirred) → new ≡ old → SparesIn old new s
-same_spared old new s same = subst (λ (b : BookState). SparesIn old b s) (sym same) (record { ready = λ q apart. refl; pipe = λ q other. refl })
+same_spared old new s same = subst (λ (b : BookState). SparesIn old b s) (sym same) (record { ready = λ q apart. refl; pipe = λ q other. refl; live = λ q other there. there })
 
 -- the world after one record more
 world_further : (bounds : Bounds) (w : World) (h : List Record) (r : Record) → world_from bounds w (h ++ r ∷ []) ≡ after bounds (world_from bounds w h) r
@@ -47,6 +49,7 @@ spared_by old new v s same is spares = record {
   ready = λ q apart.
       ap (λ (l : Limits). is_ready l.bounds (world_now new) q) same ∙ (ap (λ (x : World). is_ready old.limits.bounds x q) is ∙ spares.ready q apart);
   pipe = λ q other. ap (λ (x : World). pipe_waited x q) is ∙ spares.pipe q other;
+  live = λ q other there. ap (λ (x : World). is_some (slot x.processes q)) is ∙ spares.live q other there;
 }
 
 -- what is known of all acts and histories

@@ -393,6 +393,7 @@ alike_spares s bounds w v a = record {
       ap (λ x. is_some (cond (is_here x) (try_parked bounds v q (parked_of x)) None)) (a.processes q far.0) ∙ if_same (is_here was) _ _ (ready_kept s bounds w v a q far.0 (parked_of was) far.1);
   pipe = λ q other.
       ap (λ x. pipe_for v q (parked_of x)) (a.processes q other) ∙ pipe_kept s w v a q other (parked_of (slot w.processes q));
+  live = λ q other there. ap is_some (a.processes q other) ∙ there;
 }
 
 -- a slight change, swept, spares all but its own process and what waits on its own pipe

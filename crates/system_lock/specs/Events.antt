@@ -1,5 +1,5 @@
 -- What one holding of the lock does to the book, and to those that sleep (own).
-use Rattle.std.specs.Prelude.{◌≡◌, ℕ, true, not, is_some, List, [], ◌∷◌, ◌++◌, None, Some, Result, Ok, Err}
+use Rattle.std.specs.Prelude.{◌≡◌, ◌≢◌, ℕ, true, false, not, is_some, List, None, Some, Result, Ok, Err}
 use Rattle.std.specs.List.{filter}
 use Rattle.call_types.specs.declared.act.Act.TheVariants as act
 use Rattle.call_types.specs.declared.call.Call.{Call}
@@ -14,7 +14,7 @@ use Rattle.record_book.specs.Resumes.{Resumes}
 use Rattle.record_book.specs.declared.resume.Resumed.TheVariants as resumed
 use Rattle.record_book.specs.Refusals.{IsDue, join_refusal, attach_refusal, start_refusal, exit_refusal, resume_refusal}
 use Rattle.record_book.specs.Ends.{Exits}
-use Rattle.system_lock.specs.System.{is_ready_in}
+use Rattle.system_lock.specs.System.{SystemState, is_ready_in, is_live_in, is_among, with_one, wakes_in}
 use Rattle.system_lock.specs.Acts.{Tried}
 use Rattle.system_lock.specs.declared.acts.Tried.TheVariants as tried
 use Rattle.system_lock.specs.declared.kernel.Why.{Why}
@@ -38,13 +38,14 @@ abbrev pub ExitsIn : BookState → BookState → SeatState → SeatState → Why
 ExitsIn old new s t why.Foreign = (new ≡ old) × (t ≡ s) × (is_some (exit_refusal old s) ≡ true)
 ExitsIn old new s t other = Exits old new s t
 
--- why a call that waits may end its process: memory is wanting, where no refusal is due; the run is full; or the book knows no such seat
+-- why a call that waits may end its process: memory is wanting, where no refusal is due and the call is ready; the run is full; the book
+-- knows no such seat; or the call is not ready, where no refusal is due and the connection is lost
 abbrev pub IsDueEnd : BookState → SeatState → Why → Type 0
-IsDueEnd b s why.NoMemory = resume_refusal b s ≡ None
+IsDueEnd b s why.NoMemory = (resume_refusal b s ≡ None) × (is_ready_in b s.pid ≡ true)
 IsDueEnd b s why.RunFull = resume_refusal b s ≡ Some refusal.RunFull
 IsDueEnd b s why.Foreign = Unit {0}
 IsDueEnd b s why.HungUp = ⊥
-IsDueEnd b s why.Lost = ⊥
+IsDueEnd b s why.Lost = (resume_refusal b s ≡ None) × (is_ready_in b s.pid ≡ false)
 
 -- one try of a resume: it is recorded; or the call is not ready, and book and seat are as they were; or the process ends
 abbrev pub TriesIn : BookState → BookState → SeatState → Tried → Type 0
@@ -57,11 +58,30 @@ abbrev pub StillIsDue : BookState → SeatState → Tried → Type 0
 StillIsDue b s (tried.Still t) = resume_refusal b s ≡ None
 StillIsDue b s other = Unit {0}
 
--- those that sleep on: of them, whose call is not ready
+-- a try of the book alone gives no call up
+abbrev pub GivesNoneUp : Tried → Type 0
+GivesNoneUp (tried.Ended ended) = ended.why ≢ why.Lost
+GivesNoneUp other = Unit {0}
+
+-- a process is given up only where its connection is lost
+abbrev pub IsGivenUp : List ℕ → SeatState → Tried → Type 0
+IsGivenUp lost s (tried.Ended ended) = ended.why ≡ why.Lost → is_among lost s.pid ≡ true
+IsGivenUp lost s other = Unit {0}
+
+-- a process is told to wait on only where its connection is not lost, and the book is as it was
+abbrev pub IsLeftWaiting : SystemState → SystemState → SeatState → Tried → Type 0
+IsLeftWaiting old new s (tried.Still t) = (is_among old.lost_are s.pid ≡ false) × (new.book_is ≡ old.book_is)
+IsLeftWaiting old new s other = Unit {0}
+
+-- those that sleep on: of them, who are live and whose call is not ready
 abbrev pub still_asleep : BookState → List ℕ → List ℕ
-still_asleep b asleep = filter (λ process. not (is_ready_in b process)) asleep
+still_asleep b asleep = filter (λ process. not (wakes_in b process)) asleep
+
+-- those that stay marked as lost: of them, who are live
+abbrev pub still_lost : BookState → List ℕ → List ℕ
+still_lost b lost = filter (λ process. is_live_in b process) lost
 
 -- those that sleep once a try has told a process to wait on
 abbrev pub with_sleeper : List ℕ → Tried → List ℕ
-with_sleeper asleep (tried.Still s) = asleep ++ s.pid ∷ []
+with_sleeper asleep (tried.Still s) = with_one asleep s.pid
 with_sleeper asleep other = asleep

@@ -5,3 +5,4 @@ pub mod Events
 pub mod Says
 pub mod Stirred
 pub mod Sleepers
+pub mod Doors

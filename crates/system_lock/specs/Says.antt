@@ -1,5 +1,5 @@
 -- What the lock of a run says of ends and of refusals (own).
-use Rattle.std.specs.Prelude.{◌≡◌, true, is_some, None, Some}
+use Rattle.std.specs.Prelude.{◌≡◌, true, false, is_some, None, Some}
 use Rattle.call_types.specs.declared.call.Call.{Call}
 use Rattle.call_types.specs.declared.refusal.Refusal.{Refusal}
 use Rattle.call_types.specs.declared.refusal.Refusal.TheVariants as refusal
@@ -8,6 +8,7 @@ use Rattle.call_types.specs.declared.request.Request.TheVariants as request
 use Rattle.record_book.specs.Seat.{SeatState}
 use Rattle.record_book.specs.Book.{BookState}
 use Rattle.record_book.specs.Refusals.{IsDue, join_refusal, attach_refusal, start_refusal, exit_refusal, resume_refusal}
+use Rattle.system_lock.specs.System.{is_ready_in}
 use Rattle.system_lock.specs.declared.kernel.Why.{Why}
 use Rattle.system_lock.specs.declared.kernel.Why.TheVariants as why
 
@@ -17,14 +18,14 @@ IsNotOpenedIn b request.Join told = IsDue (join_refusal b) told
 IsNotOpenedIn b (request.Attach process) told = IsDue (attach_refusal b process) told
 IsNotOpenedIn b (request.Call call) told = ⊥
 
--- why a process may end in this book: it is hung up; memory is wanting, where no refusal of its resume is due; the book does not know
--- its seat, or is full for its resume. A call is never given up
+-- why a process may end in this book: it is hung up; the book does not know its seat, or is full for its resume; or no refusal of its
+-- resume is due, and memory is wanting for its call, which is ready, or its call is given up, which is not
 abbrev pub IsEndIn : BookState → SeatState → Why → Type 0
 IsEndIn b s why.Foreign = is_some (exit_refusal b s) ≡ true
 IsEndIn b s why.RunFull = resume_refusal b s ≡ Some refusal.RunFull
-IsEndIn b s why.NoMemory = resume_refusal b s ≡ None
+IsEndIn b s why.NoMemory = (resume_refusal b s ≡ None) × (is_ready_in b s.pid ≡ true)
 IsEndIn b s why.HungUp = Unit {0}
-IsEndIn b s why.Lost = ⊥
+IsEndIn b s why.Lost = (resume_refusal b s ≡ None) × (is_ready_in b s.pid ≡ false)
 
 -- an opening is refused: that is due in some book
 abbrev pub IsNotOpened : Request → Refusal → Type 0

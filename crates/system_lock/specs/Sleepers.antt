@@ -1,5 +1,5 @@
 -- The processes that sleep, and what an event does to them (own).
-use Rattle.std.specs.Prelude.{◌≡◌, ℕ, ◌+◌, ◌&&◌, Bool, false, List, Option, None, Result, map, slice_index_or, if◌then◌else◌}
+use Rattle.std.specs.Prelude.{◌≡◌, ℕ, ◌+◌, ◌&&◌, Bool, true, false, List, Option, None, Result, map, slice_index_or, if◌then◌else◌}
 use Rattle.std.specs.List.{remove}
 use Rattle.call_types.specs.declared.act.Act.TheVariants as act
 use Rattle.call_types.specs.declared.call.Call.{Call}
@@ -11,7 +11,7 @@ use Rattle.record_book.specs.Book.{BookState, world_now, Records}
 use Rattle.record_book.specs.Openings.{Opened, next_pid}
 use Rattle.system_lock.specs.Events.{OpensIn, CallsIn, ExitsIn}
 use Rattle.system_lock.specs.Stirred.{pipe_waited, is_by, stirs, stirred_at, stirred_by, stirred_told}
-use Rattle.system_lock.specs.System.{SleepsSound, is_ready_in}
+use Rattle.system_lock.specs.System.{SleepsSound, is_ready_in, is_live_in, wakes_in}
 use Rattle.system_lock.specs.declared.sleepers.Sleepers.{Sleepers}
 use Rattle.system_lock.specs.declared.kernel.Why.{Why}
 use Rattle.system_lock.specs.declared.stirred.Stirred.{Stirred}
@@ -21,15 +21,16 @@ use Rattle.system_lock.specs.declared.stirred.Stirred.TheVariants as stirred
 abbrev pub pipe_in : BookState → ℕ → Option ℕ
 pipe_in b process = pipe_waited (world_now b) process
 
--- no process that sleeps waits in a call that is ready, and the pipe of each is known
+-- every process that sleeps is live and waits in no call that is ready, and the pipe of each is known
 pub record SleepersSound (b : BookState) (sleepers : Sleepers) : Type 0 where
-  pub none_ready : SleepsSound b sleepers.asleep.items
+  pub none_wakes : SleepsSound b sleepers.asleep.items
   pub pipes : sleepers.pipes.items ≡ map (pipe_in b) sleepers.asleep.items
 
--- whom an event does not stir is as ready after it as before; and all but its own process wait on the same pipes
+-- whom an event does not stir is as ready after it as before; and all but its own process wait on the same pipes, and live on
 pub record SparesIn (old new : BookState) (s : Stirred) : Type 0 where
   pub ready : (process : ℕ) → stirs s process (pipe_in old process) ≡ false → is_ready_in new process ≡ is_ready_in old process
   pub pipe : (process : ℕ) → is_by s process ≡ false → pipe_in new process ≡ pipe_in old process
+  pub live : (process : ℕ) → is_by s process ≡ false → is_live_in old process ≡ true → is_live_in new process ≡ true
 
 -- those that sleep were sound in some book, from which an event led to this one that stirred these
 abbrev pub AreSpared : BookState → Stirred → Sleepers → Type 0
@@ -39,7 +40,7 @@ AreSpared b s sleepers = (was : BookState) × SleepersSound was sleepers × Spar
 abbrev pub wakes_at : BookState → Stirred → Sleepers → ℕ → Bool
 wakes_at b s sleepers at =
     let process = slice_index_or sleepers.asleep.items at 0 in
-    stirs s process (slice_index_or sleepers.pipes.items at None) && is_ready_in b process
+    stirs s process (slice_index_or sleepers.pipes.items at None) && wakes_in b process
 
 -- a list, without what stands at a place, if that is woken
 abbrev pub without_if : {T : Type 0} → Bool → List T → ℕ → List T

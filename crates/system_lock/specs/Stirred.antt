@@ -1,5 +1,5 @@
 -- Whom an event may have made ready, of those that sleep (own).
-use Rattle.std.specs.Prelude.{◌≡◌, ℕ, pos, ◌==◌, ◌||◌, Bool, true, false, Option, None, Some, Result, Ok, Err}
+use Rattle.std.specs.Prelude.{◌≡◌, ℕ, pos, ◌==◌, ◌||◌, Bool, true, false, Option, None, Some, is_some, Result, Ok, Err}
 use Rattle.call_types.specs.declared.call.Call.TheVariants as call
 use Rattle.call_types.specs.declared.refusal.Refusal.{Refusal}
 use Rattle.record_book.specs.Seat.{Receipted}
@@ -75,7 +75,8 @@ abbrev pub stirred_told : Result Receipted Refusal → Stirred → Stirred
 stirred_told (Ok receipt) s = stirred_with receipt.record_is.outcome s
 stirred_told (Err refusal) s = stirred.Nobody
 
--- whom an event does not stir is as ready after it as before; and all but its own process wait on the same pipes
+-- whom an event does not stir is as ready after it as before; and all but its own process wait on the same pipes, and live on
 pub record Spares (bounds : Bounds) (w v : World) (s : Stirred) : Type 0 where
   pub ready : (process : ℕ) → stirs s process (pipe_waited w process) ≡ false → is_ready bounds v process ≡ is_ready bounds w process
   pub pipe : (process : ℕ) → is_by s process ≡ false → pipe_waited v process ≡ pipe_waited w process
+  pub live : (process : ℕ) → is_by s process ≡ false → is_some (slot w.processes process) ≡ true → is_some (slot v.processes process) ≡ true

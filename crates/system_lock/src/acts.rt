@@ -2,7 +2,7 @@
 
 ghost use Rattle.system_lock.specs.Kernel.{IsOpening, OpensBy, CallsBy, IsReason, EndsFor};
 ghost use Rattle.system_lock.specs.Acts.{TriesBy};
-ghost use Rattle.system_lock.specs.Events.{OpensIn, CallsIn, ExitsIn, TriesIn, StillIsDue};
+ghost use Rattle.system_lock.specs.Events.{OpensIn, CallsIn, ExitsIn, TriesIn, StillIsDue, GivesNoneUp};
 
 use crate::kernel::{Ended, EndedIn, Why};
 use byte_ledger::ledgers::Ledgers;
@@ -75,11 +75,12 @@ pub(crate) enum Tried<S, P> {
 pub(crate) type TriedIn<L> = Tried<Seat<L>, SpentSeat<L>>;
 
 /// Takes up the call that a process waits in, if it is ready; where that is refused, the process ends.
-#[tactic(auto, using(crate::proofs::DueLaws::none_due))]
+#[tactic(auto, using(crate::proofs::DueLaws::memory_due))]
 pub(crate) fn resume<L: Ledgers>(book: &mut Book<L>, alloc: Global, seat: Seat<L>) -> TriedIn<L>
     ensures tries { TriesBy seat result }
     ensures event { TriesIn book.old book.new seat result }
     ensures still { StillIsDue book.old seat result }
+    ensures not_lost { GivesNoneUp result }
 {
     calls_end_or_wait();
     let mut seat = seat;

@@ -16,7 +16,7 @@ pub enum Why {
     NoMemory,
     /// The run was full when its call could go on.
     RunFull,
-    /// The call that it waited in was given up.
+    /// The call that it waited in was not ready, and was given up: its connection is lost.
     Lost,
     /// The kernel knows no such seat: nothing was recorded.
     Foreign,
@@ -71,7 +71,8 @@ pub trait Kernel<S: AsSeat, P: AsSeat> {
         ensures calls { CallsBy (S.as_seat seat.old) (S.as_seat seat.new) call result }
         ensures refused { IfErr result (λ refusal. refused (S.as_seat seat.old) call refusal) };
 
-    /// Waits until the call that the seat's process waits in can go on, and takes it up; or ends the process.
+    /// Waits until the call that the seat's process waits in can go on, and takes it up; or ends the process. Where `lost` tells that
+    /// its connection is lost, a call that is not ready is waited for no longer: the process ends for `Why::Lost`.
     fn finish<R: Wait>(&self, rt: &R, seat: S) -> Finished<S, P>
         ensures finishes { FinishesAs S.as_seat P.as_seat (S.as_seat seat) result }
         ensures ended { SaysEnded ended (S.as_seat seat) result };
@@ -80,6 +81,10 @@ pub trait Kernel<S: AsSeat, P: AsSeat> {
     fn hang_up<R: Wait>(&self, rt: &R, seat: S) -> Ended<P>
         ensures hangs_up { HangsUpAs P.as_seat (S.as_seat seat) result }
         ensures ended { ended (S.as_seat seat) result.why };
+
+    /// Tells that the connection of a process is lost: a call that it waits in, now or later, is given up where it is not ready. Nothing
+    /// is recorded here. It takes no memory, and waits for the lock alone.
+    fn lost<R: Wait>(&self, rt: &R, process: u32);
 }
 
 /// These of the seats of one book.

@@ -3,9 +3,12 @@
 
 mod acts;
 mod bells;
+mod doors;
 pub mod kernel;
 pub mod lock;
+mod lost;
 pub mod one_book;
 mod sleepers;
 mod stirred;
 pub mod system;
+mod waking;

@@ -1,4 +1,4 @@
-//! The kernel of a run: one lock round a book and the processes that sleep.
+//! The kernel of a run: one lock round a book, the processes that sleep, and those whose connections are lost.
 
 ghost use Rattle.std.specs.Prelude.{◌≡◌, [], Some, IfOk};
 ghost use Rattle.rtrb.specs.Ring.{received};
@@ -21,7 +21,8 @@ use std::sync::{Mutex, Wait};
 use trace_ring::trace_ring::TraceEnd;
 
 /// A system that any thread may ask: each holding of its lock is one event, of which at most one record comes. A process
-/// whose call is not ready sleeps until an event makes it ready. Its type names the ledgers and the limits of its book, so another book does not fit.
+/// whose call is not ready sleeps until an event makes it ready, or until its connection is lost: then its call is tried once more, and
+/// the process ends where it is still not ready. Its type names the ledgers and the limits of its book, so another book does not fit.
 #[derive(Drop)]
 pub struct SystemLock<L: Ledgers> {
     alloc: Global,
@@ -101,5 +102,10 @@ impl<L: Ledgers> Kernel<Seat<L>, SpentSeat<L>> for SystemLock<L> {
     {
         let mut system = self.system.lock(rt);
         system.hang_up(&self.bells, seat)
+    }
+
+    fn lost<R: Wait>(&self, rt: &R, process: u32) {
+        let mut system = self.system.lock(rt);
+        system.give_up(&self.bells, process);
     }
 }

@@ -101,4 +101,7 @@ impl<L: Ledgers> Kernel<Seat<L>, SpentSeat<L>> for OneBook<L> {
         let mut held = self.held.lock(rt);
         acts::exit(&mut held.book, seat, Why::HungUp)
     }
+
+    /// It does nothing: a call that would wait is given up whether its connection is lost or not.
+    fn lost<R: Wait>(&self, _rt: &R, _process: u32) {}
 }

@@ -1,122 +1,71 @@
 //! The processes that sleep.
 
-ghost use Rattle.std.specs.Prelude.{◌≡◌, ℕ, ◌<◌, ◌∷◌, ◌++◌, ◌&&◌, [], Option, map, vec_len, OnOk, OnErr};
-ghost use Rattle.system_lock.specs.System.{SleepsSound, is_ready_in};
-ghost use Rattle.system_lock.specs.Events.{still_asleep};
-ghost use Rattle.system_lock.specs.Stirred.{stirs};
-ghost use Rattle.system_lock.specs.Sleepers.{pipe_in, pipe_then, SleepersSound, SparesIn, AreSpared, LooksAt};
-ghost use Rattle.record_book.specs.Book.{BookState};
+ghost use Rattle.std.specs.Prelude.{◌≡◌, ℕ, ◌==◌, ◌<◌, ◌≤◌, ◌∷◌, ◌++◌, [], Option, map, position, vec_len, vec_capacity, IfOk};
+ghost use Rattle.call_types.specs.declared.limits.TheConstants.{PROCESSES_MAX};
+ghost use Rattle.system_lock.specs.System.{AreDistinct, is_among, without};
 
 use crate::bells::Bells;
-use crate::stirred::{Stirred, pipe_waited};
-use byte_ledger::ledgers::Ledgers;
-use record_book::book::Book;
-use std::alloc::AllocError;
+use call_types::limits::PROCESSES_MAX;
+use std::alloc::{AllocError, Global};
 
 /// The processes that sleep until the call that they wait in is ready; and the pipe on which the call of each waits, in the same order.
+/// There is room for as many as can be live at once.
 #[derive(Drop)]
 pub(crate) struct Sleepers {
     pub(crate) asleep: Vec<u32>,
     pub(crate) pipes: Vec<Option<usize>>,
-}
-
-/// Whether a process that sleeps is woken: the event may have made its call ready, and so it is.
-fn is_woken<L: Ledgers>(book: &Book<L>, stirred: Stirred, process: u32, pipe: Option<usize>) -> bool
-    ensures { result ≡ (stirs stirred process pipe && is_ready_in book.now process) }
-{
-    stirred.stirs(process, pipe) && book.is_ready(process)
-}
-
-/// The pipe on which a process waits after an event, if it waited on this one before.
-fn pipe_then<L: Ledgers>(
-    book: &Book<L>,
-    stirred: Stirred,
-    process: u32,
-    pipe: Option<usize>,
-) -> Option<usize>
-    ensures { result ≡ pipe_then book.now stirred process pipe }
-{
-    if stirred.is_by(process) {
-        pipe_waited(book.machine(), process)
-    } else {
-        pipe
-    }
+    ghost room: { PROCESSES_MAX ≤ vec_capacity asleep },
+    ghost room_for_pipes: { PROCESSES_MAX ≤ vec_capacity pipes },
 }
 
 impl Sleepers {
-    /// Puts a process among those that sleep, whose call waits on this pipe. On an error nothing changes.
-    pub(crate) fn fall_asleep(
-        &mut self,
-        process: u32,
-        pipe: Option<usize>,
-    ) -> Result<(), AllocError>
-        ensures asleep { OnOk result (self.new.asleep.items ≡ self.old.asleep.items ++ process ∷ []) }
-        ensures pipes { OnOk result (self.new.pipes.items ≡ self.old.pipes.items ++ pipe ∷ []) }
-        ensures unchanged { OnErr result ((self.new.asleep.items ≡ self.old.asleep.items) × (self.new.pipes.items ≡ self.old.pipes.items)) }
+    /// Nobody sleeps.
+    pub(crate) fn new(alloc: Global) -> Result<Self, AllocError>
+        ensures asleep { IfOk result (λ sleepers. sleepers.asleep.items ≡ []) }
+        ensures pipes { IfOk result (λ sleepers. sleepers.pipes.items ≡ []) }
     {
-        self.asleep.reserve(1)?;
-        self.pipes.reserve(1)?;
+        Ok(Sleepers {
+            asleep: Vec::with_capacity(alloc, PROCESSES_MAX)?,
+            pipes: Vec::with_capacity(alloc, PROCESSES_MAX)?,
+        })
+    }
+
+    /// Whether a process sleeps.
+    pub(crate) fn has(&self, process: u32) -> bool
+        ensures { result ≡ is_among self.now.asleep.items process }
+    {
+        self.asleep.contains(&process)
+    }
+
+    /// Puts a process among those that sleep, whose call waits on this pipe. It takes no memory.
+    pub(crate) fn fall_asleep(&mut self, process: u32, pipe: Option<usize>)
+        requires few { vec_len self.old.asleep < PROCESSES_MAX }
+        requires paired { vec_len self.old.pipes ≡ vec_len self.old.asleep }
+        ensures asleep { self.new.asleep.items ≡ self.old.asleep.items ++ process ∷ [] }
+        ensures pipes { self.new.pipes.items ≡ self.old.pipes.items ++ pipe ∷ [] }
+    {
         self.asleep.push_reserved(process);
         self.pipes.push_reserved(pipe);
-        Ok(())
     }
 
-    /// Looks at the one at a place: takes it out and wakes it, if it is to be woken. Returns the place of the next.
-    fn look_at<L: Ledgers>(
-        &mut self,
-        book: &Book<L>,
-        bells: &Bells,
-        stirred: Stirred,
-        at: usize,
-    ) -> usize
-        requires within { at < vec_len self.old.asleep }
+    /// The place of a process among those that sleep.
+    fn place_of(&self, process: u32) -> Option<usize>
+        ensures { result ≡ position (λ other. other == process) self.now.asleep.items }
+    {
+        self.asleep.iter().position(|other| *other == process)
+    }
+
+    /// Takes a process out and wakes it, if it sleeps.
+    pub(crate) fn take_out(&mut self, bells: &Bells, process: u32)
+        requires distinct { AreDistinct self.old.asleep.items }
         requires paired { vec_len self.old.pipes ≡ vec_len self.old.asleep }
-        ensures { LooksAt book.now stirred self.old self.new at result }
+        ensures asleep { self.new.asleep.items ≡ without self.old.asleep.items process }
+        ensures pipes { (f : ℕ → Option ℕ) → self.old.pipes.items ≡ map f self.old.asleep.items → self.new.pipes.items ≡ map f self.new.asleep.items }
     {
-        let process = self.asleep[at];
-        if !is_woken(book, stirred, process, self.pipes[at]) {
-            return at + 1;
+        if let Some(at) = self.place_of(process) {
+            bells.of(process).notify_all();
+            self.asleep.remove(at);
+            self.pipes.remove(at);
         }
-        bells.of(process).notify_all();
-        self.asleep.remove(at);
-        self.pipes.remove(at);
-        at
-    }
-
-    /// Takes those out whose call is ready, and wakes them.
-    fn wake_ready<L: Ledgers>(&mut self, book: &Book<L>, bells: &Bells, stirred: Stirred)
-        requires spared { AreSpared book.now stirred self.old }
-        ensures none_ready { SleepsSound book.now self.new.asleep.items }
-        ensures others { self.new.asleep.items ≡ still_asleep book.now self.old.asleep.items }
-        ensures pipes { (was : BookState) → SleepersSound was self.old → SparesIn was book.now stirred → self.new.pipes.items ≡ map (pipe_in was) self.new.asleep.items }
-    {
-        let mut at = 0;
-        while at < self.asleep.len() {
-            at = self.look_at(book, bells, stirred, at);
-        }
-    }
-
-    /// Asks on which pipe the event's own process waits now.
-    fn renew_pipes<L: Ledgers>(&mut self, book: &Book<L>, stirred: Stirred)
-        requires paired { vec_len self.old.pipes ≡ vec_len self.old.asleep }
-        ensures asleep { self.new.asleep.items ≡ self.old.asleep.items }
-        ensures pipes { (f : ℕ → Option ℕ) → self.old.pipes.items ≡ map f self.old.asleep.items → self.new.pipes.items ≡ map (λ q. pipe_then book.now stirred q (f q)) self.new.asleep.items }
-    {
-        for at in 0..self.asleep.len() {
-            self.pipes[at] = pipe_then(book, stirred, self.asleep[at], self.pipes[at]);
-        }
-    }
-
-    /// Takes those out whose call is ready after an event, and wakes them. It looks at none whom the event does not stir.
-    pub(crate) fn wake<L: Ledgers>(&mut self, book: &Book<L>, bells: &Bells, stirred: Stirred)
-        requires spared { AreSpared book.now stirred self.old }
-        ensures sound { SleepersSound book.now self.new }
-        ensures others { self.new.asleep.items ≡ still_asleep book.now self.old.asleep.items }
-    {
-        if let Stirred::Nobody = stirred {
-            return;
-        }
-        self.wake_ready(book, bells, stirred);
-        self.renew_pipes(book, stirred);
     }
 }

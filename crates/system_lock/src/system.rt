@@ -1,22 +1,25 @@
-//! A book, and the processes that sleep: what stands under the lock of a run.
+//! A book, the processes that sleep, and those whose connections are lost: what stands under the lock of a run.
 
-ghost use Rattle.std.specs.Prelude.{◌≡◌, [], Some, false, true, All, IfOk};
+ghost use Rattle.std.specs.Prelude.{◌≡◌, [], None, Some, false, true, All, IfOk};
 ghost use Rattle.rtrb.specs.Ring.{received};
-ghost use Rattle.system_lock.specs.Kernel.{IsOpening, OpensBy, CallsBy, HangsUpBy};
+ghost use Rattle.record_book.specs.Refusals.{resume_refusal};
+ghost use Rattle.system_lock.specs.Kernel.{IsOpening, OpensBy, CallsBy, HangsUpBy, IsReason, EndsFor};
 ghost use Rattle.system_lock.specs.Acts.{TriesBy};
-ghost use Rattle.system_lock.specs.System.{is_ready_in};
-ghost use Rattle.system_lock.specs.Events.{OpensIn, CallsIn, ExitsIn, TriesIn, still_asleep, with_sleeper};
+ghost use Rattle.system_lock.specs.System.{is_ready_in, is_live_in, is_among, AreDistinct, AreLive, AreUnmarked};
+ghost use Rattle.system_lock.specs.Sleepers.{pipe_in};
+ghost use Rattle.system_lock.specs.Doors.{lost_with, asleep_without};
+ghost use Rattle.system_lock.specs.Events.{OpensIn, CallsIn, ExitsIn, TriesIn, IsGivenUp, IsLeftWaiting, still_asleep, still_lost, with_sleeper};
 ghost use Rattle.record_book.specs.Book.{new_book};
 
 use crate::acts;
 use crate::acts::{Tried, TriedIn};
 use crate::bells::Bells;
+use crate::doors::Doors;
 use crate::kernel::{EndedIn, Why};
-use crate::sleepers::Sleepers;
 use crate::stirred::{Stirred, events_spare, opener, pipe_waited};
 use byte_ledger::ledgers::{Blanks, Ledgers};
 use call_types::call::Call;
-use call_types::limits::{Limits, PROCESSES_MAX};
+use call_types::limits::Limits;
 use call_types::refusal::Refusal;
 use call_types::request::Request;
 use record_book::book::Book;
@@ -26,28 +29,29 @@ use std::alloc::{AllocError, Global};
 use std::marker::Model;
 use trace_ring::trace_ring::TraceEnd;
 
-/// A book, which has the limits that its type names, whose house has no receipt, and from which the end of the trace was taken; and the
-/// processes that sleep until the call that they wait in is ready. None of these is ready, and the pipe of each is known.
+/// A book, which has the limits that its type names, whose house has no receipt, and from which the end of the trace was taken; the
+/// processes that sleep until the call that they wait in is ready; and those whose connections are lost. No process that sleeps is ready
+/// or lost or has ended, and the pipe of each is known. Those that are lost are live, and no two of them are the same.
 #[derive(Drop)]
 pub struct System<L: Ledgers> {
     book: Book<L>,
-    sleepers: Sleepers,
+    doors: Doors,
 }
 
 impl<L: Ledgers> Model for System<L> {
     ghost use Rattle.std.specs.Prelude.{◌≡◌, [], Some, true};
     ghost use Rattle.system_lock.specs.System.{SystemState};
-    ghost use Rattle.system_lock.specs.Sleepers.{SleepersSound};
+    ghost use Rattle.system_lock.specs.Doors.{DoorsSound};
 
     ghost Value = { SystemState };
 
-    ghost view = { λ s. record { book_is = s.book; asleep_are = s.sleepers.asleep.items } };
+    ghost view = { λ s. record { book_is = s.book; asleep_are = s.doors.sleepers.asleep.items; lost_are = s.doors.lost.processes.items } };
 
-    ghost invariant = { λ s. SleepersSound s.book s.sleepers × (L.limits ≡ Some s.book.limits) × (s.book.house ≡ Some []) × (s.book.is_traced ≡ true) };
+    ghost invariant = { λ s. DoorsSound s.book s.doors × (L.limits ≡ Some s.book.limits) × (s.book.house ≡ Some []) × (s.book.is_traced ≡ true) };
 }
 
 impl<L: Ledgers> System<L> {
-    /// A new book, in which no process sleeps, and the end at which the trace of its records is read.
+    /// A new book, in which no process sleeps or is lost, and the end at which the trace of its records is read.
     pub(crate) fn new(
         alloc: Global,
         limits: Limits,
@@ -55,27 +59,35 @@ impl<L: Ledgers> System<L> {
     ) -> Result<(Self, TraceEnd), AllocError>
         requires ledgers { blanks ≡ L.names }
         requires limits { L.limits ≡ Some limits }
-        ensures system { IfOk result (λ pair. pair.0 ≡ record { book_is = record (new_book limits) { is_traced = true }; asleep_are = [] }) }
+        ensures system { IfOk result (λ pair. pair.0 ≡ record { book_is = record (new_book limits) { is_traced = true }; asleep_are = []; lost_are = [] }) }
         ensures trace { IfOk result (λ pair. received pair.1 ≡ []) }
     {
-        let asleep = Vec::with_capacity(alloc, PROCESSES_MAX)?;
-        let pipes = Vec::with_capacity(alloc, PROCESSES_MAX)?;
+        let doors = Doors::new(alloc)?;
         let mut book = Book::new(alloc, limits, blanks)?;
         match book.trace_end() {
-            Some(trace) => {
-                let sleepers = Sleepers { asleep, pipes };
-                Ok((System { book, sleepers }, trace))
-            }
+            Some(trace) => Ok((System { book, doors }, trace)),
             None => unreachable!(),
         }
     }
 
-    /// The processes that sleep; none of them waits in a call that is ready.
+    /// The processes that sleep: none of them waits in a call that is ready, and the connection of none is lost.
     pub fn asleep(&self) -> &[u32]
         ensures those { result.now ≡ self.now.asleep_are }
         ensures none_ready { All (λ process. is_ready_in self.now.book_is process ≡ false) result.now }
+        ensures none_lost { AreUnmarked self.now.lost_are result.now }
+        ensures live { AreLive self.now.book_is result.now }
+        ensures distinct { AreDistinct result.now }
     {
-        self.sleepers.asleep.as_slice()
+        self.doors.sleepers.asleep.as_slice()
+    }
+
+    /// The processes whose connections are lost, in the order in which they were; they are live.
+    pub fn lost(&self) -> &[u32]
+        ensures those { result.now ≡ self.now.lost_are }
+        ensures live { AreLive self.now.book_is result.now }
+        ensures distinct { AreDistinct result.now }
+    {
+        self.doors.lost.processes.as_slice()
     }
 
     /// The book. Its house has no receipt yet, and the end of its trace was taken.
@@ -90,7 +102,7 @@ impl<L: Ledgers> System<L> {
 
     /// Whether a process sleeps.
     pub(crate) fn sleeps(&self, process: u32) -> bool {
-        self.sleepers.asleep.contains(&process)
+        self.doors.sleepers.has(process)
     }
 
     /// Opens a process.
@@ -104,12 +116,13 @@ impl<L: Ledgers> System<L> {
         ensures opens { OpensBy request result }
         ensures event { OpensIn self.old.book_is self.new.book_is request result }
         ensures asleep { self.new.asleep_are ≡ still_asleep self.new.book_is self.old.asleep_are }
+        ensures lost { self.new.lost_are ≡ still_lost self.new.book_is self.old.lost_are }
     {
         events_spare();
         let process = opener(&self.book, &request);
         let opened = acts::open(&mut self.book, alloc, request);
-        self.sleepers
-            .wake(&self.book, bells, Stirred::Anybody { process });
+        self.doors
+            .settle(&self.book, bells, Stirred::Anybody { process });
         opened
     }
 
@@ -124,57 +137,96 @@ impl<L: Ledgers> System<L> {
         ensures calls { CallsBy seat.old seat.new call result }
         ensures event { CallsIn self.old.book_is self.new.book_is seat.old seat.new call result }
         ensures asleep { self.new.asleep_are ≡ still_asleep self.new.book_is self.old.asleep_are }
+        ensures lost { self.new.lost_are ≡ still_lost self.new.book_is self.old.lost_are }
     {
         events_spare();
         let stirred = Stirred::by(self.book.machine(), seat.pid(), &call);
         let told = acts::call(&mut self.book, alloc, seat, call);
-        self.sleepers.wake(&self.book, bells, stirred.told(&told));
+        self.doors.settle(&self.book, bells, stirred.told(&told));
         told
     }
 
-    /// Takes up the call that a process waits in. Where it is not ready, the process sleeps from now on.
+    /// Lets a process sleep whose call waits on this pipe and is not ready; where its connection is lost, its exit is recorded.
+    fn wait_on(&mut self, bells: &Bells, seat: Seat<L>, pipe: Option<usize>) -> TriedIn<L>
+        requires not_refused { resume_refusal self.old.book_is seat ≡ None }
+        requires not_ready { is_ready_in self.old.book_is seat.pid ≡ false }
+        requires its_pipe { pipe ≡ pipe_in self.old.book_is seat.pid }
+        ensures tries { TriesBy seat result }
+        ensures event { TriesIn self.old.book_is self.new.book_is seat result }
+        ensures given_up { IsGivenUp self.old.lost_are seat result }
+        ensures still { IsLeftWaiting self.old self.new seat result }
+        ensures asleep { self.new.asleep_are ≡ still_asleep self.new.book_is (with_sleeper self.old.asleep_are result) }
+        ensures lost { self.new.lost_are ≡ still_lost self.new.book_is self.old.lost_are }
+    {
+        let process = seat.pid();
+        if self.doors.lost.has(process) {
+            return Tried::Ended(self.exit(bells, seat, Why::Lost));
+        }
+        self.doors.fall_asleep(&self.book, process, pipe);
+        Tried::Still(seat)
+    }
+
+    /// Takes up the call that a process waits in. Where it is not ready, the process sleeps from now on; but where its connection is lost,
+    /// its exit is recorded. That it sleeps takes no memory.
     pub(crate) fn take_up(&mut self, alloc: Global, bells: &Bells, seat: Seat<L>) -> TriedIn<L>
         ensures tries { TriesBy seat result }
         ensures event { TriesIn self.old.book_is self.new.book_is seat result }
+        ensures given_up { IsGivenUp self.old.lost_are seat result }
+        ensures still { IsLeftWaiting self.old self.new seat result }
         ensures asleep { self.new.asleep_are ≡ still_asleep self.new.book_is (with_sleeper self.old.asleep_are result) }
+        ensures lost { self.new.lost_are ≡ still_lost self.new.book_is self.old.lost_are }
     {
         events_spare();
         let process = seat.pid();
         let pipe = pipe_waited(self.book.machine(), process);
         match acts::resume(&mut self.book, alloc, seat) {
-            Tried::Still(seat) => match self.sleepers.fall_asleep(process, pipe) {
-                Ok(()) => Tried::Still(seat),
-                Err(_) => {
-                    let ended = acts::exit(&mut self.book, seat, Why::NoMemory);
-                    self.sleepers
-                        .wake(&self.book, bells, Stirred::Anybody { process });
-                    Tried::Ended(ended)
-                }
-            },
+            Tried::Still(seat) => self.wait_on(bells, seat, pipe),
             Tried::Resumed { seat, receipt } => {
                 let stirred = Stirred::at(process, pipe);
-                self.sleepers.wake(&self.book, bells, stirred);
+                self.doors.settle(&self.book, bells, stirred);
                 Tried::Resumed { seat, receipt }
             }
             Tried::Ended(ended) => {
-                self.sleepers
-                    .wake(&self.book, bells, Stirred::Anybody { process });
+                self.doors
+                    .settle(&self.book, bells, Stirred::Anybody { process });
                 Tried::Ended(ended)
             }
         }
     }
 
-    /// Records the exit of a process, and wakes whom it concerns.
+    /// Records the exit of a process for a reason, and wakes whom it concerns.
+    fn exit(&mut self, bells: &Bells, seat: Seat<L>, reason: Why) -> EndedIn<L>
+        requires { IsReason reason }
+        ensures ends { EndsFor seat reason result }
+        ensures event { ExitsIn self.old.book_is self.new.book_is seat result.seat result.why }
+        ensures asleep { self.new.asleep_are ≡ still_asleep self.new.book_is self.old.asleep_are }
+        ensures lost { self.new.lost_are ≡ still_lost self.new.book_is self.old.lost_are }
+    {
+        events_spare();
+        let process = seat.pid();
+        let ended = acts::exit(&mut self.book, seat, reason);
+        self.doors
+            .settle(&self.book, bells, Stirred::Anybody { process });
+        ended
+    }
+
+    /// Records the exit of a process that is hung up.
     pub(crate) fn hang_up(&mut self, bells: &Bells, seat: Seat<L>) -> EndedIn<L>
         ensures hangs_up { HangsUpBy seat result }
         ensures event { ExitsIn self.old.book_is self.new.book_is seat result.seat result.why }
         ensures asleep { self.new.asleep_are ≡ still_asleep self.new.book_is self.old.asleep_are }
+        ensures lost { self.new.lost_are ≡ still_lost self.new.book_is self.old.lost_are }
     {
-        events_spare();
-        let process = seat.pid();
-        let ended = acts::exit(&mut self.book, seat, Why::HungUp);
-        self.sleepers
-            .wake(&self.book, bells, Stirred::Anybody { process });
-        ended
+        self.exit(bells, seat, Why::HungUp)
+    }
+
+    /// Marks a process as lost, if it is live and not marked yet, and wakes it if it sleeps. It takes no memory.
+    pub(crate) fn give_up(&mut self, bells: &Bells, process: u32)
+        ensures book { self.new.book_is ≡ self.old.book_is }
+        ensures marked { is_live_in self.old.book_is process ≡ true → is_among self.new.lost_are process ≡ true }
+        ensures lost { self.new.lost_are ≡ lost_with self.old.book_is self.old.lost_are process }
+        ensures asleep { self.new.asleep_are ≡ asleep_without self.old.book_is self.old.lost_are self.old.asleep_are process }
+    {
+        self.doors.give_up(&self.book, bells, process);
     }
 }

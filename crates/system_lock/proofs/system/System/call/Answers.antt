@@ -6,8 +6,8 @@ use Rattle.system_lock.specs.Sleepers.{SparesIn}
 use Rattle.system_lock.proofs.system.System.call.Goals as goal
 
 -- the call spares all whom it was said not to stir
-pub wake-requires : goal.wake-requires
-wake-requires g c =
+pub settle-requires : goal.settle-requires
+settle-requires g c =
     let b = c.self.inside.book in
     let s = c.args.seat.now in
     let call = c.args.call in
@@ -15,4 +15,4 @@ wake-requires g c =
     let asked : c.by-stirred.result ≡ stirred_by (world_now b) s.pid call =
     c.by-stirred.ensures ∙ (ap (λ (w : World). stirred_by w c.pid.result call) c.machine.ensures ∙ ap (λ (n : ℕ). stirred_by (world_now b) n call) c.pid.ensures) in
     let is : c.told.result ≡ stirred_told told (stirred_by (world_now b) s.pid call) = c.told.ensures ∙ ap (stirred_told told) asked in
-    record { spared = (b, c.self.invariant.0, subst (SparesIn b c.call-told.new.book) (sym is) (c.events_spare.ensures.calls b c.call-told.new.book s c.call-told.new.seat call told c.call-told.ensures.event)) }
+    record { left = (b, c.self.invariant.0, subst (SparesIn b c.call-told.new.book) (sym is) (c.events_spare.ensures.calls b c.call-told.new.book s c.call-told.new.seat call told c.call-told.ensures.event)) }

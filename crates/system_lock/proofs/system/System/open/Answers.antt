@@ -3,8 +3,8 @@ use Rattle.system_lock.specs.Sleepers.{SparesIn}
 use Rattle.system_lock.specs.declared.stirred.Stirred.TheVariants as stirred
 use Rattle.system_lock.proofs.system.System.open.Goals as goal
 
-pub wake-requires : goal.wake-requires
-wake-requires g c =
+pub settle-requires : goal.settle-requires
+settle-requires g c =
     let b = c.self.inside.book in
     let new = c.open-opened.new.book in
-    record { spared = (b, c.self.invariant.0, subst (λ (n : ℕ). SparesIn b new (stirred.Anybody n)) (sym c.opener-process.ensures) (c.events_spare.ensures.opens b new c.args.request c.open-opened.result c.open-opened.ensures.event)) }
+    record { left = (b, c.self.invariant.0, subst (λ (n : ℕ). SparesIn b new (stirred.Anybody n)) (sym c.opener-process.ensures) (c.events_spare.ensures.opens b new c.args.request c.open-opened.result c.open-opened.ensures.event)) }

@@ -1,0 +1,94 @@
+//! The processes that sleep, and those whose connections are lost: two doors at which a process waits or is turned away.
+
+ghost use Rattle.std.specs.Prelude.{◌≡◌, [], true, false, IfOk};
+ghost use Rattle.system_lock.specs.System.{is_ready_in, is_live_in, is_among, with_one};
+ghost use Rattle.system_lock.specs.Events.{still_asleep, still_lost};
+ghost use Rattle.system_lock.specs.Sleepers.{pipe_in};
+ghost use Rattle.system_lock.specs.Doors.{DoorsSound, AreLeft, LiveAreFew, lost_with, asleep_without};
+
+use crate::bells::Bells;
+use crate::lost::{Lost, is_live};
+use crate::sleepers::Sleepers;
+use crate::stirred::Stirred;
+use byte_ledger::ledgers::Ledgers;
+use posix_model::laws::processes_are_counted;
+use record_book::book::Book;
+use std::alloc::{AllocError, Global};
+
+/// The processes that sleep, and those whose connections are lost. None of these sleeps.
+#[derive(Drop)]
+pub(crate) struct Doors {
+    pub(crate) sleepers: Sleepers,
+    pub(crate) lost: Lost,
+}
+
+/// Different processes that are live are at most as many as may be live at once. It does nothing.
+fn live_are_few()
+    ensures { LiveAreFew }
+{
+    processes_are_counted();
+}
+
+impl Doors {
+    /// Nobody sleeps, and nobody is lost.
+    pub(crate) fn new(alloc: Global) -> Result<Self, AllocError>
+        ensures asleep { IfOk result (λ doors. doors.sleepers.asleep.items ≡ []) }
+        ensures pipes { IfOk result (λ doors. doors.sleepers.pipes.items ≡ []) }
+        ensures lost { IfOk result (λ doors. doors.lost.processes.items ≡ []) }
+    {
+        Ok(Doors {
+            sleepers: Sleepers::new(alloc)?,
+            lost: Lost::new(alloc)?,
+        })
+    }
+
+    /// Takes those out that an event has ended, and wakes those that it has made ready. It looks at none whom the event does not stir.
+    pub(crate) fn settle<L: Ledgers>(&mut self, book: &Book<L>, bells: &Bells, stirred: Stirred)
+        requires left { AreLeft book.now stirred self.old }
+        ensures sound { DoorsSound book.now self.new }
+        ensures asleep { self.new.sleepers.asleep.items ≡ still_asleep book.now self.old.sleepers.asleep.items }
+        ensures lost { self.new.lost.processes.items ≡ still_lost book.now self.old.lost.processes.items }
+    {
+        if let Stirred::Nobody = stirred {
+            return;
+        }
+        self.lost.forget_ended(book);
+        self.sleepers.wake(book, bells, stirred);
+    }
+
+    /// Lets a process sleep whose call waits on this pipe and is not ready. It takes no memory.
+    pub(crate) fn fall_asleep<L: Ledgers>(
+        &mut self,
+        book: &Book<L>,
+        process: u32,
+        pipe: Option<usize>,
+    )
+        requires sound { DoorsSound book.now self.old }
+        requires live { is_live_in book.now process ≡ true }
+        requires not_ready { is_ready_in book.now process ≡ false }
+        requires unmarked { is_among self.old.lost.processes.items process ≡ false }
+        requires its_pipe { pipe ≡ pipe_in book.now process }
+        ensures sound { DoorsSound book.now self.new }
+        ensures asleep { self.new.sleepers.asleep.items ≡ with_one self.old.sleepers.asleep.items process }
+        ensures lost { self.new.lost.processes.items ≡ self.old.lost.processes.items }
+    {
+        if !self.sleepers.has(process) {
+            live_are_few();
+            self.sleepers.fall_asleep(process, pipe);
+        }
+    }
+
+    /// Marks a process as lost, unless it has ended or is marked, and wakes it if it sleeps. It takes no memory.
+    pub(crate) fn give_up<L: Ledgers>(&mut self, book: &Book<L>, bells: &Bells, process: u32)
+        requires { DoorsSound book.now self.old }
+        ensures sound { DoorsSound book.now self.new }
+        ensures lost { self.new.lost.processes.items ≡ lost_with book.now self.old.lost.processes.items process }
+        ensures asleep { self.new.sleepers.asleep.items ≡ asleep_without book.now self.old.lost.processes.items self.old.sleepers.asleep.items process }
+    {
+        if is_live(book, process) && !self.lost.has(process) {
+            live_are_few();
+            self.lost.mark(process);
+            self.sleepers.take_out(bells, process);
+        }
+    }
+}
