@@ -18,9 +18,10 @@ use Rattle.run_core.specs.declared.closing.CloseFault.{CloseFault}
 use Rattle.run_core.specs.declared.closing.CloseFault.TheVariants as fault
 use Rattle.session_core.specs.declared.end.End.{End}
 use Rattle.session_core.specs.declared.told.Told.{Told}
+use Rattle.session_core.specs.Refusals.{RefusalsSaid}
 use Rattle.session_core.specs.Said.{ClosedSaid, EndSaid}
 use Rattle.session_core.specs.Served.{SessionState, Serves}
-use Rattle.system_lock.specs.Says.{IsEnded, IsNotOpened}
+use Rattle.system_lock.specs.Says.{IsEnded, IsNotOpened, IsRefused}
 use Rattle.logged_streams.specs.Streams.{LogState}
 
 -- what a seat holds beside its counts
@@ -71,12 +72,13 @@ is_blank (Some (byte ∷ bytes)) = false
 abbrev pub IsBlank : Option (List ℕ) → Type 0
 IsBlank contents = is_blank contents ≡ true
 
--- a session was served under the lock of a run: it did what is promised of any session, and ends as full or foreign only where that was
--- due in some book; a call that waits is never given up there
+-- a session was served under the lock of a run: it did what is promised of any session; it ends as full or foreign, refuses a request, and
+-- is closed in a call that waits only where that was due in some book
 pub record ServesInRun (always : Bool) (from base : Option (List ℕ)) (s : SessionState) : Type 0 where
   pub serves : Serves always from base s
   pub said : EndSaid IsNotOpened IsEnded s.end_is
   pub given_up : ClosedSaid IsEnded s.answers s.end_is
+  pub refusals : RefusalsSaid IsNotOpened IsRefused IsEnded from s
 
 -- a connection that was served: what its reader had and its writer held at the start, and the seat of its process, if there is one
 pub record Connection : Type 0 where

@@ -93,7 +93,7 @@ ordinary_sent : (old new : OutputState) (cause : LeaveCause) (wanted : End) → 
 ordinary_sent old new cause wanted (inl h) = subst IsOrdinary (sym h.1) (ordinary_as cause)
 ordinary_sent old new cause wanted (inr h) = subst IsOrdinary (sym h.1) tt
 
-answers_sent : (old new : OutputState) (cause : LeaveCause) (wanted : End) → SendsLast old new cause wanted → new.answers ≡ old.answers
+pub answers_sent : (old new : OutputState) (cause : LeaveCause) (wanted : End) → SendsLast old new cause wanted → new.answers ≡ old.answers
 answers_sent old new cause wanted (inl h) = h.0.flushes.answers
 answers_sent old new cause wanted (inr h) = h.0.answers
 

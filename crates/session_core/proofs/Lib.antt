@@ -8,5 +8,6 @@ pub mod ReadLemmas
 pub mod ClosingLemmas
 pub mod ServeLemmas
 pub mod SaidLemmas
+pub mod RefusalLemmas
 pub mod CutLemmas
 pub mod LawLemmas

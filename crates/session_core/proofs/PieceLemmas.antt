@@ -67,7 +67,7 @@ reads_fed law input new requests told h = subst (λ (l : List ℕ). AreRequests 
 pub begins_read : (input : List ℕ) (requests : List Request) (told : Progress) → AreRequests input requests told → Begins input requests
 begins_read input requests told h = record { text = h.text; rest = h.rest; is = h.is; frames = h.frames }
 
-begins_longer : (input piece : List ℕ) (requests : List Request) → Begins input requests → Begins (input ++ piece) requests
+pub begins_longer : (input piece : List ℕ) (requests : List Request) → Begins input requests → Begins (input ++ piece) requests
 begins_longer input piece requests h = record { text = h.text; rest = h.rest ++ piece; is = ap (λ (l : List ℕ). l ++ piece) h.is ∙ append_assoc h.text h.rest piece; frames = h.frames }
 
 -- ---- talking on
@@ -115,7 +115,7 @@ unwritten law base input piece old new o mid after at then more told h k takes f
       converses = converses (h.requests ++ more) after.answers then talking;
     }
 
-pub serving_on : (base : Option (List ℕ)) (input piece : List ℕ) (old new : DecoderState) (o mid after : OutputState) (at then : Stage) (more : List Request) (told : Progress) → IsServing base input old o at → Feeds SpellsRequest 65792 old new piece more told
+unfoldable pub serving_on : (base : Option (List ℕ)) (input piece : List ℕ) (old new : DecoderState) (o mid after : OutputState) (at then : Stage) (more : List Request) (told : Progress) → IsServing base input old o at → Feeds SpellsRequest 65792 old new piece more told
     → TakesAll at more o mid (turn.GoesOn then) → SendsAll mid after → told ≡ progress.More → IsServing base (input ++ piece) new after then
 serving_on base input piece old new o mid after at then more told h k takes sends e =
     let goes = takes base h.requests h.holds h.talking in

@@ -9,4 +9,5 @@ pub mod Reading
 pub mod Closing
 pub mod Memory
 pub mod Said
+pub mod Refusals
 pub mod Laws

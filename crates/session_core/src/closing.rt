@@ -111,6 +111,7 @@ fn leave_untold<Rt: Wait, W: Write, G: Gate, L: Ledgers, K: Kernel<Seat<L>, Spen
     ensures seat { HangsUpSeat seat result }
     ensures said { EndSaid K.not_opened K.ended result.end }
     ensures closes { ClosesBy (over.Untold seat receipt) output.old output.new result }
+    ensures answers { output.new.answers ≡ output.old.answers }
 {
     match output.flush() {
         Ok(()) => left_by(hang_up(rt, kernel, seat, End::NoMemory), None),
@@ -134,6 +135,7 @@ pub(crate) fn leave_all<Rt: Wait, W: Write, G: Gate, L: Ledgers, K: Kernel<Seat<
     ensures seat { KeepsSeat over result }
     ensures said { OverSaid K.not_opened K.ended over → EndSaid K.not_opened K.ended result.end }
     ensures closes { ClosesBy over output.old output.new result }
+    ensures answers { output.new.answers ≡ output.old.answers }
 {
     match over {
         Over::Leaves { stage, why } => {

@@ -2,6 +2,7 @@
 
 ghost use Rattle.session_core.specs.Pieces.{TakesPiece};
 ghost use Rattle.session_core.specs.Said.{TurnSaid};
+ghost use Rattle.session_core.specs.Refusals.{PieceSays, RefusalSaid};
 
 use crate::gate::Gate;
 use crate::output::Output;
@@ -27,6 +28,7 @@ pub(crate) fn take_piece<Rt: Wait, W: Write, G: Gate, L: Ledgers, K: Kernel<Seat
 ) -> TurnOf<L>
     ensures takes { TakesPiece piece.now decoder.old decoder.new stage output.old output.new result }
     ensures said { TurnSaid K.not_opened K.ended result }
+    ensures refusals { PieceSays (RefusalSaid K.not_opened K.refused K.ended) piece.now decoder.old decoder.new stage output.old output.new result }
 {
     cuts_do_not_matter();
     let fed = match decoder.feed(piece) {

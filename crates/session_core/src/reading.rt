@@ -4,6 +4,7 @@ ghost use Rattle.std.specs.Prelude.{◌≡◌, ◌<◌, ◌≤◌, length};
 ghost use Rattle.frame_codec.specs.Decoding.{fresh};
 ghost use Rattle.session_core.specs.Reading.{ReadsOn, ReadsFresh};
 ghost use Rattle.session_core.specs.Said.{OverSaid, TurnSaid};
+ghost use Rattle.session_core.specs.Refusals.{ReadSays, RefusalSaid, SessionSays};
 ghost use Rattle.session_core.specs.declared.stage.Over.TheVariants as over;
 ghost use Rattle.session_core.specs.declared.stage.Turn.TheVariants as turn;
 ghost use Rattle.logged_streams.specs.Streams.{fresh_log};
@@ -52,6 +53,7 @@ fn read_on<Rt: Wait, R: Read, W: Write, G: Gate, L: Ledgers, K: Kernel<Seat<L>, 
     ensures reads { ReadsOn source.old source.new decoder.old decoder.new stage output.old output.new result }
     ensures long { length buffer.new ≡ length buffer.old }
     ensures said { TurnSaid K.not_opened K.ended result }
+    ensures refusals { ReadSays (RefusalSaid K.not_opened K.refused K.ended) source.old source.new decoder.old decoder.new stage output.old output.new result }
 {
     cuts_do_not_matter();
     match source.read(buffer) {
@@ -86,6 +88,7 @@ fn read_often<Rt: Wait, R: Read, W: Write, G: Gate, L: Ledgers, K: Kernel<Seat<L
     ensures few { source.new.log.calls ≤ 1048576 }
     ensures reads { ReadsFresh source.old source.new output.old output.new result }
     ensures said { OverSaid K.not_opened K.ended result }
+    ensures refusals { SessionSays (RefusalSaid K.not_opened K.refused K.ended) source.old source.new output.old output.new }
 {
     cuts_do_not_matter();
     let mut stage = Stage::Opening;
@@ -120,6 +123,7 @@ pub(crate) fn read_all<
     ensures few { source.new.log.calls ≤ 1048576 }
     ensures reads { ReadsFresh source.old source.new output.old output.new result }
     ensures said { OverSaid K.not_opened K.ended result }
+    ensures refusals { SessionSays (RefusalSaid K.not_opened K.refused K.ended) source.old source.new output.old output.new }
 {
     let mut buffer = match vec![in alloc; 0u8; PIECE] {
         Ok(buffer) => buffer,

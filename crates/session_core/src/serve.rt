@@ -1,9 +1,10 @@
 //! A session from its first byte to its end.
 
-ghost use Rattle.std.specs.Prelude.{◌≡◌, Bool};
+ghost use Rattle.std.specs.Prelude.{◌≡◌, Bool, []};
 ghost use Rattle.session_core.specs.declared.end.End.TheVariants as end;
 ghost use Rattle.session_core.specs.Served.{Serves};
 ghost use Rattle.session_core.specs.Said.{ClosedSaid, EndSaid};
+ghost use Rattle.session_core.specs.Refusals.{RefusalsSaid};
 
 use crate::closing::leave_all;
 use crate::end::End;
@@ -61,6 +62,7 @@ pub fn serve<Rt: Wait, R: Read, W: Write, G: Gate, L: Ledgers, K: Kernel<Seat<L>
     ensures serves { Serves G.is_open (R.remaining reader) (W.contents writer) result }
     ensures said { EndSaid K.not_opened K.ended result.end_is }
     ensures given_up { ClosedSaid K.ended result.answers result.end_is }
+    ensures refusals { RefusalsSaid K.not_opened K.refused K.ended (R.remaining reader) result }
 {
     let mut output = match Output::new(alloc, writer, session, gate) {
         Ok(output) => output,
@@ -86,6 +88,8 @@ pub fn serve<Rt: Wait, R: Read, W: Write, G: Gate, L: Ledgers, K: Kernel<Seat<L>
 fn unserved<R: Read, W: Write, L: Ledgers>(alloc: Global, reader: R, writer: W) -> Served<R, W, L>
     ensures serves { (always : Bool) → Serves always (R.remaining reader) (W.contents writer) result }
     ensures end { result.end_is ≡ end.NoMemory }
+    ensures remaining { result.remaining ≡ R.remaining reader }
+    ensures answers { result.answers ≡ [] }
 {
     Served {
         seat: None,

@@ -1,11 +1,12 @@
 //! One request of a session.
 
-ghost use Rattle.std.specs.Prelude.{◌≡◌, [], OnOk, OnErr};
+ghost use Rattle.std.specs.Prelude.{◌≡◌, ◌∷◌, [], OnOk, OnErr};
 ghost use Rattle.call_types.specs.declared.request.Request.TheVariants as request;
 ghost use Rattle.session_core.specs.declared.stage.Stage.TheVariants as stage;
 ghost use Rattle.session_core.specs.Turns.{TakesUp, PutsFirst, PutsGivenUp, IsOne, WaitsOnce, WaitsOut, GivesUp, TellsWhy, TakesAll};
 ghost use Rattle.system_lock.specs.Kernel.{IsOpening, IsWanting, IsWhyFinished, FinishesBy, SaysEnded};
 ghost use Rattle.session_core.specs.Said.{TurnSaid, WaitedSaid};
+ghost use Rattle.session_core.specs.Refusals.{RefusalSaid, TurnSays, WaitSays};
 ghost use Rattle.session_core.specs.Talk.{goes_on};
 
 use crate::gate::Gate;
@@ -60,6 +61,7 @@ fn take_opening<Rt: Wait, W: Write, G: Gate, L: Ledgers, K: Kernel<Seat<L>, Spen
     requires { IsOpening request }
     ensures takes { TakesUp stage.Opening request output.old output.new result }
     ensures said { TurnSaid K.not_opened K.ended result }
+    ensures refusals { TurnSays (RefusalSaid K.not_opened K.refused K.ended) stage.Opening (request ∷ []) output.old output.new }
 {
     match kernel.open(rt, request) {
         Ok(Opened::Seated(seat)) => match put_first(output, seat.receipts()) {
@@ -137,6 +139,7 @@ fn wait_once<Rt: Wait, W: Write, G: Gate, L: Ledgers, K: Kernel<Seat<L>, SpentSe
 ) -> WaitedOf<L>
     ensures waits { WaitsOnce seat output.old output.new result }
     ensures said { WaitedSaid K.not_opened K.ended result }
+    ensures refusals { WaitSays (RefusalSaid K.not_opened K.refused K.ended) seat output.old output.new }
 {
     match output.flush() {
         Ok(()) => {}
@@ -165,6 +168,7 @@ fn wait_out<Rt: Wait, W: Write, G: Gate, L: Ledgers, K: Kernel<Seat<L>, SpentSea
 ) -> TurnOf<L>
     ensures waits { WaitsOut seat output.old output.new result }
     ensures said { TurnSaid K.not_opened K.ended result }
+    ensures refusals { WaitSays (RefusalSaid K.not_opened K.refused K.ended) seat output.old output.new }
 {
     let mut seat = seat;
     for _ in rt.forever() {
@@ -186,6 +190,7 @@ fn take_call<Rt: Wait, W: Write, G: Gate, L: Ledgers, K: Kernel<Seat<L>, SpentSe
 ) -> TurnOf<L>
     ensures takes { TakesUp (stage.Ready seat) (request.Call call) output.old output.new result }
     ensures said { TurnSaid K.not_opened K.ended result }
+    ensures refusals { TurnSays (RefusalSaid K.not_opened K.refused K.ended) (stage.Ready seat) (request.Call call ∷ []) output.old output.new }
 {
     let mut seat = seat;
     let receipt = match kernel.call(rt, &mut seat, call) {
@@ -218,6 +223,7 @@ fn take_up<Rt: Wait, W: Write, G: Gate, L: Ledgers, K: Kernel<Seat<L>, SpentSeat
 ) -> TurnOf<L>
     ensures takes { TakesUp stage request output.old output.new result }
     ensures said { TurnSaid K.not_opened K.ended result }
+    ensures refusals { TurnSays (RefusalSaid K.not_opened K.refused K.ended) stage (request ∷ []) output.old output.new }
 {
     match (stage, request) {
         (Stage::Opening, Request::Join) => take_opening(rt, output, kernel, Request::Join),
@@ -242,6 +248,7 @@ fn take_next<Rt: Wait, W: Write, G: Gate, L: Ledgers, K: Kernel<Seat<L>, SpentSe
 ) -> TurnOf<L>
     ensures takes { TakesUp stage request output.old output.new result }
     ensures said { TurnSaid K.not_opened K.ended result }
+    ensures refusals { TurnSays (RefusalSaid K.not_opened K.refused K.ended) stage (request ∷ []) output.old output.new }
 {
     match output.flush_much() {
         Ok(()) => take_up(rt, output, kernel, stage, request),
@@ -259,6 +266,7 @@ pub(crate) fn take_all<Rt: Wait, W: Write, G: Gate, L: Ledgers, K: Kernel<Seat<L
 ) -> TurnOf<L>
     ensures takes { TakesAll stage requests.items output.old output.new result }
     ensures said { TurnSaid K.not_opened K.ended result }
+    ensures refusals { TurnSays (RefusalSaid K.not_opened K.refused K.ended) stage requests.items output.old output.new }
 {
     let mut stage = stage;
     for request in requests {

@@ -108,3 +108,15 @@ returns-in-Ended-clause-closes g c =
 
 pub returns-in-Foreign-clause-closes : goal.returns-in-Foreign-clause-closes
 returns-in-Foreign-clause-closes g c = rw c.left_by-in-Foreign.ensures tt
+
+pub returns-in-Leaves-clause-answers : goal.returns-in-Leaves-clause-answers
+returns-in-Leaves-clause-answers g c = laws.answers_sent c.args.output.now c.send_last-end.new.output c.in-Leaves.why c.send_last-end.result c.send_last-end.ensures
+
+pub returns-in-Refused-clause-answers : goal.returns-in-Refused-clause-answers
+returns-in-Refused-clause-answers g c = laws.answers_sent c.args.output.now c.send_last-end-in-Refused.new.output why.Closed c.send_last-end-in-Refused.result c.send_last-end-in-Refused.ensures
+
+pub returns-in-Lost-clause-answers : goal.returns-in-Lost-clause-answers
+returns-in-Lost-clause-answers g c = laws.answers_sent c.args.output.now c.send_last-end-in-Lost.new.output why.Closed c.send_last-end-in-Lost.result c.send_last-end-in-Lost.ensures
+
+pub returns-in-Ended-clause-answers : goal.returns-in-Ended-clause-answers
+returns-in-Ended-clause-answers g c = laws.answers_sent c.args.output.now c.send_last-end-in-Ended.new.output c.in-Ended.why c.send_last-end-in-Ended.result c.send_last-end-in-Ended.ensures

@@ -26,3 +26,9 @@ pub returns-in-Err-clause-closes : goal.returns-in-Err-clause-closes
 returns-in-Err-clause-closes g c =
     hung_up_closes (over.Untold c.args.seat c.args.receipt) c.args.output.now c.flush.new.self c.args.seat c.hang_up-in-Err.result.0 (end.WriteFault c.sent.result) c.hang_up-in-Err.result.1 (Some c.args.receipt)
     c.left_by-in-Err.result (λ answers. tt) c.hang_up-in-Err.ensures.hangs_up c.left_by-in-Err.ensures
+
+pub returns-in-Ok-clause-answers : goal.returns-in-Ok-clause-answers
+returns-in-Ok-clause-answers g c = c.in-Ok.ensures.ok.flushes.answers
+
+pub returns-in-Err-clause-answers : goal.returns-in-Err-clause-answers
+returns-in-Err-clause-answers g c = c.in-Err.ensures.err.answers

@@ -1,7 +1,9 @@
-use Rattle.std.proofs.Common.{Ok, subst}
+use Rattle.std.proofs.Common.{Ok, [], ◌∷◌, ◌++◌, subst}
 use Rattle.system_lock.specs.Kernel.{OpensBy}
 use Rattle.session_core.proofs.SaidLemmas.{unopened_said}
 use Rattle.session_core.proofs.TalkLemmas as laws
+use Rattle.session_core.specs.Refusals.{RefusalSaid}
+use Rattle.session_core.proofs.RefusalLemmas.{first_said, opening_refused, unput_said}
 use Rattle.session_core.proofs.turns.take_opening.Goals as goal
 
 pub returns-in-Ok-clause-takes : goal.returns-in-Ok-clause-takes
@@ -27,3 +29,27 @@ returns-in-Err-clause-takes g c = laws.unopened _ _ _ _ _ c.requires c.put_given
 
 pub returns-in-Err-clause-said : goal.returns-in-Err-clause-said
 returns-in-Err-clause-said g c = unopened_said g.K.Kernel.not_opened c.args.request c.in-Err.refusal c.args.output.now c.put_given_up-why.new.output c.put_given_up-why.result c.put_given_up-why.ensures c.in-Err.ensures.refused
+
+pub returns-in-Ok-clause-refusals : goal.returns-in-Ok-clause-refusals
+returns-in-Ok-clause-refusals g c base handled holds talking are =
+    first_said (RefusalSaid g.K.Kernel.not_opened g.K.Kernel.refused g.K.Kernel.ended (handled ++ c.args.request ∷ [])) _ c.args.output.now c.put_first.new.output c.in-Ok.ensures.ok talking.1
+
+pub returns-in-Err-put_first-clause-refusals : goal.returns-in-Err-put_first-clause-refusals
+returns-in-Err-put_first-clause-refusals g c base handled holds talking are =
+    unput_said (RefusalSaid g.K.Kernel.not_opened g.K.Kernel.refused g.K.Kernel.ended (handled ++ c.args.request ∷ [])) c.args.output.now c.put_first.new.output c.in-Err-put_first.ensures.err
+    talking.1
+
+pub returns-in-Ok-put_first-clause-refusals : goal.returns-in-Ok-put_first-clause-refusals
+returns-in-Ok-put_first-clause-refusals g c base handled holds talking are =
+    first_said (RefusalSaid g.K.Kernel.not_opened g.K.Kernel.refused g.K.Kernel.ended (handled ++ c.args.request ∷ [])) _ c.args.output.now c.put_first-in-Ok-Refused.new.output
+    c.in-Ok-put_first.ensures.ok talking.1
+
+pub returns-in-Err-put_first-2-clause-refusals : goal.returns-in-Err-put_first-2-clause-refusals
+returns-in-Err-put_first-2-clause-refusals g c base handled holds talking are =
+    unput_said (RefusalSaid g.K.Kernel.not_opened g.K.Kernel.refused g.K.Kernel.ended (handled ++ c.args.request ∷ [])) c.args.output.now c.put_first-in-Ok-Refused.new.output
+    c.in-Err-put_first-2.ensures.err talking.1
+
+pub returns-in-Err-clause-refusals : goal.returns-in-Err-clause-refusals
+returns-in-Err-clause-refusals g c base handled holds talking are =
+    opening_refused g.K.Kernel.not_opened g.K.Kernel.refused g.K.Kernel.ended handled c.args.request c.in-Err.refusal c.args.output.now c.put_given_up-why.new.output c.put_given_up-why.result
+    c.requires c.in-Err.ensures.refused c.put_given_up-why.ensures talking.0 talking.1

@@ -1,12 +1,16 @@
-use Rattle.std.proofs.Common.{sym, ap, subst, ◌∙◌}
+use Rattle.std.proofs.Common.{[], ◌∷◌, ◌++◌, sym, ap, subst, ◌∙◌}
 use Rattle.call_types.specs.declared.act.Act.TheVariants as act
 use Rattle.call_types.specs.declared.act.Record.{Record}
 use Rattle.posix_model.specs.WaitLaws.{EndsOrGoesOn}
 use Rattle.record_book.specs.Seat.{Receipted}
 use Rattle.system_lock.specs.Kernel.{Adds}
+use Rattle.session_core.specs.declared.told.Told.TheVariants as told
 use Rattle.session_core.specs.Talk.{goes_on}
 use Rattle.session_core.proofs.SaidLemmas.{given_up_said}
 use Rattle.session_core.proofs.WaitLemmas as laws
+use Rattle.call_types.specs.declared.request.Request.TheVariants as request
+use Rattle.session_core.specs.Refusals.{RefusalSaid}
+use Rattle.session_core.proofs.RefusalLemmas.{ended_refused, kept_said, put_said, same_said}
 use Rattle.session_core.proofs.turns.wait_once.Goals as goal
 
 pub returns-in-Err-clause-waits : goal.returns-in-Err-clause-waits
@@ -18,13 +22,13 @@ returns-in-Ended-clause-waits g c base handled call w = c.give_up.ensures.gives 
 pub returns-in-Ok-put_recorded-clause-waits : goal.returns-in-Ok-put_recorded-clause-waits
 returns-in-Ok-put_recorded-clause-waits g c base handled call w =
     laws.resumed_part base handled call c.args.seat c.in-Resumed.seat c.in-Resumed.receipt _ _ c.in-Resumed.ensures.finishes.0 c.in-Resumed.ensures.finishes.1
-    (ap (λ (r : Record). goes_on r.outcome) (sym c.record.ensures) ∙ sym c.goes_on-waits.ensures ∙ c.if-waits.true) c.in-Ok-put_recorded.ensures.ok
+    (ap (λ (r : Record). goes_on r.outcome) (sym c.record.ensures.«record») ∙ sym c.goes_on-waits.ensures ∙ c.if-waits.true) c.in-Ok-put_recorded.ensures.ok
     (laws.still_waits base handled call c.args.seat _ _ c.in-Ok.ensures.ok w)
 
 pub returns-in-Ok-2-clause-waits : goal.returns-in-Ok-2-clause-waits
 returns-in-Ok-2-clause-waits g c base handled call w =
     laws.resumed_whole base handled call c.args.seat c.in-Resumed.seat c.in-Resumed.receipt _ _ c.in-Resumed.ensures.finishes.0 c.in-Resumed.ensures.finishes.1
-    (ap (λ (r : Record). goes_on r.outcome) (sym c.record.ensures) ∙ sym c.goes_on-waits.ensures ∙ c.if-waits.false) c.in-Ok-2.ensures.ok
+    (ap (λ (r : Record). goes_on r.outcome) (sym c.record.ensures.«record») ∙ sym c.goes_on-waits.ensures ∙ c.if-waits.false) c.in-Ok-2.ensures.ok
     (laws.still_waits base handled call c.args.seat _ _ c.in-Ok.ensures.ok w)
 
 pub returns-in-Err-put_recorded-clause-waits : goal.returns-in-Err-put_recorded-clause-waits
@@ -36,3 +40,31 @@ returns-in-Err-put_recorded-clause-waits g c base handled call w =
 
 pub returns-in-Ended-clause-said : goal.returns-in-Ended-clause-said
 returns-in-Ended-clause-said g c = given_up_said g.K.Kernel.not_opened g.K.Kernel.ended c.args.seat c.in-Ended.ended.why c.flush.new.self c.give_up.new.output c.give_up.result c.give_up.ensures.tells c.in-Ended.ensures.ended
+
+pub returns-in-Err-clause-refusals : goal.returns-in-Err-clause-refusals
+returns-in-Err-clause-refusals g c base handled call w are =
+    kept_said (RefusalSaid g.K.Kernel.not_opened g.K.Kernel.refused g.K.Kernel.ended (handled ++ request.Call call ∷ [])) c.args.output.now.answers c.flush.new.self.answers
+    c.in-Err.ensures.err.answers are
+
+pub returns-in-Ended-clause-refusals : goal.returns-in-Ended-clause-refusals
+returns-in-Ended-clause-refusals g c base handled call w are =
+    ended_refused g.K.Kernel.not_opened g.K.Kernel.refused g.K.Kernel.ended base handled call c.args.seat c.in-Ended.ended.why c.flush.new.self c.give_up.new.output c.give_up.result c.give_up.ensures.tells c.in-Ended.ensures.ended
+    (laws.still_waits base handled call c.args.seat _ _ c.in-Ok.ensures.ok w)
+    (kept_said (RefusalSaid g.K.Kernel.not_opened g.K.Kernel.refused g.K.Kernel.ended (handled ++ request.Call call ∷ [])) c.args.output.now.answers c.flush.new.self.answers c.in-Ok.ensures.ok.flushes.answers are)
+
+pub returns-in-Ok-put_recorded-clause-refusals : goal.returns-in-Ok-put_recorded-clause-refusals
+returns-in-Ok-put_recorded-clause-refusals g c base handled call w are =
+    put_said (RefusalSaid g.K.Kernel.not_opened g.K.Kernel.refused g.K.Kernel.ended (handled ++ request.Call call ∷ [])) c.flush.new.self c.put_recorded.new.self (told.Recorded c.in-Resumed.receipt)
+    c.in-Ok-put_recorded.ensures.ok
+    (kept_said (RefusalSaid g.K.Kernel.not_opened g.K.Kernel.refused g.K.Kernel.ended (handled ++ request.Call call ∷ [])) c.args.output.now.answers c.flush.new.self.answers c.in-Ok.ensures.ok.flushes.answers are) tt
+
+pub returns-in-Ok-2-clause-refusals : goal.returns-in-Ok-2-clause-refusals
+returns-in-Ok-2-clause-refusals g c base handled call w are =
+    put_said (RefusalSaid g.K.Kernel.not_opened g.K.Kernel.refused g.K.Kernel.ended (handled ++ request.Call call ∷ [])) c.flush.new.self c.put_recorded.new.self (told.Recorded c.in-Resumed.receipt)
+    c.in-Ok-2.ensures.ok
+    (kept_said (RefusalSaid g.K.Kernel.not_opened g.K.Kernel.refused g.K.Kernel.ended (handled ++ request.Call call ∷ [])) c.args.output.now.answers c.flush.new.self.answers c.in-Ok.ensures.ok.flushes.answers are) tt
+
+pub returns-in-Err-put_recorded-clause-refusals : goal.returns-in-Err-put_recorded-clause-refusals
+returns-in-Err-put_recorded-clause-refusals g c base handled call w are =
+    same_said (RefusalSaid g.K.Kernel.not_opened g.K.Kernel.refused g.K.Kernel.ended (handled ++ request.Call call ∷ [])) c.flush.new.self c.put_recorded.new.self c.in-Err-put_recorded.ensures.err
+    (kept_said (RefusalSaid g.K.Kernel.not_opened g.K.Kernel.refused g.K.Kernel.ended (handled ++ request.Call call ∷ [])) c.args.output.now.answers c.flush.new.self.answers c.in-Ok.ensures.ok.flushes.answers are)

@@ -1,0 +1,127 @@
+-- Each refusal among the answers is what the kernel said of the very request that it answers (own).
+use Rattle.std.specs.Prelude.{◌≡◌, ℕ, ◌⊎◌, List, [], ◌∷◌, ◌++◌, Option}
+use Rattle.std.specs.Io.KnownBytes.{Consumes}
+use Rattle.call_types.specs.declared.call.Call.{Call}
+use Rattle.call_types.specs.declared.refusal.Refusal.{Refusal}
+use Rattle.call_types.specs.declared.refusal.Refusal.TheVariants as refusal
+use Rattle.call_types.specs.declared.request.Request.{Request}
+use Rattle.call_types.specs.declared.request.Request.TheVariants as request
+use Rattle.frame_codec.specs.Decoding.{DecoderState}
+use Rattle.logged_streams.specs.Streams.{LoggedReaderState}
+use Rattle.record_book.specs.Seat.{SeatState}
+use Rattle.system_lock.specs.declared.kernel.Why.{Why}
+use Rattle.system_lock.specs.declared.kernel.Why.TheVariants as ended_why
+use Rattle.session_core.specs.declared.told.Told.{Told}
+use Rattle.session_core.specs.declared.told.Told.TheVariants as told
+use Rattle.session_core.specs.Answers.{receipts_of}
+use Rattle.session_core.specs.Output.{OutputState, Holds, fresh_output}
+use Rattle.session_core.specs.Pieces.{IsServing}
+use Rattle.session_core.specs.Served.{Begins, SessionState}
+use Rattle.session_core.specs.Stages.{Stage, Turn}
+use Rattle.session_core.specs.declared.stage.Turn.TheVariants as turn
+use Rattle.session_core.specs.Talk.{Talked, Waits}
+use Rattle.session_core.specs.Turns.{IsTalking, IsWaitingAt}
+
+-- a process ended, in the call that it waited in, for what this refusal tells
+abbrev pub EndTold : (Why → Type 0) → Refusal → Type 0
+EndTold ended refusal.NoMemory = ended ended_why.NoMemory
+EndTold ended refusal.RunFull = ended ended_why.RunFull
+EndTold ended other = ⊥
+
+-- a kernel refused this opening so, which is the first request and is answered first
+pub record OpeningRefused (unopened : Request → Refusal → Type 0) (earlier : List Request) (before : List Told) (next : Request) (so : Refusal) : Type 0 where
+  pub first : earlier ≡ []
+  pub unanswered : before ≡ []
+  pub said : unopened next so
+
+-- a kernel refused this call so, of a seat with the receipts of the answers before, by which all requests before it are answered
+pub record CallRefused (refused : SeatState → Call → Refusal → Type 0) (earlier : List Request) (before : List Told) (call : Call) (so : Refusal) : Type 0 where
+  pub seat : SeatState
+  pub talked : Talked earlier before
+  pub receipts : seat.receipts ≡ receipts_of before
+  pub said : refused seat call so
+
+-- a kernel ended the process of such a seat for that in this call, which waits by these answers
+pub record WaitRefused (ended : SeatState → Why → Type 0) (earlier : List Request) (before : List Told) (call : Call) (so : Refusal) : Type 0 where
+  pub seat : SeatState
+  pub waits : Waits earlier before call
+  pub receipts : seat.receipts ≡ receipts_of before
+  pub said : EndTold (ended seat) so
+
+-- a kernel refused this request so, after these requests and the answers before
+abbrev pub NextRefused : (Request → Refusal → Type 0) → (SeatState → Call → Refusal → Type 0) → (SeatState → Why → Type 0) → List Request → List Told → Request → Refusal → Type 0
+NextRefused unopened refused ended earlier before request.Join so = OpeningRefused unopened earlier before request.Join so
+NextRefused unopened refused ended earlier before (request.Attach process) so = OpeningRefused unopened earlier before (request.Attach process) so
+NextRefused unopened refused ended earlier before (request.Call call) so = CallRefused refused earlier before call so ⊎ WaitRefused ended earlier before call so
+
+-- a kernel refused one of these requests so, after these answers
+pub record RefusalSaid (unopened : Request → Refusal → Type 0) (refused : SeatState → Call → Refusal → Type 0) (ended : SeatState → Why → Type 0) (requests : List Request) (before : List Told) (so : Refusal) : Type 0 where
+  pub earlier : List Request
+  pub next : Request
+  pub later : List Request
+  pub requests_are : requests ≡ earlier ++ next ∷ later
+  pub is : NextRefused unopened refused ended earlier before next so
+
+-- each refusal among these answers was said after the answers before it
+abbrev pub AreSaid : (List Told → Refusal → Type 0) → List Told → Type 0
+AreSaid Said answers = (before : List Told) (so : Refusal) (later : List Told) → answers ≡ before ++ told.Refused so ∷ later → Said before so
+
+-- the same, of requests with which these bytes begin
+pub record BeginsSaid (Said : List Request → List Told → Refusal → Type 0) (input : List ℕ) (answers : List Told) : Type 0 where
+  pub requests : List Request
+  pub begins : Begins input requests
+  pub said : AreSaid (Said requests) answers
+
+-- the same, of what a reader gave
+pub record ReadSaid (Said : List Request → List Told → Refusal → Type 0) (from to : Option (List ℕ)) (answers : List Told) : Type 0 where
+  pub input : List ℕ
+  pub consumes : Consumes from to input
+  pub begins_said : BeginsSaid Said input answers
+
+-- each refusal that a session told was said by a kernel, where this is what its reader had at the start
+abbrev pub RefusalsSaid : (Request → Refusal → Type 0) → (SeatState → Call → Refusal → Type 0) → (SeatState → Why → Type 0) → Option (List ℕ) → SessionState → Type 0
+RefusalsSaid unopened refused ended from s = ReadSaid (RefusalSaid unopened refused ended) from s.remaining s.answers
+
+-- ---- how a session comes to them
+
+-- requests are taken up: each refusal is said still
+abbrev pub TurnSays : (List Request → List Told → Refusal → Type 0) → Stage → List Request → OutputState → OutputState → Type 0
+TurnSays Said at next old new =
+    (base : Option (List ℕ)) (handled : List Request) → Holds base old → IsTalking handled old.answers at → AreSaid (Said handled) old.answers → AreSaid (Said (handled ++ next)) new.answers
+
+-- the same while a call waits
+abbrev pub WaitSays : (List Request → List Told → Refusal → Type 0) → SeatState → OutputState → OutputState → Type 0
+WaitSays Said seat old new =
+    (base : Option (List ℕ)) (handled : List Request) (call : Call) → IsWaitingAt base handled call seat old → AreSaid (Said (handled ++ request.Call call ∷ [])) old.answers
+    → AreSaid (Said (handled ++ request.Call call ∷ [])) new.answers
+
+-- a session that goes on after these bytes, with each refusal said
+pub record ServingSaid (Said : List Request → List Told → Refusal → Type 0) (base : Option (List ℕ)) (input : List ℕ) (decoder : DecoderState) (o : OutputState) (at : Stage) : Type 0 where
+  pub serves : IsServing base input decoder o at
+  pub said : AreSaid (Said serves.requests) o.answers
+
+-- what came of these bytes
+abbrev pub PieceSaid : (List Request → List Told → Refusal → Type 0) → Option (List ℕ) → List ℕ → DecoderState → OutputState → Turn → Type 0
+PieceSaid Said base input decoder o (turn.GoesOn at) = ServingSaid Said base input decoder o at
+PieceSaid Said base input decoder o (turn.Over over) = BeginsSaid Said input o.answers
+
+-- a piece is taken
+abbrev pub PieceSays : (List Request → List Told → Refusal → Type 0) → List ℕ → DecoderState → DecoderState → Stage → OutputState → OutputState → Turn → Type 0
+PieceSays Said piece decoder after at old new found =
+    (base : Option (List ℕ)) (input : List ℕ) → ServingSaid Said base input decoder old at → PieceSaid Said base (input ++ piece) after new found
+
+-- one read, and what came of it
+pub record ReadSays (Said : List Request → List Told → Refusal → Type 0) (from to : LoggedReaderState) (decoder after : DecoderState) (at : Stage) (old new : OutputState) (found : Turn) : Type 0 where
+  pub piece : List ℕ
+  pub consumes : Consumes from.remaining to.remaining piece
+  pub goes : PieceSays Said piece decoder after at old new found
+
+-- all reads so far
+pub record HasReadSaid (Said : List Request → List Told → Refusal → Type 0) (from to : LoggedReaderState) (base : Option (List ℕ)) (decoder : DecoderState) (at : Stage) (o : OutputState) : Type 0 where
+  pub input : List ℕ
+  pub consumes : Consumes from.remaining to.remaining input
+  pub serving : ServingSaid Said base input decoder o at
+
+-- all reads of a session that begins
+abbrev pub SessionSays : (List Request → List Told → Refusal → Type 0) → LoggedReaderState → LoggedReaderState → OutputState → OutputState → Type 0
+SessionSays Said from to old new = (base : Option (List ℕ)) → old ≡ fresh_output base → ReadSaid Said from.remaining to.remaining new.answers
