@@ -24,7 +24,7 @@ impl OthersFirst {
         }
     }
 
-    /// What tells of this session, and of the one beside it, whether an answer was let through.
+    /// The marks of a session and of the other one: whether an answer of it was let through.
     fn own_and_other(&self, session: u64) -> (&AtomicBool, &AtomicBool) {
         match session {
             0 => (&self.first, &self.other),
