@@ -1,6 +1,6 @@
 -- A call that is taken up.
 use Rattle.std.proofs.Common.{◌≡◌, ℕ, Bool, true, false, inl, inr, List, [], ◌∷◌, ◌++◌, Option, None, refl, sym, ◌∙◌, ap, subst}
-use Rattle.std.proofs.lemmas.List.{append_assoc}
+use Rattle.std.proofs.lemmas.List.{append-nil}
 use Rattle.call_types.specs.declared.act.Act.TheVariants as act
 use Rattle.call_types.specs.declared.call.Call.{Call}
 use Rattle.call_types.specs.declared.outcome.Outcome.{Outcome}
@@ -21,7 +21,7 @@ use Rattle.session_core.specs.declared.stage.Turn.TheVariants as turn
 use Rattle.session_core.specs.Answers.{receipts_of}
 use Rattle.session_core.specs.Output.{OutputState, Holds, Puts, Flushes, FailsToSend}
 use Rattle.session_core.specs.Talk.{goes_on, IsReply, IsParked, Talked, Converses}
-use Rattle.session_core.specs.Turns.{IsTalking, HasReceipts, IsWaitingAt, OverBy, TakesUp, TakesAll, GoesOnTalking}
+use Rattle.session_core.specs.Turns.{IsTalking, HasReceipts, IsWaitingAt, OverBy, TakesUp}
 use Rattle.session_core.proofs.WaitLemmas.{talk_more, receipts_recorded, receipts_refused, cut_now, cut_converses, talked_converses}
 
 pub refused : (seat after : SeatState) (call : Call) (refusal : Refusal) (old new : OutputState) → after ≡ seat → Puts old new (told.Refused refusal) → TakesUp (stage.Ready seat) (request.Call call) old new (turn.GoesOn (stage.Ready after))
@@ -77,6 +77,9 @@ pub talk_converses : (requests later : List Request) (answers : List Told) (at :
 talk_converses requests later answers stage.Opening h = record { handled = requests; later = later; requests_are = refl; is = inl (inl h) }
 talk_converses requests later answers (stage.Ready seat) h = record { handled = requests; later = later; requests_are = refl; is = inl (inr h.0) }
 
+pub converses : (requests : List Request) (answers : List Told) (at : Stage) → IsTalking requests answers at → Converses requests answers
+converses requests answers at h = subst (λ (l : List Request). Converses l answers) (append-nil requests) (talk_converses requests [] answers at h)
+
 -- memory ran out for the answer of a call that is recorded
 with_called : (goes : Bool) (handled : List Request) (old : List Told) (call : Call) (receipt : Receipted) → goes_on receipt.record_is.outcome ≡ goes → EndsOrWaits receipt.record_is.outcome → receipt.record_is.act ≡ act.Call call → Talked handled old
     → Converses (handled ++ request.Call call ∷ []) (old ++ told.Recorded receipt ∷ [])
@@ -125,24 +128,5 @@ unflushed at next old new h base handled holds talking = (
 pub same_place : (at other : Stage) (next same : Request) (old new : OutputState) (found : Turn) → at ≡ other → next ≡ same → TakesUp other same old new found → TakesUp at next old new found
 same_place at other next same old new found e k h = subst (λ (s : Stage). TakesUp s next old new found) (sym e) (subst (λ (r : Request). TakesUp other r old new found) (sym k) h)
 
--- ---- requests, one after another
-
 pub after_flush : (at : Stage) (next : Request) (old mid new : OutputState) (found : Turn) → Flushes old mid → TakesUp at next mid new found → TakesUp at next old new found
 after_flush at next old mid new found h k base handled holds talking = k base handled (h.holds base holds) (subst (λ (l : List Told). IsTalking handled l at) (sym h.answers) talking)
-
-pub talks_on : (at after further : Stage) (o mid new : OutputState) (some : List Request) (next : Request) → GoesOnTalking at o some after mid → TakesUp after next mid new (turn.GoesOn further) → GoesOnTalking at o (some ++ next ∷ []) further new
-talks_on at after further o mid new some next h k base handled holds talking =
-    let so_far = h base handled holds talking in
-    let one_more = k base (handled ++ some) so_far.0 so_far.1 in
-    (one_more.0, subst (λ (l : List Request). IsTalking l new.answers further) (append_assoc handled some (next ∷ [])) one_more.1)
-
--- all were taken up
-pub talked_all : (at after : Stage) (old new : OutputState) (some all : List Request) → GoesOnTalking at old some after new → some ≡ all → TakesAll at all old new (turn.GoesOn after)
-talked_all at after old new some all h e base handled holds talking = subst (λ (l : List Request). Holds base new × IsTalking (handled ++ l) new.answers after) e (h base handled holds talking)
-
--- the session is over at one of them
-pub over_at : (at after : Stage) (old mid new : OutputState) (some : List Request) (next : Request) (later all : List Request) (found : Over) → GoesOnTalking at old some after mid → TakesUp after next mid new (turn.Over found) → all ≡ some ++ next ∷ later
-    → TakesAll at all old new (turn.Over found)
-over_at at after old mid new some next later all found h k e base handled holds talking =
-    let so_far = h base handled holds talking in
-    (some, next, later, e, k base (handled ++ some) so_far.0 so_far.1)

@@ -24,14 +24,13 @@ use Rattle.session_core.specs.Answers.{answers_text, told_bytes, receipts_of, Is
 use Rattle.session_core.specs.Output.{OutputState, Holds, Broke, SendsAll, FailsToSend}
 use Rattle.logged_streams.specs.Streams.{LogState, LoggedReaderState}
 use Rattle.session_core.specs.Talk.{IsCut, IsUnopened, AreAnswered, Converses}
-use Rattle.session_core.specs.Served.{Begins, AreRequests, IsMisplaced, AnswersFirst, AnswersAll, AnswersToCut, HasExited, HasUntold, IsRefusedOpening, IsSeatOf, IsSeated, IsWritten, EndsFor, ComesTo}
+use Rattle.session_core.specs.Served.{IsMisplaced, AnswersFirst, AnswersAll, AnswersToCut, HasExited, HasUntold, IsRefusedOpening, IsSeatOf, IsSeated, IsWritten, EndsFor, ComesTo}
 use Rattle.session_core.specs.Turns.{IsTalking, IsOutOfPlace, HasReceipts, LeavesBy, EndedBy, IsUntoldOpening}
-use Rattle.session_core.specs.Pieces.{LeavesOff, IsAnswered}
-use Rattle.session_core.specs.Reading.{IsMet}
+use Rattle.request_pump.specs.Input.{Begins, AreRequests}
+use Rattle.session_core.specs.Ends.{LeavesOff, IsAnswered, IsMet}
 use Rattle.session_core.specs.Closing.{end_of, SendsLast, HangsUp, LeavesWith, session_of, LeavesAll}
 use Rattle.session_core.proofs.WaitLemmas.{cut_converses, talked_converses, receipts_more}
-use Rattle.session_core.proofs.CallLemmas.{has_receipts, talk_converses}
-use Rattle.session_core.proofs.PieceLemmas.{begins_read, converses}
+use Rattle.session_core.proofs.CallLemmas.{converses, has_receipts, talk_converses}
 
 -- ---- what was written
 
@@ -61,11 +60,12 @@ pub record Rests (input : List ℕ) (base : Option (List ℕ)) (source : LoggedR
   pub holds : Holds base o
   pub talks : AnswersFirst input o.answers
   pub ends : (held : Option (List ℕ)) (writes : LogState)
-      → EndsFor input (record { remaining = source.remaining; reads = source.log; contents = held; writes = writes; seat = seat; answers = o.answers; end_is = end_of cause }) (end_of cause)
+      → EndsFor input (record { remaining = Some source.remaining; reads = source.log; contents = held; writes = writes; seat = seat; answers = o.answers; end_is = end_of cause }) (end_of cause)
 
 -- an end that a session has of itself
 abbrev IsOrdinary : End → Type 0
 IsOrdinary end.Foreign = ⊥
+IsOrdinary end.NoThread = ⊥
 IsOrdinary other = Unit {0}
 
 -- its last answers are written, or its writer has failed
@@ -81,6 +81,7 @@ written_as old new answers why.ReadFault h = h
 written_as old new answers why.Malformed h = h
 written_as old new answers why.RunFull h = h
 written_as old new answers why.NoMemory h = h
+written_as old new answers why.Ahead h = h
 
 ordinary_as : (cause : LeaveCause) → IsOrdinary (end_of cause)
 ordinary_as why.Closed = tt
@@ -88,6 +89,7 @@ ordinary_as why.ReadFault = tt
 ordinary_as why.Malformed = tt
 ordinary_as why.RunFull = tt
 ordinary_as why.NoMemory = tt
+ordinary_as why.Ahead = tt
 
 ordinary_sent : (old new : OutputState) (cause : LeaveCause) (wanted : End) → SendsLast old new cause wanted → IsOrdinary wanted
 ordinary_sent old new cause wanted (inl h) = subst IsOrdinary (sym h.1) (ordinary_as cause)
@@ -102,7 +104,7 @@ sends : (input : List ℕ) (base : Option (List ℕ)) (source : LoggedReaderStat
 sends input base source old new seat cause wanted r (inl h) =
     let holds = h.0.flushes.holds base r.holds in
     let Ends : List Told → Type 0 = λ l.
-    EndsFor input (record { remaining = source.remaining; reads = source.log; contents = new.sink.contents; writes = new.sink.log; seat = seat; answers = l; end_is = end_of cause }) (end_of cause) in
+    EndsFor input (record { remaining = Some source.remaining; reads = source.log; contents = new.sink.contents; writes = new.sink.log; seat = seat; answers = l; end_is = end_of cause }) (end_of cause) in
     subst (Stands input base source new seat) (sym h.1) (record {
       talks = subst (AnswersFirst input) (sym h.0.flushes.answers) r.talks;
       written = written_as base new.sink.contents new.answers cause (all_written base new holds h.0.all);
@@ -125,18 +127,22 @@ seat_exited input end.Closed seat answers o h = inl h
 seat_exited input end.ReadFault seat answers o h = h
 seat_exited input (end.WriteFault sent) seat answers o h = inl h
 seat_exited input end.Malformed seat answers o h = h
+seat_exited input end.Ahead seat answers o h = h
 seat_exited input end.RunFull seat answers o h = h
 seat_exited input end.NoMemory seat answers o h = inl h
 seat_exited input end.Foreign seat answers o h = absurd o
+seat_exited input end.NoThread seat answers o h = absurd o
 
 no_seat : (input : List ℕ) (wanted : End) (answers : List Told) → IsOrdinary wanted → receipts_of answers ≡ [] → IsSeated input None answers wanted
 no_seat input end.Closed answers o h = h
 no_seat input end.ReadFault answers o h = h
 no_seat input (end.WriteFault sent) answers o h = h
 no_seat input end.Malformed answers o h = h
+no_seat input end.Ahead answers o h = h
 no_seat input end.RunFull answers o h = h
 no_seat input end.NoMemory answers o h = h
 no_seat input end.Foreign answers o h = absurd o
+no_seat input end.NoThread answers o h = absurd o
 
 exited : (old spent : SeatState) (answers : List Told) → Exits old spent → old.receipts ≡ receipts_of answers → HasExited spent answers
 exited old spent answers h e = record { exit = h.0; receipts = h.1.receives.receipts ∙ ap (λ (l : List Receipted). l ++ h.0 ∷ []) e; act_is = h.1.act_is }
@@ -197,7 +203,7 @@ misplaced_so requests answers (stage.Ready seat) request.Join h k = subst (λ (l
 misplaced_so requests answers (stage.Ready seat) (request.Attach process) h k = subst (λ (l : List Request). IsMisplaced l (request.Attach process)) (sym h.0.requests_are) tt
 misplaced_so requests answers (stage.Ready seat) (request.Call call) h k = absurd k
 
-converses_more : (requests later : List Request) (answers : List Told) → Converses requests answers → Converses (requests ++ later) answers
+pub converses_more : (requests later : List Request) (answers : List Told) → Converses requests answers → Converses (requests ++ later) answers
 converses_more requests later answers h = record {
   handled = h.handled;
   later = h.later ++ later;
@@ -225,6 +231,9 @@ to_cut input handled next later answers given_up begins h = record {
   cut = h;
 }
 
+begins_read : (input : List ℕ) (requests : List Request) (told : Progress) → AreRequests input requests told → Begins input requests
+begins_read input requests told h = record { text = h.text; rest = h.rest; is = h.is; frames = h.frames }
+
 first_read : (input : List ℕ) (requests : List Request) (told : Progress) (answers : List Told) (at : Stage) → AreRequests input requests told → IsTalking requests answers at → AnswersFirst input answers
 first_read input requests told answers at read talking = record { requests = requests; begins = begins_read input requests told read; converses = converses requests answers at talking }
 
@@ -233,7 +242,7 @@ all_read base input o at h = record { requests = h.requests; read = h.read; answ
 
 rests_answered : (input : List ℕ) (base : Option (List ℕ)) (source : LoggedReaderState) (o : OutputState) (at : Stage) (cause : LeaveCause) (seat : Option SeatState) → (h : IsAnswered base input o at)
     → ((held : Option (List ℕ)) (writes : LogState)
-    → EndsFor input (record { remaining = source.remaining; reads = source.log; contents = held; writes = writes; seat = seat; answers = o.answers; end_is = end_of cause }) (end_of cause))
+    → EndsFor input (record { remaining = Some source.remaining; reads = source.log; contents = held; writes = writes; seat = seat; answers = o.answers; end_is = end_of cause }) (end_of cause))
     → Rests input base source o seat cause
 rests_answered input base source o at cause seat h ends = record { holds = h.holds; talks = first_read input h.requests progress.More o.answers at h.read h.talking; ends = ends }
 
@@ -244,6 +253,7 @@ rests_at : (input : List ℕ) (base : Option (List ℕ)) (source : LoggedReaderS
     → (seat : Option SeatState) → Rests input base source o seat cause
 rests_at input base source o at why.Closed handled next later begins h seat = absurd h
 rests_at input base source o at why.ReadFault handled next later begins h seat = absurd h
+rests_at input base source o at why.Ahead handled next later begins h seat = absurd h
 rests_at input base source o at why.Malformed handled next later begins h seat = record {
   holds = h.0;
   talks = record { requests = handled ++ next ∷ later; begins = begins; converses = talk_converses handled (next ∷ later) o.answers at h.1 };
@@ -273,6 +283,7 @@ receipts_at base handled next o at why.ReadFault h = absurd h
 receipts_at base handled next o at why.Malformed h = has_receipts handled o.answers at h.1
 receipts_at base handled next o at why.RunFull h = h.1
 receipts_at base handled next o at why.NoMemory h = h.1
+receipts_at base handled next o at why.Ahead h = absurd h
 
 rests_off : (input : List ℕ) (base : Option (List ℕ)) (source : LoggedReaderState) (o : OutputState) (at : Stage) (cause : LeaveCause) → LeavesOff base input o (over.Leaves at cause) → IsMet source (over.Leaves at cause) → (seat : Option SeatState) → Rests input base source o seat cause
 rests_off input base source o at why.Closed h met seat = rests_answered input base source o at why.Closed seat h (λ (held : Option (List ℕ)) (writes : LogState). inl (met, all_read base input o at h))
@@ -283,6 +294,18 @@ rests_off input base source o at why.Malformed h met seat = record {
   ends = λ (held : Option (List ℕ)) (writes : LogState). inl (record { requests = h.requests; told = h.told; fault = h.fault; read = h.read; answered = answered_so h.requests o.answers at h.talking });
 }
 rests_off input base source o at why.RunFull h met seat = absurd h
+rests_off input base source o at why.Ahead h met seat = record {
+  holds = h.holds;
+  talks = record { requests = h.requests ++ h.back ∷ h.later; begins = h.begins; converses = talk_converses h.requests (h.back ∷ h.later) o.answers at h.talking };
+  ends = λ (held : Option (List ℕ)) (writes : LogState). record {
+    requests = h.requests;
+    back = h.back;
+    later = h.later;
+    begins = h.begins;
+    full = h.full;
+    answered = answered_so h.requests o.answers at h.talking;
+  };
+}
 rests_off input base source o at why.NoMemory h met seat = record {
   holds = h.holds;
   talks = record { requests = h.requests; begins = h.begins; converses = h.converses };
@@ -294,6 +317,7 @@ receipts_off base input o at why.Closed h = has_receipts h.requests o.answers at
 receipts_off base input o at why.ReadFault h = has_receipts h.requests o.answers at h.talking
 receipts_off base input o at why.Malformed h = has_receipts h.requests o.answers at h.talking
 receipts_off base input o at why.RunFull h = absurd h
+receipts_off base input o at why.Ahead h = has_receipts h.requests o.answers at h.talking
 receipts_off base input o at why.NoMemory h = h.receipts
 
 -- ---- each way to be over
@@ -472,6 +496,7 @@ ended_rests : (input : List ℕ) (base : Option (List ℕ)) (source : LoggedRead
 ended_rests input base source o seat spent why.Closed handled next later begins h = absurd h
 ended_rests input base source o seat spent why.ReadFault handled next later begins h = absurd h
 ended_rests input base source o seat spent why.Malformed handled next later begins h = absurd h
+ended_rests input base source o seat spent why.Ahead handled next later begins h = absurd h
 ended_rests input base source o seat spent why.RunFull handled next later begins h = record {
   holds = h.0;
   talks = cut_at input handled next later o.answers (Some refusal.RunFull) begins h.2;
@@ -487,6 +512,7 @@ ended_exited : (base : Option (List ℕ)) (requests : List Request) (o : OutputS
 ended_exited base requests o spent why.Closed h = absurd h
 ended_exited base requests o spent why.ReadFault h = absurd h
 ended_exited base requests o spent why.Malformed h = absurd h
+ended_exited base requests o spent why.Ahead h = absurd h
 ended_exited base requests o spent why.RunFull h = h.1
 ended_exited base requests o spent why.NoMemory h = h.1
 

@@ -22,12 +22,10 @@ use Rattle.session_core.specs.declared.stage.Stage.TheVariants as stage
 use Rattle.session_core.specs.declared.stage.LeaveCause.{LeaveCause}
 use Rattle.session_core.specs.declared.stage.LeaveCause.TheVariants as why
 use Rattle.session_core.specs.declared.stage.Over.TheVariants as over
-use Rattle.session_core.specs.Output.{OutputState, fresh_output}
-use Rattle.logged_streams.specs.Streams.{LoggedReaderState}
+use Rattle.session_core.specs.Output.{OutputState}
 use Rattle.session_core.specs.Talk.{Group, AnswersCall, AreCalls, AreParts, IsCut, IsParked, IsPart, IsReply, IsRecordOf, Talked, told_of_all}
 use Rattle.session_core.specs.Turns.{IsTalking, LeavesBy}
-use Rattle.session_core.specs.Pieces.{IsOver, LeavesOff}
-use Rattle.session_core.specs.Reading.{ReadsFresh}
+use Rattle.session_core.specs.Ends.{IsOver, LeavesOff}
 use Rattle.session_core.specs.Closing.{ClosesAs, ClosesBy, HangsUp, LeavesWith, MayClose, SendsLast, end_of, with_last}
 use Rattle.session_core.specs.Said.{CauseEndedSaid, ClosedSaid, OverSaid, SaidEnded}
 
@@ -151,6 +149,7 @@ cause_closes found old answers why.ReadFault may same = tt
 cause_closes found old answers why.Malformed may same = tt
 cause_closes found old answers why.RunFull may same = tt
 cause_closes found old answers why.NoMemory may same = tt
+cause_closes found old answers why.Ahead may same = tt
 
 sent_closes : (found : Over) (old new : OutputState) (cause : LeaveCause) (wanted : End) → (cause ≡ why.Closed → MayClose found) → SendsLast old new cause wanted → ClosesAs found old new.answers wanted
 sent_closes found old new cause wanted may (inl h) = rw h.1 (cause_closes found old new.answers cause may h.0.flushes.answers)
@@ -210,8 +209,8 @@ given_up unopened ended base input o (over.Foreign seat) requests may is said cu
 closed_at : (found : Over) (o : OutputState) (answers : List Told) (given : End) → given ≡ end.Closed → ClosesAs found o answers given → MayClose found × (answers ≡ o.answers)
 closed_at found o answers given closed h = subst (ClosesAs found o answers) closed h
 
-pub closed_said : (unopened : Request → Refusal → Type 0) (ended : SeatState → Why → Type 0) (base : Option (List ℕ)) (from to : LoggedReaderState) (old mid new : OutputState) (found : Over) (left : LeftSession) (answers : List Told)
-    → old ≡ fresh_output base → ReadsFresh from to old mid found → OverSaid unopened ended found → ClosesBy found mid new left → answers ≡ with_last new.answers left.last → ClosedSaid ended answers left.end
-closed_said unopened ended base from to old mid new found left answers fresh reads said closes told closed requests cut =
-    let at = closed_at found mid (with_last new.answers left.last) left.end closed closes in
-    given_up unopened ended base (reads base fresh).input mid found requests at.0 (reads base fresh).is_over said (subst (λ (l : List Told). IsCut requests l None) (told ∙ at.1) cut)
+pub closed_said : (unopened : Request → Refusal → Type 0) (ended : SeatState → Why → Type 0) (base : Option (List ℕ)) (input : List ℕ) (old new : OutputState) (found : Over) (left : LeftSession) (answers : List Told)
+    → IsOver base input old found → OverSaid unopened ended found → ClosesBy found old new left → answers ≡ with_last new.answers left.last → ClosedSaid ended answers left.end
+closed_said unopened ended base input old new found left answers is said closes told closed requests cut =
+    let at = closed_at found old (with_last new.answers left.last) left.end closed closes in
+    given_up unopened ended base input old found requests at.0 is said (subst (λ (l : List Told). IsCut requests l None) (told ∙ at.1) cut)

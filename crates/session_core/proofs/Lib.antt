@@ -3,11 +3,10 @@ pub mod TalkLemmas
 pub mod WaitLemmas
 pub mod CallLemmas
 pub mod ListLemmas
-pub mod PieceLemmas
-pub mod ReadLemmas
 pub mod ClosingLemmas
 pub mod ServeLemmas
 pub mod SaidLemmas
 pub mod RefusalLemmas
+pub mod DeskLemmas
 pub mod CutLemmas
 pub mod LawLemmas

@@ -1,19 +1,11 @@
 -- Each refusal among the answers is what the kernel said of the request that it answers.
 use Rattle.std.proofs.Common.{◌≡◌, ℕ, ◌⊎◌, inl, inr, List, [], ◌∷◌, ◌++◌, Option, None, Some, refl, sym, ◌∙◌, ap, subst}
-use Rattle.std.proofs.lemmas.List.{append-nil, append_assoc}
-use Rattle.std.proofs.KnownBytes.{Consumes-nil, Consumes-trans}
-use Rattle.std.specs.Io.KnownBytes.{Consumes}
+use Rattle.std.proofs.lemmas.List.{append_assoc}
 use Rattle.call_types.specs.declared.call.Call.{Call}
 use Rattle.call_types.specs.declared.refusal.Refusal.{Refusal}
 use Rattle.call_types.specs.declared.refusal.Refusal.TheVariants as refusal
 use Rattle.call_types.specs.declared.request.Request.{Request}
 use Rattle.call_types.specs.declared.request.Request.TheVariants as request
-use Rattle.frame_codec.specs.Decoding.{DecoderState, Feeds, fresh}
-use Rattle.frame_codec.specs.Laws.{CutsDoNotMatter}
-use Rattle.frame_codec.specs.Requests.{SpellsRequest}
-use Rattle.frame_codec.specs.declared.decoder.Progress.{Progress}
-use Rattle.frame_codec.specs.declared.decoder.Progress.TheVariants as progress
-use Rattle.logged_streams.specs.Streams.{LoggedReaderState}
 use Rattle.record_book.specs.Seat.{Receipted, SeatState}
 use Rattle.system_lock.specs.Kernel.{IsOpening}
 use Rattle.system_lock.specs.declared.kernel.Why.{Why}
@@ -21,19 +13,14 @@ use Rattle.system_lock.specs.declared.kernel.Why.TheVariants as ended_why
 use Rattle.session_core.specs.declared.told.Told.{Told}
 use Rattle.session_core.specs.declared.told.Told.TheVariants as told
 use Rattle.session_core.specs.Closing.{with_last}
-use Rattle.session_core.specs.Output.{OutputState, Puts, SendsAll, fresh_output}
-use Rattle.session_core.specs.Pieces.{IsServing}
-use Rattle.session_core.specs.Served.{Begins}
-use Rattle.session_core.specs.Stages.{Stage, Over, Turn}
+use Rattle.session_core.specs.Output.{OutputState, Puts}
+use Rattle.session_core.specs.Stages.{Stage, Over}
 use Rattle.session_core.specs.declared.stage.Stage.TheVariants as stage
 use Rattle.session_core.specs.declared.stage.LeaveCause.{LeaveCause}
 use Rattle.session_core.specs.declared.stage.Over.TheVariants as over
-use Rattle.session_core.specs.declared.stage.Turn.TheVariants as turn
-use Rattle.session_core.specs.Turns.{IsTalking, IsWaitingAt, PutsFirst, PutsGivenUp, TakesAll, TellsWhy}
-use Rattle.session_core.specs.Refusals.{AreSaid, BeginsSaid, EndTold, HasReadSaid, NextRefused, OpeningRefused, PieceSays, ReadSaid, ReadSays, RefusalSaid, ServingSaid, TurnSays}
+use Rattle.session_core.specs.Turns.{IsTalking, IsWaitingAt, PutsFirst, PutsGivenUp, TellsWhy}
+use Rattle.session_core.specs.Refusals.{AreSaid, EndTold, NextRefused, OpeningRefused, RefusalSaid, TurnSays}
 use Rattle.session_core.proofs.ListLemmas.{same_head, same_tail}
-use Rattle.session_core.proofs.OutputLemmas.{holds_fresh}
-use Rattle.session_core.proofs.PieceLemmas.{HasFed, begins_read, begins_longer, fed_more, reads_fed, serving_on}
 
 -- ---- one answer more
 
@@ -160,172 +147,8 @@ pub same_turn : (Said : List Request → List Told → Refusal → Type 0) (at o
 same_turn Said at other next same old new e k says =
     subst (λ (s : Stage). TurnSays Said s (next ∷ []) old new) (sym e) (subst (λ (r : Request). TurnSays Said other (r ∷ []) old new) (sym k) says)
 
-pub said_on : (Said : List Request → List Told → Refusal → Type 0) (handled some : List Request) (next : Request)
-    (answers : List Told) → AreSaid (Said ((handled ++ some) ++ next ∷ [])) answers
-    → AreSaid (Said (handled ++ (some ++ next ∷ []))) answers
-said_on Said handled some next answers are = subst (λ (l : List Request). AreSaid (Said l) answers) (append_assoc handled some (next ∷ [])) are
-
--- the session is over at one of them
-pub said_at : (unopened : Request → Refusal → Type 0) (refused : SeatState → Call → Refusal → Type 0) (ended : SeatState → Why → Type 0) (handled some : List Request) (next : Request)
-    (later all : List Request) (answers : List Told) → all ≡ some ++ next ∷ later → AreSaid (RefusalSaid unopened refused ended ((handled ++ some) ++ next ∷ [])) answers
-    → AreSaid (RefusalSaid unopened refused ended (handled ++ all)) answers
-said_at unopened refused ended handled some next later all answers e are =
-    let joined : ((handled ++ some) ++ next ∷ []) ++ later ≡ handled ++ all =
-    append_assoc (handled ++ some) (next ∷ []) later ∙ append_assoc handled some (next ∷ later) ∙ ap (λ (l : List Request). handled ++ l) (sym e) in
-    subst (λ (l : List Request). AreSaid (RefusalSaid unopened refused ended l) answers) joined (wider unopened refused ended ((handled ++ some) ++ next ∷ []) later answers are)
-
-pub no_more_said : (Said : List Request → List Told → Refusal → Type 0) (handled : List Request) (answers : List Told)
-    → AreSaid (Said handled) answers → AreSaid (Said (handled ++ [])) answers
-no_more_said Said handled answers are = subst (λ (l : List Request). AreSaid (Said l) answers) (sym (append-nil handled)) are
-
-pub all_said : (Said : List Request → List Told → Refusal → Type 0) (handled some all : List Request) (answers : List Told)
-    → some ≡ all → AreSaid (Said (handled ++ some)) answers → AreSaid (Said (handled ++ all)) answers
-all_said Said handled some all answers e are = subst (λ (l : List Request). AreSaid (Said (handled ++ l)) answers) e are
-
--- ---- pieces
-
--- the requests so far, and those of one piece more
-begins_more : CutsDoNotMatter SpellsRequest 65792 → (base : Option (List ℕ)) (input piece : List ℕ) (old new : DecoderState) (o : OutputState) (at : Stage) (more : List Request) (told : Progress) → (h : IsServing base input old o at)
-    → Feeds SpellsRequest 65792 old new piece more told → Begins (input ++ piece) (h.requests ++ more)
-begins_more law base input piece old new o at more told h k =
-    begins_read (input ++ piece) (h.requests ++ more) told (reads_fed law (input ++ piece) new (h.requests ++ more) told (fed_more base input piece old new o at more told h k))
-
-begins_still : CutsDoNotMatter SpellsRequest 65792 → (base : Option (List ℕ)) (input : List ℕ) (decoder : DecoderState) (o : OutputState) (at : Stage) → (h : IsServing base input decoder o at) → Begins input h.requests
-begins_still law base input decoder o at h =
-    let so_far : HasFed input decoder h.requests progress.More = record { pieces = h.pieces; joined = h.joined; fed = h.fed } in
-    begins_read input h.requests progress.More (reads_fed law input decoder h.requests progress.More so_far)
-
--- no memory for the requests of a piece
-pub unread_said : CutsDoNotMatter SpellsRequest 65792 → (Said : List Request → List Told → Refusal → Type 0) (base : Option (List ℕ)) (input piece : List ℕ) (decoder : DecoderState) (o : OutputState) (at : Stage)
-    → ServingSaid Said base input decoder o at → BeginsSaid Said (input ++ piece) o.answers
-unread_said law Said base input piece decoder o at h = record {
-  requests = h.serves.requests;
-  begins = begins_longer input piece h.serves.requests (begins_still law base input decoder o at h.serves);
-  said = h.said;
-}
-
--- the requests of a piece were taken up
-pub piece_over : CutsDoNotMatter SpellsRequest 65792 → (Said : List Request → List Told → Refusal → Type 0)
-    (base : Option (List ℕ)) (input piece : List ℕ) (old new : DecoderState) (o mid after : OutputState) (at : Stage) (more : List Request) (told : Progress)
-    → (h : ServingSaid Said base input old o at) → Feeds SpellsRequest 65792 old new piece more told → TurnSays Said at more o
-    mid → after.answers ≡ mid.answers → BeginsSaid Said (input ++ piece) after.answers
-piece_over law Said base input piece old new o mid after at more told h k says kept = record {
-  requests = h.serves.requests ++ more;
-  begins = begins_more law base input piece old new o at more told h.serves k;
-  said = kept_said (Said (h.serves.requests ++ more)) mid.answers after.answers kept (says base h.serves.requests h.serves.holds h.serves.talking h.said);
-}
-
-pub piece_on : (Said : List Request → List Told → Refusal → Type 0) (base : Option (List ℕ)) (input piece : List ℕ)
-    (old new : DecoderState) (o mid after : OutputState) (at then : Stage) (more : List Request) (told : Progress) → ServingSaid Said base input old o at
-    → Feeds SpellsRequest 65792 old new piece more told → TakesAll at more o mid (turn.GoesOn then) → SendsAll mid after → told ≡ progress.More → TurnSays Said at more o
-    mid → ServingSaid Said base (input ++ piece) new after then
-unfolding serving_on
-piece_on Said base input piece old new o mid after at then more told h k takes sends e says = record {
-  serves = serving_on base input piece old new o mid after at then more told h.serves k takes sends e;
-  said = kept_said (Said (h.serves.requests ++ more)) mid.answers after.answers sends.flushes.answers (says base h.serves.requests h.serves.holds h.serves.talking h.said);
-}
-
--- ---- reads
-
--- a read that gives bytes
-pub bytes_say : (Said : List Request → List Told → Refusal → Type 0) (from to : LoggedReaderState) (piece : List ℕ)
-    (decoder after : DecoderState) (at : Stage) (old new : OutputState) (found : Turn) → Consumes from.remaining to.remaining piece
-    → PieceSays Said piece decoder after at old new found → ReadSays Said from to decoder after at old new found
-bytes_say Said from to piece decoder after at old new found consumes says = record { piece = piece; consumes = consumes; goes = says }
-
--- one that gives none
-serving_still : (Said : List Request → List Told → Refusal → Type 0) (base : Option (List ℕ)) (input : List ℕ) (decoder : DecoderState) (o : OutputState) (at : Stage)
-    → ServingSaid Said base input decoder o at → ServingSaid Said base (input ++ []) decoder o at
-serving_still Said base input decoder o at h = subst (λ (l : List ℕ). ServingSaid Said base l decoder o at) (sym (append-nil input)) h
-
-pub nothing_says : (Said : List Request → List Told → Refusal → Type 0) (from to : LoggedReaderState) (decoder : DecoderState)
-    (at : Stage) (o : OutputState) → Consumes from.remaining to.remaining [] → ReadSays Said from to decoder decoder at o o (turn.GoesOn at)
-nothing_says Said from to decoder at o none = record {
-  piece = [];
-  consumes = none;
-  goes = λ (base : Option (List ℕ)) (input : List ℕ) (h : ServingSaid Said base input decoder o at). serving_still Said base input decoder o at h;
-}
-
-pub leaves_says : CutsDoNotMatter SpellsRequest 65792 → (Said : List Request → List Told → Refusal → Type 0)
-    (from to : LoggedReaderState) (decoder : DecoderState) (at : Stage) (o : OutputState) (cause : LeaveCause) (found : Turn) → Consumes from.remaining to.remaining []
-    → found ≡ turn.Over (over.Leaves at cause) → ReadSays Said from to decoder decoder at o o found
-leaves_says law Said from to decoder at o cause found none same = subst (λ (t : Turn). ReadSays Said from to decoder decoder at o o t) (sym same) (record {
-  piece = [];
-  consumes = none;
-  goes = λ (base : Option (List ℕ)) (input : List ℕ) (h : ServingSaid Said base input decoder o at). unread_said law Said base input [] decoder o at h;
-})
-
--- ---- one read after another
-
-pub said_first : (Said : List Request → List Told → Refusal → Type 0) (source : LoggedReaderState) (base : Option (List ℕ))
-    (decoder : DecoderState) (o : OutputState) → decoder ≡ fresh → o ≡ fresh_output base → HasReadSaid Said source source base decoder stage.Opening o
-said_first Said source base decoder o unfed e =
-    let none : HasReadSaid Said source source base fresh stage.Opening (fresh_output base) = record {
-      input = [];
-      consumes = Consumes-nil source.remaining;
-      serving = record {
-        serves = record { pieces = []; requests = []; joined = refl; fed = (refl, refl, refl); holds = holds_fresh base; all = refl; talking = (refl, refl) };
-        said = none_said (Said []);
-      };
-    } in
-    subst (λ (d : DecoderState). HasReadSaid Said source source base d stage.Opening o) (sym unfed)
-    (subst (λ (x : OutputState). HasReadSaid Said source source base fresh stage.Opening x) (sym e) none)
-
-pub said_more : (Said : List Request → List Told → Refusal → Type 0) (from mid to : LoggedReaderState) (base : Option (List ℕ))
-    (decoder after : DecoderState) (at then : Stage) (o new : OutputState) → HasReadSaid Said from mid base decoder at o
-    → ReadSays Said mid to decoder after at o new (turn.GoesOn then) → HasReadSaid Said from to base after then new
-said_more Said from mid to base decoder after at then o new h k = record {
-  input = h.input ++ k.piece;
-  consumes = Consumes-trans from.remaining mid.remaining to.remaining h.input k.piece h.consumes k.consumes;
-  serving = k.goes base h.input h.serving;
-}
-
-pub said_over : (Said : List Request → List Told → Refusal → Type 0) (from mid to : LoggedReaderState) (base : Option (List ℕ))
-    (decoder after : DecoderState) (at : Stage) (o new : OutputState) (found : Over) → HasReadSaid Said from mid base decoder at o
-    → ReadSays Said mid to decoder after at o new (turn.Over found) → ReadSaid Said from.remaining to.remaining new.answers
-said_over Said from mid to base decoder after at o new found h k = record {
-  input = h.input ++ k.piece;
-  consumes = Consumes-trans from.remaining mid.remaining to.remaining h.input k.piece h.consumes k.consumes;
-  begins_said = k.goes base h.input h.serving;
-}
-
-pub said_enough : CutsDoNotMatter SpellsRequest 65792 → (Said : List Request → List Told → Refusal → Type 0)
-    (from to : LoggedReaderState) (base : Option (List ℕ)) (decoder : DecoderState) (at : Stage) (o : OutputState) → HasReadSaid Said from to base decoder at o
-    → ReadSaid Said from.remaining to.remaining o.answers
-said_enough law Said from to base decoder at o h = record {
-  input = h.input;
-  consumes = h.consumes;
-  begins_said = record { requests = h.serving.serves.requests; begins = begins_still law base h.input decoder o at h.serving.serves; said = h.serving.said };
-}
-
--- nothing was read
-pub said_nothing : (Said : List Request → List Told → Refusal → Type 0) (from to : Option (List ℕ)) (answers : List Told)
-    → to ≡ from → answers ≡ [] → ReadSaid Said from to answers
-said_nothing Said from to answers same empty = record {
-  input = [];
-  consumes = subst (λ (known : Option (List ℕ)). Consumes from known []) (sym same) (Consumes-nil from);
-  begins_said = record { requests = []; begins = record { text = []; rest = []; is = refl; frames = refl }; said = empty_said (Said []) answers empty };
-}
-
 -- ---- the session is left
 
-with_last_said : (Said : List Told → Refusal → Type 0) (answers : List Told) (last : Option Receipted) → AreSaid Said answers → AreSaid Said (with_last answers last)
+pub with_last_said : (Said : List Told → Refusal → Type 0) (answers : List Told) (last : Option Receipted) → AreSaid Said answers → AreSaid Said (with_last answers last)
 with_last_said Said answers None are = are
 with_last_said Said answers (Some receipt) are = one_more Said answers (told.Recorded receipt) are tt
-
-pub left_said : (Said : List Request → List Told → Refusal → Type 0) (begin from to remaining : Option (List ℕ))
-    (old new answers : List Told) (last : Option Receipted) → from ≡ begin → remaining ≡ to → new ≡ old → answers ≡ with_last new last → ReadSaid Said from to old
-    → ReadSaid Said begin remaining answers
-left_said Said begin from to remaining old new answers last begins ends kept is h =
-    let said = h.begins_said.said in
-    record {
-      input = h.input;
-      consumes = subst (λ (known : Option (List ℕ)). Consumes known remaining h.input) begins (subst (λ (known : Option (List ℕ)). Consumes from known h.input) (sym ends) h.consumes);
-      begins_said = record {
-        requests = h.begins_said.requests;
-        begins = h.begins_said.begins;
-        said =
-            kept_said (Said h.begins_said.requests) (with_last new last) answers is
-            (with_last_said (Said h.begins_said.requests) new last (kept_said (Said h.begins_said.requests) old new kept said));
-      };
-    }

@@ -53,6 +53,7 @@ why_end unopened ended why.ReadFault said = tt
 why_end unopened ended why.Malformed said = tt
 why_end unopened ended why.RunFull said = inl said
 why_end unopened ended why.NoMemory said = tt
+why_end unopened ended why.Ahead said = tt
 
 ended_end : (unopened : Request → Refusal → Type 0) (ended : SeatState → Why → Type 0) (why : LeaveCause) → CauseEndedSaid ended why → EndSaid unopened ended (end_of why)
 ended_end unopened ended why.Closed said = tt
@@ -60,6 +61,7 @@ ended_end unopened ended why.ReadFault said = tt
 ended_end unopened ended why.Malformed said = tt
 ended_end unopened ended why.RunFull said = inr said
 ended_end unopened ended why.NoMemory said = tt
+ended_end unopened ended why.Ahead said = tt
 
 sent_end : (unopened : Request → Refusal → Type 0) (ended : SeatState → Why → Type 0) (old new : OutputState) (why : LeaveCause) (found : End) → SendsLast old new why found → EndSaid unopened ended (end_of why) → EndSaid unopened ended found
 sent_end unopened ended old new why found (inl sent) said = rw sent.1 said

@@ -1,53 +1,265 @@
 -- A session from its first byte to its end.
-use Rattle.std.proofs.Common.{◌≡◌, ℕ, ◌≤◌, Bool, true, List, [], Option, None, arith, refl, sym, ap, subst}
-use Rattle.std.specs.Io.KnownBytes.{Appends, Consumes}
+use Rattle.std.proofs.Common.{◌≡◌, ℕ, ◌≤◌, Bool, inl, inr, List, [], ◌∷◌, ◌++◌, Option, None, Some, arith, refl, sym, ◌∙◌, ap, subst}
+use Rattle.std.proofs.lemmas.List.{append-nil, append_assoc}
 use Rattle.std.proofs.KnownBytes.{Appends-nil, Consumes-nil}
-use Rattle.session_core.specs.declared.end.End.TheVariants as end
-use Rattle.session_core.specs.Stages.{Over, LeftSession}
+use Rattle.rtrb.specs.Ring.{sent, producer_capacity}
+use Rattle.call_types.specs.declared.call.Call.{Call}
+use Rattle.call_types.specs.declared.refusal.Refusal.{Refusal}
+use Rattle.call_types.specs.declared.request.Request.{Request}
+use Rattle.frame_codec.specs.declared.decoder.Progress.{Progress}
+use Rattle.frame_codec.specs.declared.decoder.Progress.TheVariants as progress
+use Rattle.record_book.specs.Seat.{SeatState}
+use Rattle.system_lock.specs.declared.kernel.Why.{Why}
 use Rattle.logged_streams.specs.declared.stream_log.TheConstants.{INTERRUPTIONS_MAX}
-use Rattle.session_core.specs.declared.reading.TheConstants.{READS_MAX}
+use Rattle.logged_streams.specs.Streams.{LoggedReaderState}
+use Rattle.request_pump.specs.Input.{AreRequests, Begins}
+use Rattle.request_pump.specs.Pump.{PumpState, Pumps, PushedBy, PushingEnd}
+use Rattle.request_pump.specs.Pump.{IsMet as PumpMet}
+use Rattle.request_pump.specs.declared.pump.TheConstants.{READS_MAX}
+use Rattle.request_pump.specs.declared.pumped.PumpEnd.{PumpEnd}
+use Rattle.request_pump.specs.declared.pumped.PumpEnd.TheVariants as pump_end
+use Rattle.session_core.specs.declared.end.End.TheVariants as end
+use Rattle.session_core.specs.declared.serve.TheConstants.{REQUESTS_AHEAD}
+use Rattle.session_core.specs.declared.stage.LeaveCause.TheVariants as why
+use Rattle.session_core.specs.declared.stage.Over.TheVariants as over
 use Rattle.session_core.specs.declared.told.Told.{Told}
-use Rattle.session_core.specs.Answers.{answers_text, receipts_of}
-use Rattle.session_core.specs.Output.{OutputState, fresh_output}
-use Rattle.logged_streams.specs.Streams.{LogState, LoggedReaderState, fresh_log}
-use Rattle.session_core.specs.Reading.{ReadsFresh}
-use Rattle.session_core.specs.Closing.{LeavesAll, session_of}
-use Rattle.session_core.specs.Served.{SessionState, ComesTo, Serves}
-use Rattle.session_core.proofs.ClosingLemmas.{first_none}
+use Rattle.session_core.specs.Stages.{Stage, Over}
+use Rattle.session_core.specs.Output.{OutputState, Holds}
+use Rattle.session_core.specs.Turns.{IsTalking, OverBy}
+use Rattle.session_core.specs.Ends.{IsMet, IsOver}
+use Rattle.session_core.specs.Closing.{with_last}
+use Rattle.session_core.specs.Desk.{EndsAs, LeavesUnwritten, OverOf}
+use Rattle.session_core.specs.Settling.{Settles, reader_of, unserved_by, why_of}
+use Rattle.session_core.specs.Said.{ClosedSaid, EndSaid}
+use Rattle.session_core.specs.Refusals.{ReadSaid, RefusalSaid, RefusalsSaid}
+use Rattle.session_core.specs.Served.{ComesTo, HasRead, KeepsReader, Serves, SessionState}
+use Rattle.session_core.proofs.CallLemmas.{converses, has_receipts}
+use Rattle.session_core.proofs.ClosingLemmas.{converses_more, first_none}
+use Rattle.session_core.proofs.CutLemmas.{closed_said}
+use Rattle.session_core.proofs.RefusalLemmas.{empty_said, kept_said, wider, with_last_said}
 
-fresh_few : (log : LogState) → log ≡ fresh_log → log.interruptions ≤ INTERRUPTIONS_MAX
-fresh_few log e = subst (λ (n : ℕ). n ≤ INTERRUPTIONS_MAX) (sym (ap (λ (l : LogState). l.interruptions) e)) (omega arith)
+-- ---- a session that has read nothing
 
--- nothing was read, since memory ran out
-pub unserved : (from base : Option (List ℕ)) (reads writes : LogState) (answers : List Told) → reads ≡ fresh_log → writes ≡ fresh_log → answers ≡ []
-    → (always : Bool) → Serves always from base (record { remaining = from; reads = reads; contents = base; writes = writes; seat = None; answers = answers; end_is = end.NoMemory })
-unserved from base reads writes answers unread unwritten none always = record {
+first_nothing : (answers : List Told) → answers ≡ [] → (input : List ℕ) → Begins input []
+first_nothing answers none input = record { text = []; rest = input; is = refl; frames = refl }
+
+-- memory ran out before
+pub unserved : (always : Bool) (from base : Option (List ℕ)) → Serves always from base (unserved_by (Some from) base end.NoMemory)
+unserved always from base = record {
   input = [];
   consumes = Consumes-nil from;
-  few_reads = subst (λ (n : ℕ). n ≤ READS_MAX) (sym (ap (λ (log : LogState). log.calls) unread)) (omega arith);
-  few_interrupted = (fresh_few reads unread, fresh_few writes unwritten);
-  let_through = λ given. ap (λ (log : LogState). log.refusals) unwritten;
+  kept = tt;
+  few_reads = omega arith;
+  few_interrupted = (omega arith, omega arith);
+  let_through = λ given. refl;
   comes = record {
-    talks = first_none [] [] answers (record { text = []; rest = []; is = refl; frames = refl }) none;
-    written = subst (λ (l : List Told). Appends base base (answers_text l)) (sym none) (Appends-nil base);
-    seated = ap receipts_of none;
+    talks = first_none [] [] [] (first_nothing [] refl []) refl;
+    written = Appends-nil base;
+    seated = refl;
     ends = tt;
   };
 }
 
--- what was read is answered, and the session is left
-pub served : (always : Bool) (from to : LoggedReaderState) (begin base : Option (List ℕ)) (old mid new : OutputState) (found : Over) (left : LeftSession) (s : SessionState)
-    → from ≡ record { remaining = begin; log = fresh_log } → old ≡ fresh_output base → to.log.calls ≤ READS_MAX → ReadsFresh from to old mid found → LeavesAll mid new found left
-    → session_of to new left ≡ s → s.reads.interruptions ≤ INTERRUPTIONS_MAX → s.writes.interruptions ≤ INTERRUPTIONS_MAX → (always ≡ true → s.writes.refusals ≡ 0)
-    → Serves always begin base s
-served always from to begin base old mid new found left s unread fresh few all leaves same few_reads few_writes through =
-    let r = all base fresh in
-    let begins : from.remaining ≡ begin = ap (λ (source : LoggedReaderState). source.remaining) unread in
+-- no thread could be started
+pub unstarted : (always : Bool) (from base : Option (List ℕ)) → Serves always from base (unserved_by None base end.NoThread)
+unstarted always from base = record {
+  input = [];
+  consumes = refl;
+  kept = refl;
+  few_reads = omega arith;
+  few_interrupted = (omega arith, omega arith);
+  let_through = λ given. refl;
+  comes = record {
+    talks = first_none [] [] [] (first_nothing [] refl []) refl;
+    written = Appends-nil base;
+    seated = refl;
+    ends = (refl, refl, refl);
+  };
+}
+
+pub unserved_said : (Said : List Request → List Told → Refusal → Type 0) (from : Option (List ℕ)) → ReadSaid Said from (Some from) []
+unserved_said Said from = record { input = []; consumes = Consumes-nil from; begins_said = record { requests = []; begins = first_nothing [] refl []; said = empty_said (Said []) [] refl } }
+
+pub unstarted_said : (Said : List Request → List Told → Refusal → Type 0) (from : Option (List ℕ)) → ReadSaid Said from None []
+unstarted_said Said from = record { input = []; consumes = refl; begins_said = record { requests = []; begins = first_nothing [] refl []; said = empty_said (Said []) [] refl } }
+
+-- neither is closed
+pub unserved_open : (ended : SeatState → Why → Type 0) (answers : List Told) → ClosedSaid ended answers end.NoMemory
+unserved_open ended answers closed requests cut = absurd cc
+
+pub unstarted_open : (ended : SeatState → Why → Type 0) (answers : List Told) → ClosedSaid ended answers end.NoThread
+unstarted_open ended answers closed requests cut = absurd cc
+
+-- ---- what was pushed, and what was read
+
+begins_read : (input : List ℕ) (requests : List Request) (told : Progress) → AreRequests input requests told → Begins input requests
+begins_read input requests told h = record { text = h.text; rest = h.rest; is = h.is; frames = h.frames }
+
+-- what was read begins with the requests that were sent, and perhaps more
+record IsBegun (input : List ℕ) (all : List Request) : Type 0 where
+  pub extra : List Request
+  pub begins : Begins input (all ++ extra)
+
+begun_with : (input : List ℕ) (all requests : List Request) → all ≡ [] ++ requests → Begins input requests → IsBegun input all
+begun_with input all requests e h = record { extra = []; begins = subst (Begins input) (sym e ∙ sym (append-nil all)) h }
+
+begun : (found : PumpEnd) (capacity : ℕ) (input : List ℕ) (all : List Request) → PushedBy capacity input [] all found → IsBegun input all
+begun pump_end.Closed capacity input all h = begun_with input all h.requests h.is (begins_read input h.requests progress.More h.read)
+begun pump_end.ReadFault capacity input all h = begun_with input all h.requests h.is (begins_read input h.requests progress.More h.read)
+begun pump_end.Malformed capacity input all h = begun_with input all h.requests h.is (begins_read input h.requests h.told h.read)
+begun pump_end.NoMemory capacity input all h = begun_with input all h.requests h.is h.begins
+begun pump_end.Ahead capacity input all h = record { extra = h.back ∷ h.later; begins = subst (λ (l : List Request). Begins input (l ++ h.back ∷ h.later)) (sym h.is) h.begins }
+
+-- ---- over at a request
+
+met_at_one : (base : Option (List ℕ)) (handled : List Request) (next : Request) (o : OutputState) (source : LoggedReaderState) (found : Over) → OverBy base handled next o found → IsMet source found
+met_at_one base handled next o source (over.Leaves at why.Closed) h = absurd h
+met_at_one base handled next o source (over.Leaves at why.ReadFault) h = absurd h
+met_at_one base handled next o source (over.Leaves at why.Malformed) h = tt
+met_at_one base handled next o source (over.Leaves at why.RunFull) h = tt
+met_at_one base handled next o source (over.Leaves at why.NoMemory) h = tt
+met_at_one base handled next o source (over.Leaves at why.Ahead) h = tt
+met_at_one base handled next o source (over.Unwritten at) h = tt
+met_at_one base handled next o source other h = tt
+
+early_at : (base : Option (List ℕ)) (input : List ℕ) (taken handled later extra all : List Request) (next : Request) (o : OutputState) (found : Over) → taken ≡ handled ++ next ∷ [] → all ≡ taken ++ later → Begins input (all ++ extra)
+    → OverBy base handled next o found → IsOver base input o found
+early_at base input taken handled later extra all next o found e split begins h =
+    let joined : all ++ extra ≡ handled ++ next ∷ (later ++ extra) =
+    ap (λ (l : List Request). l ++ extra) split ∙ append_assoc taken later extra ∙ ap (λ (l : List Request). l ++ (later ++ extra)) e ∙ append_assoc handled (next ∷ []) (later ++ extra) in
+    inl (record { handled = handled; next = next; later = later ++ extra; begins = subst (Begins input) joined begins; is = h })
+
+early_unwritten : (base : Option (List ℕ)) (input : List ℕ) (taken later extra all : List Request) (o : OutputState) (source : LoggedReaderState) (found : Over) → all ≡ taken ++ later → Begins input (all ++ extra) → LeavesUnwritten base taken o found
+    → IsOver base input o found × IsMet source found
+early_unwritten base input taken later extra all o source (over.Unwritten at) split begins h =
+    let joined : all ++ extra ≡ taken ++ (later ++ extra) = ap (λ (l : List Request). l ++ extra) split ∙ append_assoc taken later extra in (
+      inr (record {
+        requests = taken ++ (later ++ extra);
+        begins = subst (Begins input) joined begins;
+        broke = h.0;
+        receipts = h.1;
+        converses = converses_more taken (later ++ extra) o.answers h.2;
+      }),
+      tt,
+    )
+early_unwritten base input taken later extra all o source other split begins h = absurd h
+
+early_of : (base : Option (List ℕ)) (input : List ℕ) (taken later extra all : List Request) (o : OutputState) (source : LoggedReaderState) (found : Over) → all ≡ taken ++ later → Begins input (all ++ extra) → OverOf base taken o found
+    → IsOver base input o found × IsMet source found
+early_of base input taken later extra all o source found split begins (inl h) =
+    (early_at base input taken h.handled later extra all h.next o found h.taken_are split begins h.is, met_at_one base h.handled h.next o source found h.is)
+early_of base input taken later extra all o source found split begins (inr h) = early_unwritten base input taken later extra all o source found split begins h
+
+-- ---- all requests were answered
+
+after_all : (found : PumpEnd) (capacity : ℕ) (base : Option (List ℕ)) (input : List ℕ) (all : List Request) (o : OutputState) (source : LoggedReaderState) (at : Stage) → REQUESTS_AHEAD ≤ capacity → PushedBy capacity input [] all found
+    → PumpMet source.remaining source.log found → Holds base o → IsTalking all o.answers at → IsOver base input o (over.Leaves at (why_of found)) × IsMet source (over.Leaves at (why_of found))
+after_all pump_end.Closed capacity base input all o source at room h met holds talking =
+    (inr (record { requests = all; read = subst (λ (l : List Request). AreRequests input l progress.More) (sym h.is) h.read; holds = holds; talking = talking }), met)
+after_all pump_end.ReadFault capacity base input all o source at room h met holds talking =
+    (inr (record { requests = all; read = subst (λ (l : List Request). AreRequests input l progress.More) (sym h.is) h.read; holds = holds; talking = talking }), met)
+after_all pump_end.Malformed capacity base input all o source at room h met holds talking = (
+  inr (record {
+    requests = all;
+    told = h.told;
+    fault = h.fault;
+    read = subst (λ (l : List Request). AreRequests input l h.told) (sym h.is) h.read;
+    holds = holds;
+    talking = talking;
+  }),
+  tt,
+)
+after_all pump_end.NoMemory capacity base input all o source at room h met holds talking = (
+  inr (record {
+    requests = all;
+    begins = subst (Begins input) (sym h.is) h.begins;
+    holds = holds;
+    receipts = has_receipts all o.answers at talking;
+    converses = converses all o.answers at talking;
+  }),
+  tt,
+)
+after_all pump_end.Ahead capacity base input all o source at room h met holds talking = (
+  inr (record {
+    requests = all;
+    back = h.back;
+    later = h.later;
+    begins = subst (λ (l : List Request). Begins input (l ++ h.back ∷ h.later)) (sym h.is) h.begins;
+    full = omega (arith, room, h.full);
+    holds = holds;
+    talking = talking;
+  }),
+  tt,
+)
+
+-- ---- how a session is over
+
+is_over : (capacity : ℕ) (base : Option (List ℕ)) (input : List ℕ) (p : PumpState) (o : OutputState) (found : Over) → REQUESTS_AHEAD ≤ capacity → PushedBy capacity input [] (sent p.producer) p.end_is → PumpMet p.remaining p.reads p.end_is
+    → EndsAs base (sent p.producer) (why_of p.end_is) o found → IsOver base input o found × IsMet (reader_of p) found
+is_over capacity base input p o found room pushed met (inl early) =
+    let b = begun p.end_is capacity input (sent p.producer) pushed in early_of base input early.taken early.later b.extra (sent p.producer) o (reader_of p) found early.sent_are b.begins early.is
+is_over capacity base input p o found room pushed met (inr all) =
+    subst (λ (f : Over). IsOver base input o f × IsMet (reader_of p) f) (sym all.is) (after_all p.end_is capacity base input (sent p.producer) o (reader_of p) all.at room pushed met all.holds all.talking)
+
+-- a pump whose ring was empty and has so much room
+pub record IsFreshRing (ring : PushingEnd) : Type 0 where
+  pub empty : sent ring ≡ []
+  pub room : REQUESTS_AHEAD ≤ producer_capacity ring
+
+pub fresh_ring : (ring : PushingEnd) → sent ring ≡ [] → producer_capacity ring ≡ REQUESTS_AHEAD → IsFreshRing ring
+fresh_ring ring empty room = record { empty = empty; room = subst (λ (n : ℕ). REQUESTS_AHEAD ≤ n) (sym room) (omega arith) }
+
+pub pumps_of : (from also : Option (List ℕ)) (ring first : PushingEnd) (p : PumpState) → first ≡ ring → also ≡ from → Pumps also first p → Pumps from ring p
+pumps_of from also ring first p e f h = subst (λ (x : Option (List ℕ)). Pumps x ring p) f (subst (λ (r : PushingEnd). Pumps also r p) e h)
+
+pushed_from : (from : Option (List ℕ)) (ring : PushingEnd) (p : PumpState) → IsFreshRing ring → (h : Pumps from ring p) → PushedBy (producer_capacity ring) h.input [] (sent p.producer) p.end_is
+pushed_from from ring p fresh h = subst (λ (l : List Request). PushedBy (producer_capacity ring) h.input l (sent p.producer) p.end_is) fresh.empty h.pushed
+
+-- what it comes to
+pub served : (unopened : Request → Refusal → Type 0) (refused : SeatState → Call → Refusal → Type 0) (ended : SeatState → Why → Type 0) (always : Bool) (from base : Option (List ℕ)) (ring : PushingEnd) (p : PumpState) (s : SessionState)
+    → IsFreshRing ring → Pumps from ring p → Settles unopened refused ended always base p s → Serves always from base s
+served unopened refused ended always from base ring p s fresh h settles =
+    let ending = settles.ending in
+    let at = is_over (producer_capacity ring) base h.input p ending.old ending.found fresh.room (pushed_from from ring p fresh h) h.met ending.ends in
+    let comes : ComesTo h.input base s = subst (ComesTo h.input base) settles.is (ending.left_by.leaves base h.input (reader_of p) at.0 at.1) in
     record {
-      input = r.input;
-      consumes = subst (λ (known : Option (List ℕ)). Consumes known s.remaining r.input) begins (subst (λ (x : SessionState). Consumes from.remaining x.remaining r.input) same r.consumes);
-      few_reads = subst (λ (x : SessionState). x.reads.calls ≤ READS_MAX) same few;
-      few_interrupted = (few_reads, few_writes);
-      let_through = through;
-      comes = subst (ComesTo r.input base) same (leaves base r.input to r.is_over r.met);
+      input = h.input;
+      consumes = subst (λ (x : SessionState). HasRead from x.remaining h.input) settles.is h.consumes;
+      kept = subst (λ (x : SessionState). KeepsReader x.remaining x.end_is) settles.is tt;
+      few_reads = subst (λ (x : SessionState). x.reads.calls ≤ READS_MAX) settles.is h.few_reads;
+      few_interrupted = (subst (λ (x : SessionState). x.reads.interruptions ≤ INTERRUPTIONS_MAX) settles.is h.few_interrupted, settles.few);
+      let_through = settles.let_through;
+      comes = comes;
     }
+
+pub end_said : (unopened : Request → Refusal → Type 0) (refused : SeatState → Call → Refusal → Type 0) (ended : SeatState → Why → Type 0) (always : Bool) (base : Option (List ℕ)) (p : PumpState) (s : SessionState) → Settles unopened refused ended always base p s
+    → EndSaid unopened ended s.end_is
+end_said unopened refused ended always base p s settles = subst (λ (x : SessionState). EndSaid unopened ended x.end_is) settles.is settles.ending.left_by.end_said
+
+pub given_up : (unopened : Request → Refusal → Type 0) (refused : SeatState → Call → Refusal → Type 0) (ended : SeatState → Why → Type 0) (always : Bool) (from base : Option (List ℕ)) (ring : PushingEnd) (p : PumpState) (s : SessionState)
+    → IsFreshRing ring → Pumps from ring p → Settles unopened refused ended always base p s → ClosedSaid ended s.answers s.end_is
+given_up unopened refused ended always from base ring p s fresh h settles =
+    let ending = settles.ending in
+    let by = ending.left_by in
+    let at = is_over (producer_capacity ring) base h.input p ending.old ending.found fresh.room (pushed_from from ring p fresh h) h.met ending.ends in
+    subst (λ (x : SessionState). ClosedSaid ended x.answers x.end_is) settles.is
+    (closed_said unopened ended base h.input ending.old settles.o ending.found settles.left (with_last settles.o.answers settles.left.last) at.0 by.over_said by.closes refl)
+
+pub refusals_said : (unopened : Request → Refusal → Type 0) (refused : SeatState → Call → Refusal → Type 0) (ended : SeatState → Why → Type 0) (always : Bool) (from base : Option (List ℕ)) (ring : PushingEnd) (p : PumpState) (s : SessionState)
+    → IsFreshRing ring → Pumps from ring p → Settles unopened refused ended always base p s → RefusalsSaid unopened refused ended from s
+refusals_said unopened refused ended always from base ring p s fresh h settles =
+    let by = settles.ending.left_by in
+    let b = begun p.end_is (producer_capacity ring) h.input (sent p.producer) (pushed_from from ring p fresh h) in
+    let all = sent p.producer ++ b.extra in
+    let said = wider unopened refused ended (sent p.producer) b.extra settles.ending.old.answers by.said in
+    subst (RefusalsSaid unopened refused ended from) settles.is (record {
+      input = h.input;
+      consumes = h.consumes;
+      begins_said = record {
+        requests = all;
+        begins = b.begins;
+        said =
+            with_last_said (RefusalSaid unopened refused ended all) settles.o.answers settles.left.last
+            (kept_said (RefusalSaid unopened refused ended all) settles.ending.old.answers settles.o.answers by.answers said);
+      };
+    })

@@ -13,8 +13,7 @@ use Rattle.session_core.specs.declared.stage.LeaveCause.TheVariants as why
 use Rattle.session_core.specs.declared.stage.Over.TheVariants as over
 use Rattle.logged_streams.specs.declared.stream_log.TheConstants.{INTERRUPTIONS_MAX}
 use Rattle.session_core.specs.Output.{OutputState, SendsAll, FailsToSend}
-use Rattle.session_core.specs.Pieces.{IsOver}
-use Rattle.session_core.specs.Reading.{IsMet}
+use Rattle.session_core.specs.Ends.{IsOver, IsMet}
 use Rattle.session_core.specs.Served.{SessionState, ComesTo}
 use Rattle.logged_streams.specs.Streams.{LoggedReaderState, LogState}
 
@@ -25,6 +24,7 @@ end_of why.ReadFault = end.ReadFault
 end_of why.Malformed = end.Malformed
 end_of why.RunFull = end.RunFull
 end_of why.NoMemory = end.NoMemory
+end_of why.Ahead = end.Ahead
 
 -- the last answers are written, and the end is that one; or the writer has failed
 abbrev pub SendsLast : OutputState → OutputState → LeaveCause → End → Type 0
@@ -55,7 +55,7 @@ pub record IsTaken (o : OutputState) (last : Option Receipted) (answers : List T
 -- the session that is left
 abbrev pub session_of : LoggedReaderState → OutputState → LeftSession → SessionState
 session_of source o left = record {
-  remaining = source.remaining;
+  remaining = Some source.remaining;
   reads = source.log;
   contents = o.sink.contents;
   writes = o.sink.log;
@@ -87,9 +87,11 @@ ClosesAs found old answers end.Closed = MayClose found × (answers ≡ old.answe
 ClosesAs found old answers end.ReadFault = Unit {0}
 ClosesAs found old answers (end.WriteFault sent) = Unit {0}
 ClosesAs found old answers end.Malformed = Unit {0}
+ClosesAs found old answers end.Ahead = Unit {0}
 ClosesAs found old answers end.RunFull = Unit {0}
 ClosesAs found old answers end.NoMemory = Unit {0}
 ClosesAs found old answers end.Foreign = Unit {0}
+ClosesAs found old answers end.NoThread = Unit {0}
 
 -- the same of a session that is left
 abbrev pub ClosesBy : Over → OutputState → OutputState → LeftSession → Type 0

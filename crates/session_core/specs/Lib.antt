@@ -4,10 +4,11 @@ pub mod Talk
 pub mod Served
 pub mod Stages
 pub mod Turns
-pub mod Pieces
-pub mod Reading
+pub mod Ends
 pub mod Closing
 pub mod Memory
 pub mod Said
 pub mod Refusals
+pub mod Desk
+pub mod Settling
 pub mod Laws

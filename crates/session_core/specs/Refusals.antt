@@ -1,24 +1,20 @@
 -- Each refusal among the answers is what the kernel said of the very request that it answers (own).
 use Rattle.std.specs.Prelude.{◌≡◌, ℕ, ◌⊎◌, List, [], ◌∷◌, ◌++◌, Option}
-use Rattle.std.specs.Io.KnownBytes.{Consumes}
 use Rattle.call_types.specs.declared.call.Call.{Call}
 use Rattle.call_types.specs.declared.refusal.Refusal.{Refusal}
 use Rattle.call_types.specs.declared.refusal.Refusal.TheVariants as refusal
 use Rattle.call_types.specs.declared.request.Request.{Request}
 use Rattle.call_types.specs.declared.request.Request.TheVariants as request
-use Rattle.frame_codec.specs.Decoding.{DecoderState}
-use Rattle.logged_streams.specs.Streams.{LoggedReaderState}
 use Rattle.record_book.specs.Seat.{SeatState}
 use Rattle.system_lock.specs.declared.kernel.Why.{Why}
 use Rattle.system_lock.specs.declared.kernel.Why.TheVariants as ended_why
 use Rattle.session_core.specs.declared.told.Told.{Told}
 use Rattle.session_core.specs.declared.told.Told.TheVariants as told
 use Rattle.session_core.specs.Answers.{receipts_of}
-use Rattle.session_core.specs.Output.{OutputState, Holds, fresh_output}
-use Rattle.session_core.specs.Pieces.{IsServing}
-use Rattle.session_core.specs.Served.{Begins, SessionState}
-use Rattle.session_core.specs.Stages.{Stage, Turn}
-use Rattle.session_core.specs.declared.stage.Turn.TheVariants as turn
+use Rattle.session_core.specs.Output.{OutputState, Holds}
+use Rattle.request_pump.specs.Input.{Begins}
+use Rattle.session_core.specs.Served.{HasRead, SessionState}
+use Rattle.session_core.specs.Stages.{Stage}
 use Rattle.session_core.specs.Talk.{Talked, Waits}
 use Rattle.session_core.specs.Turns.{IsTalking, IsWaitingAt}
 
@@ -73,9 +69,9 @@ pub record BeginsSaid (Said : List Request → List Told → Refusal → Type 0)
   pub said : AreSaid (Said requests) answers
 
 -- the same, of what a reader gave
-pub record ReadSaid (Said : List Request → List Told → Refusal → Type 0) (from to : Option (List ℕ)) (answers : List Told) : Type 0 where
+pub record ReadSaid (Said : List Request → List Told → Refusal → Type 0) (from : Option (List ℕ)) (left : Option (Option (List ℕ))) (answers : List Told) : Type 0 where
   pub input : List ℕ
-  pub consumes : Consumes from to input
+  pub consumes : HasRead from left input
   pub begins_said : BeginsSaid Said input answers
 
 -- each refusal that a session told was said by a kernel, where this is what its reader had at the start
@@ -94,34 +90,3 @@ abbrev pub WaitSays : (List Request → List Told → Refusal → Type 0) → Se
 WaitSays Said seat old new =
     (base : Option (List ℕ)) (handled : List Request) (call : Call) → IsWaitingAt base handled call seat old → AreSaid (Said (handled ++ request.Call call ∷ [])) old.answers
     → AreSaid (Said (handled ++ request.Call call ∷ [])) new.answers
-
--- a session that goes on after these bytes, with each refusal said
-pub record ServingSaid (Said : List Request → List Told → Refusal → Type 0) (base : Option (List ℕ)) (input : List ℕ) (decoder : DecoderState) (o : OutputState) (at : Stage) : Type 0 where
-  pub serves : IsServing base input decoder o at
-  pub said : AreSaid (Said serves.requests) o.answers
-
--- what came of these bytes
-abbrev pub PieceSaid : (List Request → List Told → Refusal → Type 0) → Option (List ℕ) → List ℕ → DecoderState → OutputState → Turn → Type 0
-PieceSaid Said base input decoder o (turn.GoesOn at) = ServingSaid Said base input decoder o at
-PieceSaid Said base input decoder o (turn.Over over) = BeginsSaid Said input o.answers
-
--- a piece is taken
-abbrev pub PieceSays : (List Request → List Told → Refusal → Type 0) → List ℕ → DecoderState → DecoderState → Stage → OutputState → OutputState → Turn → Type 0
-PieceSays Said piece decoder after at old new found =
-    (base : Option (List ℕ)) (input : List ℕ) → ServingSaid Said base input decoder old at → PieceSaid Said base (input ++ piece) after new found
-
--- one read, and what came of it
-pub record ReadSays (Said : List Request → List Told → Refusal → Type 0) (from to : LoggedReaderState) (decoder after : DecoderState) (at : Stage) (old new : OutputState) (found : Turn) : Type 0 where
-  pub piece : List ℕ
-  pub consumes : Consumes from.remaining to.remaining piece
-  pub goes : PieceSays Said piece decoder after at old new found
-
--- all reads so far
-pub record HasReadSaid (Said : List Request → List Told → Refusal → Type 0) (from to : LoggedReaderState) (base : Option (List ℕ)) (decoder : DecoderState) (at : Stage) (o : OutputState) : Type 0 where
-  pub input : List ℕ
-  pub consumes : Consumes from.remaining to.remaining input
-  pub serving : ServingSaid Said base input decoder o at
-
--- all reads of a session that begins
-abbrev pub SessionSays : (List Request → List Told → Refusal → Type 0) → LoggedReaderState → LoggedReaderState → OutputState → OutputState → Type 0
-SessionSays Said from to old new = (base : Option (List ℕ)) → old ≡ fresh_output base → ReadSaid Said from.remaining to.remaining new.answers

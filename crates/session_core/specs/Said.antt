@@ -10,12 +10,11 @@ use Rattle.session_core.specs.declared.end.End.{End}
 use Rattle.session_core.specs.declared.end.End.TheVariants as end
 use Rattle.session_core.specs.declared.told.Told.{Told}
 use Rattle.session_core.specs.Talk.{IsCut}
-use Rattle.session_core.specs.Stages.{Over, Turn, Waited}
+use Rattle.session_core.specs.Stages.{Over, Turn}
 use Rattle.session_core.specs.declared.stage.LeaveCause.{LeaveCause}
 use Rattle.session_core.specs.declared.stage.LeaveCause.TheVariants as why
 use Rattle.session_core.specs.declared.stage.Over.TheVariants as over
 use Rattle.session_core.specs.declared.stage.Turn.TheVariants as turn
-use Rattle.session_core.specs.declared.stage.Waited.TheVariants as waited
 
 -- a kernel said that an opening is refused, since the run is full
 abbrev pub SaidUnopened : (Request → Refusal → Type 0) → Type 0
@@ -32,12 +31,14 @@ CauseSaid unopened why.ReadFault = Unit {0}
 CauseSaid unopened why.Malformed = Unit {0}
 CauseSaid unopened why.RunFull = SaidUnopened unopened
 CauseSaid unopened why.NoMemory = Unit {0}
+CauseSaid unopened why.Ahead = Unit {0}
 
 -- a process ended in the call that it waited in: a kernel said so. Memory may run out for the answer that the run is full
 abbrev pub CauseEndedSaid : (SeatState → Why → Type 0) → LeaveCause → Type 0
 CauseEndedSaid ended why.Closed = ⊥
 CauseEndedSaid ended why.ReadFault = ⊥
 CauseEndedSaid ended why.Malformed = ⊥
+CauseEndedSaid ended why.Ahead = ⊥
 CauseEndedSaid ended why.RunFull = SaidEnded ended ended_why.RunFull
 CauseEndedSaid ended why.NoMemory = SaidEnded ended ended_why.NoMemory ⊎ SaidEnded ended ended_why.RunFull
 
@@ -56,12 +57,8 @@ OverSaid unopened ended (over.Foreign seat) = SaidEnded ended ended_why.Foreign
 -- the same of a turn that is the last
 abbrev pub TurnSaid : (Request → Refusal → Type 0) → (SeatState → Why → Type 0) → Turn → Type 0
 TurnSaid unopened ended (turn.GoesOn stage) = Unit {0}
+TurnSaid unopened ended (turn.Waits seat) = Unit {0}
 TurnSaid unopened ended (turn.Over over) = OverSaid unopened ended over
-
--- the same of a turn of a call that waits
-abbrev pub WaitedSaid : (Request → Refusal → Type 0) → (SeatState → Why → Type 0) → Waited → Type 0
-WaitedSaid unopened ended (waited.Still seat) = Unit {0}
-WaitedSaid unopened ended (waited.Done turn) = TurnSaid unopened ended turn
 
 -- a session ends with Foreign or RunFull only where its kernel said so
 abbrev pub EndSaid : (Request → Refusal → Type 0) → (SeatState → Why → Type 0) → End → Type 0
@@ -69,6 +66,8 @@ EndSaid unopened ended end.Closed = Unit {0}
 EndSaid unopened ended end.ReadFault = Unit {0}
 EndSaid unopened ended (end.WriteFault sent) = Unit {0}
 EndSaid unopened ended end.Malformed = Unit {0}
+EndSaid unopened ended end.Ahead = Unit {0}
+EndSaid unopened ended end.NoThread = Unit {0}
 EndSaid unopened ended end.RunFull = SaidUnopened unopened ⊎ SaidEnded ended ended_why.RunFull
 EndSaid unopened ended end.NoMemory = Unit {0}
 EndSaid unopened ended end.Foreign = SaidEnded ended ended_why.Foreign

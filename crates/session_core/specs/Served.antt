@@ -1,20 +1,19 @@
 -- What a session has come to: what it read, what it answered and wrote, and why it ended (own).
-use Rattle.std.specs.Prelude.{◌≡◌, ℕ, ◌≤◌, ◌⊎◌, Bool, true, List, [], ◌∷◌, ◌++◌, Option, None, Some}
+use Rattle.std.specs.Prelude.{◌≡◌, ℕ, ◌≤◌, ◌⊎◌, Bool, true, List, [], ◌∷◌, ◌++◌, Option, None, Some, length}
 use Rattle.std.specs.Io.KnownBytes.{Appends, Consumes, IsAtEnd}
 use Rattle.call_types.specs.declared.act.Act.TheVariants as act
 use Rattle.call_types.specs.declared.refusal.Refusal.{Refusal}
 use Rattle.call_types.specs.declared.refusal.Refusal.TheVariants as refusal
 use Rattle.call_types.specs.declared.request.Request.{Request}
 use Rattle.call_types.specs.declared.request.Request.TheVariants as request
-use Rattle.frame_codec.specs.Decoding.{AreValues}
-use Rattle.frame_codec.specs.Frames.{AreFrames}
-use Rattle.frame_codec.specs.Requests.{SpellsRequest}
 use Rattle.frame_codec.specs.declared.decoder.Progress.{Progress}
 use Rattle.frame_codec.specs.declared.decoder.Progress.TheVariants as progress
 use Rattle.record_book.specs.Seat.{Receipted, SeatState}
 use Rattle.system_lock.specs.Kernel.{IsOpening, IsError}
 use Rattle.logged_streams.specs.declared.stream_log.TheConstants.{INTERRUPTIONS_MAX}
-use Rattle.session_core.specs.declared.reading.TheConstants.{READS_MAX}
+use Rattle.request_pump.specs.Input.{Begins, AreRequests, IsFault}
+use Rattle.request_pump.specs.declared.pump.TheConstants.{READS_MAX}
+use Rattle.session_core.specs.declared.serve.TheConstants.{REQUESTS_AHEAD}
 use Rattle.session_core.specs.declared.end.End.{End}
 use Rattle.session_core.specs.declared.end.End.TheVariants as end
 use Rattle.session_core.specs.declared.told.Told.{Told}
@@ -25,22 +24,20 @@ use Rattle.session_core.specs.Talk.{AreAnswered, Converses, IsCut}
 
 -- ---- what was read
 
--- the bytes begin with the frames of these requests
-pub record Begins (input : List ℕ) (requests : List Request) : Type 0 where
-  pub text : List ℕ
-  pub rest : List ℕ
-  pub is : input ≡ text ++ rest
-  pub frames : AreFrames SpellsRequest 65792 requests text
+-- what a session's reader has left is told, where the reader is handed back: these bytes were read; of one that is gone, none
+abbrev pub HasRead : Option (List ℕ) → Option (Option (List ℕ)) → List ℕ → Type 0
+HasRead from None input = input ≡ []
+HasRead from (Some left) input = Consumes from left input
 
--- these are all requests of the bytes, with the fault after them, if there is one
-abbrev pub AreRequests : List ℕ → List Request → Progress → Type 0
-AreRequests input requests told = AreValues SpellsRequest 65792 0 input requests told
+-- a reader that is handed back is at its end
+abbrev pub IsReadToEnd : Option (Option (List ℕ)) → Type 0
+IsReadToEnd None = ⊥
+IsReadToEnd (Some left) = IsAtEnd left
 
--- a fault in frames
-abbrev pub IsFault : Progress → Type 0
-IsFault progress.More = ⊥
-IsFault (progress.Malformed at) = Unit {0}
-IsFault (progress.TooLong at) = Unit {0}
+-- the reader is gone only where no thread could be started for it
+abbrev pub KeepsReader : Option (Option (List ℕ)) → End → Type 0
+KeepsReader None found = found ≡ end.NoThread
+KeepsReader (Some left) found = Unit {0}
 
 -- a request that has no place after these
 abbrev pub IsMisplaced : List Request → Request → Type 0
@@ -79,6 +76,15 @@ pub record AnswersToMisplaced (input : List ℕ) (answers : List Told) : Type 0 
   pub begins : Begins input (requests ++ next ∷ later)
   pub answered : AreAnswered requests answers
   pub misplaced : IsMisplaced requests next
+
+-- each request is answered before one that found the ring full
+pub record AnswersToAhead (input : List ℕ) (answers : List Told) : Type 0 where
+  pub requests : List Request
+  pub back : Request
+  pub later : List Request
+  pub begins : Begins input (requests ++ back ∷ later)
+  pub full : REQUESTS_AHEAD ≤ length requests
+  pub answered : AreAnswered requests answers
 
 -- each request is answered before a call that waits and is given up
 pub record AnswersToCut (input : List ℕ) (answers : List Told) (given_up : Option Refusal) : Type 0 where
@@ -132,9 +138,11 @@ IsSeatOf input seat answers end.Closed = HasExited seat answers ⊎ IsRefusedOpe
 IsSeatOf input seat answers end.ReadFault = HasExited seat answers
 IsSeatOf input seat answers (end.WriteFault sent) = HasExited seat answers ⊎ IsRefusedOpening seat answers
 IsSeatOf input seat answers end.Malformed = HasExited seat answers
+IsSeatOf input seat answers end.Ahead = HasExited seat answers
 IsSeatOf input seat answers end.RunFull = HasExited seat answers
 IsSeatOf input seat answers end.NoMemory = HasExited seat answers ⊎ (HasExitedUntold input seat answers ⊎ IsRefusedUntold input seat answers)
 IsSeatOf input seat answers end.Foreign = HasNoExit input seat answers
+IsSeatOf input seat answers end.NoThread = ⊥
 
 -- without a seat no answer has a receipt
 abbrev pub IsSeated : List ℕ → Option SeatState → List Told → End → Type 0
@@ -152,9 +160,9 @@ IsWritten old new answers other = Appends old new (answers_text answers)
 
 -- ---- why it ended
 
--- a session that is over: what its reader has left and its writer holds, where that is known; what became of their calls; its seat, its answers and its end
+-- a session that is over: its reader, if that is handed back, and what it has left; what its writer holds; what became of their calls; its seat, its answers and its end
 pub record SessionState : Type 0 where
-  pub remaining : Option (List ℕ)
+  pub remaining : Option (Option (List ℕ))
   pub reads : LogState
   pub contents : Option (List ℕ)
   pub writes : LogState
@@ -168,11 +176,15 @@ IsTurnedAway seat answers = (spent : SeatState) × (seat ≡ Some spent) × IsRe
 
 -- the reader is at its end and each request is answered; or the opening is refused; or the call that waited is given up
 abbrev pub IsClosed : List ℕ → SessionState → Type 0
-IsClosed input s = (IsAtEnd s.remaining × AnswersAll input s.answers) ⊎ (IsTurnedAway s.seat s.answers ⊎ AnswersToCut input s.answers None)
+IsClosed input s = (IsReadToEnd s.remaining × AnswersAll input s.answers) ⊎ (IsTurnedAway s.seat s.answers ⊎ AnswersToCut input s.answers None)
 
 -- the run was full for the opening, or when the call that waited could go on
 abbrev pub IsRunFull : List ℕ → List Told → Type 0
 IsRunFull input answers = (answers ≡ told.Refused refusal.RunFull ∷ []) ⊎ AnswersToCut input answers (Some refusal.RunFull)
+
+-- nothing was read, there is no seat, and nothing is answered
+abbrev pub IsUnstarted : List ℕ → SessionState → Type 0
+IsUnstarted input s = (input ≡ []) × (s.seat ≡ None) × (s.answers ≡ [])
 
 -- why a session ends. Nothing is said here of want of memory, and of a seat that the kernel does not know
 abbrev pub EndsFor : List ℕ → SessionState → End → Type 0
@@ -180,9 +192,11 @@ EndsFor input s end.Closed = IsClosed input s
 EndsFor input s end.ReadFault = IsReadNoMore READS_MAX s.reads × AnswersAll input s.answers
 EndsFor input s (end.WriteFault sent) = IsWrittenNoMore s.writes
 EndsFor input s end.Malformed = AnswersToFault input s.answers ⊎ AnswersToMisplaced input s.answers
+EndsFor input s end.Ahead = AnswersToAhead input s.answers
 EndsFor input s end.RunFull = IsRunFull input s.answers
 EndsFor input s end.NoMemory = Unit {0}
 EndsFor input s end.Foreign = Unit {0}
+EndsFor input s end.NoThread = IsUnstarted input s
 
 -- what a session comes to that read these bytes and whose writer held this before
 pub record ComesTo (input : List ℕ) (base : Option (List ℕ)) (s : SessionState) : Type 0 where
@@ -194,7 +208,8 @@ pub record ComesTo (input : List ℕ) (base : Option (List ℕ)) (s : SessionSta
 -- what a session comes to, where this is what its reader had and its writer held at the start; a gate that always says yes has refused no answer
 pub record Serves (always : Bool) (from base : Option (List ℕ)) (s : SessionState) : Type 0 where
   pub input : List ℕ
-  pub consumes : Consumes from s.remaining input
+  pub consumes : HasRead from s.remaining input
+  pub kept : KeepsReader s.remaining s.end_is
   pub few_reads : s.reads.calls ≤ READS_MAX
   pub few_interrupted : (s.reads.interruptions ≤ INTERRUPTIONS_MAX) × (s.writes.interruptions ≤ INTERRUPTIONS_MAX)
   pub let_through : always ≡ true → s.writes.refusals ≡ 0

@@ -3,8 +3,8 @@ use Rattle.record_book.specs.Seat.{SeatState}
 use Rattle.session_core.specs.declared.stage.Stage.{Stage as StageOf}
 use Rattle.session_core.specs.declared.stage.Over.{Over as OverOf}
 use Rattle.session_core.specs.declared.stage.Turn.{Turn as TurnOf}
-use Rattle.session_core.specs.declared.stage.Waited.{Waited as WaitedOf}
-use Rattle.session_core.specs.declared.closing.LeftSession.{LeftSession as LeftOf}
+use Rattle.session_core.specs.declared.stage.LeftSession.{LeftSession as LeftOf}
+use Rattle.session_core.specs.declared.stage.Standing.{Standing as StandingOf}
 
 abbrev pub Stage : Type 0
 Stage = StageOf SeatState
@@ -15,8 +15,8 @@ Over = OverOf SeatState SeatState
 abbrev pub Turn : Type 0
 Turn = TurnOf SeatState SeatState
 
-abbrev pub Waited : Type 0
-Waited = WaitedOf SeatState SeatState
-
 abbrev pub LeftSession : Type 0
 LeftSession = LeftOf SeatState
+
+abbrev pub Standing : Type 0
+Standing = StandingOf SeatState SeatState

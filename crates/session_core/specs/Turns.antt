@@ -15,13 +15,12 @@ use Rattle.session_core.specs.Answers.{receipts_of}
 use Rattle.session_core.specs.Output.{OutputState, Holds, Broke, Puts}
 use Rattle.session_core.specs.Talk.{IsCut, IsUnopened, Converses, Talked, Waits}
 use Rattle.session_core.specs.Served.{HasExited, IsRefusedOpening}
-use Rattle.session_core.specs.Stages.{Stage, Over, Turn, Waited}
+use Rattle.session_core.specs.Stages.{Stage, Over, Turn}
 use Rattle.session_core.specs.declared.stage.Stage.TheVariants as stage
 use Rattle.session_core.specs.declared.stage.LeaveCause.{LeaveCause}
 use Rattle.session_core.specs.declared.stage.LeaveCause.TheVariants as why
 use Rattle.session_core.specs.declared.stage.Over.TheVariants as over
 use Rattle.session_core.specs.declared.stage.Turn.TheVariants as turn
-use Rattle.session_core.specs.declared.stage.Waited.TheVariants as waited
 
 -- these requests are answered to their end, and the seat has the receipts of the answers
 abbrev pub IsTalking : List Request → List Told → Stage → Type 0
@@ -86,9 +85,20 @@ OverBy base handled next o (over.Lost seat) = Holds base o × HasExited seat o.a
 OverBy base handled next o (over.Ended seat why) = EndedBy base (handled ++ next ∷ []) o seat why
 OverBy base handled next o (over.Foreign seat) = Holds base o × (seat.receipts ≡ receipts_of o.answers) × IsCut (handled ++ next ∷ []) o.answers None
 
+-- a call of the seat's process waits
+pub record IsWaitingAt (base : Option (List ℕ)) (handled : List Request) (call : Call) (seat : SeatState) (o : OutputState) : Type 0 where
+  pub holds : Holds base o
+  pub waits : Waits handled o.answers call
+  pub receipts : seat.receipts ≡ receipts_of o.answers
+
+-- the next request is such a call
+abbrev pub WaitsIn : Option (List ℕ) → List Request → Request → OutputState → SeatState → Type 0
+WaitsIn base handled next o seat = (call : Call) × (next ≡ request.Call call) × IsWaitingAt base handled call seat o
+
 -- what came of the next request
 abbrev pub TurnBy : Option (List ℕ) → List Request → Request → OutputState → Turn → Type 0
 TurnBy base handled next o (turn.GoesOn stage) = Holds base o × IsTalking (handled ++ next ∷ []) o.answers stage
+TurnBy base handled next o (turn.Waits seat) = WaitsIn base handled next o seat
 TurnBy base handled next o (turn.Over over) = OverBy base handled next o over
 
 -- a request is taken up
@@ -111,28 +121,9 @@ pub record PutsFirst (receipts : List Receipted) (old new : OutputState) : Type 
   pub is : receipts ≡ receipt ∷ []
   pub puts : Puts old new (told.Recorded receipt)
 
--- a call of the seat's process waits
-pub record IsWaitingAt (base : Option (List ℕ)) (handled : List Request) (call : Call) (seat : SeatState) (o : OutputState) : Type 0 where
-  pub holds : Holds base o
-  pub waits : Waits handled o.answers call
-  pub receipts : seat.receipts ≡ receipts_of o.answers
-
--- what came of one turn of a call that waits
-abbrev pub WaitedBy : Option (List ℕ) → List Request → Call → OutputState → Waited → Type 0
-WaitedBy base handled call o (waited.Still seat) = IsWaitingAt base handled call seat o
-WaitedBy base handled call o (waited.Done turn) = TurnBy base handled (request.Call call) o turn
-
 -- one turn of a call that waits
-abbrev pub WaitsOnce : SeatState → OutputState → OutputState → Waited → Type 0
-WaitsOnce seat old new found = (base : Option (List ℕ)) (handled : List Request) (call : Call) → IsWaitingAt base handled call seat old → WaitedBy base handled call new found
-
--- it goes on waiting
-abbrev pub GoesOnWaiting : SeatState → OutputState → SeatState → OutputState → Type 0
-GoesOnWaiting seat old after new = (base : Option (List ℕ)) (handled : List Request) (call : Call) → IsWaitingAt base handled call seat old → IsWaitingAt base handled call after new
-
--- what came of a call that waits
-abbrev pub WaitsOut : SeatState → OutputState → OutputState → Turn → Type 0
-WaitsOut seat old new found = (base : Option (List ℕ)) (handled : List Request) (call : Call) → IsWaitingAt base handled call seat old → TurnBy base handled (request.Call call) new found
+abbrev pub WaitsOnce : SeatState → OutputState → OutputState → Turn → Type 0
+WaitsOnce seat old new found = (base : Option (List ℕ)) (handled : List Request) (call : Call) → IsWaitingAt base handled call seat old → TurnBy base handled (request.Call call) new found
 
 -- a call that waits is given up
 abbrev pub GivesUp : Ended → OutputState → OutputState → Over → Type 0
@@ -146,16 +137,3 @@ TellsWhy ended_why.RunFull old new (over.Ended seat why) = PutsGivenUp old new r
 TellsWhy ended_why.Lost old new (over.Lost seat) = new ≡ old
 TellsWhy ended_why.Foreign old new (over.Foreign seat) = new ≡ old
 TellsWhy other old new found = ⊥
-
--- requests that are taken up one after another: all of them, or those before one at which the session is over
-abbrev pub TurnsBy : Option (List ℕ) → List Request → List Request → OutputState → Turn → Type 0
-TurnsBy base handled requests o (turn.GoesOn stage) = Holds base o × IsTalking (handled ++ requests) o.answers stage
-TurnsBy base handled requests o (turn.Over over) = (some : List Request) × (next : Request) × (later : List Request) × (requests ≡ some ++ next ∷ later) × OverBy base (handled ++ some) next o over
-
--- requests are taken up
-abbrev pub TakesAll : Stage → List Request → OutputState → OutputState → Turn → Type 0
-TakesAll stage requests old new found = (base : Option (List ℕ)) (handled : List Request) → Holds base old → IsTalking handled old.answers stage → TurnsBy base handled requests new found
-
--- a session goes on after some requests
-abbrev pub GoesOnTalking : Stage → OutputState → List Request → Stage → OutputState → Type 0
-GoesOnTalking stage old requests after new = (base : Option (List ℕ)) (handled : List Request) → Holds base old → IsTalking handled old.answers stage → Holds base new × IsTalking (handled ++ requests) new.answers after

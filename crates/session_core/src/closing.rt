@@ -8,20 +8,12 @@ ghost use Rattle.session_core.specs.declared.stage.Over.TheVariants as over;
 use crate::end::End;
 use crate::gate::Gate;
 use crate::output::Output;
-use crate::stage::{LeaveCause, Over, OverOf, Stage, StageOf};
+use crate::stage::{LeaveCause, LeftOf, LeftSession, Over, OverOf, Stage, StageOf};
 use byte_ledger::ledgers::Ledgers;
 use record_book::seat::{Receipt, Seat, SpentSeat};
 use std::io::Write;
 use std::sync::Wait;
 use system_lock::kernel::{Kernel, Why};
-
-/// A session that is left: its spent seat, of the kind `P`; its end; and, if its last answer is not written, the receipt of that answer.
-#[derive(Drop)]
-pub(crate) struct LeftSession<P> {
-    pub(crate) seat: Option<P>,
-    pub(crate) end: End,
-    pub(crate) last: Option<Receipt>,
-}
 
 /// The end of a session that has written all its answers.
 fn end_of(why: LeaveCause) -> End
@@ -33,6 +25,7 @@ fn end_of(why: LeaveCause) -> End
         LeaveCause::Malformed => End::Malformed,
         LeaveCause::RunFull => End::RunFull,
         LeaveCause::NoMemory => End::NoMemory,
+        LeaveCause::Ahead => End::Ahead,
     }
 }
 
@@ -71,7 +64,7 @@ fn leave<Rt: Wait, L: Ledgers, K: Kernel<Seat<L>, SpentSeat<L>>>(
     kernel: &K,
     stage: StageOf<L>,
     end: End,
-) -> LeftSession<SpentSeat<L>>
+) -> LeftOf<L>
     ensures seat { LeavesWith stage end result.seat result.end }
     ensures said { EndSaid K.not_opened K.ended end → EndSaid K.not_opened K.ended result.end }
     ensures last { result.last ≡ None }
@@ -106,7 +99,7 @@ fn leave_untold<Rt: Wait, W: Write, G: Gate, L: Ledgers, K: Kernel<Seat<L>, Spen
     kernel: &K,
     seat: Seat<L>,
     receipt: Receipt,
-) -> LeftSession<SpentSeat<L>>
+) -> LeftOf<L>
     ensures all { LeavesAll output.old output.new (over.Untold seat receipt) result }
     ensures seat { HangsUpSeat seat result }
     ensures said { EndSaid K.not_opened K.ended result.end }
@@ -130,7 +123,7 @@ pub(crate) fn leave_all<Rt: Wait, W: Write, G: Gate, L: Ledgers, K: Kernel<Seat<
     output: &mut Output<W, G>,
     kernel: &K,
     over: OverOf<L>,
-) -> LeftSession<SpentSeat<L>>
+) -> LeftOf<L>
     ensures all { LeavesAll output.old output.new over result }
     ensures seat { KeepsSeat over result }
     ensures said { OverSaid K.not_opened K.ended over → EndSaid K.not_opened K.ended result.end }

@@ -10,10 +10,14 @@ pub enum End {
     WriteFault { sent: u64 },
     /// Bytes that are no frame of a request, or a request out of place.
     Malformed,
+    /// Sixteen requests waited, and one more came.
+    Ahead,
     /// The run had no room for the record of the opening, or of the resume of a call that waited.
     RunFull,
     /// Memory ran out for the session, for its opening, or for the resume of a call that waited. One receipt may have no answer.
     NoMemory,
     /// The kernel does not know the seat, so no exit is recorded. One receipt may have no answer.
     Foreign,
+    /// The thread that reads could not be started: nothing was read, and there is no process.
+    NoThread,
 }

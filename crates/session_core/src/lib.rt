@@ -3,14 +3,16 @@
 
 mod asking;
 mod closing;
+pub mod connection;
+mod desk;
 pub mod end;
 pub mod gate;
 pub mod laws;
 pub mod memory;
+mod note;
 mod output;
-mod pieces;
-mod reading;
 pub mod serve;
 mod stage;
+mod threads;
 pub mod told;
 mod turns;

@@ -7,6 +7,7 @@ ghost use Rattle.std.specs.IoError.{error_kind};
 ghost use Rattle.logged_streams.specs.Streams.{one_more};
 ghost use Rattle.session_core.specs.Memory.{fault_of, fails_now, given_count, GivesFront};
 
+use crate::connection::Connection;
 use std::alloc::Global;
 use std::io;
 use std::io::{Error, ErrorKind, Read, Write};
@@ -203,4 +204,9 @@ impl Write for MemoryWriter {
         }
         Ok(())
     }
+}
+
+impl Connection for MemoryWriter {
+    /// Memory has no other end.
+    fn shut(&self) {}
 }

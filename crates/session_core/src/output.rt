@@ -6,6 +6,7 @@ ghost use Rattle.session_core.specs.Output.{fresh_output, Passes, Puts, Flushes,
 ghost use Rattle.session_core.specs.Closing.{IsTaken};
 
 use crate::asking::ask_often;
+use crate::connection::Connection;
 use crate::gate::Gate;
 use crate::told::Told;
 use call_types::refusal::Refusal;
@@ -214,5 +215,12 @@ impl<W: Write, G: Gate> Output<W, G> {
         }
         let (writer, log) = self.sink.into_parts();
         (answers, writer, log)
+    }
+}
+
+impl<W: Write + Connection, G: Gate> Output<W, G> {
+    /// Shuts the connection.
+    pub(crate) fn shut(&self) {
+        self.sink.get_ref().shut();
     }
 }

@@ -1,26 +1,38 @@
 //! A session from its first byte to its end.
 
-ghost use Rattle.std.specs.Prelude.{◌≡◌, Bool, []};
-ghost use Rattle.session_core.specs.declared.end.End.TheVariants as end;
+ghost use Rattle.std.specs.Prelude.{◌≡◌, ℕ, List, Option, Some, []};
+ghost use Rattle.std.specs.Option.{option_map};
+ghost use Rattle.rtrb.specs.Ring.{sent, received, producer_capacity, IsPair};
+ghost use Rattle.session_core.specs.Desk.{IsNamedPair, IsReadingEnd};
+ghost use Rattle.session_core.specs.Settling.{Settles, unserved_by, why_of};
+ghost use Rattle.session_core.specs.Output.{fresh_output};
 ghost use Rattle.session_core.specs.Served.{Serves};
 ghost use Rattle.session_core.specs.Said.{ClosedSaid, EndSaid};
 ghost use Rattle.session_core.specs.Refusals.{RefusalsSaid};
 
-use crate::closing::leave_all;
+use crate::connection::Connection;
+use crate::desk::{Desk, Naming, leave_requests};
 use crate::end::End;
 use crate::gate::Gate;
 use crate::output::Output;
-use crate::reading::read_all;
+use crate::stage::LeaveCause;
+use crate::threads::{Helper, Pushed, Shared, start_reading};
 use crate::told::Told;
 use byte_ledger::ledgers::Ledgers;
-use logged_streams::reader::LoggedReader;
+use call_types::request::Request;
 use logged_streams::stream_log::StreamLog;
 use record_book::seat::{Seat, SpentSeat};
-use std::alloc::Global;
+use request_pump::pumped::PumpEnd;
+use rtrb::{Consumer, Producer, RingBuffer};
+use std::alloc::{AllocError, Global};
 use std::io::{Read, Write};
-use std::marker::Model;
-use std::sync::Wait;
+use std::marker::{Brand, Model};
+use std::sync::{Arc, Wait};
+use std::thread::Threads;
 use system_lock::kernel::Kernel;
+
+/// How many requests may wait to be answered.
+pub const REQUESTS_AHEAD: usize = 16;
 
 /// A session that is over. Contracts see it as a `SessionState`.
 #[derive(Drop)]
@@ -31,7 +43,8 @@ pub struct Served<R: Read, W: Write, L: Ledgers> {
     /// What it told its client, in order.
     pub answers: Vec<Told>,
     pub end: End,
-    pub reader: R,
+    /// `None` at `End::NoThread` alone.
+    pub reader: Option<R>,
     /// What became of the reads.
     pub reads: StreamLog,
     pub writer: W,
@@ -40,22 +53,31 @@ pub struct Served<R: Read, W: Write, L: Ledgers> {
 }
 
 impl<R: Read, W: Write, L: Ledgers> Model for Served<R, W, L> {
+    ghost use Rattle.std.specs.Option.{option_map};
     ghost use Rattle.session_core.specs.Served.{SessionState};
 
     ghost Value = { SessionState };
 
-    ghost view = { λ s. record { remaining = R.remaining s.reader; reads = s.reads; contents = W.contents s.writer; writes = s.writes; seat = s.seat; answers = s.answers.items; end_is = s.end } };
+    ghost view = { λ s. record { remaining = option_map R.remaining s.reader; reads = s.reads; contents = W.contents s.writer; writes = s.writes; seat = s.seat; answers = s.answers.items; end_is = s.end } };
 }
 
 /// Serves one process: reads its requests, asks the kernel for each, and writes each answer once the gate lets it through. This goes on
-/// until the session ends for one of the reasons of `End`; then its process is hung up. It waits where a call of its process waits. The
-/// gate knows the session by its number.
-pub fn serve<Rt: Wait, R: Read, W: Write, G: Gate, L: Ledgers, K: Kernel<Seat<L>, SpentSeat<L>>>(
-    rt: &Rt,
+/// until the session ends for one of the reasons of `End`; then its process is hung up and its connection shut. A thread of its own
+/// reads, so that the end of the connection is noticed while a call of the process waits: such a call is given up. The gate knows the
+/// session by its number.
+pub fn serve<
+    Rt: Threads + Wait + Copy + Drop + Send + Sync + 'static,
+    R: Read + Send + Drop + 'static,
+    W: Write + Connection + Send + Drop + 'static,
+    G: Gate + Send + 'static,
+    L: Ledgers + Send + Sync + 'static,
+    K: Kernel<Seat<L>, SpentSeat<L>> + Send + Sync + Drop + 'static,
+>(
+    rt: Rt,
     alloc: Global,
     reader: R,
     writer: W,
-    kernel: &K,
+    kernel: Arc<K>,
     session: u64,
     gate: G,
 ) -> Served<R, W, L>
@@ -64,40 +86,173 @@ pub fn serve<Rt: Wait, R: Read, W: Write, G: Gate, L: Ledgers, K: Kernel<Seat<L>
     ensures given_up { ClosedSaid K.ended result.answers result.end_is }
     ensures refusals { RefusalsSaid K.not_opened K.refused K.ended (R.remaining reader) result }
 {
-    let mut output = match Output::new(alloc, writer, session, gate) {
-        Ok(output) => output,
-        Err(writer) => return unserved(alloc, reader, writer),
+    let (producer, consumer) = match RingBuffer::new(alloc, REQUESTS_AHEAD) {
+        Ok(ends) => ends,
+        Err(_) => return unserved(alloc, Some(reader), writer, End::NoMemory),
     };
-    let mut source = LoggedReader::new(reader);
-    let over = read_all(rt, alloc, &mut source, &mut output, kernel);
-    let left = leave_all(rt, &mut output, kernel, over);
-    let (reader, reads) = source.into_parts();
+    match Output::new(alloc, writer, session, gate) {
+        Ok(output) => serve_named::<Rt, R, Brand, W, G, L, K>(
+            rt, alloc, reader, output, kernel, producer, consumer,
+        ),
+        Err(writer) => unserved(alloc, Some(reader), writer, End::NoMemory),
+    }
+}
+
+/// Serves the session that the type names.
+fn serve_named<
+    Rt: Threads + Wait + Copy + Drop + Send + Sync + 'static,
+    R: Read + Send + Drop + 'static,
+    D: Naming + Send + Sync + 'static,
+    W: Write + Connection + Send + Drop + 'static,
+    G: Gate + Send + 'static,
+    L: Ledgers + Send + Sync + 'static,
+    K: Kernel<Seat<L>, SpentSeat<L>> + Send + Sync + Drop + 'static,
+>(
+    rt: Rt,
+    alloc: Global,
+    reader: R,
+    output: Output<W, G>,
+    kernel: Arc<K>,
+    producer: Producer<Request>,
+    consumer: Consumer<Request>,
+) -> Served<R, W, L>
+    requires ring { D.ring ≡ Some consumer }
+    requires base { output ≡ fresh_output D.base }
+    requires pair { IsPair producer consumer }
+    requires fresh { (received consumer ≡ []) × (sent producer ≡ []) }
+    requires room { producer_capacity producer ≡ REQUESTS_AHEAD }
+    ensures serves { Serves G.is_open (R.remaining reader) D.base result }
+    ensures said { EndSaid K.not_opened K.ended result.end_is }
+    ensures given_up { ClosedSaid K.ended result.answers result.end_is }
+    ensures refusals { RefusalsSaid K.not_opened K.refused K.ended (R.remaining reader) result }
+{
+    let (shared, other) = match shared_twice::<D, W, G, L, K>(alloc, kernel) {
+        Ok(shared) => shared,
+        Err(_) => return unstarted(alloc, Some(reader), output, End::NoMemory),
+    };
+    // the thread that reads finds the desk locked until it is there
+    let mut place = shared.desk.lock(&rt);
+    let helper = Helper { rt, shared: other };
+    match start_reading(rt, alloc, reader, producer, helper) {
+        Some(thread) => {
+            *place = Some(Desk::new(consumer, output));
+            drop(place);
+            shared.attend(&rt);
+            leave_rest(&rt, &*shared, thread.join(&rt))
+        }
+        None => unstarted(alloc, None, output, End::NoThread),
+    }
+}
+
+/// What two threads share, for each of them.
+fn shared_twice<
+    D: Naming,
+    W: Write + Connection + Drop,
+    G: Gate,
+    L: Ledgers,
+    K: Kernel<Seat<L>, SpentSeat<L>> + Drop,
+>(
+    alloc: Global,
+    kernel: Arc<K>,
+) -> Result<(Arc<Shared<D, W, G, L, K>>, Arc<Shared<D, W, G, L, K>>), AllocError> {
+    let shared = Arc::new(alloc, Shared::new(kernel))?;
+    let other = Arc::try_clone(&shared)?;
+    Ok((shared, other))
+}
+
+/// Why a session leaves off whose requests are all answered.
+fn why_of(end: PumpEnd) -> LeaveCause
+    ensures why { result ≡ why_of end }
+    ensures reading { IsReadingEnd result }
+{
+    match end {
+        PumpEnd::Closed => LeaveCause::Closed,
+        PumpEnd::ReadFault => LeaveCause::ReadFault,
+        PumpEnd::Malformed => LeaveCause::Malformed,
+        PumpEnd::NoMemory => LeaveCause::NoMemory,
+        PumpEnd::Ahead => LeaveCause::Ahead,
+    }
+}
+
+/// Answers what the ring still holds when no more is read, and puts the session together.
+fn leave_rest<
+    Rt: Wait,
+    R: Read + Drop,
+    D: Naming,
+    W: Write + Connection + Drop,
+    G: Gate,
+    L: Ledgers,
+    K: Kernel<Seat<L>, SpentSeat<L>>,
+>(rt: &Rt, shared: &Shared<D, W, G, L, K>, pushed: Pushed<R>) -> Served<R, W, L>
+    requires { IsNamedPair D.ring pushed.producer }
+    ensures { Settles K.not_opened K.refused K.ended G.is_open D.base pushed result }
+{
+    let Pushed {
+        end,
+        reader,
+        reads,
+        producer,
+    } = pushed;
+    let Desk {
+        mut consumer,
+        mut output,
+        standing,
+        ..
+    } = shared.take_desk(rt);
+    let mut producer = producer;
+    let count = consumer.slots_beside(&mut producer);
+    let left = leave_requests(
+        rt,
+        &shared.note,
+        &*shared.kernel,
+        &mut consumer,
+        &mut output,
+        standing,
+        count,
+        why_of(end),
+    );
     let (answers, writer, writes) = output.into_parts(left.last);
     Served {
         seat: left.seat,
         answers,
         end: left.end,
-        reader,
+        reader: Some(reader),
         reads,
         writer,
         writes,
     }
 }
 
-/// A session that has read nothing, since memory ran out.
-fn unserved<R: Read, W: Write, L: Ledgers>(alloc: Global, reader: R, writer: W) -> Served<R, W, L>
-    ensures serves { (always : Bool) → Serves always (R.remaining reader) (W.contents writer) result }
-    ensures end { result.end_is ≡ end.NoMemory }
-    ensures remaining { result.remaining ≡ R.remaining reader }
-    ensures answers { result.answers ≡ [] }
+/// A session that has read nothing.
+fn unserved<R: Read, W: Write + Connection + Drop, L: Ledgers>(
+    alloc: Global,
+    reader: Option<R>,
+    writer: W,
+    end: End,
+) -> Served<R, W, L>
+    ensures { result ≡ unserved_by (option_map R.remaining reader) (W.contents writer) end }
 {
+    writer.shut();
     Served {
         seat: None,
         answers: Vec::new(alloc),
-        end: End::NoMemory,
+        end,
         reader,
         reads: StreamLog::new(),
         writer,
         writes: StreamLog::new(),
     }
+}
+
+/// A session for which no thread reads. It has answered nothing.
+fn unstarted<R: Read, W: Write + Connection + Drop, G: Gate, L: Ledgers>(
+    alloc: Global,
+    reader: Option<R>,
+    output: Output<W, G>,
+    end: End,
+) -> Served<R, W, L>
+    ensures { (base : Option (List ℕ)) → output ≡ fresh_output base → result ≡ unserved_by (option_map R.remaining reader) base end }
+{
+    let (_none, writer, _unwritten) = output.into_parts(None);
+    unserved(alloc, reader, writer, end)
 }

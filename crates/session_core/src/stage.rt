@@ -1,5 +1,6 @@
 //! How far a session has come, and how it ends.
 
+use crate::end::End;
 use record_book::seat::{Receipt, Seat, SpentSeat};
 
 /// How far a session has come, with a seat of the kind `S`.
@@ -19,6 +20,7 @@ pub(crate) enum LeaveCause {
     Malformed,
     RunFull,
     NoMemory,
+    Ahead,
 }
 
 /// A session that goes on no more, with a seat of the kind `S`, or a spent one of the kind `P`.
@@ -49,14 +51,28 @@ pub(crate) enum Over<S, P> {
 #[derive(Drop)]
 pub(crate) enum Turn<S, P> {
     GoesOn(Stage<S>),
+    /// It is a call, in which the process of this seat waits.
+    Waits(S),
     Over(Over<S, P>),
 }
 
-/// What came of one turn of a call that waits.
+/// A session that is left: its spent seat, of the kind `P`; its end; and, if its last answer is not written, the receipt of that answer.
 #[derive(Drop)]
-pub(crate) enum Waited<S, P> {
-    Still(S),
-    Done(Turn<S, P>),
+pub(crate) struct LeftSession<P> {
+    pub(crate) seat: Option<P>,
+    pub(crate) end: End,
+    pub(crate) last: Option<Receipt>,
+}
+
+/// Where a session stands between two turns.
+#[derive(Drop)]
+pub(crate) enum Standing<S, P> {
+    /// A request may be taken up.
+    Ready(Stage<S>),
+    /// The process of this seat waits in a call.
+    Waits(S),
+    /// No request is taken up any more.
+    Left(LeftSession<P>),
 }
 
 /// Each of these for the seats of one book.
@@ -66,4 +82,6 @@ pub(crate) type OverOf<L> = Over<Seat<L>, SpentSeat<L>>;
 
 pub(crate) type TurnOf<L> = Turn<Seat<L>, SpentSeat<L>>;
 
-pub(crate) type WaitedOf<L> = Waited<Seat<L>, SpentSeat<L>>;
+pub(crate) type LeftOf<L> = LeftSession<SpentSeat<L>>;
+
+pub(crate) type StandingOf<L> = Standing<Seat<L>, SpentSeat<L>>;

@@ -3,15 +3,16 @@
 ghost use Rattle.std.specs.Prelude.{◌≡◌, ◌∷◌, [], OnOk, OnErr};
 ghost use Rattle.call_types.specs.declared.request.Request.TheVariants as request;
 ghost use Rattle.session_core.specs.declared.stage.Stage.TheVariants as stage;
-ghost use Rattle.session_core.specs.Turns.{TakesUp, PutsFirst, PutsGivenUp, IsOne, WaitsOnce, WaitsOut, GivesUp, TellsWhy, TakesAll};
+ghost use Rattle.session_core.specs.Turns.{TakesUp, PutsFirst, PutsGivenUp, IsOne, WaitsOnce, GivesUp, TellsWhy};
 ghost use Rattle.system_lock.specs.Kernel.{IsOpening, IsWanting, IsWhyFinished, FinishesBy, SaysEnded};
-ghost use Rattle.session_core.specs.Said.{TurnSaid, WaitedSaid};
+ghost use Rattle.session_core.specs.Said.{TurnSaid};
 ghost use Rattle.session_core.specs.Refusals.{RefusalSaid, TurnSays, WaitSays};
 ghost use Rattle.session_core.specs.Talk.{goes_on};
 
 use crate::gate::Gate;
+use crate::note::Note;
 use crate::output::Output;
-use crate::stage::{LeaveCause, Over, OverOf, Stage, StageOf, Turn, TurnOf, Waited, WaitedOf};
+use crate::stage::{LeaveCause, Over, OverOf, Stage, StageOf, Turn, TurnOf};
 use byte_ledger::ledgers::Ledgers;
 use call_types::call::Call;
 use call_types::outcome::Outcome;
@@ -51,9 +52,10 @@ fn put_given_up<W: Write, G: Gate>(output: &mut Output<W, G>, refusal: Refusal) 
     }
 }
 
-/// Takes up the first request of a session.
+/// Takes up the first request of a session. A process that is opened is noted at once.
 fn take_opening<Rt: Wait, W: Write, G: Gate, L: Ledgers, K: Kernel<Seat<L>, SpentSeat<L>>>(
     rt: &Rt,
+    note: &Note,
     output: &mut Output<W, G>,
     kernel: &K,
     request: Request,
@@ -64,10 +66,13 @@ fn take_opening<Rt: Wait, W: Write, G: Gate, L: Ledgers, K: Kernel<Seat<L>, Spen
     ensures refusals { TurnSays (RefusalSaid K.not_opened K.refused K.ended) stage.Opening (request ∷ []) output.old output.new }
 {
     match kernel.open(rt, request) {
-        Ok(Opened::Seated(seat)) => match put_first(output, seat.receipts()) {
-            Ok(()) => Turn::GoesOn(Stage::Ready(seat)),
-            Err(_) => Turn::Over(Over::OpeningUntold(seat)),
-        },
+        Ok(Opened::Seated(seat)) => {
+            note.opened(rt, seat.pid());
+            match put_first(output, seat.receipts()) {
+                Ok(()) => Turn::GoesOn(Stage::Ready(seat)),
+                Err(_) => Turn::Over(Over::OpeningUntold(seat)),
+            }
+        }
         Ok(Opened::Refused(seat)) => match put_first(output, seat.receipts()) {
             Ok(()) => Turn::Over(Over::Refused(seat)),
             Err(_) => Turn::Over(Over::RefusalUntold(seat)),
@@ -130,57 +135,34 @@ fn finish_sent<Rt: Wait, W: Write, G: Gate, L: Ledgers, K: Kernel<Seat<L>, Spent
     kernel.finish(rt, seat)
 }
 
-/// Waits until a call goes on, and answers what came of that.
-fn wait_once<Rt: Wait, W: Write, G: Gate, L: Ledgers, K: Kernel<Seat<L>, SpentSeat<L>>>(
-    rt: &Rt,
-    output: &mut Output<W, G>,
-    kernel: &K,
-    seat: Seat<L>,
-) -> WaitedOf<L>
-    ensures waits { WaitsOnce seat output.old output.new result }
-    ensures said { WaitedSaid K.not_opened K.ended result }
-    ensures refusals { WaitSays (RefusalSaid K.not_opened K.refused K.ended) seat output.old output.new }
-{
-    match output.flush() {
-        Ok(()) => {}
-        Err(_) => {
-            return Waited::Done(Turn::Over(Over::Unwritten(Stage::Ready(seat))));
-        }
-    }
-    let (seat, receipt) = match finish_sent(rt, output, kernel, seat) {
-        Finished::Resumed { seat, receipt } => (seat, receipt),
-        Finished::Ended(ended) => return Waited::Done(Turn::Over(give_up(output, ended))),
-    };
-    let waits = goes_on(&receipt.record().outcome);
-    match output.put_recorded(receipt) {
-        Ok(()) if waits => Waited::Still(seat),
-        Ok(()) => Waited::Done(Turn::GoesOn(Stage::Ready(seat))),
-        Err(receipt) => Waited::Done(Turn::Over(Over::Untold { seat, receipt })),
-    }
-}
-
-/// Waits for the reply of a call, and answers it and all that comes of the call before it.
-fn wait_out<Rt: Wait, W: Write, G: Gate, L: Ledgers, K: Kernel<Seat<L>, SpentSeat<L>>>(
+/// Writes all answers, waits until a call goes on, and answers what came of that.
+pub(crate) fn wait_once<Rt: Wait, W: Write, G: Gate, L: Ledgers, K: Kernel<Seat<L>, SpentSeat<L>>>(
     rt: &Rt,
     output: &mut Output<W, G>,
     kernel: &K,
     seat: Seat<L>,
 ) -> TurnOf<L>
-    ensures waits { WaitsOut seat output.old output.new result }
+    ensures waits { WaitsOnce seat output.old output.new result }
     ensures said { TurnSaid K.not_opened K.ended result }
     ensures refusals { WaitSays (RefusalSaid K.not_opened K.refused K.ended) seat output.old output.new }
 {
-    let mut seat = seat;
-    for _ in rt.forever() {
-        match wait_once(rt, output, kernel, seat) {
-            Waited::Still(still) => seat = still,
-            Waited::Done(turn) => return turn,
-        }
+    match output.flush() {
+        Ok(()) => {}
+        Err(_) => return Turn::Over(Over::Unwritten(Stage::Ready(seat))),
     }
-    unreachable!()
+    let (seat, receipt) = match finish_sent(rt, output, kernel, seat) {
+        Finished::Resumed { seat, receipt } => (seat, receipt),
+        Finished::Ended(ended) => return Turn::Over(give_up(output, ended)),
+    };
+    let waits = goes_on(&receipt.record().outcome);
+    match output.put_recorded(receipt) {
+        Ok(()) if waits => Turn::Waits(seat),
+        Ok(()) => Turn::GoesOn(Stage::Ready(seat)),
+        Err(receipt) => Turn::Over(Over::Untold { seat, receipt }),
+    }
 }
 
-/// Takes up a call of the session's process, and waits for its reply.
+/// Takes up a call of the session's process. It waits for no other process.
 fn take_call<Rt: Wait, W: Write, G: Gate, L: Ledgers, K: Kernel<Seat<L>, SpentSeat<L>>>(
     rt: &Rt,
     output: &mut Output<W, G>,
@@ -207,7 +189,7 @@ fn take_call<Rt: Wait, W: Write, G: Gate, L: Ledgers, K: Kernel<Seat<L>, SpentSe
     };
     let waits = goes_on(&receipt.record().outcome);
     match output.put_recorded(receipt) {
-        Ok(()) if waits => wait_out(rt, output, kernel, seat),
+        Ok(()) if waits => Turn::Waits(seat),
         Ok(()) => Turn::GoesOn(Stage::Ready(seat)),
         Err(receipt) => Turn::Over(Over::Untold { seat, receipt }),
     }
@@ -216,6 +198,7 @@ fn take_call<Rt: Wait, W: Write, G: Gate, L: Ledgers, K: Kernel<Seat<L>, SpentSe
 /// Takes up a request at this stage of a session.
 fn take_up<Rt: Wait, W: Write, G: Gate, L: Ledgers, K: Kernel<Seat<L>, SpentSeat<L>>>(
     rt: &Rt,
+    note: &Note,
     output: &mut Output<W, G>,
     kernel: &K,
     stage: StageOf<L>,
@@ -226,9 +209,9 @@ fn take_up<Rt: Wait, W: Write, G: Gate, L: Ledgers, K: Kernel<Seat<L>, SpentSeat
     ensures refusals { TurnSays (RefusalSaid K.not_opened K.refused K.ended) stage (request ∷ []) output.old output.new }
 {
     match (stage, request) {
-        (Stage::Opening, Request::Join) => take_opening(rt, output, kernel, Request::Join),
+        (Stage::Opening, Request::Join) => take_opening(rt, note, output, kernel, Request::Join),
         (Stage::Opening, Request::Attach { process }) => {
-            take_opening(rt, output, kernel, Request::Attach { process })
+            take_opening(rt, note, output, kernel, Request::Attach { process })
         }
         (Stage::Ready(seat), Request::Call(call)) => take_call(rt, output, kernel, seat, call),
         (stage, _) => Turn::Over(Over::Leaves {
@@ -239,8 +222,9 @@ fn take_up<Rt: Wait, W: Write, G: Gate, L: Ledgers, K: Kernel<Seat<L>, SpentSeat
 }
 
 /// Takes up a request at this stage of a session. What was gathered is written first, if it is much.
-fn take_next<Rt: Wait, W: Write, G: Gate, L: Ledgers, K: Kernel<Seat<L>, SpentSeat<L>>>(
+pub(crate) fn take_next<Rt: Wait, W: Write, G: Gate, L: Ledgers, K: Kernel<Seat<L>, SpentSeat<L>>>(
     rt: &Rt,
+    note: &Note,
     output: &mut Output<W, G>,
     kernel: &K,
     stage: StageOf<L>,
@@ -251,29 +235,7 @@ fn take_next<Rt: Wait, W: Write, G: Gate, L: Ledgers, K: Kernel<Seat<L>, SpentSe
     ensures refusals { TurnSays (RefusalSaid K.not_opened K.refused K.ended) stage (request ∷ []) output.old output.new }
 {
     match output.flush_much() {
-        Ok(()) => take_up(rt, output, kernel, stage, request),
+        Ok(()) => take_up(rt, note, output, kernel, stage, request),
         Err(_) => Turn::Over(Over::Unwritten(stage)),
     }
-}
-
-/// Takes up requests, one after another, until the session is over.
-pub(crate) fn take_all<Rt: Wait, W: Write, G: Gate, L: Ledgers, K: Kernel<Seat<L>, SpentSeat<L>>>(
-    rt: &Rt,
-    output: &mut Output<W, G>,
-    kernel: &K,
-    stage: StageOf<L>,
-    requests: Vec<Request>,
-) -> TurnOf<L>
-    ensures takes { TakesAll stage requests.items output.old output.new result }
-    ensures said { TurnSaid K.not_opened K.ended result }
-    ensures refusals { TurnSays (RefusalSaid K.not_opened K.refused K.ended) stage requests.items output.old output.new }
-{
-    let mut stage = stage;
-    for request in requests {
-        match take_next(rt, output, kernel, stage, request) {
-            Turn::GoesOn(after) => stage = after,
-            Turn::Over(over) => return Turn::Over(over),
-        }
-    }
-    Turn::GoesOn(stage)
 }

@@ -1,4 +1,4 @@
-use Rattle.std.proofs.Common.{[], ◌∷◌, ◌++◌, sym, ap, subst, ◌∙◌}
+use Rattle.std.proofs.Common.{[], ◌∷◌, ◌++◌, refl, sym, ap, subst, ◌∙◌}
 use Rattle.call_types.specs.declared.act.Act.TheVariants as act
 use Rattle.call_types.specs.declared.act.Record.{Record}
 use Rattle.posix_model.specs.WaitLaws.{EndsOrWaits}
@@ -16,9 +16,12 @@ pub returns-in-Ok-put_refused-clause-takes : goal.returns-in-Ok-put_refused-clau
 returns-in-Ok-put_refused-clause-takes g c = laws.refused c.args.seat c.call.new.seat c.args.call _ _ _ c.in-Err.ensures.calls c.in-Ok-put_refused.ensures.ok
 
 pub returns-in-Ok-put_recorded-clause-takes : goal.returns-in-Ok-put_recorded-clause-takes
-returns-in-Ok-put_recorded-clause-takes g c base handled holds talking =
-    c.wait_out.ensures.waits base handled c.args.call (laws.parked base handled c.args.seat c.call.new.seat c.args.call c.in-Ok.receipt _ _ c.in-Ok.ensures.calls.0 c.in-Ok.ensures.calls.1
-    (ap (λ (r : Record). goes_on r.outcome) (sym c.record.ensures.«record») ∙ sym c.goes_on-waits.ensures ∙ c.if-waits.true) c.in-Ok-put_recorded.ensures.ok holds talking)
+returns-in-Ok-put_recorded-clause-takes g c base handled holds talking = (
+  c.args.call,
+  refl,
+  laws.parked base handled c.args.seat c.call.new.seat c.args.call c.in-Ok.receipt _ _ c.in-Ok.ensures.calls.0 c.in-Ok.ensures.calls.1
+      (ap (λ (r : Record). goes_on r.outcome) (sym c.record.ensures.«record») ∙ sym c.goes_on-waits.ensures ∙ c.if-waits.true) c.in-Ok-put_recorded.ensures.ok holds talking,
+)
 
 pub returns-in-Ok-2-clause-takes : goal.returns-in-Ok-2-clause-takes
 returns-in-Ok-2-clause-takes g c =
@@ -42,9 +45,8 @@ returns-in-Err-put_refused-clause-refusals g c base handled holds talking are =
 
 pub returns-in-Ok-put_recorded-clause-refusals : goal.returns-in-Ok-put_recorded-clause-refusals
 returns-in-Ok-put_recorded-clause-refusals g c base handled holds talking are =
-    c.wait_out.ensures.refusals base handled c.args.call (laws.parked base handled c.args.seat c.call.new.seat c.args.call c.in-Ok.receipt _ _ c.in-Ok.ensures.calls.0 c.in-Ok.ensures.calls.1
-    (ap (λ (r : Record). goes_on r.outcome) (sym c.record.ensures.«record») ∙ sym c.goes_on-waits.ensures ∙ c.if-waits.true) c.in-Ok-put_recorded.ensures.ok holds talking)
-    (put_said (RefusalSaid g.K.Kernel.not_opened g.K.Kernel.refused g.K.Kernel.ended (handled ++ request.Call c.args.call ∷ [])) c.args.output.now c.put_recorded.new.self (told.Recorded c.in-Ok.receipt) c.in-Ok-put_recorded.ensures.ok (wider g.K.Kernel.not_opened g.K.Kernel.refused g.K.Kernel.ended handled (request.Call c.args.call ∷ []) c.args.output.now.answers are) tt)
+    put_said (RefusalSaid g.K.Kernel.not_opened g.K.Kernel.refused g.K.Kernel.ended (handled ++ request.Call c.args.call ∷ [])) c.args.output.now c.put_recorded.new.self (told.Recorded c.in-Ok.receipt)
+    c.in-Ok-put_recorded.ensures.ok (wider g.K.Kernel.not_opened g.K.Kernel.refused g.K.Kernel.ended handled (request.Call c.args.call ∷ []) c.args.output.now.answers are) tt
 
 pub returns-in-Ok-2-clause-refusals : goal.returns-in-Ok-2-clause-refusals
 returns-in-Ok-2-clause-refusals g c base handled holds talking are =

@@ -1,4 +1,4 @@
-use Rattle.std.proofs.Common.{[], ◌∷◌, ◌++◌, sym, ap, subst, ◌∙◌}
+use Rattle.std.proofs.Common.{[], ◌∷◌, ◌++◌, refl, sym, ap, subst, ◌∙◌}
 use Rattle.call_types.specs.declared.act.Act.TheVariants as act
 use Rattle.call_types.specs.declared.act.Record.{Record}
 use Rattle.posix_model.specs.WaitLaws.{EndsOrGoesOn}
@@ -20,10 +20,13 @@ pub returns-in-Ended-clause-waits : goal.returns-in-Ended-clause-waits
 returns-in-Ended-clause-waits g c base handled call w = c.give_up.ensures.gives base handled call c.args.seat (laws.still_waits base handled call c.args.seat _ _ c.in-Ok.ensures.ok w) c.in-Ended.ensures.finishes.0
 
 pub returns-in-Ok-put_recorded-clause-waits : goal.returns-in-Ok-put_recorded-clause-waits
-returns-in-Ok-put_recorded-clause-waits g c base handled call w =
-    laws.resumed_part base handled call c.args.seat c.in-Resumed.seat c.in-Resumed.receipt _ _ c.in-Resumed.ensures.finishes.0 c.in-Resumed.ensures.finishes.1
-    (ap (λ (r : Record). goes_on r.outcome) (sym c.record.ensures.«record») ∙ sym c.goes_on-waits.ensures ∙ c.if-waits.true) c.in-Ok-put_recorded.ensures.ok
-    (laws.still_waits base handled call c.args.seat _ _ c.in-Ok.ensures.ok w)
+returns-in-Ok-put_recorded-clause-waits g c base handled call w = (
+  call,
+  refl,
+  laws.resumed_part base handled call c.args.seat c.in-Resumed.seat c.in-Resumed.receipt _ _ c.in-Resumed.ensures.finishes.0 c.in-Resumed.ensures.finishes.1
+      (ap (λ (r : Record). goes_on r.outcome) (sym c.record.ensures.«record») ∙ sym c.goes_on-waits.ensures ∙ c.if-waits.true) c.in-Ok-put_recorded.ensures.ok
+      (laws.still_waits base handled call c.args.seat _ _ c.in-Ok.ensures.ok w),
+)
 
 pub returns-in-Ok-2-clause-waits : goal.returns-in-Ok-2-clause-waits
 returns-in-Ok-2-clause-waits g c base handled call w =

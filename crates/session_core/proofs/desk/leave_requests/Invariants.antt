@@ -1,0 +1,12 @@
+-- So many requests are left, and together with those that were received they stay the same.
+use Rattle.std.proofs.Common.{◌≡◌, ◌++◌, length}
+use Rattle.rtrb.specs.Ring.{received, known_items}
+use Rattle.session_core.specs.Desk.{StandsOn}
+use Rattle.session_core.proofs.desk.leave_requests.Given as goal
+
+abbrev pub invariant-loop : goal.invariant-loop
+invariant-loop g l = record {
+  left : length (known_items l.consumer) ≡ l.count;
+  same : received l.consumer ++ known_items l.consumer ≡ received l.fn.consumer ++ known_items l.fn.consumer;
+  stands : StandsOn g.K.Kernel.not_opened g.K.Kernel.refused g.K.Kernel.ended (received l.fn.consumer) l.fn.output l.fn.standing (received l.consumer) l.output l.standing;
+}

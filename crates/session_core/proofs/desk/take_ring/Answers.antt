@@ -1,0 +1,29 @@
+use Rattle.std.proofs.Common.{List, sym, subst}
+use Rattle.rtrb.specs.Ring.{received}
+use Rattle.call_types.specs.declared.request.Request.{Request}
+use Rattle.session_core.specs.Desk.{IsReady}
+use Rattle.session_core.specs.Refusals.{RefusalSaid}
+use Rattle.session_core.specs.declared.stage.Turn.TheVariants as turn
+use Rattle.session_core.proofs.DeskLemmas as laws
+use Rattle.session_core.proofs.desk.take_ring.Goals as goal
+
+pub returns-in-Err-clause-stands : goal.returns-in-Err-clause-stands
+returns-in-Err-clause-stands g c base is = subst (λ (l : List Request). IsReady (RefusalSaid g.K.Kernel.not_opened g.K.Kernel.refused g.K.Kernel.ended) base l c.loop.output c.loop.stage) (sym c.in-Err.ensures.empty.0) (c.loop.invariant.stands base is)
+
+pub loop-preserved : goal.loop-preserved
+loop-preserved g c = record {
+  ring = laws.same_on c.args.consumer.now c.loop.consumer c.pop.new.self c.loop.invariant.ring c.in-Ok.ensures.ring;
+  stands = λ base is.
+      laws.one_taken (RefusalSaid g.K.Kernel.not_opened g.K.Kernel.refused g.K.Kernel.ended) base (received c.loop.consumer) (received c.pop.new.self) c.in-Ok.request c.loop.stage c.loop.output c.take_next.new.output (turn.GoesOn c.in-GoesOn.after) c.in-Ok.ensures.ok.0
+      (c.loop.invariant.stands base is) c.in-GoesOn.ensures.takes c.in-GoesOn.ensures.refusals;
+}
+
+pub returns-in-Waits-clause-stands : goal.returns-in-Waits-clause-stands
+returns-in-Waits-clause-stands g c base is =
+    laws.one_taken (RefusalSaid g.K.Kernel.not_opened g.K.Kernel.refused g.K.Kernel.ended) base (received c.loop.consumer) (received c.pop.new.self) c.in-Ok.request c.loop.stage c.loop.output c.take_next.new.output (turn.Waits c.in-Waits.seat) c.in-Ok.ensures.ok.0
+    (c.loop.invariant.stands base is) c.in-Waits.ensures.takes c.in-Waits.ensures.refusals
+
+pub returns-in-Over-clause-stands : goal.returns-in-Over-clause-stands
+returns-in-Over-clause-stands g c base is =
+    laws.one_taken (RefusalSaid g.K.Kernel.not_opened g.K.Kernel.refused g.K.Kernel.ended) base (received c.loop.consumer) (received c.pop.new.self) c.in-Ok.request c.loop.stage c.loop.output c.take_next.new.output (turn.Over c.in-Over.over) c.in-Ok.ensures.ok.0
+    (c.loop.invariant.stands base is) c.in-Over.ensures.takes c.in-Over.ensures.refusals

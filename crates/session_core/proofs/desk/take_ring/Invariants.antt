@@ -1,0 +1,12 @@
+-- All that was received so far is taken up, and the session goes on.
+use Rattle.std.proofs.Common.{ℕ, List, Option}
+use Rattle.rtrb.specs.Ring.{received, SameConsumer}
+use Rattle.session_core.specs.Desk.{IsReady}
+use Rattle.session_core.specs.Refusals.{RefusalSaid}
+use Rattle.session_core.proofs.desk.take_ring.Given as goal
+
+abbrev pub invariant-loop : goal.invariant-loop
+invariant-loop g l = record {
+  ring : SameConsumer l.fn.consumer l.consumer;
+  stands : (base : Option (List ℕ)) → IsReady (RefusalSaid g.K.Kernel.not_opened g.K.Kernel.refused g.K.Kernel.ended) base (received l.fn.consumer) l.fn.output l.fn.stage → IsReady (RefusalSaid g.K.Kernel.not_opened g.K.Kernel.refused g.K.Kernel.ended) base (received l.consumer) l.output l.stage;
+}

@@ -1,0 +1,378 @@
+//! The desk of a session: what answers its requests, whichever of its two threads holds it.
+
+ghost use Rattle.std.specs.Prelude.{◌≡◌, ◌∷◌, ◌++◌, ℕ, List, Option, [], length};
+ghost use Rattle.rtrb.specs.Ring.{received, known_items, SameConsumer};
+ghost use Rattle.call_types.specs.declared.request.Request.{Request};
+ghost use Rattle.session_core.specs.Desk.{TurnStands, StandsBy, StandsOn, SendsOn, IsReady, LeftBy, EndsOn, IsReadingEnd};
+ghost use Rattle.session_core.specs.Refusals.{AreSaid, RefusalSaid};
+ghost use Rattle.session_core.specs.Said.{OverSaid, TurnSaid};
+ghost use Rattle.session_core.specs.declared.stage.Standing.TheVariants as standings;
+
+use crate::closing::leave_all;
+use crate::connection::Connection;
+use crate::gate::Gate;
+use crate::note::Note;
+use crate::output::Output;
+use crate::stage::{
+    LeaveCause, LeftOf, Over, OverOf, Stage, StageOf, Standing, StandingOf, Turn, TurnOf,
+};
+use crate::turns::{take_next, wait_once};
+use byte_ledger::ledgers::Ledgers;
+use call_types::request::Request;
+use record_book::seat::{Seat, SpentSeat};
+use rtrb::Consumer;
+use std::io::Write;
+use std::marker::{Brand, Model, PhantomData};
+use std::mem;
+use std::sync::Wait;
+use system_lock::kernel::Kernel;
+
+/// Which session it is: the end of its ring that gives requests, and what its writer held at the start.
+pub(crate) trait Naming {
+    ghost use Rattle.std.specs.Prelude.{ℕ, List, Option};
+    ghost use Rattle.session_core.specs.Desk.{TakingEnd};
+
+    ghost ring: { Option TakingEnd };
+
+    ghost base: { Option (List ℕ) };
+}
+
+impl Naming for Brand {
+    ghost use Rattle.std.specs.Prelude.{None};
+
+    ghost ring = { None };
+
+    ghost base = { None };
+}
+
+/// What answers the requests of a session: the end of the ring that gives them, the answers, and where the session stands. Its type
+/// names the session and its kernel.
+#[derive(Drop)]
+pub(crate) struct Desk<D: Naming, W: Write, G: Gate, L: Ledgers, K: Kernel<Seat<L>, SpentSeat<L>>> {
+    pub(crate) consumer: Consumer<Request>,
+    pub(crate) output: Output<W, G>,
+    pub(crate) standing: StandingOf<L>,
+    session: PhantomData<D>,
+    kernel: PhantomData<K>,
+}
+
+impl<D: Naming, W: Write, G: Gate, L: Ledgers, K: Kernel<Seat<L>, SpentSeat<L>>> Model
+    for Desk<D, W, G, L, K> {
+    ghost use Rattle.rtrb.specs.Ring.{received};
+    ghost use Rattle.session_core.specs.Desk.{DeskState, IsRingOf, Stands};
+
+    ghost Value = { DeskState };
+
+    ghost view = { λ d. record { ring = d.consumer; output_is = d.output; standing = d.standing } };
+
+    ghost invariant = { λ d. IsRingOf D.ring d.consumer × Stands K.not_opened K.refused K.ended D.base (received d.consumer) d.output d.standing };
+}
+
+/// Leaves a session that is over, and shuts its connection.
+fn leave<Rt: Wait, W: Write + Connection, G: Gate, L: Ledgers, K: Kernel<Seat<L>, SpentSeat<L>>>(
+    rt: &Rt,
+    output: &mut Output<W, G>,
+    kernel: &K,
+    over: OverOf<L>,
+) -> LeftOf<L>
+    ensures { (requests : List Request) → AreSaid (RefusalSaid K.not_opened K.refused K.ended requests) output.old.answers → OverSaid K.not_opened K.ended over → LeftBy K.not_opened K.refused K.ended requests output.old over output.new result }
+{
+    let left = leave_all(rt, output, kernel, over);
+    output.shut();
+    left
+}
+
+/// Where a session stands after a turn. One that is over is left.
+fn stand<Rt: Wait, W: Write + Connection, G: Gate, L: Ledgers, K: Kernel<Seat<L>, SpentSeat<L>>>(
+    rt: &Rt,
+    output: &mut Output<W, G>,
+    kernel: &K,
+    turn: TurnOf<L>,
+) -> StandingOf<L>
+    ensures { StandsBy K.not_opened K.refused K.ended output.old turn output.new result }
+{
+    match turn {
+        Turn::GoesOn(stage) => Standing::Ready(stage),
+        Turn::Waits(seat) => Standing::Waits(seat),
+        Turn::Over(over) => Standing::Left(leave(rt, output, kernel, over)),
+    }
+}
+
+/// Takes up what the ring holds, until it is empty, a call waits or the session is over.
+fn take_ring<Rt: Wait, W: Write, G: Gate, L: Ledgers, K: Kernel<Seat<L>, SpentSeat<L>>>(
+    rt: &Rt,
+    note: &Note,
+    kernel: &K,
+    consumer: &mut Consumer<Request>,
+    output: &mut Output<W, G>,
+    stage: StageOf<L>,
+) -> TurnOf<L>
+    ensures ring { SameConsumer consumer.old consumer.new }
+    ensures stands { (base : Option (List ℕ)) → IsReady (RefusalSaid K.not_opened K.refused K.ended) base (received consumer.old) output.old stage → TurnStands (RefusalSaid K.not_opened K.refused K.ended) base (received consumer.new) output.new result }
+    ensures said { TurnSaid K.not_opened K.ended result }
+{
+    let mut stage = stage;
+    for _ in rt.forever() {
+        let request = match consumer.pop() {
+            Ok(request) => request,
+            Err(_) => return Turn::GoesOn(stage),
+        };
+        match take_next(rt, note, output, kernel, stage, request) {
+            Turn::GoesOn(after) => stage = after,
+            Turn::Waits(seat) => return Turn::Waits(seat),
+            Turn::Over(over) => return Turn::Over(over),
+        }
+    }
+    unreachable!()
+}
+
+/// Takes up what the ring holds, if a request may be taken up.
+fn take_ready<
+    Rt: Wait,
+    W: Write + Connection,
+    G: Gate,
+    L: Ledgers,
+    K: Kernel<Seat<L>, SpentSeat<L>>,
+>(
+    rt: &Rt,
+    note: &Note,
+    kernel: &K,
+    consumer: &mut Consumer<Request>,
+    output: &mut Output<W, G>,
+    standing: StandingOf<L>,
+) -> StandingOf<L>
+    ensures ring { SameConsumer consumer.old consumer.new }
+    ensures stands { StandsOn K.not_opened K.refused K.ended (received consumer.old) output.old standing (received consumer.new) output.new result }
+{
+    match standing {
+        Standing::Ready(stage) => {
+            let turn = take_ring(rt, note, kernel, consumer, output, stage);
+            stand(rt, output, kernel, turn)
+        }
+        Standing::Waits(seat) => Standing::Waits(seat),
+        Standing::Left(left) => Standing::Left(left),
+    }
+}
+
+/// Writes the answers of a session that goes on.
+fn send<W: Write, G: Gate, L: Ledgers, K: Kernel<Seat<L>, SpentSeat<L>>>(
+    output: &mut Output<W, G>,
+    stage: StageOf<L>,
+) -> TurnOf<L>
+    ensures stands { SendsOn K.not_opened K.refused K.ended output.old stage output.new result }
+    ensures said { TurnSaid K.not_opened K.ended result }
+{
+    match output.flush() {
+        Ok(()) => Turn::GoesOn(stage),
+        Err(_) => Turn::Over(Over::Unwritten(stage)),
+    }
+}
+
+/// Writes the answers of a session, if a request may be taken up.
+fn send_ready<
+    Rt: Wait,
+    W: Write + Connection,
+    G: Gate,
+    L: Ledgers,
+    K: Kernel<Seat<L>, SpentSeat<L>>,
+>(rt: &Rt, kernel: &K, output: &mut Output<W, G>, standing: StandingOf<L>) -> StandingOf<L>
+    ensures { (taken : List Request) → StandsOn K.not_opened K.refused K.ended taken output.old standing taken output.new result }
+{
+    match standing {
+        Standing::Ready(stage) => {
+            let turn = send::<W, G, L, K>(output, stage);
+            stand(rt, output, kernel, turn)
+        }
+        Standing::Waits(seat) => Standing::Waits(seat),
+        Standing::Left(left) => Standing::Left(left),
+    }
+}
+
+/// Waits until a call goes on.
+fn wait_on<Rt: Wait, W: Write + Connection, G: Gate, L: Ledgers, K: Kernel<Seat<L>, SpentSeat<L>>>(
+    rt: &Rt,
+    kernel: &K,
+    output: &mut Output<W, G>,
+    seat: Seat<L>,
+) -> StandingOf<L>
+    ensures { (taken : List Request) → StandsOn K.not_opened K.refused K.ended taken output.old (standings.Waits seat) taken output.new result }
+{
+    let turn = wait_once(rt, output, kernel, seat);
+    stand(rt, output, kernel, turn)
+}
+
+/// Whether no process is opened yet.
+fn is_opening<S>(stage: &Stage<S>) -> bool {
+    match stage {
+        Stage::Opening => true,
+        Stage::Ready(_) => false,
+    }
+}
+
+/// Tells that the connection of a process is lost, where a process is there.
+fn give_up<Rt: Wait, L: Ledgers, K: Kernel<Seat<L>, SpentSeat<L>>>(
+    rt: &Rt,
+    kernel: &K,
+    standing: &StandingOf<L>,
+) {
+    match standing {
+        Standing::Ready(Stage::Ready(seat)) => kernel.lost(rt, seat.pid()),
+        Standing::Ready(Stage::Opening) | Standing::Waits(_) | Standing::Left(_) => {}
+    }
+}
+
+/// Takes up a request when no more is read. A process that it opens has lost its connection already.
+fn take_late<
+    Rt: Wait,
+    W: Write + Connection,
+    G: Gate,
+    L: Ledgers,
+    K: Kernel<Seat<L>, SpentSeat<L>>,
+>(
+    rt: &Rt,
+    note: &Note,
+    kernel: &K,
+    output: &mut Output<W, G>,
+    stage: StageOf<L>,
+    request: Request,
+) -> StandingOf<L>
+    ensures { (taken : List Request) → StandsOn K.not_opened K.refused K.ended taken output.old (standings.Ready stage) (taken ++ request ∷ []) output.new result }
+{
+    let is_opening = is_opening(&stage);
+    let turn = take_next(rt, note, output, kernel, stage, request);
+    let standing = stand(rt, output, kernel, turn);
+    if is_opening {
+        give_up(rt, kernel, &standing);
+    }
+    standing
+}
+
+/// Answers the requests that the ring still holds, so many, once both its ends are in one thread; then leaves the session.
+pub(crate) fn leave_requests<
+    Rt: Wait,
+    W: Write + Connection,
+    G: Gate,
+    L: Ledgers,
+    K: Kernel<Seat<L>, SpentSeat<L>>,
+>(
+    rt: &Rt,
+    note: &Note,
+    kernel: &K,
+    consumer: &mut Consumer<Request>,
+    output: &mut Output<W, G>,
+    standing: StandingOf<L>,
+    count: usize,
+    why: LeaveCause,
+) -> LeftOf<L>
+    requires count { length (known_items consumer.old) ≡ count }
+    requires reading { IsReadingEnd why }
+    ensures { EndsOn K.not_opened K.refused K.ended (received consumer.old) (known_items consumer.old) why output.old standing output.new result }
+{
+    let mut standing = standing;
+    let mut count = count;
+    for _ in rt.forever() {
+        standing = match standing {
+            Standing::Ready(stage) => {
+                if count == 0 {
+                    return leave(rt, output, kernel, Over::Leaves { stage, why });
+                }
+                count -= 1;
+                take_late(rt, note, kernel, output, stage, consumer.pop_known())
+            }
+            Standing::Waits(seat) => wait_on(rt, kernel, output, seat),
+            Standing::Left(left) => return left,
+        };
+    }
+    unreachable!()
+}
+
+/// What a desk has come to.
+#[derive(Clone, Copy, Debug, PartialEq, Eq)]
+pub(crate) enum Attended {
+    /// What the ring held is answered.
+    Ready,
+    /// A call waits.
+    Waits,
+    /// The session is left.
+    Left,
+}
+
+/// What a desk has come to whose session stands there.
+fn comes_to<S, P>(standing: &Standing<S, P>) -> Attended {
+    match standing {
+        Standing::Ready(_) => Attended::Ready,
+        Standing::Waits(_) => Attended::Waits,
+        Standing::Left(_) => Attended::Left,
+    }
+}
+
+/// Where a session stands whose standing is taken from its desk, to be put back at once.
+fn nowhere<S, P>() -> Standing<S, P> {
+    Standing::Ready(Stage::Opening)
+}
+
+impl<D: Naming, W: Write + Connection, G: Gate, L: Ledgers, K: Kernel<Seat<L>, SpentSeat<L>>> Desk<
+    D,
+    W,
+    G,
+    L,
+    K,
+> {
+    ghost use Rattle.std.specs.Prelude.{◌≡◌, [], Some};
+    ghost use Rattle.rtrb.specs.Ring.{received};
+    ghost use Rattle.session_core.specs.Output.{fresh_output};
+
+    /// A desk at which nothing was taken up.
+    pub(crate) fn new(consumer: Consumer<Request>, output: Output<W, G>) -> Self
+        requires ring { D.ring ≡ Some consumer }
+        requires none { received consumer ≡ [] }
+        requires fresh { output ≡ fresh_output D.base }
+    {
+        Desk {
+            consumer,
+            output,
+            standing: Standing::Ready(Stage::Opening),
+            session: PhantomData,
+            kernel: PhantomData,
+        }
+    }
+
+    /// Answers what the ring holds, up to a call that waits. What is answered is written later.
+    pub(crate) fn make_room<Rt: Wait>(&mut self, rt: &Rt, note: &Note, kernel: &K) -> Attended {
+        let standing = mem::replace(&mut self.standing, nowhere());
+        self.standing = take_ready(
+            rt,
+            note,
+            kernel,
+            &mut self.consumer,
+            &mut self.output,
+            standing,
+        );
+        comes_to(&self.standing)
+    }
+
+    /// Answers what the ring holds, up to a call that waits, and writes it.
+    pub(crate) fn attend<Rt: Wait>(&mut self, rt: &Rt, note: &Note, kernel: &K) -> Attended {
+        let standing = mem::replace(&mut self.standing, nowhere());
+        let standing = take_ready(
+            rt,
+            note,
+            kernel,
+            &mut self.consumer,
+            &mut self.output,
+            standing,
+        );
+        self.standing = send_ready(rt, kernel, &mut self.output, standing);
+        comes_to(&self.standing)
+    }
+
+    /// Writes what is answered and waits until a call goes on, where one waits.
+    pub(crate) fn wait<Rt: Wait>(&mut self, rt: &Rt, kernel: &K) {
+        let standing = mem::replace(&mut self.standing, nowhere());
+        self.standing = match standing {
+            Standing::Waits(seat) => wait_on(rt, kernel, &mut self.output, seat),
+            Standing::Ready(stage) => Standing::Ready(stage),
+            Standing::Left(left) => Standing::Left(left),
+        };
+    }
+}

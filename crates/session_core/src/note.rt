@@ -1,0 +1,75 @@
+//! What the two threads of a session tell each other.
+
+use std::sync::{Condvar, Mutex, Wait};
+
+/// What is known of the process of a session.
+#[derive(Clone, Copy, Debug, PartialEq, Eq)]
+enum Process {
+    Unknown,
+    Opened(u32),
+    /// There is none, and there will be none as long as the thread that reads goes on.
+    None,
+}
+
+/// What stands in a note.
+#[derive(Drop)]
+struct Lines {
+    read_ended: bool,
+    process: Process,
+}
+
+/// Whether the thread that reads has ended, and which process the session has.
+#[derive(Drop)]
+pub(crate) struct Note {
+    lines: Mutex<Lines>,
+    changed: Condvar,
+}
+
+impl Note {
+    /// Nothing is known yet.
+    pub(crate) fn new() -> Self {
+        Note {
+            lines: Mutex::new(Lines {
+                read_ended: false,
+                process: Process::Unknown,
+            }),
+            changed: Condvar::new(),
+        }
+    }
+
+    /// Tells that no more is read.
+    pub(crate) fn end_reading<R: Wait>(&self, rt: &R) {
+        self.lines.lock(rt).read_ended = true;
+    }
+
+    /// Whether no more is read.
+    pub(crate) fn has_ended<R: Wait>(&self, rt: &R) -> bool {
+        self.lines.lock(rt).read_ended
+    }
+
+    /// Tells that this process was opened.
+    pub(crate) fn opened<R: Wait>(&self, rt: &R, process: u32) {
+        self.lines.lock(rt).process = Process::Opened(process);
+        self.changed.notify_all();
+    }
+
+    /// Tells that there is no process, unless one was opened.
+    pub(crate) fn none_opened<R: Wait>(&self, rt: &R) {
+        let mut lines = self.lines.lock(rt);
+        if lines.process == Process::Unknown {
+            lines.process = Process::None;
+        }
+        self.changed.notify_all();
+    }
+
+    /// Waits until it is known whether there is a process: its number, if there is one.
+    pub(crate) fn process<R: Wait>(&self, rt: &R) -> Option<u32> {
+        let lines = self.changed.wait_while(rt, self.lines.lock(rt), |lines| {
+            lines.process == Process::Unknown
+        });
+        match lines.process {
+            Process::Opened(process) => Some(process),
+            Process::Unknown | Process::None => None,
+        }
+    }
+}

@@ -1,0 +1,267 @@
+//! The two threads of a session. One reads, and answers too as long as no call waits; the other waits for such a call, or for the end.
+
+ghost use Rattle.std.specs.Prelude.{◌≡◌, IfSome};
+ghost use Rattle.rtrb.specs.Ring.{SameProducer};
+ghost use Rattle.request_pump.specs.Pump.{Pumps};
+
+use crate::connection::Connection;
+use crate::desk::{Attended, Desk, Naming};
+use crate::gate::Gate;
+use crate::note::Note;
+use byte_ledger::ledgers::Ledgers;
+use call_types::request::Request;
+use logged_streams::stream_log::StreamLog;
+use record_book::seat::{Seat, SpentSeat};
+use request_pump::inlet::{Bell, Inlet};
+use request_pump::pump::pump;
+use request_pump::pumped::PumpEnd;
+use rtrb::Producer;
+use std::alloc::Global;
+use std::io::{Read, Write};
+use std::marker::Model;
+use std::snapshot::Snapshot;
+use std::sync::{Arc, Mutex, Wait};
+use std::thread;
+use std::thread::{Parker, Promise, PromisedHandle, Threads};
+use system_lock::kernel::Kernel;
+
+/// What the two threads of a session share. The desk is put there as the thread that reads starts. Whoever answers holds its lock; the
+/// thread that waits in a call takes the desk away, and puts it back when the call has gone on.
+#[derive(Drop)]
+pub(crate) struct Shared<
+    D: Naming,
+    W: Write,
+    G: Gate,
+    L: Ledgers,
+    K: Kernel<Seat<L>, SpentSeat<L>>,
+> {
+    pub(crate) desk: Mutex<Option<Desk<D, W, G, L, K>>>,
+    pub(crate) note: Note,
+    /// Where the thread that waits sleeps.
+    bell: Parker,
+    pub(crate) kernel: Arc<K>,
+}
+
+impl<
+    D: Naming,
+    W: Write + Connection + Drop,
+    G: Gate,
+    L: Ledgers,
+    K: Kernel<Seat<L>, SpentSeat<L>>,
+> Shared<D, W, G, L, K> {
+    /// What they share before the first is read.
+    pub(crate) fn new(kernel: Arc<K>) -> Self {
+        Shared {
+            desk: Mutex::new(None),
+            note: Note::new(),
+            bell: Parker::new(),
+            kernel,
+        }
+    }
+
+    /// Takes the desk. It waits until it is there.
+    pub(crate) fn take_desk<Rt: Wait>(&self, rt: &Rt) -> Desk<D, W, G, L, K> {
+        for _ in rt.forever() {
+            match self.desk.lock(rt).take() {
+                Some(desk) => return desk,
+                None => thread::yield_now(),
+            }
+        }
+        unreachable!()
+    }
+
+    /// Tells that no more is read: a call that the process waits in, now or later, is given up.
+    fn end_reading<Rt: Wait>(&self, rt: &Rt) {
+        self.note.end_reading(rt);
+        self.bell.unpark();
+        if let Some(process) = self.note.process(rt) {
+            self.kernel.lost(rt, process);
+        }
+    }
+
+    /// Answers what the ring holds, and writes it. A desk that is away is with a call that waits.
+    fn answer<Rt: Wait>(&self, rt: &Rt) -> Attended {
+        let mut place = self.desk.lock(rt);
+        match place.as_mut() {
+            Some(desk) => desk.attend(rt, &self.note, &*self.kernel),
+            None => Attended::Waits,
+        }
+    }
+
+    /// The same, but it is written later.
+    fn make_room<Rt: Wait>(&self, rt: &Rt) -> Attended {
+        let mut place = self.desk.lock(rt);
+        match place.as_mut() {
+            Some(desk) => desk.make_room(rt, &self.note, &*self.kernel),
+            None => Attended::Waits,
+        }
+    }
+
+    /// Takes the desk away, waits until its call goes on, and puts it back.
+    fn wait_out<Rt: Wait>(&self, rt: &Rt) {
+        let taken = self.desk.lock(rt).take();
+        if let Some(mut desk) = taken {
+            desk.wait(rt, &*self.kernel);
+            *self.desk.lock(rt) = Some(desk);
+        }
+    }
+
+    /// Waits for the calls that wait, and answers what came behind them, until the session is left or no more is read.
+    pub(crate) fn attend<Rt: Wait>(&self, rt: &Rt) {
+        for _ in rt.forever() {
+            let has_ended = self.note.has_ended(rt);
+            match self.answer(rt) {
+                Attended::Waits => self.wait_out(rt),
+                Attended::Ready if !has_ended => self.bell.park(rt),
+                Attended::Ready | Attended::Left => break,
+            }
+        }
+        self.note.none_opened(rt);
+    }
+
+    /// Wakes the thread that waits, where that is wanted.
+    fn wake(&self, attended: Attended) {
+        match attended {
+            Attended::Ready => {}
+            Attended::Waits | Attended::Left => self.bell.unpark(),
+        }
+    }
+}
+
+/// What the thread that reads rings for, and tells its end.
+pub(crate) trait Attendant: Bell {
+    /// No more is read.
+    fn end_reading(&self);
+}
+
+/// It answers at the desk, and wakes the other thread where a call waits or the session is left.
+#[derive(Drop)]
+pub(crate) struct Helper<
+    Rt: Wait + Drop,
+    D: Naming,
+    W: Write + Drop,
+    G: Gate,
+    L: Ledgers,
+    K: Kernel<Seat<L>, SpentSeat<L>> + Drop,
+> {
+    pub(crate) rt: Rt,
+    pub(crate) shared: Arc<Shared<D, W, G, L, K>>,
+}
+
+impl<
+    Rt: Wait + Drop,
+    D: Naming,
+    W: Write + Connection + Drop,
+    G: Gate,
+    L: Ledgers,
+    K: Kernel<Seat<L>, SpentSeat<L>> + Drop,
+> Bell for Helper<Rt, D, W, G, L, K> {
+    fn make_room(&self) {
+        self.shared.wake(self.shared.make_room(&self.rt));
+    }
+
+    fn end_of_piece(&self) {
+        self.shared.wake(self.shared.answer(&self.rt));
+    }
+}
+
+impl<
+    Rt: Wait + Drop,
+    D: Naming,
+    W: Write + Connection + Drop,
+    G: Gate,
+    L: Ledgers,
+    K: Kernel<Seat<L>, SpentSeat<L>> + Drop,
+> Attendant for Helper<Rt, D, W, G, L, K> {
+    fn end_reading(&self) {
+        self.shared.end_reading(&self.rt);
+    }
+}
+
+/// What the thread that reads has come to. Contracts see it as a `PumpState`.
+#[derive(Drop)]
+pub(crate) struct Pushed<R: Read> {
+    pub(crate) end: PumpEnd,
+    pub(crate) reader: R,
+    pub(crate) reads: StreamLog,
+    pub(crate) producer: Producer<Request>,
+}
+
+impl<R: Read> Model for Pushed<R> {
+    ghost use Rattle.request_pump.specs.Pump.{PumpState};
+
+    ghost Value = { PumpState };
+
+    ghost view = { λ s. record { remaining = R.remaining s.reader; reads = s.reads; producer = s.producer; end_is = s.end } };
+}
+
+/// What the thread that reads promises: that it pushes, in order, the requests that it reads from this reader into this ring.
+#[derive(Drop)]
+pub(crate) struct Pushing<R: Read> {
+    reader: Snapshot<R>,
+    producer: Snapshot<Producer<Request>>,
+}
+
+impl<R: Read> Promise<Pushed<R>> for Pushing<R> {
+    ghost use Rattle.rtrb.specs.Ring.{SameProducer};
+    ghost use Rattle.request_pump.specs.Pump.{Pumps};
+
+    ghost kept_by = { λ p pushed. SameProducer p.producer.value pushed.producer × Pumps (R.remaining p.reader.value) p.producer.value pushed };
+}
+
+impl<R: Read> Pushing<R> {
+    /// The promise for this reader and this ring.
+    fn of(reader: &R, producer: &Producer<Request>) -> Self
+        ensures reader { R.remaining result.reader.value ≡ R.remaining reader.now }
+        ensures producer { result.producer.value ≡ producer.now }
+    {
+        Pushing {
+            reader: Snapshot::of(reader),
+            producer: Snapshot::of(producer),
+        }
+    }
+}
+
+/// The thread that reads.
+pub(crate) type Reading<R> = PromisedHandle<Pushed<R>, Pushing<R>>;
+
+/// Reads to the end, and tells it.
+fn read_to_end<R: Read, H: Attendant>(
+    alloc: Global,
+    reader: R,
+    producer: Producer<Request>,
+    helper: H,
+) -> Pushed<R>
+    ensures ring { SameProducer producer result.producer }
+    ensures pumps { Pumps (R.remaining reader) producer result }
+{
+    let inlet = Inlet {
+        producer,
+        bell: helper,
+    };
+    let pumped = pump(alloc, reader, inlet);
+    let Inlet { producer, bell } = pumped.ring;
+    bell.end_reading();
+    Pushed {
+        end: pumped.end,
+        reader: pumped.reader,
+        reads: pumped.reads,
+        producer,
+    }
+}
+
+/// Starts the thread that reads, if one can be started.
+pub(crate) fn start_reading<
+    Rt: Threads + Copy + Drop + Send + 'static,
+    R: Read + Send + Drop + 'static,
+    H: Attendant + Send + 'static,
+>(rt: Rt, alloc: Global, reader: R, producer: Producer<Request>, helper: H) -> Option<Reading<R>>
+    ensures { IfSome result (λ thread. (thread.promise.producer.value ≡ producer) × (R.remaining thread.promise.reader.value ≡ R.remaining reader)) }
+{
+    let promise = Pushing::of(&reader, &producer);
+    let reading = move || read_to_end(alloc, reader, producer, helper);
+    match thread::spawn_with(&rt, promise, reading) {
+        Ok(thread) => Some(thread),
+        Err(_) => None,
+    }
+}
