@@ -1,5 +1,5 @@
 -- One session more.
-use Rattle.std.proofs.Common.{◌≡◌, ℕ, Bool, List, [], ◌∷◌, ◌++◌, map, Option, None, Some, refl, sym, ap, subst, ◌∙◌, append_assoc}
+use Rattle.std.proofs.Common.{◌≡◌, ℕ, Bool, List, [], ◌∷◌, ◌++◌, map, Option, None, Some, length, refl, sym, ap, subst, ◌∙◌, append_assoc}
 use Rattle.std.specs.List.{AllZip}
 use Rattle.std.specs.Option.{option_map}
 use Rattle.std.proofs.lemmas.List.{map-append}
@@ -77,6 +77,12 @@ joined_more always told sessions shares new_shares c s h one are = record {
 }
 
 -- the next thread was joined
+-- no session was joined
+pub joined_none : (always : Bool) (sessions : List ReportedSession) (shares : List Counted) → length sessions ≡ 0 → length shares ≡ 0 → IsJoined always [] sessions shares
+joined_none always [] [] none also = record { connections = []; told_are = refl; each = tt; shares_are = refl }
+joined_none always [] (one ∷ more) none also = absurd cc
+joined_none always (one ∷ more) shares none also = absurd cc
+
 pub joined_next : {T : Type 0} (always : Bool) (reader writer : T → Option (List ℕ)) (yielded : List T) (thread : T)
     (sessions new_sessions : List ReportedSession) (shares new_shares : List Counted) (seat : Option SeatState) (s : ReportedSession) (served : SessionState)
     → IsJoined always (map (λ t. streams (reader t) (writer t)) yielded) sessions shares → IsOf seat s.process → IsBlank (writer thread) → with_seat seat s ≡ served → ServesInRun always (reader thread) (writer thread) served

@@ -34,7 +34,7 @@ IsOf seat process = process ≡ option_map held_in seat
 
 -- a session of a report: a session that is over, with its process in place of its seat
 pub record ReportedSession : Type 0 where
-  pub remaining : Option (List ℕ)
+  pub remaining : Option (Option (List ℕ))
   pub reads : LogState
   pub contents : Option (List ℕ)
   pub writes : LogState

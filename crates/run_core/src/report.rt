@@ -56,7 +56,8 @@ pub struct Session<R: Read, W: Write> {
     /// What it told its client, in order.
     pub answers: Vec<Told>,
     pub end: End,
-    pub reader: R,
+    /// `None` where no thread could be started for it.
+    pub reader: Option<R>,
     /// What became of the reads.
     pub reads: StreamLog,
     pub writer: W,
@@ -65,11 +66,12 @@ pub struct Session<R: Read, W: Write> {
 }
 
 impl<R: Read, W: Write> Model for Session<R, W> {
+    ghost use Rattle.std.specs.Option.{option_map};
     ghost use Rattle.run_core.specs.Run.{ReportedSession};
 
     ghost Value = { ReportedSession };
 
-    ghost view = { λ s. record { remaining = R.remaining s.reader; reads = s.reads; contents = W.contents s.writer; writes = s.writes; process = s.process; answers = s.answers.items; end_is = s.end } };
+    ghost view = { λ s. record { remaining = option_map R.remaining s.reader; reads = s.reads; contents = W.contents s.writer; writes = s.writes; process = s.process; answers = s.answers.items; end_is = s.end } };
 }
 
 impl<R: Read, W: Write> HasReceipts for Session<R, W> {

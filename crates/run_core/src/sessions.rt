@@ -82,10 +82,15 @@ impl<R: Read, W: Write, G: Gate> Serving<R, W, G> {
 type Running<R, W, G, L> = PromisedHandle<Served<R, W, L>, Serving<R, W, G>>;
 
 /// Serves a connection, and ends it.
-fn serve_connection<Rt: Wait, S: Source, G: Gate, L: Ledgers>(
-    rt: &Rt,
+fn serve_connection<
+    Rt: Threads + Wait + Copy + Drop + Send + Sync + 'static,
+    S: Source + Send + 'static,
+    G: Gate + Send + Sync + 'static,
+    L: Ledgers + Send + Sync + 'static,
+>(
+    rt: Rt,
     alloc: Global,
-    lock: &SystemLock<L>,
+    lock: Arc<SystemLock<L>>,
     gate: Arc<G>,
     reader: S::Reader,
     writer: S::Writer,
@@ -93,14 +98,12 @@ fn serve_connection<Rt: Wait, S: Source, G: Gate, L: Ledgers>(
 ) -> Served<S::Reader, S::Writer, L>
     ensures { ServesInRun G.is_open (S.Reader.Read.remaining reader) (S.Writer.Write.contents writer) result }
 {
-    let served = serve(rt, alloc, reader, writer, lock, session, gate);
-    S::hang_up(&served.reader, &served.writer);
-    served
+    serve(rt, alloc, reader, writer, lock, session, gate)
 }
 
 /// Serves a connection in a thread of its own, if one can be started.
 fn start<
-    Rt: Threads + Wait + Copy + Send + 'static,
+    Rt: Threads + Wait + Copy + Drop + Send + Sync + 'static,
     S: Source + Send + 'static,
     G: Gate + Send + Sync + 'static,
     L: Ledgers + Send + Sync + 'static,
@@ -118,7 +121,7 @@ fn start<
     let Shared { lock, gate } = shared;
     let promise = Serving::of(&reader, &writer, &gate);
     let serving = move || {
-        serve_connection::<Rt, S, G, L>(&rt, alloc, &*lock, gate, reader, writer, session)
+        serve_connection::<Rt, S, G, L>(rt, alloc, lock, gate, reader, writer, session)
     };
     match thread::spawn_with(&rt, promise, serving) {
         Ok(running) => Some(running),
@@ -137,7 +140,7 @@ enum Shortage {
 
 /// Accepts a connection, and serves it in a thread of its own.
 fn next_session<
-    Rt: Threads + Wait + Copy + Send + 'static,
+    Rt: Threads + Wait + Copy + Drop + Send + Sync + 'static,
     S: Source + Send + 'static,
     G: Gate + Send + Sync + 'static,
     L: Ledgers + Send + Sync + 'static,
@@ -177,7 +180,7 @@ struct Started<R: Read, W: Write, G: Gate, L: Ledgers> {
 
 /// Accepts so many connections, and serves each in a thread of its own. There is room for them.
 fn start_all<
-    Rt: Threads + Wait + Copy + Send + 'static,
+    Rt: Threads + Wait + Copy + Drop + Send + Sync + 'static,
     S: Source + Send + 'static,
     G: Gate + Send + Sync + 'static,
     L: Ledgers + Send + Sync + 'static,
@@ -350,7 +353,7 @@ struct Ended<R: Read, W: Write, L: Ledgers> {
 /// Accepts so many connections, serves each in a thread of its own, and closes the run when all have ended. In any case no thread goes
 /// on then, and no record is put into the ring any more.
 fn serve_all<
-    Rt: Threads + Wait + Copy + Send + 'static,
+    Rt: Threads + Wait + Copy + Drop + Send + Sync + 'static,
     S: Source + Send + 'static,
     G: Gate + Send + Sync + 'static,
     L: Ledgers + Send + Sync + 'static,
@@ -420,7 +423,7 @@ fn report_of<R: Read + Drop, W: Write + Drop, L: Ledgers, K: Sink + Drop>(
 /// report has fewer. Where a thread cannot be started they are too, but there is no report. Where the sink fails, the report tells it. An
 /// audit under the same limits finds what the sink took legal, with the whole records that are told. In any case no thread goes on then.
 pub fn run_sessions<
-    Rt: Threads + Wait + Clock + Copy + Send + 'static,
+    Rt: Threads + Wait + Clock + Copy + Drop + Send + Sync + 'static,
     S: Source + Send + 'static,
     G: Gate + Send + Sync + 'static,
     L: Ledgers + Send + Sync + 'static,

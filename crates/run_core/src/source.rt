@@ -3,6 +3,7 @@
 ghost use Rattle.std.specs.Prelude.{◌≡◌, ◌+◌, ◌<◌, ◌^◌, ◌∷◌, [], ℕ, OnOk, OnErr, IfOk};
 ghost use Rattle.run_core.specs.Run.{Gives, IsBlank, streams};
 
+use session_core::connection::Connection;
 use std::io::{Read, Write};
 
 /// No connection could be accepted.
@@ -13,7 +14,7 @@ pub struct AcceptFailed;
 pub trait Source {
     type Reader: Read + Send + Drop + 'static;
 
-    type Writer: Write + Send + Drop + 'static;
+    type Writer: Write + Connection + Send + Drop + 'static;
 
     ghost use Rattle.std.specs.Prelude.{Option, List};
     ghost use Rattle.run_core.specs.Run.{Streams};
@@ -39,7 +40,4 @@ pub trait Source {
     /// How many times a connection could not be accepted.
     fn failures(&self) -> u64
         ensures { result ≡ failures self.now };
-
-    /// Ends a connection, so that its client reads no further than to what was written.
-    fn hang_up(reader: &Self::Reader, writer: &Self::Writer);
 }

@@ -4,8 +4,19 @@ use Rattle.std.proofs.lemmas.Iterator.Consumers.{YieldsList-end}
 use Rattle.std.proofs.lemmas.List.{append-nil}
 use Rattle.byte_ledger.specs.Counted.{Counted}
 use Rattle.run_core.specs.Run.{streams}
-use Rattle.run_core.proofs.JoinLemmas.{joined_all, joined_next, shares_some, shares_none}
+use Rattle.run_core.proofs.JoinLemmas.{joined_all, joined_next, joined_none, shares_some, shares_none}
 use Rattle.run_core.proofs.sessions.join_all.Goals as goal
+
+-- none was joined
+pub loop-thread-init : goal.loop-thread-init
+loop-thread-init g c = record {
+  count = search rules;
+  room = search rules;
+  shares_room = search rules;
+  joined = joined_none g.G.Gate.is_open c.args.room.sessions.items c.args.room.shares.items (sym c.args.room.sessions.ok.0 ∙ c.requires.empty) (sym c.args.room.shares.ok.0 ∙ c.requires.no_shares);
+  goes = search rules;
+  ends = search rules;
+}
 
 -- one session more was served, and one fewer is left, with shares or without
 pub loop-thread-preserved-in-Some-counted : goal.loop-thread-preserved-in-Some-counted

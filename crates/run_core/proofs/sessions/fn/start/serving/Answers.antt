@@ -7,3 +7,13 @@ serve_connection-requires-send-S-Reader g c κs within = param_send 4 g.row.S-Re
 
 pub serve_connection-requires-send-S-Writer : goal.serve_connection-requires-send-S-Writer
 serve_connection-requires-send-S-Writer g c κs within = param_send 5 g.row.S-Writer c.requires.1.1.1.1.1.1.1.1.1.1.1.1.5
+
+-- and so may what they share
+pub serve_connection-requires-send-S : goal.serve_connection-requires-send-S
+serve_connection-requires-send-S g c κs within = param_send 1 g.row.S c.requires.1.1.1.1.1.1.1.1.1.1.1.1.1
+
+pub serve_connection-requires-send-G : goal.serve_connection-requires-send-G
+serve_connection-requires-send-G g c κs within = param_send 2 g.row.G c.requires.1.1.1.1.1.1.1.1.1.1.1.1.2
+
+pub serve_connection-requires-send-L : goal.serve_connection-requires-send-L
+serve_connection-requires-send-L g c κs within = param_send 3 g.row.L c.requires.1.1.1.1.1.1.1.1.1.1.1.1.3
