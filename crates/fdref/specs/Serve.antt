@@ -1,10 +1,13 @@
 -- What a run of sessions writes, what its end says, and what its sink has (own).
-use Rattle.std.specs.Prelude.{◌≡◌, ◌≤◌, ◌⊎◌, ℕ, nat_lt, Bool, true, List, ◌++◌, Option, None, Some, if◌then◌else◌, codes, decimal, length}
+use Rattle.std.specs.Prelude.{◌≡◌, ◌≤◌, ◌⊎◌, ℕ, nat_lt, Bool, true, false, List, ◌++◌, Option, None, Some, if◌then◌else◌, codes, decimal, length}
 use Rattle.std.specs.Io.KnownBytes.{Appends}
+use Rattle.std.specs.List.{list_any}
 use Rattle.call_types.specs.declared.limits.Limits.{Limits}
-use Rattle.run_core.specs.Run.{IsRun, RunTold, Streams}
+use Rattle.run_core.specs.Run.{IsRun, ReportedSession, RunTold, Streams}
 use Rattle.run_core.specs.declared.report.RunFault.{RunFault}
 use Rattle.run_core.specs.declared.report.RunFault.TheVariants as fault
+use Rattle.session_core.specs.declared.end.End.{End}
+use Rattle.session_core.specs.declared.end.End.TheVariants as end
 use Rattle.trace_writer.specs.declared.traced.TraceFault.{TraceFault}
 use Rattle.fdref.specs.Output.{AppendsFront}
 use Rattle.fdref.specs.declared.job_end.JobEnd.{JobEnd}
@@ -42,14 +45,31 @@ pub record IsOf (asked : RunAsked) (sink : SinkState) (told : RunTold) : Type 0 
   pub after : told.trace.after ≡ sink.failures
   pub is_synced : told.trace.is_synced ≡ sink.is_synced
 
--- how a run ended whose report is written, where its trace had this fault or none
-abbrev pub traced_end : Option TraceFault → JobEnd
-traced_end None = ended.Done
-traced_end (Some fault) = ended.TraceFault
+-- whether a session ended since no thread could be started for it
+abbrev pub is_unstarted : End → Bool
+is_unstarted end.Closed = false
+is_unstarted end.ReadFault = false
+is_unstarted (end.WriteFault sent) = false
+is_unstarted end.Malformed = false
+is_unstarted end.Ahead = false
+is_unstarted end.RunFull = false
+is_unstarted end.NoMemory = false
+is_unstarted end.Foreign = false
+is_unstarted end.NoThread = true
 
--- how a run ended whose report is written: that sessions are wanting is told before a fault of its trace
-abbrev pub end_of : ℕ → ℕ → Option TraceFault → JobEnd
-end_of started wanted fault = if nat_lt started wanted then ended.CannotListen else traced_end fault
+-- whether one of these sessions did
+abbrev pub lacks_a_thread : List ReportedSession → Bool
+lacks_a_thread sessions = list_any (λ s. is_unstarted s.end_is) sessions
+
+-- how a run ended whose report is written, where its trace had this fault or none, and where a session lacked a thread or none did
+abbrev pub traced_end : Option TraceFault → Bool → JobEnd
+traced_end (Some fault) lacks = ended.TraceFault
+traced_end None lacks = if lacks then ended.NoThread else ended.Done
+
+-- how a run ended whose report is written: that sessions are wanting is told before a fault of its trace, and that before the want of a
+-- thread
+abbrev pub end_of : ℕ → ℕ → Option TraceFault → Bool → JobEnd
+end_of started wanted fault lacks = if nat_lt started wanted then ended.CannotListen else traced_end fault lacks
 
 -- the line reports a run that was asked for, and its trace, which went into the sink and left it so; each record is told, and the run
 -- ends so
@@ -59,7 +79,7 @@ pub record IsReport (asked : RunAsked) (sink : SinkState) (line : List ℕ) (end
   pub run : IsRun told
   pub few : length told.ends ≤ asked.sessions
   pub line_is : line ≡ report_line (length told.ends) told.records told.taken told.given told.trace.whole
-  pub end_is : end ≡ end_of (length told.ends) asked.sessions told.trace.fault
+  pub end_is : end ≡ end_of (length told.ends) asked.sessions told.trace.fault (lacks_a_thread told.ends)
 
 -- such a line was written, and nothing else
 pub record WritesReport (asked : RunAsked) (sink : SinkState) (old new : Option (List ℕ)) (end : JobEnd) : Type 0 where
@@ -91,6 +111,7 @@ abbrev pub Reported : RunAsked → SinkState → Option (List ℕ) → Option (L
 Reported asked sink old new ended.Done = WritesReport asked sink old new ended.Done
 Reported asked sink old new ended.CannotListen = WritesReport asked sink old new ended.CannotListen
 Reported asked sink old new ended.TraceFault = WritesReport asked sink old new ended.TraceFault
+Reported asked sink old new ended.NoThread = WritesReport asked sink old new ended.NoThread
 Reported asked sink old new ended.CannotWrite = WritesReportFront asked sink old new
 Reported asked sink old new ended.NoMemory = new ≡ old
 Reported asked sink old new other = ⊥

@@ -4,7 +4,7 @@ use crate::perform::Listens;
 use run_core::source::{AcceptFailed, Source};
 use std::fs::Files;
 use std::io;
-use std::net::{Net, Shutdown};
+use std::net::Net;
 use std::os::unix::net::{UnixListener, UnixStream};
 
 /// A socket that listens, how many connections it gave, and how many times it gave none.
@@ -52,10 +52,6 @@ impl Source for Listener {
 
     fn failures(&self) -> u64 {
         self.failures
-    }
-
-    fn hang_up(_reader: &UnixStream, writer: &UnixStream) {
-        let _gone = writer.shutdown(Shutdown::Both);
     }
 }
 

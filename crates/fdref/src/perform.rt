@@ -80,7 +80,7 @@ fn show_at<F: Opens, W: Write>(
 
 /// Serves the connections to a path, and writes their trace to a sink.
 fn serve_at<
-    Rt: Threads + Wait + Clock + Copy + Send + 'static,
+    Rt: Threads + Wait + Clock + Copy + Drop + Send + Sync + 'static,
     L: Listens,
     K: Sink + Send + Drop + 'static,
     W: Write,
@@ -117,7 +117,12 @@ fn serve_at<
 }
 
 /// Makes the file of the trace, serves the connections to a path, and writes their trace to the file.
-fn serve_to<Rt: Threads + Wait + Clock + Copy + Send + 'static, L: Listens, F: Opens, W: Write>(
+fn serve_to<
+    Rt: Threads + Wait + Clock + Copy + Drop + Send + Sync + 'static,
+    L: Listens,
+    F: Opens,
+    W: Write,
+>(
     rt: Rt,
     alloc: Global,
     listens: &L,
@@ -139,7 +144,7 @@ fn serve_to<Rt: Threads + Wait + Clock + Copy + Send + 'static, L: Listens, F: O
 /// Does a job: reads its input, a file or its connections, writes its output, and says how it ended. It leaks what `replay` leaks:
 /// call it once in a process.
 pub fn perform<
-    Rt: Threads + Wait + Clock + Copy + Send + 'static,
+    Rt: Threads + Wait + Clock + Copy + Drop + Send + Sync + 'static,
     L: Listens,
     F: Opens,
     R: Read + Drop,

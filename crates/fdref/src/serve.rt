@@ -1,16 +1,17 @@
 //! A run of sessions, its trace, and the line that reports it.
 
 ghost use Rattle.std.specs.Prelude.{◌≡◌, ◌+◌, ◌<◌, ◌^◌, Some, true, IfOk, option_map};
-ghost use Rattle.fdref.specs.Serve.{Reports, WritesLine, end_of, ended_by, report_line};
+ghost use Rattle.fdref.specs.Serve.{Reports, WritesLine, end_of, ended_by, is_unstarted, lacks_a_thread, report_line};
 ghost use Rattle.fdref.specs.declared.job_end.JobEnd.TheVariants as ended;
 
 use crate::job_end::JobEnd;
 use crate::output::write_lines;
 use byte_ledger::ledgers::{Blanks, Ledgers};
 use call_types::limits::Limits;
-use run_core::report::{Report, RunFault};
+use run_core::report::{Report, RunFault, Session};
 use run_core::sessions::run_sessions;
 use run_core::source::Source;
+use session_core::end::End;
 use session_core::gate::OpenGate;
 use std::alloc::{AllocError, Global};
 use std::io::{Read, Write};
@@ -46,16 +47,42 @@ fn line_of<R: Read, V: Write, K: Sink>(
     Ok(line.into_bytes())
 }
 
-/// How a run ended whose report is written: that sessions are wanting is told before a fault of its trace.
-fn end_of(started: usize, wanted: usize, fault: Option<TraceFault>) -> JobEnd
-    ensures { result ≡ end_of started wanted fault }
+/// Whether a session ended since no thread could be started for it.
+fn is_unstarted(end: End) -> bool
+    ensures { result ≡ is_unstarted end }
+{
+    match end {
+        End::NoThread => true,
+        End::Closed
+        | End::ReadFault
+        | End::WriteFault { .. }
+        | End::Malformed
+        | End::Ahead
+        | End::RunFull
+        | End::NoMemory
+        | End::Foreign => false,
+    }
+}
+
+/// Whether one of these sessions did.
+fn lacks_a_thread<R: Read, V: Write>(sessions: &[Session<R, V>]) -> bool
+    ensures { result ≡ lacks_a_thread sessions.now }
+{
+    sessions.iter().any(|session| is_unstarted(session.end))
+}
+
+/// How a run ended whose report is written: that sessions are wanting is told before a fault of its trace, and that before the want of
+/// a thread.
+fn end_of(started: usize, wanted: usize, fault: Option<TraceFault>, lacks_a_thread: bool) -> JobEnd
+    ensures { result ≡ end_of started wanted fault lacks_a_thread }
 {
     if started < wanted {
         return JobEnd::CannotListen;
     }
     match fault {
-        None => JobEnd::Done,
         Some(_) => JobEnd::TraceFault,
+        None if lacks_a_thread => JobEnd::NoThread,
+        None => JobEnd::Done,
     }
 }
 
@@ -78,21 +105,26 @@ fn write_report<R: Read, V: Write, K: Sink, W: Write>(
     wanted: usize,
     writer: &mut W,
 ) -> JobEnd
-    ensures { WritesLine (report_line report.now.sessions report.now.records report.now.bytes_in report.now.bytes_out report.now.traced.whole) (end_of report.now.sessions wanted report.now.traced.fault) (W.contents writer.old) (W.contents writer.new) result }
+    ensures { WritesLine (report_line report.now.sessions report.now.records report.now.bytes_in report.now.bytes_out report.now.traced.whole) (end_of report.now.sessions wanted report.now.traced.fault (lacks_a_thread report.now.ends.items)) (W.contents writer.old) (W.contents writer.new) result }
 {
     let line = match line_of(alloc, report) {
         Ok(line) => line,
         Err(_) => return JobEnd::NoMemory,
     };
     match write_lines(writer, line.as_slice()) {
-        Ok(()) => end_of(report.sessions, wanted, report.traced.fault),
+        Ok(()) => end_of(
+            report.sessions,
+            wanted,
+            report.traced.fault,
+            lacks_a_thread(report.ends.as_slice()),
+        ),
         Err(ended) => ended,
     }
 }
 
 /// Serves so many sessions within these limits, counted by these ledgers, writes their trace to a sink, and the line of their report.
 fn serve_with<
-    Rt: Threads + Wait + Clock + Copy + Send + 'static,
+    Rt: Threads + Wait + Clock + Copy + Drop + Send + Sync + 'static,
     S: Source + Send + 'static,
     K: Sink + Send + Drop + 'static,
     W: Write,
@@ -138,7 +170,7 @@ fn serve_with<
 /// Serves so many sessions within these limits, writes their trace to a sink, and the line of their report. A run with a report gives
 /// the sink back, which has the trace that the line tells of.
 pub fn serve_on<
-    Rt: Threads + Wait + Clock + Copy + Send + 'static,
+    Rt: Threads + Wait + Clock + Copy + Drop + Send + Sync + 'static,
     S: Source + Send + 'static,
     K: Sink + Send + Drop + 'static,
     W: Write,

@@ -12,5 +12,5 @@ returns g c =
       reports = reported _ _ _ _ _ c.in-Ok.report.sessions c.write_report-end.result
           (record { always = refl; limits_are = refl; coming_is = refl; later_is = refl; base = refl; before = refl; now = refl; after = refl; is_synced = refl }) ran.run
           (ran.few.0 ∙ c.in-Ok.report.ends.ok.0) ran.few.1 c.write_report-end.ensures;
-      failed = λ is. lost_connection _ _ _ c.in-Ok.report.sessions c.args.sessions _ _ _ c.write_report-end.result ran.failures c.write_report-end.ensures is;
+      failed = λ is. lost_connection _ _ _ c.in-Ok.report.sessions c.args.sessions _ _ _ _ c.write_report-end.result ran.failures c.write_report-end.ensures is;
     }
