@@ -82,7 +82,7 @@ fn print_report(
 }
 
 /// Runs two sessions in threads that are started by a handle, and prints their report.
-fn run<Rt: Threads + Wait + Clock + Copy + Send + 'static>(
+fn run<Rt: Threads + Wait + Clock + Copy + Drop + Send + Sync + 'static>(
     rt: &HostRuntime,
     handle: Rt,
 ) -> Result<(), TrialFault> {

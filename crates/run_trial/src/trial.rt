@@ -18,7 +18,7 @@ use trace_writer::memory::{Manner, MemorySink};
 
 /// The report of the run, counted by these ledgers.
 pub(crate) fn ran<
-    Rt: Threads + Wait + Clock + Copy + Send + 'static,
+    Rt: Threads + Wait + Clock + Copy + Drop + Send + Sync + 'static,
     L: Ledgers + Send + Sync + 'static,
 >(
     rt: Rt,

@@ -96,6 +96,4 @@ impl Source for Waiting {
     fn failures(&self) -> u64 {
         self.failures
     }
-
-    fn hang_up(_reader: &MemoryReader, _writer: &MemoryWriter) {}
 }

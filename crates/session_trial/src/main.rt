@@ -21,6 +21,7 @@ use std::io::{ErrorKind, Read, Write};
 use std::marker::Brand;
 use std::process::ExitCode;
 use std::sync::Wait;
+use std::thread::Threads;
 use trial::tried;
 use trial_fault::TrialFault;
 
@@ -44,7 +45,10 @@ fn read_input(rt: &HostRuntime) -> Result<Vec<u8>, TrialFault> {
 }
 
 /// Serves the session on standard input, and prints what came of it.
-fn run<R: Wait>(rt: &HostRuntime, waiting: &R) -> Result<(), TrialFault> {
+fn run<R: Threads + Wait + Copy + Drop + Send + Sync + 'static>(
+    rt: &HostRuntime,
+    waiting: R,
+) -> Result<(), TrialFault> {
     let words = words_of(rt)?;
     let job = job_of(rt.alloc(), words.as_slice())?;
     let input = read_input(rt)?;
@@ -57,7 +61,7 @@ fn run<R: Wait>(rt: &HostRuntime, waiting: &R) -> Result<(), TrialFault> {
 }
 
 fn main(rt: HostRuntime) -> ExitCode {
-    match run(&rt, &rt) {
+    match run(&rt, rt) {
         Ok(()) => ExitCode::SUCCESS,
         Err(ended) => {
             let _ = eprint!(rt; "{ended}");

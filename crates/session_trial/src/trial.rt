@@ -16,7 +16,8 @@ use session_core::gate::OpenGate;
 use session_core::memory::{MemoryReader, MemoryWriter};
 use session_core::serve::{Served, serve};
 use std::alloc::{AllocError, Global};
-use std::sync::Wait;
+use std::sync::{Arc, Wait};
+use std::thread::Threads;
 use system_lock::one_book::OneBook;
 
 /// Appends the line of an end.
@@ -26,9 +27,11 @@ fn put_end(out: &mut Vec<u8>, end: End) -> Result<(), AllocError> {
         End::ReadFault => put_word(out, b"end ReadFault\n"),
         End::WriteFault { sent } => put_number(out, b"end WriteFault ", sent),
         End::Malformed => put_word(out, b"end Malformed\n"),
+        End::Ahead => put_word(out, b"end Ahead\n"),
         End::RunFull => put_word(out, b"end RunFull\n"),
         End::NoMemory => put_word(out, b"end NoMemory\n"),
         End::Foreign => put_word(out, b"end Foreign\n"),
+        End::NoThread => put_word(out, b"end NoThread\n"),
     }
 }
 
@@ -77,20 +80,18 @@ fn lines_of<L: Ledgers>(
 }
 
 /// The lines of what comes of a session, counted by these ledgers.
-pub(crate) fn tried<Rt: Wait, L: Ledgers>(
-    rt: &Rt,
-    alloc: Global,
-    job: Job,
-    input: Vec<u8>,
-    blanks: Blanks,
-) -> Result<Vec<u8>, TrialFault>
+pub(crate) fn tried<
+    Rt: Threads + Wait + Copy + Drop + Send + Sync + 'static,
+    L: Ledgers + Send + Sync + 'static,
+>(rt: Rt, alloc: Global, job: Job, input: Vec<u8>, blanks: Blanks) -> Result<Vec<u8>, TrialFault>
     requires { blanks ≡ L.names }
 {
     let book = Book::<L>::new(alloc, job.limits, blanks)?;
     let book = OneBook::new(alloc, book, job.acts);
-    let kernel = Stranger::new(book, job.forgets);
+    let kernel = Arc::new(alloc, Stranger::new(book, job.forgets)).map_err(AllocError::from)?;
+    let shared = Arc::try_clone(&kernel)?;
     let reader = MemoryReader::new(input, job.reads);
     let writer = MemoryWriter::new(alloc, job.writes);
-    let served = serve(rt, alloc, reader, writer, &kernel, 0, OpenGate);
-    Ok(lines_of(alloc, &served, kernel.counts(rt))?)
+    let served = serve(rt, alloc, reader, writer, shared, 0, OpenGate);
+    Ok(lines_of(alloc, &served, kernel.counts(&rt))?)
 }

@@ -11,6 +11,7 @@ use frame_codec::encode::encode_request;
 use run_core::report::{Report, Session};
 use run_core::sessions::run_sessions;
 use run_core::source::{AcceptFailed, Source};
+use session_core::connection::Connection;
 use session_core::end::End;
 use session_core::gate::{Gate, OpenGate};
 use session_core::memory::{Manner as StreamManner, MemoryReader, MemoryWriter};
@@ -57,7 +58,8 @@ struct Waiting<R: Read + Drop, W: Write + Drop> {
     ghost blank: { All (λ connection. IsBlank (W.contents connection.1)) connections.items },
 }
 
-impl<R: Read + Send + Drop + 'static, W: Write + Send + Drop + 'static> Source for Waiting<R, W> {
+impl<R: Read + Send + Drop + 'static, W: Write + Connection + Send + Drop + 'static> Source
+    for Waiting<R, W> {
     type Reader = R;
 
     type Writer = W;
@@ -87,15 +89,13 @@ impl<R: Read + Send + Drop + 'static, W: Write + Send + Drop + 'static> Source f
     fn failures(&self) -> u64 {
         self.failures
     }
-
-    fn hang_up(_reader: &R, _writer: &W) {}
 }
 
 /// The report of a run over all these connections, under this gate, with a trace into a sink of this manner, if there is one.
 fn report_of<
-    Rt: Threads + Wait + Clock + Copy + Send + 'static,
+    Rt: Threads + Wait + Clock + Copy + Drop + Send + Sync + 'static,
     R: Read + Send + Drop + 'static,
-    W: Write + Send + Drop + 'static,
+    W: Write + Connection + Send + Drop + 'static,
     G: Gate + Send + Sync + 'static,
     L: Ledgers + Send + Sync + 'static,
 >(
@@ -276,6 +276,10 @@ impl Write for GuardedWriter {
     }
 }
 
+impl Connection for GuardedWriter {
+    fn shut(&self) {}
+}
+
 /// The frames of a join, and of a question about descriptor 0, which is not open.
 fn two_requests(alloc: Global) -> Result<Vec<u8>, AllocError> {
     let mut bytes = Vec::new(alloc);
@@ -353,7 +357,7 @@ fn came_of(
 
 /// What comes of one session over memory, in a run of so many records, under a gate that says this.
 fn under_a_gate<
-    Rt: Threads + Wait + Clock + Copy + Send + 'static,
+    Rt: Threads + Wait + Clock + Copy + Drop + Send + Sync + 'static,
     L: Ledgers + Send + Sync + 'static,
 >(
     rt: Rt,
@@ -492,6 +496,10 @@ impl Write for TellingWriter {
     fn flush(&mut self) -> io::Result<()> {
         Ok(())
     }
+}
+
+impl Connection for TellingWriter {
+    fn shut(&self) {}
 }
 
 /// A connection that joins, and asks about descriptor 0 only after the other session has written.
