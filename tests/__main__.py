@@ -29,7 +29,7 @@ def main(words: Sequence[str]) -> int:
     known = tests()
     if not words:
         for name, path in known.items():
-            print(f"{name:<12} {first_line(path)}")
+            print(f"{name:<13} {first_line(path)}")
         print("\npython3 tests/NAME.py runs one, on programs that are built, and its --help tells its options.")
         print("Its last line is `N passed, M failed`. .ci/run proves and builds all, and runs all but `edits`.")
         return 0

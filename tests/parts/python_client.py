@@ -17,6 +17,7 @@ from typing import Any, NoReturn, TypeVar
 from support import frames
 from support.counting import Case, Failure, require, same
 from support.places import CLIENT, EXAMPLES
+from support.players import until_traced
 from support.serving import SECONDS, Server, is_listening, outcome_of, report, started
 
 sys.path.insert(0, str(CLIENT))
@@ -138,7 +139,7 @@ class BrokenOff(Exception):
 
 
 def broken_off(program: str) -> None:
-    """A call that is broken off while it waits ends the process."""
+    """A call that is broken off while it waits ends the process, and gets nothing."""
 
     def breaks(place: int, moved: int) -> NoReturn:
         raise BrokenOff
@@ -150,8 +151,9 @@ def broken_off(program: str) -> None:
             raises(BrokenOff, process.read, 0, 5)
             same([(4, 0)], process.waits)
             raises(ConnectionError, process.close, 0)
+            same("5 p0 exit = ok", until_traced(server, 6)[5])
             same(5, other.write(1, b"hello"))
-        server.ended(report(2, 10, 5, 5))
+        server.ended(report(2, 9, 5, 0))
 
 
 EXAMPLE = b"""\
