@@ -10,6 +10,7 @@ of other processes that take place where a call of the session first waits. The 
   - on sessions that are written out here byte by byte, with what each of them has to give,
   - on these and on one with every call, in pieces of each size, with each read and each write failing,
     and with interruptions,
+  - with many requests behind a call that waits,
   - on frames of the greatest lengths, and as often as a session may read,
   - with each of its allocations refused in turn: then the answers are right so far, or the end says
     why, and the exit is recorded all the same,
@@ -24,15 +25,17 @@ M is above 0.
 
 import argparse
 import collections
+import itertools
 import random
 import sys
 import tempfile
 from collections.abc import Callable, Iterable, Iterator, Sequence
-from functools import partial
+from enum import Enum
+from functools import lru_cache, partial
 from typing import Any, NamedTuple
 
 from support import plain_model
-from support.counting import Case, Count, Failure
+from support.counting import Case, Count, Failure, require, same
 from support.frames import (
     FLAG_WORDS,
     JOIN,
@@ -59,6 +62,10 @@ READS_MAX = 1_048_576
 INTERRUPTIONS_MAX = 16
 PIECE_MOST = 65_536
 GATHERED_MOST = 65_536
+AHEAD_MOST = 16
+
+# How long a session may take that is read as often as one may be.
+OFTEN_SECONDS = 600
 
 
 class Manner(NamedTuple):
@@ -83,17 +90,17 @@ PLAIN = Manner()
 class Calls:
     """The calls on a stream: how many there were, how many at the end were interrupted, and whether one failed."""
 
-    def __init__(self, manner: Manner) -> None:
+    def __init__(self, manner: Manner, calls: int = 0, interruptions: int = 0) -> None:
         self.manner = manner
-        self.calls = self.interruptions = 0
+        self.calls, self.interruptions = calls, interruptions
         self.failed = False
 
     def is_broken(self) -> bool:
         """Whether nothing more is asked of the stream."""
         return self.failed or self.interruptions >= INTERRUPTIONS_MAX
 
-    def call(self, use: Callable[[], bytes]) -> bytes | None:
-        """One call: what `use` gives, or nothing where the call is interrupted or fails."""
+    def call(self, use: Callable[[], int]) -> int | None:
+        """One call: how many bytes `use` gives or takes, or nothing where the call is interrupted or fails."""
         self.calls += 1
         if self.calls == self.manner.fails_at:
             self.failed, self.interruptions = True, 0
@@ -104,61 +111,101 @@ class Calls:
             return use()
         return None
 
-    def line(self, word: str) -> str:
-        """The calls, as the trial tells them."""
-        return f"{word} {self.calls} {self.interruptions} {'failed' if self.failed else 'whole'}"
-
 
 class Reader(Calls):
-    """What a session reads."""
+    """What a session reads: bytes to be read from their start on."""
 
     def __init__(self, text: bytes, manner: Manner) -> None:
         super().__init__(manner)
         self.text = text
         self.at = 0
 
-    def give(self) -> bytes:
-        """What one call reads."""
-        piece = self.text[self.at : self.at + min(max(self.manner.most, 1), PIECE_MOST)]
-        self.at += len(piece)
-        return piece
+    def give(self) -> int:
+        """How many bytes one call reads."""
+        count = min(max(self.manner.most, 1), PIECE_MOST, len(self.text) - self.at)
+        self.at += count
+        return count
 
-    def piece(self) -> bytes | str:
-        """The next piece, none at the end, or why nothing is read any more."""
-        while self.calls < READS_MAX and not self.is_broken():
-            piece = self.call(self.give)
-            if piece is not None:
-                return piece
+    def read(self) -> int | None:
+        """Reads once more: how many bytes, none at the end, or nothing."""
+        return self.call(self.give)
+
+
+class Sent(NamedTuple):
+    """What became of a writer: how many bytes it took, its calls and flushes, and if its answers were cut once more."""
+
+    size: int = 0
+    calls: int = 0
+    interruptions: int = 0
+    failed: bool = False
+    flushes: int = 0
+    is_cut: bool = False
+
+
+@lru_cache(100_000)
+def taken(manner: Manner, calls: int, interruptions: int, count: int) -> tuple[int, int, int, bool]:
+    """How many of so many bytes a writer takes by its next calls, its calls then, and whether one failed."""
+    each = manner.interruptions + 1
+    left = count
+    if manner.most and each <= INTERRUPTIONS_MAX:
+        # those that surely do as they should, all at once
+        safe = (manner.fails_at - 1 - calls) // each if manner.fails_at > calls else count
+        many = min(safe, count // manner.most)
+        calls, left = calls + many * each, left - many * manner.most
+    stream = Calls(manner, calls, interruptions)
+    while left and not stream.is_broken():
+        some = stream.call(lambda: min(left, manner.most))
+        stream.failed |= some == 0
+        left -= some or 0
+    return count - left, stream.calls, stream.interruptions, stream.failed
+
+
+def written(manner: Manner, sent: Sent, size: int) -> tuple[Sent, bool]:
+    """A writer to which all up to this size is written, and which is flushed then; and whether it took all that."""
+    count, calls, interruptions, failed = taken(manner, sent.calls, sent.interruptions, size - sent.size)
+    is_whole = sent.size + count == size
+    flushes = sent.flushes + is_whole
+    if is_whole:
+        failed = flushes == manner.flush_fails_at
+    after = Sent(sent.size + count, calls, interruptions, failed, flushes, sent.is_cut)
+    return after, is_whole and not failed
+
+
+# ---- the thread that reads
+
+
+class Pump:
+    """What is read: the requests, why no more is read, and for each read how many requests were whole by then."""
+
+    def __init__(self, text: bytes, manner: Manner) -> None:
+        self.requests: list[str] = []
+        self.reads: list[tuple[int, str]] = []
+        self.end = self.read(Reader(text, manner))
+        self.piece_ends = {whole for whole, _ in self.reads}
+
+    def read(self, reader: Reader) -> str:
+        """Reads to the end, and tells it."""
+        start = 0
+        while reader.calls < READS_MAX and not reader.is_broken():
+            count = reader.read()
+            fault = None
+            if count:
+                stream = Stream("requests", reader.text[start : reader.at])
+                self.requests += [line for _, line in stream.frames]
+                start += stream.whole
+                fault = stream.fault
+            line = f"{reader.calls} {reader.interruptions} {'failed' if reader.failed else 'whole'}"
+            self.reads.append((len(self.requests), line))
+            if fault:
+                return "Malformed"
+            if count == 0:
+                return "Closed"
         return "ReadFault"
 
-
-class Writer(Calls):
-    """What a session writes."""
-
-    def __init__(self, manner: Manner) -> None:
-        super().__init__(manner)
-        self.text = b""
-        self.flushes = 0
-
-    def front(self, some: bytes) -> bytes:
-        """What one call takes."""
-        return some[: self.manner.most]
-
-    def write(self, some: bytes) -> bool:
-        """Writes all bytes and flushes them, if the writer takes them."""
-        if not some:
-            return True
-        while some and not self.is_broken():
-            taken = self.call(partial(self.front, some))
-            if taken == b"":
-                self.failed = True
-            elif taken:
-                self.text += taken
-                some = some[len(taken) :]
-        if not some:
-            self.flushes += 1
-            self.failed = self.flushes == self.manner.flush_fails_at
-        return not some and not self.failed
+    def line(self, limit: int) -> str:
+        """What became of the reads, where there is no room for the request with this number."""
+        told = (line for whole, line in self.reads if whole >= limit)
+        return next(told, self.reads[-1][1])
 
 
 # ---- a session
@@ -172,8 +219,30 @@ class Over(Exception):
         self.end = end
 
 
+class Stand(NamedTuple):
+    """How far a session has come: its requests, answers, their bytes, receipts and totals, and if its process lives."""
+
+    taken: int
+    answers: int
+    size: int
+    receipts: int
+    records: int
+    bytes_in: int
+    bytes_out: int
+    is_alive: bool
+
+
+class Writing(Enum):
+    """Whether what is answered is written, before anything else takes place."""
+
+    IS = "it is"
+    IF_MUCH = "it is, if it is much"
+    MAY_BE = "the threads come to that or not"
+    MAY_BE_ONCE = "the same, but they come to that only once"
+
+
 class Session:
-    """One session, served by the model."""
+    """One session: what is sent, how its streams answer, and the acts of others that take place meanwhile."""
 
     def __init__(
         self,
@@ -185,84 +254,114 @@ class Session:
         kernel: str = "knows",
     ) -> None:
         self.text = text
+        self.records = records
+        self.writes = writes
         self.meanwhile = list(meanwhile)
         self.kernel = kernel
         manners = [",".join(map(str, manner)) for manner in (reads, writes)]
         self.words = [str(records), kernel, *manners, *self.meanwhile]
-        self.reader, self.writer = Reader(text, reads), Writer(writes)
-        self.run = plain_model.Run(records)
+        self.pump = Pump(text, reads)
+
+    def outcomes(self) -> Iterator["Outcome"]:
+        """All that may come of it, by when its threads come to run.
+
+        Behind each call that waits there may be no room for the seventeenth request, or the call goes on before that.
+        """
+        talk = Talk(self, len(self.pump.requests) + 1)
+        yield from talk.outcomes()
+        for number in sorted(talk.waited):
+            if number + AHEAD_MOST < len(self.pump.requests):
+                yield from Talk(self, number + AHEAD_MOST + 1).outcomes()
+
+    def wanted(self) -> Iterator[bytes]:
+        """What the trial may print."""
+        return (outcome.text() for outcome in self.outcomes())
+
+
+class Talk:
+    """What a session comes to, served by the model, where there is no room for the request with this number."""
+
+    def __init__(self, session: Session, limit: int) -> None:
+        self.session = session
+        self.limit = limit
+        self.run = plain_model.Run(session.records)
+        self.meanwhile = session.meanwhile
         self.process: int | None = None
         self.is_spent = False
-        self.pending = b""
+        self.taken = 0
+        self.waited: set[int] = set()
+        self.answered = bytearray()
         self.answers = 0
         self.receipts: list[str] = []
 
-    def wanted(self) -> bytes:
-        """What the trial must print."""
-        end = self.end()
-        lines = [
-            f"written {self.writer.text.hex()}",
-            f"end {end}",
-            f"answers {self.answers}",
-            self.reader.line("reads"),
-            self.writer.line("writes"),
-            f"flushes {self.writer.flushes}",
-            *(self.receipts or ["no seat"]),
-            f"records {self.run.records} in {self.run.world.bytes_in} out {self.run.world.bytes_out}",
-        ]
-        return "".join(f"{line}\n" for line in lines).encode()
-
-    def end(self) -> str:
-        """Serves the session to its end."""
+    def outcomes(self) -> Iterator["Outcome"]:
+        """All that may come of it, by when the answers are written."""
+        states = {Sent()}
         end = ""
+        for writing in self.steps():
+            if isinstance(writing, str):
+                end, writing = writing, Writing.IS
+            stand = self.stand()
+            unsent = {sent for sent in states if sent.size < stand.size}
+            if writing == Writing.IS:
+                states -= unsent
+            elif writing == Writing.IF_MUCH:
+                unsent = {sent for sent in unsent if stand.size - sent.size >= GATHERED_MOST}
+                states -= unsent
+            elif writing == Writing.MAY_BE_ONCE:
+                unsent = {sent._replace(is_cut=True) for sent in unsent if not sent.is_cut}
+            for sent in unsent:
+                after, is_whole = written(self.session.writes, sent, stand.size)
+                if is_whole:
+                    states.add(after)
+                else:
+                    yield Outcome(self, stand, after, "WriteFault")
+            if not states:
+                return
+        yield from (Outcome(self, stand, sent, end) for sent in states)
+
+    def stand(self) -> Stand:
+        """How far it has come."""
+        return Stand(
+            self.taken,
+            self.answers,
+            len(self.answered),
+            len(self.receipts),
+            self.run.records,
+            self.run.world.bytes_in,
+            self.run.world.bytes_out,
+            self.process is not None and not self.is_spent,
+        )
+
+    def steps(self) -> Iterator[Writing | str]:
+        """Takes up the requests. It stops where answers may be written, and tells the end last."""
+        pump = self.session.pump
         try:
-            self.read()
+            for self.taken, line in enumerate(pump.requests[: self.limit - 1], 1):
+                yield Writing.IF_MUCH
+                yield from self.take(line)
+                yield self.writing()
+            yield pump.end if self.limit > len(pump.requests) else "Ahead"
         except Over as over:
-            end = over.end
-        if end != "WriteFault" and not self.send():
-            end = "WriteFault"
-        if self.process is not None and not self.is_spent:
-            if self.kernel == "forgets-all":
-                return "Foreign"
-            self.hang_up()
-        return f"WriteFault {len(self.writer.text)}" if end == "WriteFault" else end
+            yield over.end
 
-    def read(self) -> None:
-        """Takes the requests of each piece, and writes their answers."""
-        seen = b""
-        while True:
-            piece = self.reader.piece()
-            if isinstance(piece, str):
-                raise Over(piece)
-            if not piece:
-                raise Over("Closed")
-            seen += piece
-            stream = Stream("requests", seen)
-            for _, line in stream.frames:
-                if len(self.pending) >= GATHERED_MOST:
-                    self.flush()
-                self.take(line)
-            self.flush()
-            if stream.fault:
-                raise Over("Malformed")
-            seen = seen[stream.whole :]
+    def writing(self) -> Writing:
+        """Whether answers are written before the next request.
 
-    def send(self) -> bool:
-        """Writes the answers that stand ready: whether the writer takes them."""
-        some, self.pending = self.pending, b""
-        return self.writer.write(some)
+        They are where a piece ends, but for those behind a call that waits. The thread that waits answers too: once as
+        it starts, and whenever such a call has gone on.
+        """
+        since = self.taken - max(self.waited, default=-AHEAD_MOST)
+        if self.taken in self.session.pump.piece_ends and since > AHEAD_MOST:
+            return Writing.IS
+        return Writing.MAY_BE if self.waited else Writing.MAY_BE_ONCE
 
-    def flush(self) -> None:
-        """Writes the answers that stand ready, or ends the session."""
-        if not self.send():
-            raise Over("WriteFault")
-
-    def take(self, line: str) -> None:
+    def take(self, line: str) -> Iterator[Writing]:
         """Takes up a request, which is told as its line."""
         if (self.process is None) != (line == "join" or line.endswith(" attach = still")):
             raise Over("Malformed")
         if self.process is not None:
-            self.call(line)
+            yield from self.call(line)
         elif line == "join":
             self.open(plain_model.Act(None, "join"))
         else:
@@ -278,17 +377,18 @@ class Session:
             self.is_spent = True
             raise Over("Closed")
 
-    def call(self, line: str) -> None:
+    def call(self, line: str) -> Iterator[Writing]:
         """Takes up a call, and goes on with it until it has ended."""
         act = plain_model.read_act(line[len("- ") : -len(" = still")].encode("latin-1"))
         outcome = self.act(act._replace(actor=self.process))[1]
         while outcome.startswith(("parked ", "part ")):
-            self.flush()
+            self.waited.add(self.taken)
+            yield Writing.IS
             outcome = self.finish()
 
     def finish(self) -> str:
         """Takes up the call that waits."""
-        if self.kernel == "forgets-waiting":
+        if self.session.kernel == "forgets-waiting":
             self.is_spent = True
             raise Over("Foreign")
         resume = plain_model.Act(self.process, "resume")
@@ -320,7 +420,7 @@ class Session:
 
     def answer(self, payload: bytes) -> None:
         """Gives an answer, which is to be written."""
-        self.pending += framed(payload)
+        self.answered += framed(payload)
         self.answers += 1
 
     def hang_up(self) -> None:
@@ -346,6 +446,39 @@ class Session:
                     own.discard(act.actor)
 
 
+class Outcome(NamedTuple):
+    """What may come of a session: how far it came, what became of its writer, and its end, but for the process's."""
+
+    talk: Talk
+    stand: Stand
+    sent: Sent
+    end: str
+
+    def text(self) -> bytes:
+        """What the trial prints."""
+        talk, stand, sent, end = self
+        receipts, records = talk.receipts[: stand.receipts], stand.records
+        if end == "WriteFault":
+            end = f"WriteFault {sent.size}"
+        if stand.is_alive and talk.session.kernel == "forgets-all":
+            end = "Foreign"
+        elif stand.is_alive:
+            receipts.append(f"{records} p{talk.process} exit = ok")
+            records += 1
+        lines = [
+            f"written {talk.answered[: sent.size].hex()}",
+            f"end {end}",
+            f"answers {stand.answers}",
+            # once the session is over, the requests behind it are read as far as there is room for them
+            f"reads {talk.session.pump.line(min(talk.limit, stand.taken + AHEAD_MOST + 1))}",
+            f"writes {sent.calls} {sent.interruptions} {'failed' if sent.failed else 'whole'}",
+            f"flushes {sent.flushes}",
+            *(receipts or ["no seat"]),
+            f"records {records} in {stand.bytes_in} out {stand.bytes_out}",
+        ]
+        return "".join(f"{line}\n" for line in lines).encode()
+
+
 # ---- comparing
 
 
@@ -354,12 +487,19 @@ def ran(trial: str, session: Session) -> Ran:
     return run([trial, *session.words], session.text)
 
 
-def compare(wanted: bytes, given: Ran) -> None:
-    """Fails unless the trial gave just this."""
+def compare(wanted: Iterable[bytes], given: Ran) -> None:
+    """Fails unless the trial gave just one of these."""
     if given.status != 0 or given.stderr:
         raise Failure(f"status {given.status}, {given.stderr[:200]!r}")
-    if given.stdout != wanted:
-        raise Failure(difference(wanted, given.stdout))
+    first = None
+    count = 0
+    for one in wanted:
+        if one == given.stdout:
+            return
+        first = first or one
+        count += 1
+    assert first
+    raise Failure(f"{difference(first, given.stdout)}, and so it is with {count - 1} others")
 
 
 def check(trial: str, text: bytes, records: int = 10_000, **more: Any) -> None:
@@ -376,14 +516,23 @@ PIPED = "00000012 01 0000000000000001 04 00000000 00000001"
 FORKED = "00000012 01 0000000000000002 02 0000000000000001"
 WAITED = "0000000e 01 0000000000000003 07 00000000"
 GOT = "00000013 01 0000000000000006 03 00000005 68656c6c6f"
+PARKED = "0000000e 01 0000000000000002 07 00000000"
 
 JOIN_PIPE = "00000001 01 00000001 1a 0000"
 JOIN_PIPE_FORK_READ = "00000001 01 00000001 1a 00000001 1f 00000009 12 00000000 00000005"
 JOIN_PIPE_READ = "00000001 01 00000001 1a 00000009 12 00000000 00000005"
 WRITER = ("p1 attach", "p1 write 1 x68656c6c6f")
 
-# What it is, what is sent, what takes place meanwhile, and of what comes of it: what is written, the end, how many
-# records, and the last receipt.
+# An attach of a process that is not there, and a close of what is not open; and how they are answered.
+ATTACH = "00000005 02 00000009"
+UNATTACHED = "0000000b 01 0000000000000000 06 10"
+CLOSE = "00000005 11 00000009"
+UNCLOSED = [f"0000000b 01 {place:016x} 06 01" for place in range(24)]
+
+# Of what comes of a session: what is written, the end, how many records, and the last receipt.
+Row = tuple[list[str], str, int, str]
+
+# What it is, what is sent, what takes place meanwhile, and what comes of it.
 WRITTEN_OUT: list[tuple[str, str, Sequence[str], list[str], str, int, str]] = [
     ("a pipe, and half a request", JOIN_PIPE, (), [OPENED, PIPED], "Closed", 3, "2 p0 exit = ok"),
     (
@@ -399,7 +548,25 @@ WRITTEN_OUT: list[tuple[str, str, Sequence[str], list[str], str, int, str]] = [
         "a read that waits for nobody",
         JOIN_PIPE_READ,
         (),
-        [OPENED, PIPED, "0000000e 01 0000000000000002 07 00000000"],
+        [OPENED, PIPED, PARKED],
+        "Closed",
+        4,
+        "3 p0 exit = ok",
+    ),
+    (
+        "sixteen requests behind a read that waits",
+        JOIN_PIPE_FORK_READ + CLOSE * 16,
+        WRITER,
+        [OPENED, PIPED, FORKED, WAITED, GOT, *UNCLOSED[7:23]],
+        "Closed",
+        24,
+        "23 p0 exit = ok",
+    ),
+    (
+        "requests behind a read that waits for nobody",
+        JOIN_PIPE_READ + CLOSE * 40,
+        (),
+        [OPENED, PIPED, PARKED],
         "Closed",
         4,
         "3 p0 exit = ok",
@@ -410,9 +577,9 @@ WRITTEN_OUT: list[tuple[str, str, Sequence[str], list[str], str, int, str]] = [
     ("a second join", "00000001 01 00000001 01", (), [OPENED], "Malformed", 2, "1 p0 exit = ok"),
     (
         "an attach of nobody",
-        "00000005 02 00000009 00000001 1a",
+        f"{ATTACH} 00000001 1a",
         (),
-        ["0000000b 01 0000000000000000 06 10"],
+        [UNATTACHED],
         "Closed",
         1,
         "0 p9 attach = error ESRCH",
@@ -432,6 +599,17 @@ WRITTEN_OUT: list[tuple[str, str, Sequence[str], list[str], str, int, str]] = [
 ]
 
 
+def told(given: Ran) -> tuple[str, ...]:
+    """What is written out of what the trial printed: what was written, the end, the records and the last receipt."""
+    lines = given.stdout.decode().splitlines()
+    return lines[0], lines[1], lines[-1].split(" ")[1], lines[-2]
+
+
+def as_told(written: Iterable[str], end: str, records: int, last: str) -> tuple[str, ...]:
+    """The same, as it has to be."""
+    return f"written {''.join(written).replace(' ', '')}", f"end {end}", str(records), last
+
+
 def written_as_told(
     trial: str,
     text: str,
@@ -440,40 +618,79 @@ def written_as_told(
     end: str,
     records: int,
     last: str,
+    calls: Sequence[str] = (),
     **more: Any,
 ) -> None:
-    """What the trial prints is what is written out, and what the model gives."""
+    """What the trial prints is what is written out, with these lines of calls, and what the model gives."""
     session = Session(bytes.fromhex(text), meanwhile=meanwhile, **more)
     given = ran(trial, session)
     compare(session.wanted(), given)
-    lines = given.stdout.decode().splitlines()
-    told = (lines[0], lines[1], lines[-1].split(" ")[1], lines[-2])
-    wanted = (f"written {''.join(written).replace(' ', '')}", f"end {end}", str(records), last)
-    if told != wanted:
-        raise Failure(f"wanted {wanted}, given {told}")
+    same(as_told(written, end, records, last), told(given))
+    require(set(calls) <= set(given.stdout.decode().splitlines()), f"no {calls} in {given.said()}")
 
 
 def written_out(trial: str) -> Iterator[Case]:
     """Sessions of which each has to give what is written here."""
-    for what, *row in WRITTEN_OUT:
-        yield what, partial(written_as_told, trial, *row)
-    # two answers of 22 bytes each, by one byte a call
+    for what, text, *row in WRITTEN_OUT:
+        yield what, partial(written_as_told, trial, text, *row)
+        yield f"{what}, by one byte", partial(written_as_told, trial, text, *row, reads=Manner(1), writes=Manner(1))
+    yield from faults(trial)
+    yield "seventeen requests behind a read that waits", partial(ahead_or_not, trial)
+    yield from left(trial)
+
+
+def faults(trial: str) -> Iterator[Case]:
+    """Two answers of 22 bytes each, of requests that are read by one byte, and each read or each write fails."""
+    case = partial(written_as_told, trial, JOIN_PIPE, ())
     both = "".join([OPENED, PIPED]).replace(" ", "")
     for fails_at in range(1, 14):
-        told = 0 if fails_at < 6 else 22 if fails_at < 11 else 44
-        records = {0: 0, 22: 2, 44: 3}[told]
+        size = 0 if fails_at < 6 else 22 if fails_at < 11 else 44
+        records = {0: 0, 22: 2, 44: 3}[size]
         last = f"{records - 1} p0 exit = ok" if records else "no seat"
-        wanted = ([both[: 2 * told]], "ReadFault", records, last)
-        case = partial(written_as_told, trial, JOIN_PIPE, (), *wanted, reads=Manner(1, fails_at))
-        yield f"a fault at read {fails_at}", case
+        fault = partial(case, [both[: 2 * size]], "ReadFault", records, last, [f"reads {fails_at} 0 failed"])
+        for most in (2**20, 1):
+            name = f"a fault at read {fails_at}, written by {most}"
+            yield name, partial(fault, reads=Manner(1, fails_at), writes=Manner(most))
     for fails_at in range(1, 45):
         records = 2 if fails_at <= 22 else 3
-        wanted = ([both[: 2 * fails_at - 2]], f"WriteFault {fails_at - 1}", records, f"{records - 1} p0 exit = ok")
-        manners = {"reads": Manner(1), "writes": Manner(1, fails_at)}
-        yield f"a fault at write {fails_at}", partial(written_as_told, trial, JOIN_PIPE, (), *wanted, **manners)
-    wanted = ([both[:60]], "WriteFault 30", 3, "2 p0 exit = ok")
-    case = partial(written_as_told, trial, JOIN_PIPE, (), *wanted, writes=Manner(30, 2))
-    yield "a writer that takes 30 bytes and fails", case
+        fault = partial(case, [both[: 2 * fails_at - 2]], f"WriteFault {fails_at - 1}", records)
+        calls = ["reads 13 0 whole", f"writes {fails_at} 0 failed", f"flushes {records - 2}"]
+        fault = partial(fault, f"{records - 1} p0 exit = ok", calls)
+        yield f"a fault at write {fails_at}", partial(fault, reads=Manner(1), writes=Manner(1, fails_at))
+    some = partial(case, [both[:74]], "WriteFault 37", 3, "2 p0 exit = ok", ["writes 4 0 failed", "flushes 1"])
+    yield "a writer that takes 15 bytes and fails", partial(some, reads=Manner(1), writes=Manner(15, 4))
+
+
+def ahead_or_not(trial: str) -> None:
+    """The last of the requests is answered, or there was no room for it."""
+    session = Session(bytes.fromhex(JOIN_PIPE_FORK_READ + CLOSE * 17), meanwhile=WRITER)
+    given = ran(trial, session)
+    compare(session.wanted(), given)
+    front = [OPENED, PIPED, FORKED, WAITED, GOT]
+    all_answered = as_told([*front, *UNCLOSED[7:24]], "Closed", 25, "24 p0 exit = ok")
+    one_dropped = as_told([*front, *UNCLOSED[7:23]], "Ahead", 24, "23 p0 exit = ok")
+    require(told(given) in (all_answered, one_dropped), given.said())
+
+
+# What a session is over with, how its writer answers, and what comes of it.
+LEFT: list[tuple[str, str, Manner, Row]] = [
+    ("a refused opening", ATTACH, PLAIN, ([UNATTACHED], "Closed", 1, "0 p9 attach = error ESRCH")),
+    ("a call before an opening", CLOSE, PLAIN, ([], "Malformed", 0, "no seat")),
+    ("a second join", "00000001 01 00000001 01", PLAIN, ([OPENED], "Malformed", 2, "1 p0 exit = ok")),
+    ("a wait for nobody", JOIN_PIPE_READ, PLAIN, ([OPENED, PIPED, PARKED], "Closed", 4, "3 p0 exit = ok")),
+    ("a write that fails", "00000001 01", Manner(fails_at=1), ([], "WriteFault 0", 2, "1 p0 exit = ok")),
+    ("a flush that fails", "00000001 01", Manner(flush_fails_at=1), ([OPENED], "WriteFault 22", 2, "1 p0 exit = ok")),
+]
+
+
+def left(trial: str) -> Iterator[Case]:
+    """Sessions that are over early: what comes behind that is read, up to the request for which there is no room."""
+    for what, text, writes, row in LEFT:
+        size = len(bytes.fromhex(text))
+        for behind in (0, 15, 16, 17, 18, 40):
+            reads = size + 9 * behind + 1 if behind <= AHEAD_MOST else size + 9 * (AHEAD_MOST + 1)
+            case = partial(written_as_told, trial, text + CLOSE * behind, (), *row, [f"reads {reads} 0 whole"])
+            yield f"{behind} requests behind {what}", partial(case, reads=Manner(1), writes=writes)
 
 
 # ---- streams that are cut, that fail and that are interrupted
@@ -507,9 +724,8 @@ def troubled(trial: str) -> Iterator[Case]:
         for reads, writes in ((15, 0), (0, 15), (15, 15), (16, 0), (0, 16), (17, 1), (1, 40)):
             manners = {"reads": Manner(9, 0, reads), "writes": Manner(11, 0, writes)}
             yield f"{what}, {reads} and {writes} interruptions", partial(case, **manners)
-        session = Session(text, meanwhile=meanwhile, reads=Manner(7))
-        session.wanted()
-        for at in range(1, session.writer.flushes + 2):
+        sent = [outcome.sent for outcome in Session(text, meanwhile=meanwhile, reads=Manner(7)).outcomes()]
+        for at in range(1, max(one.flushes for one in sent) + 2):
             manners = {"reads": Manner(7), "writes": Manner(flush_fails_at=at)}
             yield f"{what}, flush {at} fails", partial(case, **manners)
         for kernel in ("forgets-waiting", "forgets-all"):
@@ -528,13 +744,29 @@ def troubled(trial: str) -> Iterator[Case]:
 def failing(what: str, text: bytes, meanwhile: tuple[str, ...], most: int, case: Callable[..., None]) -> Iterator[Case]:
     """A session of which each read and each write fails in turn."""
     session = Session(text, meanwhile=meanwhile, reads=Manner(most), writes=Manner(most))
-    session.wanted()
-    for at in range(1, session.reader.calls + 2):
+    for at in range(1, len(session.pump.reads) + 2):
         yield f"{what}, read {at} by {most} fails", partial(case, reads=Manner(most, at))
-    for at in range(1, session.writer.calls + 2):
+    for at in range(1, max(outcome.sent.calls for outcome in session.outcomes()) + 2):
         fails = partial(case, writes=Manner(most, at))
         yield f"{what}, write {at} by {most} fails", partial(fails, reads=Manner(most))
         yield f"{what}, read at once, write {at} by {most} fails", fails
+
+
+# ---- many requests behind a call that waits
+
+
+def behind(trial: str) -> Iterator[Case]:
+    """Sessions with so many requests behind a call that waits, as it goes on and as the next such call is given up."""
+    meanwhile = (*WRITER, *["p1 fstat 0"] * 200)
+    for number, most in itertools.product((1, 15, 16, 17, 18, 33, 34, 40), (1, 9, 2**20)):
+        calls = ["p0 pipe", "p0 fork", "p0 read 0 5", *["p0 close 9"] * number]
+        for what, more in (("", ()), (", and of a read that waits", ("p0 read 0 5", *["p0 dup 9"] * 20))):
+            case = partial(check, trial, session_frames([*calls, *more]), meanwhile=meanwhile, reads=Manner(most))
+            name = f"{number} requests behind a read that waits{what}, by {most}"
+            for writes in (PLAIN, Manner(7), Manner(2**20, 5), Manner(1, 200), Manner(flush_fails_at=4)):
+                yield f"{name}, {writes}", partial(case, writes=writes)
+            for records in (204, 215, 225):
+                yield f"{name}, in {records} records", partial(case, records=records)
 
 
 # ---- much
@@ -568,8 +800,8 @@ def much(trial: str) -> Iterator[Case]:
 def often_read(trial: str, length: int) -> None:
     """A join, and the begin of a frame that goes on for ever, by one byte a read."""
     text = (JOIN + call_frame("p0 fstat 9") * (length // 9))[:length]
-    session = Session(text, records=1_000_000, reads=Manner(1), writes=Manner(2**20))
-    given = ran(trial, session)
+    words = ["1000000", "knows", "1,0,0,0", f"{2**20},0,0,0"]
+    given = run([trial, *words], text, seconds=OFTEN_SECONDS)
     lines = given.stdout.decode().splitlines()
     calls = (length - 5) // 9
     end, reads = ("Closed", length + 1) if length < READS_MAX else ("ReadFault", READS_MAX)
@@ -586,9 +818,17 @@ def refusals(refuser: Refuser, trial: str) -> Iterator[Case]:
     """Sessions with each allocation refused in turn."""
     for what, text, meanwhile in long_ones():
         for most in (2**20, 13):
-            for fails_at, met in ((0, ("NoMemory", "Closed")), (3, ("NoMemory", "WriteFault"))):
+            for fails_at, last in ((0, "Closed"), (3, "WriteFault")):
+                met = ("NoThread", "NoMemory", last)
                 name = f"{what}, by {most}, write {fails_at} fails, each allocation refused"
                 yield name, partial(sweep, refuser, trial, text, meanwhile, most, fails_at, met)
+
+
+# What is printed of a session for which no thread can be started.
+UNSTARTED = (
+    b"written \nend NoThread\nanswers 0\nreads 0 0 whole\nwrites 0 0 whole\nflushes 0\nno seat\n"
+    b"records 0 in 0 out 0\n"
+)
 
 
 class Lines:
@@ -618,11 +858,12 @@ def sweep(
 
     words = [trial, *session(meanwhile, fails_at).words]
     whole, count = refuser.run(words, text)
-    if whole != (0, session(meanwhile, fails_at).wanted(), b"") or count == 0:
-        raise Failure(f"nothing refused: {whole.said()}")
-    right = Lines(session(meanwhile, 0).wanted())
+    compare(session(meanwhile, fails_at).wanted(), whole)
+    require(count, "no allocation is counted")
+    right = Lines(next(session(meanwhile, 0).wanted()))
     # an act of the others may be refused too
-    others = [session(meanwhile[:at] + meanwhile[at + 1 :], fails_at).wanted() for at in range(len(meanwhile))]
+    fewer = (meanwhile[:at] + meanwhile[at + 1 :] for at in range(len(meanwhile)))
+    others = {text for acts in fewer for text in session(acts, fails_at).wanted()}
     ends: collections.Counter[str] = collections.Counter()
     for number in range(1, count + 1):
         for last in (number, NEVER):
@@ -633,6 +874,8 @@ def sweep(
                 raise Failure(f"allocation {number} refused: {end.said()}")
             elif end.stdout in others:
                 ends["others"] += 1
+            elif end.stdout == UNSTARTED:
+                ends["NoThread"] += 1
             else:
                 ends[judged(right, Lines(end.stdout), number)] += 1
     for wanted in met:
@@ -704,6 +947,10 @@ def random_session(pick: random.Random) -> tuple[bytes, list[str]]:
     meanwhile = [f"p1 {filled(pick, pick.choice(OTHERS))}" for _ in range(pick.randrange(6))]
     if pick.random() < 0.8:
         meanwhile.insert(0, "p1 attach")
+    if pick.random() < 0.15:
+        lines[0:0] = ["p0 pipe", "p0 fork", "p0 read 0 5"]
+        lines += [f"p0 {filled(pick, pick.choice(CALLS))}" for _ in range(pick.randrange(40))]
+        meanwhile[0:0] = WRITER
     text = session_frames(lines)
     if pick.random() < 0.1:
         text = attach_frame(pick.choice([0, 1])) + text[len(JOIN) :]
@@ -748,6 +995,7 @@ def main(words: Sequence[str]) -> int:
         refuser = Refuser(build(folder))
         count.part("sessions that are written out", written_out(trial))
         count.part("cut, failing and interrupted", troubled(trial))
+        count.part("behind a call that waits", behind(trial))
         count.part("much", much(trial))
         count.part("each allocation refused", refusals(refuser, trial))
         count.part("random sessions", random_sessions(trial, args.seed, args.sessions))
