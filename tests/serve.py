@@ -43,7 +43,7 @@ from collections.abc import Callable, Iterator, Sequence
 from functools import partial
 
 from parts import crowds, python_client
-from support.counting import Case, Count, Failure, require
+from support.counting import Case, Count, Failure, require, same
 from support.frames import JOIN, attach_frame, call_frame, framed, recorded, u32
 from support.options import add_count, add_path, add_seed, end_without
 from support.places import FDREF
@@ -93,11 +93,11 @@ def worked_at_once(program: str) -> None:
         )
         first, second = clients
         first.send(sent[0])
-        first.stop()
         waiting = first.receive(22 * 3 + 18)
         second.send(sent[1])
         answers = [waiting + first.receive(23), second.receive(14 + 22)]
-        # not before: its exit might be recorded before the first client's resume
+        # not before: a call that waits is given up where its client stops
+        first.stop()
         second.stop()
         require(answers == wanted, f"given {[answer.hex() for answer in answers]}")
         server.ended(report(2, 10, 5, 5))
@@ -412,22 +412,6 @@ def hung_up_beside_others(program: str, text: bytes, answers: Sequence[str]) -> 
         require(is_hung_up, "it is not hung up while the other session goes on")
 
 
-def vanishing_while_it_waits(program: str) -> None:
-    """A client that vanishes while its process waits: the process gets what it waits for, and then exits."""
-    with Server(program, 2) as server:
-        reader, writer = server.client(), server.client()
-        for request, wanted in (("join", "0 0"), ("pipe", "1 0 1"), ("fork", "2 1"), ("read 0 5", "3 parked 0")):
-            reader.ask(request)
-            reader.gets(wanted)
-        reader.vanish()
-        for request, wanted in (("attach 1", "4 ok"), ("fstat 0", "5 pipe 0 0"), ("write 1 x68656c6c6f", "6 5")):
-            writer.ask(request)
-            writer.gets(wanted)
-        require(server.is_running(), "the server has ended")
-        writer.vanish()
-        server.ended(report(2, 11, 5, 5))
-
-
 def one_bad_among_good(program: str) -> None:
     """Clients that send garbage or vanish do not disturb those beside them."""
     bad = [b"GET / HTTP/1.0\r\n\r\n", JOIN * 2, framed(b""), JOIN + b"\0\0", b"\xff" * 100_000, b""]
@@ -536,7 +520,6 @@ def hostile(program: str) -> Iterator[Case]:
         ("an attach of nobody", attach_frame(9), ["1 error ESRCH"]),
     ]:
         yield f"{what}, beside another session", partial(hung_up_beside_others, program, text, answers)
-    yield "vanishing while it waits", partial(vanishing_while_it_waits, program)
     yield "bad clients among good ones", partial(one_bad_among_good, program)
     ways: list[tuple[str, Callable[[Client], None]]] = [
         ("vanishes", Client.vanish),
@@ -752,7 +735,8 @@ def output_is_closed(program: str) -> None:
         server.ended(b"", 4, b"cannot write\n")
 
 
-# Refuses the Nth thread that is started. It is built as the library that refuses allocations, without headers.
+# Refuses threads, from the REFUSE_FIRSTth that is started to the REFUSE_LASTth. It is built as the library that refuses
+# allocations, without headers.
 FEW_THREADS = r"""
 extern void *dlsym(void *, const char *);
 extern char *getenv(const char *);
@@ -760,7 +744,8 @@ extern unsigned long strtoul(const char *, char **, int);
 static unsigned long started;
 int pthread_create(void *thread, const void *how, void *(*run)(void *), void *with) {
     int (*create)(void *, const void *, void *(*)(void *), void *) = dlsym((void *)-1L, "pthread_create");
-    if (++started >= strtoul(getenv("REFUSE_THREAD"), 0, 10))
+    ++started;
+    if (started >= strtoul(getenv("REFUSE_FIRST"), 0, 10) && started <= strtoul(getenv("REFUSE_LAST"), 0, 10))
         return 11;
     return create(thread, how, run, with);
 }
@@ -778,22 +763,48 @@ def joined(server: Server) -> Client | None:
     return client
 
 
+def refusing_threads(folder: str, first: int, last: int) -> dict[str, str]:
+    """The environment of a program to which the threads from `first` to `last` are refused, counted from 1."""
+    library = build(folder, FEW_THREADS)
+    return {**os.environ, "LD_PRELOAD": library, "REFUSE_FIRST": str(first), "REFUSE_LAST": str(last)}
+
+
+def ask_once(client: Client) -> None:
+    """Asks about a descriptor, and goes away."""
+    client.ask("fstat 0")
+    client.answer()
+    client.vanish()
+
+
 def few_threads(program: str, number: int) -> None:
-    """Thread N cannot be started: the sessions before it are served to their end, and that is told."""
+    """Thread N cannot be started, nor any later one: the sessions before are served to their end, and that is told."""
     with tempfile.TemporaryDirectory(prefix="fdref-") as folder:
-        library = build(folder, FEW_THREADS)
-        env = {**os.environ, "LD_PRELOAD": library, "REFUSE_THREAD": str(number)}
-        with Server(program, 5, env=env) as server:
+        with Server(program, 5, env=refusing_threads(folder, number, 1_000)) as server:
             clients = []
             while client := joined(server):
                 clients.append(client)
-            # one thread writes the trace
-            require(len(clients) == max(number - 2, 0), f"{len(clients)} sessions are served")
+            # one thread writes the trace, and a session has two
+            require(len(clients) == max(number - 2, 0) // 2, f"{len(clients)} sessions are served")
+            if number > 1 and number % 2:
+                # it was the thread that reads; the next session has no thread at all
+                require(joined(server) is None, "a session without threads is served")
             for client in clients:
-                client.ask("fstat 0")
-                client.answer()
-                client.vanish()
+                ask_once(client)
             server.ended(b"", 5, b"no thread\n")
+
+
+def no_reader(program: str, number: int) -> None:
+    """The thread that reads of session N alone cannot be started: the others are served, and the line is written."""
+    sessions, thread = 3, 2 * number + 1
+    with tempfile.TemporaryDirectory(prefix="fdref-") as folder:
+        with Server(program, sessions, env=refusing_threads(folder, thread, thread)) as server:
+            clients = [joined(server) for _ in range(sessions)]
+            same([number], [at for at, client in enumerate(clients, 1) if client is None])
+            for client in clients:
+                if client is not None:
+                    ask_once(client)
+            # a join, a call and an exit of two sessions, and the closing
+            server.ended(report(sessions, 7, 0, 0), 5, b"no thread\n")
 
 
 def system_cases(program: str) -> Iterator[Case]:
@@ -815,8 +826,10 @@ def system_cases(program: str) -> Iterator[Case]:
         yield f"{more} descriptors more", partial(few_descriptors, program, more, served)
     yield "a full device as output", partial(output_is_full, program)
     yield "nobody reads the output", partial(output_is_closed, program)
-    for number in (1, 2, 3, 6):
+    for number in (1, 2, 3, 4, 7):
         yield f"no thread {number}", partial(few_threads, program, number)
+    for number in (1, 2, 3):
+        yield f"no thread that reads of session {number}", partial(no_reader, program, number)
 
 
 # ---- the whole

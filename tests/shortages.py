@@ -17,7 +17,8 @@ Each of these runs must end by itself, while all clients are answered or hung up
 
   - with status 0 and a line that says what the trace holds, which has all that clients were told,
   - with status 4 and a line, where the trace is not whole or no connection could be taken,
-  - with status 5, `no memory` or `no thread`, and nothing on standard output.
+  - with status 5, `no memory` or `no thread`, and nothing on standard output,
+  - with status 5, `no thread` and a line, where the thread that reads of a session could not be started.
 
 A trace that was begun is legal to its last whole record. Where one allocation is refused, one act is refused for
 want of memory at most, and if nobody was hung up on, all requests were answered. Some acts are refused so and given
@@ -27,9 +28,9 @@ The trial is crates/run_trial/out/run_trial where no PATH is given. It is a run 
 sockets, in which a gate holds the answer at place 0 back until an answer of the other session was let through. Each of
 its allocations is refused in the same two ways, again and again (10 times, or as `--rounds` says), since its threads
 take turns as they like. It must end by itself, with status 0 and its report, in which sessions may have ended for want
-of memory, with a writer that failed, or with an answer that was held back to the end, and the trace may have a fault;
-or with the status of `no memory` or of `no thread`. Where one allocation is refused, one thing goes another way at
-most, besides what is held back for it.
+of memory or of a thread that reads, with a writer that failed, or with an answer that was held back to the end, and the
+trace may have a fault; or with the status of `no memory` or of `no thread`. Where one allocation is refused, one thing
+goes another way at most, besides what is held back for it.
 
 A failure is told in one line. The last line is `N passed, M failed`, and the exit status is 1 where M is above 0.
 """
@@ -172,7 +173,7 @@ def is_right(run: Run) -> None:
     audit = Audit(run.trace or b"")
     lines = audit.frames.lines
     same(legal(len(lines), audit.frames.rest), audit.verdict)
-    if ran.status == 5:
+    if ran.stderr == b"no memory\n" or (ran.status == 5 and not ran.stdout):
         same(b"", ran.stdout)
     elif ran.stderr == b"trace fault\n":
         told = LINE.fullmatch(ran.stdout)
@@ -208,6 +209,7 @@ class Check:
         self.refuser = refuser
         self.ways: Ways = collections.Counter()
         self.given_again = 0
+        self.without_reader = 0
 
     def run(self, first: int, last: int) -> None:
         """One run with refusals, or without."""
@@ -216,6 +218,7 @@ class Check:
         if first == last:
             self.is_answered(run)
         self.ways[run.ran.status, run.ran.stderr] += 1
+        self.without_reader += run.ran.stderr == b"no thread\n" and run.ran.stdout != b""
 
     def is_answered(self, run: Run) -> None:
         """Whoever was not hung up on was answered, where one allocation was refused at most."""
@@ -228,6 +231,10 @@ class Check:
     def ended(self, end: tuple[int, bytes]) -> None:
         """Some runs ended so."""
         require(self.ways[end], "no run does")
+
+    def lacked_a_reader(self) -> None:
+        """Some session had no thread that reads, and the others were served."""
+        require(self.without_reader, "no run does")
 
     def gave_again(self) -> None:
         """Some act was refused and given again, and the conversation went on to its end."""
@@ -247,6 +254,7 @@ def check_server(count: Count, program: str, refuser: Refuser) -> None:
     for end in ENDS:
         if end[0] in (0, 5):
             count.check(f"ending so: {end}", partial(check.ended, end))
+    count.check("a session without a thread that reads", check.lacked_a_reader)
     count.check("an act given again", check.gave_again)
 
 

@@ -1,1 +1,1 @@
-"""Parts of tests/serve.py that have a file of their own."""
+"""Parts of tests that have a file of their own."""

@@ -23,8 +23,8 @@ NO_THREAD = Ran(6, b"", b"no thread\n")
 
 LINES = re.compile(
     r"sessions 2 records (\d+) in 0 out 0 trace (\d+)\n"
-    r"end (Closed|NoMemory|WriteFault \{ sent: \d+ \}) answers (\d)( held back)?\n"
-    r"end (Closed|NoMemory|WriteFault \{ sent: \d+ \}) answers (\d)( held back)?\n"
+    r"end (Closed|NoMemory|NoThread|WriteFault \{ sent: \d+ \}) answers (\d)( held back)?\n"
+    r"end (Closed|NoMemory|NoThread|WriteFault \{ sent: \d+ \}) answers (\d)( held back)?\n"
     r"(?:trace fault (Write|NoMemory)\n)?"
 )
 
@@ -32,8 +32,9 @@ LINES = re.compile(
 ENDS = ["no memory", "no thread", "a whole report"]
 # What went another way in a run with a report.
 NO_RECORD, NO_SESSION, NO_WRITE, NO_TRACE = "a call refused", "a session ended", "a writer failed", "a trace cut off"
+NO_READER = "a thread that reads not started"
 HELD = "a session held back"
-ENDS += [NO_RECORD, NO_SESSION, NO_WRITE, NO_TRACE, HELD]
+ENDS += [NO_RECORD, NO_SESSION, NO_WRITE, NO_TRACE, NO_READER, HELD]
 
 NOTHING_SENT = "WriteFault { sent: 0 }"
 
@@ -71,6 +72,10 @@ def records_of(end: End) -> range:
         # the first request was answered by a record, and the second by one or by a refusal
         same(2, end.answers)
         return range(2, 4)
+    if end.how == "NoThread":
+        # nothing was read
+        same(0, end.answers)
+        return range(0, 1)
     require(end.answers <= 2, f"{end.answers} answers")
     return range(0, 4)
 
@@ -95,6 +100,7 @@ def faults_of(report: Report) -> list[str]:
     found = []
     for end in report.ends:
         found += [NO_SESSION] * (end.how == "NoMemory")
+        found += [NO_READER] * (end.how == "NoThread")
         found += [NO_WRITE] * (end.how.startswith("WriteFault") and not end.is_held)
     found += [NO_TRACE] * (report.fault is not None)
     return found or [NO_RECORD] * (report.records < WHOLE_RECORDS)

@@ -13,6 +13,7 @@
 - `frames`: the bytes of sessions and traces, written and read
 - `auditing`: a plain auditor of traces, by the plain model
 - `serving`: a server whose trace is audited, and clients of it whose waits are bounded
+- `players`: clients that keep what they were told, and the traces of servers that run still
 - `refusing`: runs in which allocations are refused
 
 A test is a file tests/NAME.py. The first line of its docstring says what it asks and how long it takes, and
