@@ -42,9 +42,9 @@ RECORDS_MOST = 1_000_000
 # what it is, the words of the load (mode, connections, depth), how many requests each connection makes, and the ratio
 # that is aimed at
 BESIDE_ECHO = [
-    ("fstat, 1 connection, 1 in flight", "fstat", 1, 1, 100_000, 0.8),
-    ("fstat, 1 connection, 16 in flight", "fstat", 1, 16, 400_000, 0.4),
-    ("fstat, 64 connections, 1 in flight", "fstat", 64, 1, 6_000, 0.5),
+    ("fstat, 1 connection, 1 in flight", "fstat", 1, 1, 100_000, 0.85),
+    ("fstat, 1 connection, 16 in flight", "fstat", 1, 16, 400_000, 0.5),
+    ("fstat, 64 connections, 1 in flight", "fstat", 64, 1, 6_000, 1.0),
     ("pwrite of 8 bytes, 1 connection, 1 in flight", "pwrite", 1, 1, 100_000, None),
     ("pipe, 1 pair, 1 in flight", "pipe", 2, 1, 50_000, None),
     ("pipe, 16 pairs, 1 in flight", "pipe", 32, 1, 5_000, None),
@@ -68,6 +68,8 @@ class Bench:
         self.scale = scale
         self.rounds = rounds
         self.peak = 0
+        # how long a request kept a processor, in each run of a program
+        self.costs: dict[str, list[float]] = {}
         self.load = os.path.join(folder, "load")
         words = [compiler, "-std=c11", "-O2", "-Wall", "-Wextra", "-pedantic", "-pthread", "-o", self.load, str(LOAD)]
         subprocess.run(words, check=True)
@@ -98,7 +100,8 @@ class Bench:
         count = connections + (mode == "sleepers")
         with self.server(program, count) as server:
             rate = self.run("fdref", mode, connections, depth, requests)
-            stdout, status, self.peak = self.ended(server)
+            stdout, status, self.peak, spent = self.ended(server)
+        self.costs.setdefault(program, []).append(spent / (requests * max(connections, 1)))
         if status != 0 or not stdout.startswith(f"sessions {count} ".encode()):
             raise SystemExit(f"the server ended with status {status} and {stdout!r}")
         return rate
@@ -116,8 +119,8 @@ class Bench:
             self.ended(server)
         return (after - before) / IDLE_SECONDS
 
-    def ended(self, server: subprocess.Popen[bytes]) -> tuple[bytes, int, int]:
-        """What a server that ends by itself has printed, its status, and the most bytes that it had in memory."""
+    def ended(self, server: subprocess.Popen[bytes]) -> tuple[bytes, int, int, float]:
+        """What a server printed that ends by itself, its status, its most bytes of memory, its processor seconds."""
         watch = threading.Timer(SECONDS, server.kill)
         watch.start()
         assert server.stdout
@@ -125,7 +128,7 @@ class Bench:
         _, status, usage = os.wait4(server.pid, 0)
         watch.cancel()
         server.returncode = os.waitstatus_to_exitcode(status)
-        return stdout, server.returncode, usage.ru_maxrss * 1024
+        return stdout, server.returncode, usage.ru_maxrss * 1024, usage.ru_utime + usage.ru_stime
 
     def memory(self, program: str, requests: int) -> int:
         """The most bytes that fdref has in memory while it answers so many requests of one connection."""
@@ -163,6 +166,11 @@ def processor_seconds(pid: int) -> float:
     return sum(int(thread.read_text().split()[0]) for thread in threads) / 1e9
 
 
+def cost(bench: Bench, program: str) -> str:
+    """How long a request of a program kept a processor, in the middle of all runs since the last measure."""
+    return f"{statistics.median(bench.costs[program]) * 1e6:.2f} us of a processor"
+
+
 def beside(old: Sequence[float], new: float) -> str:
     """What the other fdref does, if there is one, and how many times as fast the new one is."""
     return f"; the other {old[0]:.0f}, times {new / old[0]:.2f}" if old else ""
@@ -173,14 +181,16 @@ def measure(bench: Bench, program: str, others: Sequence[str]) -> None:
     for what, mode, connections, depth, requests, wanted in BESIDE_ECHO:
         load = (mode, connections, depth, bench.count(requests))
         fdrefs = [partial(bench.fdref, it, *load) for it in (program, *others)]
+        bench.costs.clear()
         echo, fdref, *old = bench.in_turns(partial(bench.echo, *load), *fdrefs)
         ratio = f"ratio {fdref / echo:.2f}{aim(wanted)}"
-        print(f"{what}: fdref {fdref:.0f} a second, echo {echo:.0f}, {ratio}{beside(old, fdref)}", flush=True)
+        costs = ", ".join(cost(bench, it) for it in (program, *others))
+        print(f"{what}: fdref {fdref:.0f} a second, echo {echo:.0f}, {ratio}{beside(old, fdref)}; {costs}", flush=True)
     calls = bench.count(100_000)
     many, none = bench.in_turns(
         *(partial(bench.fdref, program, "sleepers", count, 1, calls) for count in (SLEEPERS, 0))
     )
-    times = f"times {none / many:.2f}{aim('at most 2')}"
+    times = f"times {none / many:.2f}{aim('at most 1.4')}"
     print(f"fstat beside {SLEEPERS} sleepers: {many:.0f} a second, beside none {none:.0f}, {times}", flush=True)
     few = bench.count(80_000)
     short, long = bench.in_turns(
