@@ -33,7 +33,7 @@ from parts import lost_crowds
 from support.auditing import legal
 from support.counting import Case, Count, Failure, require, same
 from support.frames import framed, request_frame, session_frames
-from support.options import add_count, add_path, add_seed, end_without
+from support.options import add_count, add_only, add_path, add_seed, end_without
 from support.places import FDREF
 from support.plain_model import data_text, read_data
 from support.players import Player, are_told, traced, until_traced
@@ -805,7 +805,7 @@ def main(words: Sequence[str]) -> int:
     add_seed(parser)
     add_count(parser, "--runs", 10, "how often what may go several ways is tried")
     parser.add_argument("--crowds", metavar="N", type=int, help="runs of 64 clients; 4, or a tenth of --runs")
-    parser.add_argument("--only", default="", metavar="WORD", help="only the parts that have this word in their name")
+    add_only(parser)
     args = parser.parse_args(words)
     program = args.program
     missing = end_without(program)
@@ -820,13 +820,7 @@ def main(words: Sequence[str]) -> int:
         ("clients that are hung up on", hung_up(program)),
         (f"64 clients of which half go, seed {args.seed}", lost_crowds.cases(program, args.seed, crowds)),
     ]
-    count = Count(TELL_MOST)
-    chosen = [(what, cases) for what, cases in parts if args.only in what]
-    for what, cases in chosen:
-        count.part(what, cases)
-    if not chosen:
-        count.add(0, 1)
-    return count.end()
+    return Count(TELL_MOST).parts(parts, args.only)
 
 
 if __name__ == "__main__":

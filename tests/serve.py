@@ -45,7 +45,7 @@ from functools import partial
 from parts import crowds, python_client
 from support.counting import Case, Count, Failure, require, same
 from support.frames import JOIN, attach_frame, call_frame, framed, recorded, u32
-from support.options import add_count, add_path, add_seed, end_without
+from support.options import add_count, add_only, add_path, add_seed, end_without
 from support.places import FDREF
 from support.refusing import build
 from support.serving import A_WHILE, ALL_RECORDS, SECONDS, Client, Server, outcome_of, report, serve_words, started
@@ -843,7 +843,7 @@ def main(words: Sequence[str]) -> int:
     add_count(parser, "--runs", 200, "runs of two clients in turns")
     add_count(parser, "--crowds", 3, "runs of 64 clients")
     add_count(parser, "--calls", 40, "random calls of each of the 64 clients")
-    parser.add_argument("--only", default="", metavar="WORD", help="only the parts that have this word in their name")
+    add_only(parser)
     args = parser.parse_args(words)
     program = args.program
     missing = end_without(program)
@@ -857,13 +857,7 @@ def main(words: Sequence[str]) -> int:
         ("two clients in turns", at_the_same_time(program, args.runs)),
         ("64 clients", crowds.cases(program, args.seed, args.crowds, args.calls)),
     ]
-    count = Count(TELL_MOST)
-    chosen = [(what, cases) for what, cases in parts if args.only in what]
-    for what, cases in chosen:
-        count.part(what, cases)
-    if not chosen:
-        count.add(0, 1)
-    return count.end()
+    return Count(TELL_MOST).parts(parts, args.only)
 
 
 if __name__ == "__main__":

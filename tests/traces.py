@@ -48,7 +48,7 @@ from support import plain_model
 from support.auditing import Frames, audited, illegal, legal, shown
 from support.counting import FAULTS, Case, Count, require, same
 from support.frames import ERRORS, TRACE_HEADER, trace_of, u32
-from support.options import add_count, add_path, add_seed, end_without
+from support.options import add_count, add_only, add_path, add_seed, end_without
 from support.places import FDREF, SCRATCH
 from support.running import Ran, run
 from support.runs import line_of
@@ -379,7 +379,7 @@ def main(words: Sequence[str]) -> int:
     add_count(parser, "--changed", 2_000, "traces with a record that is changed")
     add_count(parser, "--stride", 5_003, "of the sizes of a file for a long trace, take one in N")
     add_count(parser, "--jobs", 2, "how many run at a time")
-    parser.add_argument("--only", default="", metavar="WORD", help="only the parts that have this word in their name")
+    add_only(parser)
     args = parser.parse_args(words)
     program = args.program
     missing = end_without(program)

@@ -69,6 +69,15 @@ class Count:
         print(f"{name}: {part.line()}", flush=True)
         self.add(part.passed, part.failed)
 
+    def parts(self, parts: Iterable[tuple[str, Iterable[Case]]], only: str) -> int:
+        """Makes the checks of the parts that have this word in their name, one at least: the exit status."""
+        chosen = [(name, cases) for name, cases in parts if only in name]
+        for name, cases in chosen:
+            self.part(name, cases)
+        if not chosen:
+            self.add(0, 1)
+        return self.end()
+
     def line(self) -> str:
         """The count, as the last line of a test has it."""
         return f"{self.passed} passed, {self.failed} failed"

@@ -30,6 +30,11 @@ def add_count(parser: argparse.ArgumentParser, option: str, default: int, what: 
     parser.add_argument(option, metavar="N", type=int, default=default, help=text)
 
 
+def add_only(parser: argparse.ArgumentParser) -> None:
+    """The option `--only`, by which some parts of a test are chosen."""
+    parser.add_argument("--only", default="", metavar="WORD", help="only the parts that have this word in their name")
+
+
 def is_missing(path: str, what: str = "program") -> bool:
     """Whether a program is not there, which is told."""
     if os.path.exists(path):
