@@ -1,3 +1,4 @@
+pub mod InputLemmas
 pub mod PushLemmas
 pub mod PumpLemmas
 pub mod ReadLemmas

@@ -14,6 +14,7 @@ use Rattle.request_pump.specs.Pushing.{HandsBack}
 use Rattle.request_pump.specs.Pump.{HasPushedAll}
 use Rattle.request_pump.specs.Pumping.{HasFed, IsPumping, PumpsPiece}
 use Rattle.request_pump.specs.declared.pumped.PumpEnd.TheVariants as end
+use Rattle.request_pump.proofs.InputLemmas.{begins_read}
 
 -- ---- what a decoder gave
 
@@ -53,9 +54,6 @@ fed_more input piece old new requests more told h k = record {
 
 are_requests : CutsDoNotMatter SpellsRequest 65792 → (input : List ℕ) (new : DecoderState) (requests : List Request) (told : Progress) → HasFed input new requests told → AreRequests input requests told
 are_requests law input new requests told h = subst (λ (l : List ℕ). AreRequests l requests told) h.joined (law h.pieces new requests told h.fed)
-
-begins_read : (input : List ℕ) (requests : List Request) (told : Progress) → AreRequests input requests told → Begins input requests
-begins_read input requests told h = record { text = h.text; rest = h.rest; is = h.is; frames = h.frames }
 
 begins_longer : (input piece : List ℕ) (requests : List Request) → Begins input requests → Begins (input ++ piece) requests
 begins_longer input piece requests h = record { text = h.text; rest = h.rest ++ piece; is = ap (λ (l : List ℕ). l ++ piece) h.is ∙ append_assoc h.text h.rest piece; frames = h.frames }

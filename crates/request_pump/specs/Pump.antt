@@ -8,7 +8,7 @@ use Rattle.rtrb.specs.declared.producer.Producer.{Producer}
 use Rattle.call_types.specs.declared.request.Request.{Request}
 use Rattle.frame_codec.specs.declared.decoder.Progress.{Progress}
 use Rattle.frame_codec.specs.declared.decoder.Progress.TheVariants as progress
-use Rattle.logged_streams.specs.Streams.{LogState, IsReadNoMore}
+use Rattle.logged_streams.specs.Streams.{LoggedReaderState, IsReadNoMore}
 use Rattle.logged_streams.specs.declared.stream_log.TheConstants.{INTERRUPTIONS_MAX}
 use Rattle.request_pump.specs.Input.{Begins, AreRequests, IsFault}
 use Rattle.request_pump.specs.declared.pump.TheConstants.{READS_MAX}
@@ -61,23 +61,22 @@ PushedBy capacity input old new end.Ahead = HasPushedToFull capacity input old n
 -- ---- why it ended
 
 -- it is closed only at the end of its reader, and has a read fault only where its reader is read no more
-abbrev pub IsMet : Option (List ℕ) → LogState → PumpEnd → Type 0
-IsMet remaining reads end.Closed = IsAtEnd remaining
-IsMet remaining reads end.ReadFault = IsReadNoMore READS_MAX reads
-IsMet remaining reads other = Unit {0}
+abbrev pub IsMet : LoggedReaderState → PumpEnd → Type 0
+IsMet reader end.Closed = IsAtEnd reader.remaining
+IsMet reader end.ReadFault = IsReadNoMore READS_MAX reader.log
+IsMet reader other = Unit {0}
 
 -- a pump that is over: what its reader has left, where that is known, and what became of the reads; the ring, and the end
 pub record PumpState : Type 0 where
-  pub remaining : Option (List ℕ)
-  pub reads : LogState
+  pub reader : LoggedReaderState
   pub producer : PushingEnd
   pub end_is : PumpEnd
 
 -- what a pump comes to, where this is what its reader had and what its ring was at the start
 pub record Pumps (from : Option (List ℕ)) (ring : PushingEnd) (s : PumpState) : Type 0 where
   pub input : List ℕ
-  pub consumes : Consumes from s.remaining input
-  pub few_reads : s.reads.calls ≤ READS_MAX
-  pub few_interrupted : s.reads.interruptions ≤ INTERRUPTIONS_MAX
-  pub met : IsMet s.remaining s.reads s.end_is
+  pub consumes : Consumes from s.reader.remaining input
+  pub few_reads : s.reader.log.calls ≤ READS_MAX
+  pub few_interrupted : s.reader.log.interruptions ≤ INTERRUPTIONS_MAX
+  pub met : IsMet s.reader s.end_is
   pub pushed : PushedBy (producer_capacity ring) input (sent ring) (sent s.producer) s.end_is

@@ -44,7 +44,7 @@ IsPieceEnd (Some other) = Unit {0}
 -- a pump goes on while its reader may be read, and ends at the reader only where that end is met
 abbrev pub MayRead : LoggedReaderState → Option PumpEnd → Type 0
 MayRead source None = source.log.interruptions < INTERRUPTIONS_MAX
-MayRead source (Some end) = IsMet source.remaining source.log end
+MayRead source (Some end) = IsMet source end
 
 -- one read, and what came of it
 pub record PumpsOn (capacity : ℕ) (from to : LoggedReaderState) (decoder after : DecoderState) (mid new : List Request) (found : Option PumpEnd) : Type 0 where
@@ -64,5 +64,5 @@ pub record HasPumped (from to : LoggedReaderState) (decoder : DecoderState) (old
 pub record PumpsAll (capacity : ℕ) (from to : LoggedReaderState) (old new : List Request) (found : PumpEnd) : Type 0 where
   pub input : List ℕ
   pub consumes : Consumes from.remaining to.remaining input
-  pub met : IsMet to.remaining to.log found
+  pub met : IsMet to found
   pub pushed : PushedBy capacity input old new found

@@ -7,7 +7,6 @@ ghost use Rattle.request_pump.specs.Pushing.{HandsBack, HandsOneBack};
 use call_types::request::Request;
 use rtrb::{Producer, PushError};
 use std::sync::Arc;
-use std::thread::Parker;
 
 /// What is rung as requests are pushed.
 pub trait Bell: Drop {
@@ -18,14 +17,14 @@ pub trait Bell: Drop {
     fn end_of_piece(&self);
 }
 
-/// Wakes the thread that sleeps here.
-impl Bell for Arc<Parker> {
+/// A bell that several threads hold.
+impl<B: Bell> Bell for Arc<B> {
     fn make_room(&self) {
-        self.unpark();
+        (**self).make_room();
     }
 
     fn end_of_piece(&self) {
-        self.unpark();
+        (**self).end_of_piece();
     }
 }
 

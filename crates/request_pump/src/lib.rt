@@ -1,4 +1,4 @@
-//! The thread of a session that reads: bytes in, requests into a ring. It waits for nobody, and rings for whoever takes them out.
+//! The thread of a session that reads: bytes in, requests into a ring. It rings for whoever takes them out, and waits only where its bell does.
 #![tactic(auto)]
 
 pub mod inlet;

@@ -14,7 +14,7 @@ use frame_codec::decoder::{Decoder, Progress};
 use frame_codec::frame_kind::Requests;
 use frame_codec::laws::cuts_do_not_matter;
 use logged_streams::reader::LoggedReader;
-use logged_streams::stream_log::{Gave, INTERRUPTIONS_MAX, StreamLog};
+use logged_streams::stream_log::{Gave, INTERRUPTIONS_MAX};
 use std::alloc::Global;
 use std::io::Read;
 
@@ -107,7 +107,7 @@ fn pump_often<R: Read, B: Bell>(
 }
 
 /// Reads pieces of a reader, and pushes the requests that they complete into a ring, until an end is met. Where the ring is full,
-/// it asks for room and tries once more. It waits for nobody.
+/// it asks for room and tries once more. It waits only where its bell does.
 pub fn pump<R: Read, B: Bell>(alloc: Global, reader: R, ring: Inlet<B>) -> Pumped<R, B>
     ensures ring { SameProducer ring.producer result.producer }
     ensures pumps { Pumps (R.remaining reader) ring.producer result }
@@ -117,8 +117,7 @@ pub fn pump<R: Read, B: Bell>(alloc: Global, reader: R, ring: Inlet<B>) -> Pumpe
         Err(_) => {
             return Pumped {
                 end: PumpEnd::NoMemory,
-                reader,
-                reads: StreamLog::new(),
+                reader: LoggedReader::new(reader),
                 ring,
             };
         }
@@ -127,11 +126,10 @@ pub fn pump<R: Read, B: Bell>(alloc: Global, reader: R, ring: Inlet<B>) -> Pumpe
     let mut decoder = Decoder::new(alloc);
     let mut source = LoggedReader::new(reader);
     let end = pump_often(&mut source, &mut decoder, &mut ring, buffer.as_mut_slice());
-    let (reader, reads) = source.into_parts();
+    let _few = source.log().interruptions();
     Pumped {
         end,
-        reader,
-        reads,
+        reader: source,
         ring,
     }
 }

@@ -1,7 +1,7 @@
 //! What a pump has come to.
 
 use crate::inlet::{Bell, Inlet};
-use logged_streams::stream_log::StreamLog;
+use logged_streams::reader::LoggedReader;
 use std::io::Read;
 use std::marker::Model;
 
@@ -24,9 +24,8 @@ pub enum PumpEnd {
 #[derive(Drop)]
 pub struct Pumped<R: Read, B: Bell> {
     pub end: PumpEnd,
-    pub reader: R,
-    /// What became of the reads.
-    pub reads: StreamLog,
+    /// The reader, and what became of its reads.
+    pub reader: LoggedReader<R>,
     pub ring: Inlet<B>,
 }
 
@@ -35,5 +34,5 @@ impl<R: Read, B: Bell> Model for Pumped<R, B> {
 
     ghost Value = { PumpState };
 
-    ghost view = { λ s. record { remaining = R.remaining s.reader; reads = s.reads; producer = s.ring.producer; end_is = s.end } };
+    ghost view = { λ s. record { reader = s.reader; producer = s.ring.producer; end_is = s.end } };
 }
