@@ -18,6 +18,7 @@ use Rattle.record_book.specs.declared.opening.Opened.{Opened as OpenedOf}
 use Rattle.record_book.specs.declared.opening.Opened.TheVariants as opened
 use Rattle.system_lock.specs.declared.kernel.Why.{Why}
 use Rattle.system_lock.specs.declared.kernel.Why.TheVariants as why
+use Rattle.system_lock.specs.declared.kernel.NotOpened.{NotOpened}
 use Rattle.system_lock.specs.declared.kernel.Ended.{Ended as EndedOf}
 use Rattle.system_lock.specs.declared.kernel.Finished.{Finished as FinishedOf}
 use Rattle.system_lock.specs.declared.kernel.Finished.TheVariants as finished
@@ -69,15 +70,20 @@ IsWanting refusal.NoMemory = Unit {0}
 IsWanting refusal.RunFull = Unit {0}
 IsWanting other = ⊥
 
--- an opening is recorded, with a seat, or with the one receipt of an error; or it is refused for want of memory or of records
-abbrev pub OpensAs : {S P : Type 0} → (S → SeatState) → (P → SeatState) → Request → Result (OpenedOf S P) Refusal → Type 0
-OpensAs as_seat as_spent request (Ok (opened.Seated seat)) = (receipt : Receipted) × OpensFor request (as_seat seat) receipt
-OpensAs as_seat as_spent request (Ok (opened.Refused seat)) = (receipt : Receipted) × OpensFor request (as_spent seat) receipt × IsError receipt.record_is.outcome
-OpensAs as_seat as_spent request (Err refusal) = IsWanting refusal
+-- an opening is recorded, with a seat, or with the one receipt of an error
+abbrev pub IsOpenedAs : {S P : Type 0} → (S → SeatState) → (P → SeatState) → Request → OpenedOf S P → Type 0
+IsOpenedAs as_seat as_spent request (opened.Seated seat) = (receipt : Receipted) × OpensFor request (as_seat seat) receipt
+IsOpenedAs as_seat as_spent request (opened.Refused seat) = (receipt : Receipted) × OpensFor request (as_spent seat) receipt × IsError receipt.record_is.outcome
 
--- the same, of what seats hold
+-- an opening is recorded; or it is refused for want of memory or of records
+abbrev pub OpensAs : {S P A : Type 0} → (S → SeatState) → (P → SeatState) → Request → Result (OpenedOf S P) (NotOpened A) → Type 0
+OpensAs as_seat as_spent request (Ok opened) = IsOpenedAs as_seat as_spent request opened
+OpensAs as_seat as_spent request (Err back) = IsWanting back.refusal
+
+-- the same of an opening for which no admission is asked, of what seats hold
 abbrev pub OpensBy : Request → Result Opened Refusal → Type 0
-OpensBy request opened = OpensAs itself itself request opened
+OpensBy request (Ok opened) = IsOpenedAs itself itself request opened
+OpensBy request (Err refusal) = IsWanting refusal
 
 -- a call is recorded, with its reply or as one that waits; or it is refused, and the seat stays as it is
 abbrev pub CallsBy : SeatState → SeatState → Call → Result Receipted Refusal → Type 0

@@ -5,7 +5,35 @@ use call_types::refusal::Refusal;
 use call_types::request::Request;
 use record_book::opening::Opened;
 use record_book::seat::{AsSeat, Receipt, Seat, SpentSeat};
+use std::marker::{Model, PhantomData};
 use std::sync::Wait;
+
+/// Leave to open one process, whose seat is of the kind `S`. The owner of a kernel gives it, to whom serves a connection; it is gone
+/// when the opening is recorded. So who still has it has opened no process, and who has it no more has the process's seat.
+#[derive(Drop)]
+pub struct Admission<S> {
+    seat: PhantomData<S>,
+}
+
+impl<S> Model for Admission<S> {
+    ghost Value = { Unit {0} };
+
+    ghost view = { λ _. tt };
+}
+
+impl<S> Admission<S> {
+    /// Leave to open one more process.
+    pub(crate) fn new() -> Self {
+        Admission { seat: PhantomData }
+    }
+}
+
+/// An opening that is refused and not recorded. The admission, of the kind `A`, is handed back.
+#[derive(Drop)]
+pub struct NotOpened<A> {
+    pub admission: A,
+    pub refusal: Refusal,
+}
 
 /// Why a process has ended.
 #[derive(Clone, Copy, Debug, PartialEq, Eq)]
@@ -60,10 +88,15 @@ pub trait Kernel<S: AsSeat, P: AsSeat> {
     /// Opens a process: by a join a new one, by an attach a child that is not attached yet. Where the record is an error there is no process, and the
     /// spent seat has its one receipt. A `Refusal` is NoMemory or RunFull, and
     /// is not recorded. It waits for the lock alone.
-    fn open<R: Wait>(&self, rt: &R, request: Request) -> Result<Opened<S, P>, Refusal>
+    fn open<R: Wait>(
+        &self,
+        rt: &R,
+        admission: Admission<S>,
+        request: Request,
+    ) -> Result<Opened<S, P>, NotOpened<Admission<S>>>
         requires { IsOpening request }
         ensures opens { OpensAs S.as_seat P.as_seat request result }
-        ensures refused { IfErr result (λ refusal. not_opened request refusal) };
+        ensures refused { IfErr result (λ back. not_opened request back.refusal) };
 
     /// Records a call of the seat's process: its reply, or that it waits. The seat gets the receipt too. A `Refusal` is not
     /// recorded, and leaves the seat as it was. It waits for the lock alone, and never for another process's call.
@@ -88,6 +121,10 @@ pub trait Kernel<S: AsSeat, P: AsSeat> {
 }
 
 /// These of the seats of one book.
+pub type AdmissionTo<L> = Admission<Seat<L>>;
+
+pub type NotOpenedIn<L> = NotOpened<AdmissionTo<L>>;
+
 pub type EndedIn<L> = Ended<SpentSeat<L>>;
 
 pub type FinishedIn<L> = Finished<Seat<L>, SpentSeat<L>>;

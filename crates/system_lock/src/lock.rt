@@ -1,13 +1,15 @@
 //! The kernel of a run: one lock round a book, the processes that sleep, and those whose connections are lost.
 
-ghost use Rattle.std.specs.Prelude.{◌≡◌, [], Some, IfOk};
+ghost use Rattle.std.specs.Prelude.{◌≡◌, [], Some, IfErr, IfOk};
 ghost use Rattle.rtrb.specs.Ring.{received};
-ghost use Rattle.system_lock.specs.Kernel.{FinishesBy, HangsUpBy, SaysEnded};
-ghost use Rattle.system_lock.specs.Says.{IsEnded};
+ghost use Rattle.system_lock.specs.Kernel.{FinishesBy, HangsUpBy, IsOpening, OpensAs, SaysEnded, itself};
+ghost use Rattle.system_lock.specs.Says.{IsEnded, IsNotOpened};
 
 use crate::acts::Tried;
 use crate::bells::Bells;
-use crate::kernel::{EndedIn, Finished, FinishedIn, Kernel};
+use crate::kernel::{
+    Admission, AdmissionTo, EndedIn, Finished, FinishedIn, Kernel, NotOpened, NotOpenedIn,
+};
 use crate::system::System;
 use byte_ledger::ledgers::{Blanks, Ledgers};
 use call_types::call::Call;
@@ -52,6 +54,11 @@ impl<L: Ledgers> SystemLock<L> {
         Ok((lock, trace))
     }
 
+    /// Leave to open one process.
+    pub fn admit(&self) -> AdmissionTo<L> {
+        Admission::new()
+    }
+
     /// What stood under the lock. It takes no memory.
     pub fn take(self) -> System<L> {
         self.system.into_inner()
@@ -67,9 +74,21 @@ impl<L: Ledgers> Kernel<Seat<L>, SpentSeat<L>> for SystemLock<L> {
 
     ghost ended = { IsEnded };
 
-    fn open<R: Wait>(&self, rt: &R, request: Request) -> Result<OpenedIn<L>, Refusal> {
+    fn open<R: Wait>(
+        &self,
+        rt: &R,
+        admission: AdmissionTo<L>,
+        request: Request,
+    ) -> Result<OpenedIn<L>, NotOpenedIn<L>>
+        requires { IsOpening request }
+        ensures opens { OpensAs itself itself request result }
+        ensures refused { IfErr result (λ back. IsNotOpened request back.refusal) }
+    {
         let mut system = self.system.lock(rt);
-        system.open(self.alloc, &self.bells, request)
+        match system.open(self.alloc, &self.bells, request) {
+            Ok(opened) => Ok(opened),
+            Err(refusal) => Err(NotOpened { admission, refusal }),
+        }
     }
 
     fn call<R: Wait>(&self, rt: &R, seat: &mut Seat<L>, call: Call) -> Result<Receipt, Refusal> {

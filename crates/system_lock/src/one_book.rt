@@ -1,11 +1,13 @@
 //! A kernel of one thread, for tests: where a call would wait, acts of other processes are run, which stand ready.
 
-ghost use Rattle.std.specs.Prelude.{⊤};
-ghost use Rattle.system_lock.specs.Kernel.{FinishesBy, HangsUpBy, SaysEnded};
+ghost use Rattle.std.specs.Prelude.{⊤, IfErr};
+ghost use Rattle.system_lock.specs.Kernel.{FinishesBy, HangsUpBy, IsOpening, OpensAs, SaysEnded, itself};
 
 use crate::acts;
 use crate::acts::Tried;
-use crate::kernel::{EndedIn, Finished, FinishedIn, Kernel, Why};
+use crate::kernel::{
+    Admission, AdmissionTo, EndedIn, Finished, FinishedIn, Kernel, NotOpened, NotOpenedIn, Why,
+};
 use byte_ledger::ledgers::Ledgers;
 use byte_ledger::tallies::Sums;
 use call_types::act::ScriptAct;
@@ -61,6 +63,11 @@ impl<L: Ledgers> OneBook<L> {
         }
     }
 
+    /// Leave to open one process.
+    pub fn admit(&self) -> AdmissionTo<L> {
+        Admission::new()
+    }
+
     /// How much its book holds.
     pub fn counts<R: Wait>(&self, rt: &R) -> Sums {
         self.held.lock(rt).book.counts()
@@ -76,9 +83,21 @@ impl<L: Ledgers> Kernel<Seat<L>, SpentSeat<L>> for OneBook<L> {
 
     ghost ended = { λ _ _. ⊤ };
 
-    fn open<R: Wait>(&self, rt: &R, request: Request) -> Result<OpenedIn<L>, Refusal> {
+    fn open<R: Wait>(
+        &self,
+        rt: &R,
+        admission: AdmissionTo<L>,
+        request: Request,
+    ) -> Result<OpenedIn<L>, NotOpenedIn<L>>
+        requires { IsOpening request }
+        ensures opens { OpensAs itself itself request result }
+        ensures refused { IfErr result (λ _. ⊤) }
+    {
         let mut held = self.held.lock(rt);
-        acts::open(&mut held.book, self.alloc, request)
+        match acts::open(&mut held.book, self.alloc, request) {
+            Ok(opened) => Ok(opened),
+            Err(refusal) => Err(NotOpened { admission, refusal }),
+        }
     }
 
     fn call<R: Wait>(&self, rt: &R, seat: &mut Seat<L>, call: Call) -> Result<Receipt, Refusal> {
