@@ -70,11 +70,11 @@ parked base handled seat after call receipt old new adds kind more put holds tal
 
 -- what a session has told so far is a conversation, and so it is with requests that are not taken up yet
 pub has_receipts : (requests : List Request) (answers : List Told) (at : Stage) → IsTalking requests answers at → HasReceipts at answers
-has_receipts requests answers stage.Opening h = ap receipts_of h.1
+has_receipts requests answers (stage.Opening admission) h = ap receipts_of h.1
 has_receipts requests answers (stage.Ready seat) h = h.1
 
 pub talk_converses : (requests later : List Request) (answers : List Told) (at : Stage) → IsTalking requests answers at → Converses (requests ++ later) answers
-talk_converses requests later answers stage.Opening h = record { handled = requests; later = later; requests_are = refl; is = inl (inl h) }
+talk_converses requests later answers (stage.Opening admission) h = record { handled = requests; later = later; requests_are = refl; is = inl (inl h) }
 talk_converses requests later answers (stage.Ready seat) h = record { handled = requests; later = later; requests_are = refl; is = inl (inr h.0) }
 
 pub converses : (requests : List Request) (answers : List Told) (at : Stage) → IsTalking requests answers at → Converses requests answers

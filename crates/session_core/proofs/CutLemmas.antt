@@ -1,5 +1,5 @@
--- A session is closed in a call that waits only where its kernel gave that call up.
-use Rattle.std.proofs.Common.{◌≡◌, ℕ, inl, inr, List, [], ◌∷◌, ◌++◌, Option, None, Some, refl, sym, ◌∙◌, ap, subst}
+-- A session leaves off in a call that waits only where its kernel gave that call up.
+use Rattle.std.proofs.Common.{◌≡◌, ℕ, inl, inr, List, [], ◌∷◌, ◌++◌, Option, None, Result, Ok, Err, sym, ◌∙◌, ap, subst}
 use Rattle.std.proofs.lemmas.List.{append-nil, append_assoc}
 use Rattle.std.proofs.Math.Seq.{append_snoc}
 use Rattle.call_types.specs.declared.act.Act.{Act}
@@ -26,8 +26,8 @@ use Rattle.session_core.specs.Output.{OutputState}
 use Rattle.session_core.specs.Talk.{Group, AnswersCall, AreCalls, AreParts, IsCut, IsParked, IsPart, IsReply, IsRecordOf, Talked, told_of_all}
 use Rattle.session_core.specs.Turns.{IsTalking, LeavesBy}
 use Rattle.session_core.specs.Ends.{IsOver, LeavesOff}
-use Rattle.session_core.specs.Closing.{ClosesAs, ClosesBy, HangsUp, LeavesWith, MayClose, SendsLast, end_of, with_last}
-use Rattle.session_core.specs.Said.{CauseEndedSaid, ClosedSaid, OverSaid, SaidEnded}
+use Rattle.session_core.specs.Closing.{ClosesAs, ClosesBy, HangsUp, IsOfReads, LeavesWith, MayClose, SendsLast, end_of, with_last}
+use Rattle.session_core.specs.Said.{CauseEndedSaid, CutSaid, IsEndOfReads, OverSaid, SaidEnded}
 
 -- ---- answers that end in a call that waits
 
@@ -138,20 +138,20 @@ not_cut handled requests answers t cut =
     d.done (of_end d.before d.one (subst EndsWaiting d.is (cut_waits requests answers cut)))
 
 not_cut_at : (handled requests : List Request) (answers : List Told) (at : Stage) → IsTalking handled answers at → IsCut requests answers None → ⊥
-not_cut_at handled requests answers stage.Opening t cut = subst EndsWaiting t.1 (cut_waits requests answers cut)
+not_cut_at handled requests answers (stage.Opening admission) t cut = subst EndsWaiting t.1 (cut_waits requests answers cut)
 not_cut_at handled requests answers (stage.Ready seat) t cut = not_cut handled requests answers t.0 cut
 
 -- ---- how a session that is closed was over
 
-cause_closes : (found : Over) (old : OutputState) (answers : List Told) (cause : LeaveCause) → (cause ≡ why.Closed → MayClose found) → answers ≡ old.answers → ClosesAs found old answers (end_of cause)
-cause_closes found old answers why.Closed may same = (may refl, same)
-cause_closes found old answers why.ReadFault may same = tt
-cause_closes found old answers why.Malformed may same = tt
+cause_closes : (found : Over) (old : OutputState) (answers : List Told) (cause : LeaveCause) → (IsOfReads cause → MayClose found) → answers ≡ old.answers → ClosesAs found old answers (end_of cause)
+cause_closes found old answers why.Closed may same = (may tt, same)
+cause_closes found old answers why.ReadFault may same = (may tt, same)
+cause_closes found old answers why.Malformed may same = (may tt, same)
 cause_closes found old answers why.RunFull may same = tt
 cause_closes found old answers why.NoMemory may same = tt
-cause_closes found old answers why.Ahead may same = tt
+cause_closes found old answers why.Ahead may same = (may tt, same)
 
-sent_closes : (found : Over) (old new : OutputState) (cause : LeaveCause) (wanted : End) → (cause ≡ why.Closed → MayClose found) → SendsLast old new cause wanted → ClosesAs found old new.answers wanted
+sent_closes : (found : Over) (old new : OutputState) (cause : LeaveCause) (wanted : End) → (IsOfReads cause → MayClose found) → SendsLast old new cause wanted → ClosesAs found old new.answers wanted
 sent_closes found old new cause wanted may (inl h) = rw h.1 (cause_closes found old new.answers cause may h.0.flushes.answers)
 sent_closes found old new cause wanted may (inr h) = rw h.1 tt
 
@@ -159,10 +159,10 @@ hung_closes : (found : Over) (old : OutputState) (answers : List Told) (wanted g
 hung_closes found old answers wanted given seat spent (inl h) closes = rw h.1 closes
 hung_closes found old answers wanted given seat spent (inr h) closes = rw h.1 tt
 
-left_closes : (found : Over) (old : OutputState) (answers : List Told) (wanted given : End) (at : Stage) (seat : Option SeatState) → LeavesWith at wanted seat given → ClosesAs found old answers wanted → ClosesAs found old answers given
-left_closes found old answers wanted given stage.Opening seat h closes = rw h.1 closes
-left_closes found old answers wanted given (stage.Ready s) None h closes = absurd h
-left_closes found old answers wanted given (stage.Ready s) (Some spent) h closes = hung_closes found old answers wanted given s spent h closes
+left_closes : (found : Over) (old : OutputState) (answers : List Told) (wanted given : End) (at : Stage) (seat : Result SeatState (Unit {0})) → LeavesWith at wanted seat given → ClosesAs found old answers wanted → ClosesAs found old answers given
+left_closes found old answers wanted given (stage.Opening admission) seat h closes = rw h.1 closes
+left_closes found old answers wanted given (stage.Ready s) (Err admission) h closes = absurd h
+left_closes found old answers wanted given (stage.Ready s) (Ok spent) h closes = hung_closes found old answers wanted given s spent h closes
 
 -- it is left by its stage
 leave_closes : (found : Over) (old new : OutputState) (at : Stage) (wanted : End) (left : LeftSession) → LeavesWith at wanted left.seat left.end → left.last ≡ None → ClosesAs found old new.answers wanted → ClosesBy found old new left
@@ -178,39 +178,72 @@ pub unwritten_closes : (found : Over) (o : OutputState) (at : Stage) (sent : ℕ
 unwritten_closes found o at sent left h none = leave_closes found o o at (end.WriteFault sent) left h none tt
 
 -- it is left with a seat
-pub seat_closes : (found : Over) (old new : OutputState) (cause : LeaveCause) (seat : SeatState) (wanted : End) (left : LeftSession) → (cause ≡ why.Closed → MayClose found) → SendsLast old new cause wanted
-    → left ≡ record { seat = Some seat; end = wanted; last = None } → ClosesBy found old new left
+pub seat_closes : (found : Over) (old new : OutputState) (cause : LeaveCause) (seat : SeatState) (wanted : End) (left : LeftSession) → (IsOfReads cause → MayClose found) → SendsLast old new cause wanted
+    → left ≡ record { seat = Ok seat; end = wanted; last = None } → ClosesBy found old new left
 seat_closes found old new cause seat wanted left may sends same = subst (ClosesBy found old new) (sym same) (sent_closes found old new cause wanted may sends)
 
 -- it is left by an end that is not that of a session that is closed
 pub hung_up_closes : (found : Over) (old new : OutputState) (seat spent : SeatState) (wanted given : End) (last : Option Receipted) (left : LeftSession) → ((answers : List Told) → ClosesAs found old answers wanted) → HangsUp seat wanted spent given
-    → left ≡ record { seat = Some spent; end = given; last = last } → ClosesBy found old new left
+    → left ≡ record { seat = Ok spent; end = given; last = last } → ClosesBy found old new left
 hung_up_closes found old new seat spent wanted given last left none h same =
     subst (ClosesBy found old new) (sym same) (hung_closes found old (with_last new.answers last) wanted given seat spent h (none (with_last new.answers last)))
 
 -- ---- a session that is over
 
+-- a session that leaves off at a request has no call that is cut
+leaves_uncut : (base : Option (List ℕ)) (handled : List Request) (next : Request) (o : OutputState) (at : Stage) (cause : LeaveCause) (requests : List Request) → IsOfReads cause → LeavesBy base handled next o at cause → IsCut requests o.answers None → ⊥
+leaves_uncut base handled next o at why.Closed requests of h cut = h
+leaves_uncut base handled next o at why.ReadFault requests of h cut = h
+leaves_uncut base handled next o at why.Malformed requests of h cut = not_cut_at handled requests o.answers at h.1 cut
+leaves_uncut base handled next o at why.RunFull requests of h cut = of
+leaves_uncut base handled next o at why.NoMemory requests of h cut = of
+leaves_uncut base handled next o at why.Ahead requests of h cut = h
+
+-- nor has one that leaves off between two requests
+off_uncut : (base : Option (List ℕ)) (input : List ℕ) (o : OutputState) (at : Stage) (cause : LeaveCause) (requests : List Request) → IsOfReads cause → LeavesOff base input o (over.Leaves at cause) → IsCut requests o.answers None → ⊥
+off_uncut base input o at why.Closed requests of h cut = not_cut_at h.requests requests o.answers at h.talking cut
+off_uncut base input o at why.ReadFault requests of h cut = not_cut_at h.requests requests o.answers at h.talking cut
+off_uncut base input o at why.Malformed requests of h cut = not_cut_at h.requests requests o.answers at h.talking cut
+off_uncut base input o at why.RunFull requests of h cut = of
+off_uncut base input o at why.NoMemory requests of h cut = of
+off_uncut base input o at why.Ahead requests of h cut = not_cut_at h.requests requests o.answers at h.talking cut
+
+-- nor has one whose process ended in the call that it waited in
+ended_unread : (ended : SeatState → Why → Type 0) (cause : LeaveCause) → IsOfReads cause → CauseEndedSaid ended cause → ⊥
+ended_unread ended why.Closed of said = said
+ended_unread ended why.ReadFault of said = said
+ended_unread ended why.Malformed of said = said
+ended_unread ended why.RunFull of said = of
+ended_unread ended why.NoMemory of said = of
+ended_unread ended why.Ahead of said = said
+
 given_up : (unopened : Request → Refusal → Type 0) (ended : SeatState → Why → Type 0) (base : Option (List ℕ)) (input : List ℕ) (o : OutputState) (found : Over) (requests : List Request)
     → MayClose found → IsOver base input o found → OverSaid unopened ended found → IsCut requests o.answers None → SaidEnded ended ended_why.Lost
-given_up unopened ended base input o (over.Leaves at cause) requests closed (inl h) said cut = absurd (subst (LeavesBy base h.handled h.next o at) closed h.is)
-given_up unopened ended base input o (over.Leaves at cause) requests closed (inr off) said cut =
-    let answered = subst (λ (w : LeaveCause). LeavesOff base input o (over.Leaves at w)) closed off in
-    absurd (not_cut_at answered.requests requests o.answers at answered.talking cut)
+given_up unopened ended base input o (over.Leaves at cause) requests may (inl h) said cut = absurd (leaves_uncut base h.handled h.next o at cause requests may h.is cut)
+given_up unopened ended base input o (over.Leaves at cause) requests may (inr off) said cut = absurd (off_uncut base input o at cause requests may off cut)
 given_up unopened ended base input o (over.Unwritten at) requests may is said cut = absurd may
 given_up unopened ended base input o (over.OpeningUntold seat) requests may is said cut = absurd may
 given_up unopened ended base input o (over.RefusalUntold seat) requests may is said cut = absurd may
 given_up unopened ended base input o (over.Untold seat receipt) requests may is said cut = absurd may
 given_up unopened ended base input o (over.Refused seat) requests may (inl h) said cut = absurd (not_cut (h.handled ++ h.next ∷ []) requests o.answers h.is.2 cut)
 given_up unopened ended base input o (over.Refused seat) requests may (inr off) said cut = absurd off
-given_up unopened ended base input o (over.Lost seat) requests may is said cut = said
-given_up unopened ended base input o (over.Ended seat cause) requests closed is said cut = absurd (subst (CauseEndedSaid ended) closed said)
+given_up unopened ended base input o (over.Lost seat cause) requests may is said cut = said.0
+given_up unopened ended base input o (over.Ended seat cause) requests may is said cut = absurd (ended_unread ended cause may said)
 given_up unopened ended base input o (over.Foreign seat) requests may is said cut = absurd may
 
-closed_at : (found : Over) (o : OutputState) (answers : List Told) (given : End) → given ≡ end.Closed → ClosesAs found o answers given → MayClose found × (answers ≡ o.answers)
-closed_at found o answers given closed h = subst (ClosesAs found o answers) closed h
+closed_at : (found : Over) (o : OutputState) (answers : List Told) (given : End) → IsEndOfReads given → ClosesAs found o answers given → MayClose found × (answers ≡ o.answers)
+closed_at found o answers end.Closed of h = h
+closed_at found o answers end.ReadFault of h = h
+closed_at found o answers (end.WriteFault sent) of h = absurd of
+closed_at found o answers end.Malformed of h = h
+closed_at found o answers end.Ahead of h = h
+closed_at found o answers end.RunFull of h = absurd of
+closed_at found o answers end.NoMemory of h = absurd of
+closed_at found o answers end.Foreign of h = absurd of
+closed_at found o answers end.NoThread of h = absurd of
 
-pub closed_said : (unopened : Request → Refusal → Type 0) (ended : SeatState → Why → Type 0) (base : Option (List ℕ)) (input : List ℕ) (old new : OutputState) (found : Over) (left : LeftSession) (answers : List Told)
-    → IsOver base input old found → OverSaid unopened ended found → ClosesBy found old new left → answers ≡ with_last new.answers left.last → ClosedSaid ended answers left.end
-closed_said unopened ended base input old new found left answers is said closes told closed requests cut =
-    let at = closed_at found old (with_last new.answers left.last) left.end closed closes in
+pub cut_said : (unopened : Request → Refusal → Type 0) (ended : SeatState → Why → Type 0) (base : Option (List ℕ)) (input : List ℕ) (old new : OutputState) (found : Over) (left : LeftSession) (answers : List Told)
+    → IsOver base input old found → OverSaid unopened ended found → ClosesBy found old new left → answers ≡ with_last new.answers left.last → CutSaid ended answers left.end
+cut_said unopened ended base input old new found left answers is said closes told of requests cut =
+    let at = closed_at found old (with_last new.answers left.last) left.end of closes in
     given_up unopened ended base input old found requests at.0 is said (subst (λ (l : List Told). IsCut requests l None) (told ∙ at.1) cut)

@@ -9,6 +9,7 @@ use Rattle.call_types.specs.declared.request.Request.TheVariants as request
 use Rattle.request_pump.specs.Pump.{PushingEnd}
 use Rattle.record_book.specs.Seat.{SeatState}
 use Rattle.system_lock.specs.declared.kernel.Why.{Why}
+use Rattle.system_lock.specs.declared.kernel.Why.TheVariants as ended_why
 use Rattle.session_core.specs.declared.told.Told.{Told}
 use Rattle.session_core.specs.Stages.{Stage, Over, Turn, LeftSession}
 use Rattle.session_core.specs.declared.stage.LeaveCause.{LeaveCause}
@@ -17,11 +18,11 @@ use Rattle.session_core.specs.declared.stage.Over.TheVariants as over
 use Rattle.session_core.specs.declared.stage.Stage.TheVariants as stage
 use Rattle.session_core.specs.declared.stage.Turn.TheVariants as turn
 use Rattle.session_core.specs.Output.{OutputState, FailsToSend, SendsAll, fresh_output}
-use Rattle.session_core.specs.Turns.{IsTalking, HasReceipts, TakesUp, TurnBy, WaitsOnce}
+use Rattle.session_core.specs.Turns.{IsGivenUp, IsTalking, HasReceipts, TakesUp, TurnBy, WaitsOnce}
 use Rattle.session_core.specs.Talk.{Converses}
 use Rattle.session_core.specs.Refusals.{AreSaid, RefusalSaid, TurnSays, WaitSays}
-use Rattle.session_core.specs.Said.{OverSaid}
-use Rattle.session_core.specs.Desk.{HasLeft, IsEnding, IsNamedPair, IsOverAfter, IsReadingEnd, IsReady, IsRingOf, IsWaitingIn, LeftBy, SendsOn, TakingEnd, TurnStands}
+use Rattle.session_core.specs.Said.{IsReadingEnd, OverSaid, SaidEnded}
+use Rattle.session_core.specs.Desk.{HasLeft, IsEnding, IsLostIn, IsNamedPair, IsOverAfter, IsReady, IsRingOf, IsWaitingIn, LeftBy, SendsOn, TakingEnd, TurnStands}
 use Rattle.session_core.proofs.CallLemmas.{converses, has_receipts}
 use Rattle.session_core.proofs.OutputLemmas.{holds_fresh}
 use Rattle.session_core.proofs.RefusalLemmas.{empty_said, kept_said, wider}
@@ -63,6 +64,9 @@ one_taken Said base taken more next at old new (turn.Waits seat) e ready takes s
       waits = by.2;
       said = says base taken ready.holds ready.talking ready.said;
     })
+one_taken Said base taken more next at old new (turn.Lost seat) e ready takes says =
+    subst (λ (l : List Request). IsLostIn Said base l new seat) (sym e)
+    (record { is = takes base taken ready.holds ready.talking; said = says base taken ready.holds ready.talking ready.said })
 one_taken Said base taken more next at old new (turn.Over found) e ready takes says =
     let by = takes base taken ready.holds ready.talking in
     subst (λ (l : List Request). IsOverAfter Said base l new found) (sym e)
@@ -73,6 +77,7 @@ waited_by : (Said : List Request → List Told → Refusal → Type 0) (base : O
     → TurnBy base handled (request.Call call) new found → TurnStands Said base taken new found
 waited_by Said base taken handled call new (turn.GoesOn at) e said by = record { holds = by.0; talking = subst (λ (l : List Request). IsTalking l new.answers at) (sym e) by.1; said = said }
 waited_by Said base taken handled call new (turn.Waits seat) e said by = record { handled = handled; call = by.0; taken_are = e ∙ ap (λ (r : Request). handled ++ r ∷ []) by.1; waits = by.2; said = said }
+waited_by Said base taken handled call new (turn.Lost seat) e said by = record { is = subst (λ (l : List Request). IsGivenUp base l new seat) (sym e) by; said = said }
 waited_by Said base taken handled call new (turn.Over found) e said by = record { is = inl (record { handled = handled; next = request.Call call; taken_are = e; is = by }); said = said }
 
 pub waited : (Said : List Request → List Told → Refusal → Type 0) (base : Option (List ℕ)) (taken : List Request) (seat : SeatState) (old new : OutputState) (found : Turn) → IsWaitingIn Said base taken old seat → WaitsOnce seat old new found
@@ -108,10 +113,11 @@ pub has_left : (unopened : Request → Refusal → Type 0) (refused : SeatState 
 has_left unopened refused ended base taken old new found left is said leaves = record { old = old; found = found; ends = is.is; left_by = leaves taken is.said said }
 
 -- a session at which nothing was taken up
-pub fresh_stands : (Said : List Request → List Told → Refusal → Type 0) (base : Option (List ℕ)) (taken : List Request) (o : OutputState) → taken ≡ [] → o ≡ fresh_output base → IsReady Said base taken o stage.Opening
-fresh_stands Said base taken o none e =
-    let fresh : IsReady Said base [] (fresh_output base) stage.Opening = record { holds = holds_fresh base; talking = (refl, refl); said = empty_said (Said []) [] refl } in
-    subst (λ (l : List Request). IsReady Said base l o stage.Opening) (sym none) (subst (λ (x : OutputState). IsReady Said base [] x stage.Opening) (sym e) fresh)
+pub fresh_stands : (Said : List Request → List Told → Refusal → Type 0) (base : Option (List ℕ)) (taken : List Request) (o : OutputState) (admission : Unit {0}) → taken ≡ [] → o ≡ fresh_output base → IsReady Said base taken o (stage.Opening admission)
+fresh_stands Said base taken o admission none e =
+    let at : Stage = stage.Opening admission in
+    let fresh : IsReady Said base [] (fresh_output base) at = record { holds = holds_fresh base; talking = (refl, refl); said = empty_said (Said []) [] refl } in
+    subst (λ (l : List Request). IsReady Said base l o at) (sym none) (subst (λ (x : OutputState). IsReady Said base [] x at) (sym e) fresh)
 
 -- ---- how it ends
 
@@ -146,9 +152,22 @@ ends_after_all unopened refused ended base taken rest sent cause at old new left
     record {
       old = old;
       found = over.Leaves at cause;
-      ends = inr (record { at = at; is = refl; holds = ready.holds; talking = subst (λ (l : List Request). IsTalking l old.answers at) all ready.talking });
+      ends = inr (inl (record { at = at; is = refl; holds = ready.holds; talking = subst (λ (l : List Request). IsTalking l old.answers at) all ready.talking }));
       left_by = leaves sent said over_said;
     }
+
+-- the last that was taken is given up
+pub ends_given_up : (unopened : Request → Refusal → Type 0) (refused : SeatState → Call → Refusal → Type 0) (ended : SeatState → Why → Type 0) (base : Option (List ℕ)) (taken rest sent : List Request) (cause : LeaveCause) (seat : SeatState) (old new : OutputState) (left : LeftSession)
+    → taken ++ rest ≡ sent → IsReadingEnd cause → IsLostIn (RefusalSaid unopened refused ended) base taken old seat × SaidEnded ended ended_why.Lost
+    → ((requests : List Request) → AreSaid (RefusalSaid unopened refused ended requests) old.answers → OverSaid unopened ended (over.Lost seat cause) → LeftBy unopened refused ended requests old (over.Lost seat cause) new left)
+    → IsEnding unopened refused ended base sent cause new left
+ends_given_up unopened refused ended base taken rest sent cause seat old new left e reading lost leaves = record {
+  old = old;
+  found = over.Lost seat cause;
+  ends = inr (inr (record { taken = taken; later = rest; seat = seat; sent_are = sym e; found_is = refl; is = lost.0.is }));
+  left_by =
+      leaves sent (subst (λ (l : List Request). AreSaid (RefusalSaid unopened refused ended l) old.answers) e (wider unopened refused ended taken rest old.answers lost.0.said)) (lost.1, reading);
+}
 
 -- it was left before
 pub ends_early : (unopened : Request → Refusal → Type 0) (refused : SeatState → Call → Refusal → Type 0) (ended : SeatState → Why → Type 0) (base : Option (List ℕ)) (taken rest sent : List Request) (cause : LeaveCause) (o : OutputState) (left : LeftSession)

@@ -1,3 +1,4 @@
+pub mod AnswerLemmas
 pub mod OutputLemmas
 pub mod TalkLemmas
 pub mod WaitLemmas

@@ -14,10 +14,11 @@ use Rattle.session_core.specs.declared.told.Told.{Told}
 use Rattle.session_core.specs.declared.told.Told.TheVariants as told
 use Rattle.session_core.specs.Closing.{with_last}
 use Rattle.session_core.specs.Output.{OutputState, Puts}
-use Rattle.session_core.specs.Stages.{Stage, Over}
+use Rattle.session_core.specs.Stages.{Stage, Turn}
 use Rattle.session_core.specs.declared.stage.Stage.TheVariants as stage
 use Rattle.session_core.specs.declared.stage.LeaveCause.{LeaveCause}
 use Rattle.session_core.specs.declared.stage.Over.TheVariants as over
+use Rattle.session_core.specs.declared.stage.Turn.TheVariants as turn
 use Rattle.session_core.specs.Turns.{IsTalking, IsWaitingAt, PutsFirst, PutsGivenUp, TellsWhy}
 use Rattle.session_core.specs.Refusals.{AreSaid, EndTold, NextRefused, OpeningRefused, RefusalSaid, TurnSays}
 use Rattle.session_core.proofs.ListLemmas.{same_head, same_tail}
@@ -131,12 +132,12 @@ end_put unopened refused ended base handled call seat old new so found put said 
 
 -- the process of the seat ended in the call that it waited in
 pub ended_refused : (unopened : Request → Refusal → Type 0) (refused : SeatState → Call → Refusal → Type 0) (ended : SeatState → Why → Type 0) (base : Option (List ℕ)) (handled : List Request)
-    (call : Call) (seat : SeatState) (reason : Why) (old new : OutputState) (found : Over) → TellsWhy reason old new found → ended seat reason
+    (call : Call) (seat : SeatState) (reason : Why) (old new : OutputState) (found : Turn) → TellsWhy reason old new found → ended seat reason
     → IsWaitingAt base handled call seat old → AreSaid (RefusalSaid unopened refused ended (handled ++ request.Call call ∷ [])) old.answers → AreSaid (RefusalSaid unopened refused ended (handled ++ request.Call call ∷ [])) new.answers
-ended_refused unopened refused ended base handled call seat ended_why.NoMemory old new (over.Ended spent why) tells said w are = end_put unopened refused ended base handled call seat old new refusal.NoMemory why tells said w are
-ended_refused unopened refused ended base handled call seat ended_why.RunFull old new (over.Ended spent why) tells said w are = end_put unopened refused ended base handled call seat old new refusal.RunFull why tells said w are
-ended_refused unopened refused ended base handled call seat ended_why.Lost old new (over.Lost spent) tells said w are = same_said (RefusalSaid unopened refused ended (handled ++ request.Call call ∷ [])) old new tells are
-ended_refused unopened refused ended base handled call seat ended_why.Foreign old new (over.Foreign spent) tells said w are = same_said (RefusalSaid unopened refused ended (handled ++ request.Call call ∷ [])) old new tells are
+ended_refused unopened refused ended base handled call seat ended_why.NoMemory old new (turn.Over (over.Ended spent why)) tells said w are = end_put unopened refused ended base handled call seat old new refusal.NoMemory why tells said w are
+ended_refused unopened refused ended base handled call seat ended_why.RunFull old new (turn.Over (over.Ended spent why)) tells said w are = end_put unopened refused ended base handled call seat old new refusal.RunFull why tells said w are
+ended_refused unopened refused ended base handled call seat ended_why.Lost old new (turn.Lost spent) tells said w are = same_said (RefusalSaid unopened refused ended (handled ++ request.Call call ∷ [])) old new tells are
+ended_refused unopened refused ended base handled call seat ended_why.Foreign old new (turn.Over (over.Foreign spent)) tells said w are = same_said (RefusalSaid unopened refused ended (handled ++ request.Call call ∷ [])) old new tells are
 ended_refused unopened refused ended base handled call seat reason old new found tells said w are = absurd tells
 
 -- ---- requests

@@ -1,5 +1,5 @@
 -- What a session ends for is what its kernel said.
-use Rattle.std.proofs.Common.{◌≡◌, Option, None, Some, inl, inr, refl, sym, subst}
+use Rattle.std.proofs.Common.{◌≡◌, Result, Ok, Err, inl, inr, refl, sym, subst}
 use Rattle.call_types.specs.declared.refusal.Refusal.{Refusal}
 use Rattle.call_types.specs.declared.refusal.Refusal.TheVariants as refusal
 use Rattle.call_types.specs.declared.request.Request.{Request}
@@ -10,13 +10,14 @@ use Rattle.session_core.specs.declared.end.End.{End}
 use Rattle.session_core.specs.declared.end.End.TheVariants as end
 use Rattle.session_core.specs.Closing.{HangsUpSeat, KeepsSeat, LeavesWith, SendsLast, end_of}
 use Rattle.session_core.specs.declared.stage.Stage.TheVariants as stage
-use Rattle.session_core.specs.Stages.{LeftSession, Over, Stage}
+use Rattle.session_core.specs.Stages.{LeftSession, Over, Stage, Turn}
 use Rattle.session_core.specs.declared.stage.Over.TheVariants as over
+use Rattle.session_core.specs.declared.stage.Turn.TheVariants as turn
 use Rattle.session_core.specs.declared.stage.LeaveCause.{LeaveCause}
 use Rattle.session_core.specs.declared.stage.LeaveCause.TheVariants as why
 use Rattle.session_core.specs.Output.{OutputState}
 use Rattle.session_core.specs.Turns.{PutsGivenUp, TellsWhy, WhyRefused}
-use Rattle.session_core.specs.Said.{CauseSaid, CauseEndedSaid, OverSaid, EndSaid}
+use Rattle.session_core.specs.Said.{CauseSaid, CauseEndedSaid, IsReadingEnd, OverSaid, TurnSaid, EndSaid}
 
 -- a refusal that brings this end
 why_refused : (unopened : Request → Refusal → Type 0) (request : Request) (told : Refusal) (found : LeaveCause) → WhyRefused told found → unopened request told → CauseSaid unopened found
@@ -39,11 +40,11 @@ wanting_said : (ended : SeatState → Why → Type 0) (seat : SeatState) (old ne
 wanting_said ended seat old new found (inl put) said = rw put.0 (inl (seat, said))
 wanting_said ended seat old new found (inr none) said = rw none.0 (inl (seat, said))
 
-pub given_up_said : (unopened : Request → Refusal → Type 0) (ended : SeatState → Why → Type 0) (seat : SeatState) (reason : Why) (old new : OutputState) (found : Over) → TellsWhy reason old new found → ended seat reason → OverSaid unopened ended found
-given_up_said unopened ended seat ended_why.NoMemory old new (over.Ended spent why) tells said = wanting_said ended seat old new why tells said
-given_up_said unopened ended seat ended_why.RunFull old new (over.Ended spent why) tells said = full_said ended seat old new why tells said
-given_up_said unopened ended seat ended_why.Lost old new (over.Lost spent) tells said = (seat, said)
-given_up_said unopened ended seat ended_why.Foreign old new (over.Foreign spent) tells said = (seat, said)
+pub given_up_said : (unopened : Request → Refusal → Type 0) (ended : SeatState → Why → Type 0) (seat : SeatState) (reason : Why) (old new : OutputState) (found : Turn) → TellsWhy reason old new found → ended seat reason → TurnSaid unopened ended found
+given_up_said unopened ended seat ended_why.NoMemory old new (turn.Over (over.Ended spent why)) tells said = wanting_said ended seat old new why tells said
+given_up_said unopened ended seat ended_why.RunFull old new (turn.Over (over.Ended spent why)) tells said = full_said ended seat old new why tells said
+given_up_said unopened ended seat ended_why.Lost old new (turn.Lost spent) tells said = (seat, said)
+given_up_said unopened ended seat ended_why.Foreign old new (turn.Over (over.Foreign spent)) tells said = (seat, said)
 given_up_said unopened ended seat reason old new found tells said = absurd tells
 
 -- the end that is told once the last answers are written
@@ -73,6 +74,17 @@ leaves_said unopened ended old new is stage why found same sends said = sent_end
 pub ended_said : (unopened : Request → Refusal → Type 0) (ended : SeatState → Why → Type 0) (old new : OutputState) (is : Over) (seat : SeatState) (why : LeaveCause) (found : End) → is ≡ over.Ended seat why → SendsLast old new why found → OverSaid unopened ended is → EndSaid unopened ended found
 ended_said unopened ended old new is seat why found same sends said = sent_end unopened ended old new why found sends (ended_end unopened ended why (subst (OverSaid unopened ended) same said))
 
+reading_end : (unopened : Request → Refusal → Type 0) (ended : SeatState → Why → Type 0) (why : LeaveCause) → IsReadingEnd why → EndSaid unopened ended (end_of why)
+reading_end unopened ended why.Closed said = tt
+reading_end unopened ended why.ReadFault said = tt
+reading_end unopened ended why.Malformed said = tt
+reading_end unopened ended why.RunFull said = absurd said
+reading_end unopened ended why.NoMemory said = tt
+reading_end unopened ended why.Ahead said = tt
+
+pub lost_said : (unopened : Request → Refusal → Type 0) (ended : SeatState → Why → Type 0) (old new : OutputState) (is : Over) (seat : SeatState) (why : LeaveCause) (found : End) → is ≡ over.Lost seat why → SendsLast old new why found → OverSaid unopened ended is → EndSaid unopened ended found
+lost_said unopened ended old new is seat why found same sends said = sent_end unopened ended old new why found sends (reading_end unopened ended why (subst (OverSaid unopened ended) same said).1)
+
 pub closed_said : (unopened : Request → Refusal → Type 0) (ended : SeatState → Why → Type 0) (old new : OutputState) (found : End) → SendsLast old new why.Closed found → EndSaid unopened ended found
 closed_said unopened ended old new found sends = sent_end unopened ended old new why.Closed found sends tt
 
@@ -80,12 +92,12 @@ pub foreign_said : (unopened : Request → Refusal → Type 0) (ended : SeatStat
 foreign_said unopened ended is seat same said = subst (OverSaid unopened ended) same said
 
 -- a session that leaves off keeps its seat
-hung : (seat : SeatState) (wanted : End) (told : Option SeatState) (left : LeftSession) → left.seat ≡ told → LeavesWith (stage.Ready seat) wanted told left.end → HangsUpSeat seat left
-hung seat wanted None left is h = absurd h
-hung seat wanted (Some spent) left is h = (wanted, spent, is, h)
+hung : (seat : SeatState) (wanted : End) (told : Result SeatState (Unit {0})) (left : LeftSession) → left.seat ≡ told → LeavesWith (stage.Ready seat) wanted told left.end → HangsUpSeat seat left
+hung seat wanted (Err admission) left is h = absurd h
+hung seat wanted (Ok spent) left is h = (wanted, spent, is, h)
 
 keeps_at : (at : Stage) (why : LeaveCause) (wanted : End) (left : LeftSession) → LeavesWith at wanted left.seat left.end → KeepsSeat (over.Leaves at why) left
-keeps_at stage.Opening why wanted left h = h.0
+keeps_at (stage.Opening admission) why wanted left h = h.0
 keeps_at (stage.Ready seat) why wanted left h = hung seat wanted left.seat left refl h
 
 pub keeps_left : (is : Over) (at : Stage) (why : LeaveCause) (wanted : End) (left : LeftSession) → is ≡ over.Leaves at why → LeavesWith at wanted left.seat left.end → KeepsSeat is left

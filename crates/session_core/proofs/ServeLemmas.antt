@@ -1,23 +1,24 @@
 -- A session from its first byte to its end.
-use Rattle.std.proofs.Common.{◌≡◌, ℕ, ◌≤◌, Bool, inl, inr, List, [], ◌∷◌, ◌++◌, Option, None, Some, arith, refl, sym, ◌∙◌, ap, subst}
+use Rattle.std.proofs.Common.{◌≡◌, ℕ, ◌≤◌, Bool, inl, inr, List, [], ◌∷◌, ◌++◌, Option, None, Some, length, arith, refl, sym, ◌∙◌, ap, subst}
 use Rattle.std.proofs.lemmas.List.{append-nil, append_assoc}
 use Rattle.std.proofs.KnownBytes.{Appends-nil, Consumes-nil}
 use Rattle.rtrb.specs.Ring.{sent, producer_capacity}
 use Rattle.call_types.specs.declared.call.Call.{Call}
 use Rattle.call_types.specs.declared.refusal.Refusal.{Refusal}
 use Rattle.call_types.specs.declared.request.Request.{Request}
-use Rattle.frame_codec.specs.declared.decoder.Progress.{Progress}
 use Rattle.frame_codec.specs.declared.decoder.Progress.TheVariants as progress
 use Rattle.record_book.specs.Seat.{SeatState}
 use Rattle.system_lock.specs.declared.kernel.Why.{Why}
 use Rattle.logged_streams.specs.declared.stream_log.TheConstants.{INTERRUPTIONS_MAX}
-use Rattle.logged_streams.specs.Streams.{LoggedReaderState}
+use Rattle.logged_streams.specs.Streams.{LoggedReaderState, LoggedWriterState, fresh_log}
 use Rattle.request_pump.specs.Input.{AreRequests, Begins}
 use Rattle.request_pump.specs.Pump.{PumpState, Pumps, PushedBy, PushingEnd}
 use Rattle.request_pump.specs.Pump.{IsMet as PumpMet}
+use Rattle.request_pump.proofs.InputLemmas.{begins_read}
 use Rattle.request_pump.specs.declared.pump.TheConstants.{READS_MAX}
 use Rattle.request_pump.specs.declared.pumped.PumpEnd.{PumpEnd}
 use Rattle.request_pump.specs.declared.pumped.PumpEnd.TheVariants as pump_end
+use Rattle.session_core.specs.declared.end.End.{End}
 use Rattle.session_core.specs.declared.end.End.TheVariants as end
 use Rattle.session_core.specs.declared.serve.TheConstants.{REQUESTS_AHEAD}
 use Rattle.session_core.specs.declared.stage.LeaveCause.TheVariants as why
@@ -26,16 +27,16 @@ use Rattle.session_core.specs.declared.told.Told.{Told}
 use Rattle.session_core.specs.Stages.{Stage, Over}
 use Rattle.session_core.specs.Output.{OutputState, Holds}
 use Rattle.session_core.specs.Turns.{IsTalking, OverBy}
-use Rattle.session_core.specs.Ends.{IsMet, IsOver}
+use Rattle.session_core.specs.Ends.{IsCutOff, IsMet, IsOver}
 use Rattle.session_core.specs.Closing.{with_last}
 use Rattle.session_core.specs.Desk.{EndsAs, LeavesUnwritten, OverOf}
-use Rattle.session_core.specs.Settling.{Settles, reader_of, unserved_by, why_of}
-use Rattle.session_core.specs.Said.{ClosedSaid, EndSaid}
+use Rattle.session_core.specs.Settling.{Settles, unread, unserved_by, why_of}
+use Rattle.session_core.specs.Said.{CutSaid, EndSaid}
 use Rattle.session_core.specs.Refusals.{ReadSaid, RefusalSaid, RefusalsSaid}
-use Rattle.session_core.specs.Served.{ComesTo, HasRead, KeepsReader, Serves, SessionState}
+use Rattle.session_core.specs.Served.{ComesTo, HasRead, KeepsReader, Serves, SessionState, reads_of}
 use Rattle.session_core.proofs.CallLemmas.{converses, has_receipts}
 use Rattle.session_core.proofs.ClosingLemmas.{converses_more, first_none}
-use Rattle.session_core.proofs.CutLemmas.{closed_said}
+use Rattle.session_core.proofs.CutLemmas.{cut_said}
 use Rattle.session_core.proofs.RefusalLemmas.{empty_said, kept_said, wider, with_last_said}
 
 -- ---- a session that has read nothing
@@ -77,23 +78,25 @@ unstarted always from base = record {
   };
 }
 
-pub unserved_said : (Said : List Request → List Told → Refusal → Type 0) (from : Option (List ℕ)) → ReadSaid Said from (Some from) []
+pub unserved_said : (Said : List Request → List Told → Refusal → Type 0) (from : Option (List ℕ)) → ReadSaid Said from (Some (unread from)) []
 unserved_said Said from = record { input = []; consumes = Consumes-nil from; begins_said = record { requests = []; begins = first_nothing [] refl []; said = empty_said (Said []) [] refl } }
 
 pub unstarted_said : (Said : List Request → List Told → Refusal → Type 0) (from : Option (List ℕ)) → ReadSaid Said from None []
 unstarted_said Said from = record { input = []; consumes = refl; begins_said = record { requests = []; begins = first_nothing [] refl []; said = empty_said (Said []) [] refl } }
 
--- neither is closed
-pub unserved_open : (ended : SeatState → Why → Type 0) (answers : List Told) → ClosedSaid ended answers end.NoMemory
-unserved_open ended answers closed requests cut = absurd cc
+-- nothing was written to its writer
+pub unwritten_by : (s : SessionState) (remaining : Option (Option (List ℕ))) (held : Option (List ℕ)) (writer : LoggedWriterState) (found : End) → writer ≡ record { contents = held; log = fresh_log }
+    → (writer.log ≡ fresh_log → s ≡ unserved_by remaining writer.contents found) → s ≡ unserved_by remaining held found
+unwritten_by s remaining held writer found e h = h (ap (λ (w : LoggedWriterState). w.log) e) ∙ ap (λ (w : LoggedWriterState). unserved_by remaining w.contents found) e
 
-pub unstarted_open : (ended : SeatState → Why → Type 0) (answers : List Told) → ClosedSaid ended answers end.NoThread
-unstarted_open ended answers closed requests cut = absurd cc
+-- neither is closed
+pub unserved_open : (ended : SeatState → Why → Type 0) (answers : List Told) → CutSaid ended answers end.NoMemory
+unserved_open ended answers of requests cut = absurd of
+
+pub unstarted_open : (ended : SeatState → Why → Type 0) (answers : List Told) → CutSaid ended answers end.NoThread
+unstarted_open ended answers of requests cut = absurd of
 
 -- ---- what was pushed, and what was read
-
-begins_read : (input : List ℕ) (requests : List Request) (told : Progress) → AreRequests input requests told → Begins input requests
-begins_read input requests told h = record { text = h.text; rest = h.rest; is = h.is; frames = h.frames }
 
 -- what was read begins with the requests that were sent, and perhaps more
 record IsBegun (input : List ℕ) (all : List Request) : Type 0 where
@@ -120,6 +123,7 @@ met_at_one base handled next o source (over.Leaves at why.RunFull) h = tt
 met_at_one base handled next o source (over.Leaves at why.NoMemory) h = tt
 met_at_one base handled next o source (over.Leaves at why.Ahead) h = tt
 met_at_one base handled next o source (over.Unwritten at) h = tt
+met_at_one base handled next o source (over.Lost seat cause) h = absurd h
 met_at_one base handled next o source other h = tt
 
 early_at : (base : Option (List ℕ)) (input : List ℕ) (taken handled later extra all : List Request) (next : Request) (o : OutputState) (found : Over) → taken ≡ handled ++ next ∷ [] → all ≡ taken ++ later → Begins input (all ++ extra)
@@ -144,7 +148,7 @@ early_unwritten base input taken later extra all o source (over.Unwritten at) sp
     )
 early_unwritten base input taken later extra all o source other split begins h = absurd h
 
-early_of : (base : Option (List ℕ)) (input : List ℕ) (taken later extra all : List Request) (o : OutputState) (source : LoggedReaderState) (found : Over) → all ≡ taken ++ later → Begins input (all ++ extra) → OverOf base taken o found
+pub early_of : (base : Option (List ℕ)) (input : List ℕ) (taken later extra all : List Request) (o : OutputState) (source : LoggedReaderState) (found : Over) → all ≡ taken ++ later → Begins input (all ++ extra) → OverOf base taken o found
     → IsOver base input o found × IsMet source found
 early_of base input taken later extra all o source found split begins (inl h) =
     (early_at base input taken h.handled later extra all h.next o found h.taken_are split begins h.is, met_at_one base h.handled h.next o source found h.is)
@@ -153,7 +157,7 @@ early_of base input taken later extra all o source found split begins (inr h) = 
 -- ---- all requests were answered
 
 after_all : (found : PumpEnd) (capacity : ℕ) (base : Option (List ℕ)) (input : List ℕ) (all : List Request) (o : OutputState) (source : LoggedReaderState) (at : Stage) → REQUESTS_AHEAD ≤ capacity → PushedBy capacity input [] all found
-    → PumpMet source.remaining source.log found → Holds base o → IsTalking all o.answers at → IsOver base input o (over.Leaves at (why_of found)) × IsMet source (over.Leaves at (why_of found))
+    → PumpMet source found → Holds base o → IsTalking all o.answers at → IsOver base input o (over.Leaves at (why_of found)) × IsMet source (over.Leaves at (why_of found))
 after_all pump_end.Closed capacity base input all o source at room h met holds talking =
     (inr (record { requests = all; read = subst (λ (l : List Request). AreRequests input l progress.More) (sym h.is) h.read; holds = holds; talking = talking }), met)
 after_all pump_end.ReadFault capacity base input all o source at room h met holds talking =
@@ -192,14 +196,41 @@ after_all pump_end.Ahead capacity base input all o source at room h met holds ta
   tt,
 )
 
+-- ---- a call was given up
+
+after_cut : (found : PumpEnd) (capacity : ℕ) (base : Option (List ℕ)) (input : List ℕ) (all : List Request) (o : OutputState) (source : LoggedReaderState) (seat : SeatState) → REQUESTS_AHEAD ≤ capacity → PushedBy capacity input [] all found
+    → PumpMet source found → IsCutOff base input o seat → IsOver base input o (over.Lost seat (why_of found)) × IsMet source (over.Lost seat (why_of found))
+after_cut pump_end.Closed capacity base input all o source seat room h met cut = (inr (cut, record { requests = h.requests; read = h.read }), met)
+after_cut pump_end.ReadFault capacity base input all o source seat room h met cut = (inr (cut, record { requests = h.requests; read = h.read }), met)
+after_cut pump_end.Malformed capacity base input all o source seat room h met cut = (inr (cut, record { requests = h.requests; told = h.told; fault = h.fault; read = h.read }), tt)
+after_cut pump_end.NoMemory capacity base input all o source seat room h met cut = (inr cut, tt)
+after_cut pump_end.Ahead capacity base input all o source seat room h met cut = (
+  inr (
+    cut,
+    record {
+      requests = h.requests;
+      back = h.back;
+      later = h.later;
+      begins = h.begins;
+      full = subst (λ (l : List Request). REQUESTS_AHEAD ≤ length l) h.is (omega (arith, room, h.full));
+    },
+  ),
+  tt,
+)
+
 -- ---- how a session is over
 
-is_over : (capacity : ℕ) (base : Option (List ℕ)) (input : List ℕ) (p : PumpState) (o : OutputState) (found : Over) → REQUESTS_AHEAD ≤ capacity → PushedBy capacity input [] (sent p.producer) p.end_is → PumpMet p.remaining p.reads p.end_is
-    → EndsAs base (sent p.producer) (why_of p.end_is) o found → IsOver base input o found × IsMet (reader_of p) found
+is_over : (capacity : ℕ) (base : Option (List ℕ)) (input : List ℕ) (p : PumpState) (o : OutputState) (found : Over) → REQUESTS_AHEAD ≤ capacity → PushedBy capacity input [] (sent p.producer) p.end_is → PumpMet p.reader p.end_is
+    → EndsAs base (sent p.producer) (why_of p.end_is) o found → IsOver base input o found × IsMet p.reader found
 is_over capacity base input p o found room pushed met (inl early) =
-    let b = begun p.end_is capacity input (sent p.producer) pushed in early_of base input early.taken early.later b.extra (sent p.producer) o (reader_of p) found early.sent_are b.begins early.is
-is_over capacity base input p o found room pushed met (inr all) =
-    subst (λ (f : Over). IsOver base input o f × IsMet (reader_of p) f) (sym all.is) (after_all p.end_is capacity base input (sent p.producer) o (reader_of p) all.at room pushed met all.holds all.talking)
+    let b = begun p.end_is capacity input (sent p.producer) pushed in early_of base input early.taken early.later b.extra (sent p.producer) o p.reader found early.sent_are b.begins early.is
+is_over capacity base input p o found room pushed met (inr (inr lost)) =
+    let b = begun p.end_is capacity input (sent p.producer) pushed in
+    let joined : sent p.producer ++ b.extra ≡ lost.taken ++ (lost.later ++ b.extra) = ap (λ (l : List Request). l ++ b.extra) lost.sent_are ∙ append_assoc lost.taken lost.later b.extra in
+    let cut : IsCutOff base input o lost.seat = record { requests = lost.taken; later = lost.later ++ b.extra; begins = subst (Begins input) joined b.begins; is = lost.is } in
+    subst (λ (f : Over). IsOver base input o f × IsMet p.reader f) (sym lost.found_is) (after_cut p.end_is capacity base input (sent p.producer) o p.reader lost.seat room pushed met cut)
+is_over capacity base input p o found room pushed met (inr (inl all)) =
+    subst (λ (f : Over). IsOver base input o f × IsMet p.reader f) (sym all.is) (after_all p.end_is capacity base input (sent p.producer) o p.reader all.at room pushed met all.holds all.talking)
 
 -- a pump whose ring was empty and has so much room
 pub record IsFreshRing (ring : PushingEnd) : Type 0 where
@@ -221,13 +252,13 @@ pub served : (unopened : Request → Refusal → Type 0) (refused : SeatState �
 served unopened refused ended always from base ring p s fresh h settles =
     let ending = settles.ending in
     let at = is_over (producer_capacity ring) base h.input p ending.old ending.found fresh.room (pushed_from from ring p fresh h) h.met ending.ends in
-    let comes : ComesTo h.input base s = subst (ComesTo h.input base) settles.is (ending.left_by.leaves base h.input (reader_of p) at.0 at.1) in
+    let comes : ComesTo h.input base s = subst (ComesTo h.input base) settles.is (ending.left_by.leaves base h.input p.reader at.0 at.1) in
     record {
       input = h.input;
-      consumes = subst (λ (x : SessionState). HasRead from x.remaining h.input) settles.is h.consumes;
-      kept = subst (λ (x : SessionState). KeepsReader x.remaining x.end_is) settles.is tt;
-      few_reads = subst (λ (x : SessionState). x.reads.calls ≤ READS_MAX) settles.is h.few_reads;
-      few_interrupted = (subst (λ (x : SessionState). x.reads.interruptions ≤ INTERRUPTIONS_MAX) settles.is h.few_interrupted, settles.few);
+      consumes = subst (λ (x : SessionState). HasRead from x.reader h.input) settles.is h.consumes;
+      kept = subst (λ (x : SessionState). KeepsReader x.reader x.end_is) settles.is tt;
+      few_reads = subst (λ (x : SessionState). (reads_of x.reader).calls ≤ READS_MAX) settles.is h.few_reads;
+      few_interrupted = (subst (λ (x : SessionState). (reads_of x.reader).interruptions ≤ INTERRUPTIONS_MAX) settles.is h.few_interrupted, settles.few);
       let_through = settles.let_through;
       comes = comes;
     }
@@ -237,13 +268,13 @@ pub end_said : (unopened : Request → Refusal → Type 0) (refused : SeatState 
 end_said unopened refused ended always base p s settles = subst (λ (x : SessionState). EndSaid unopened ended x.end_is) settles.is settles.ending.left_by.end_said
 
 pub given_up : (unopened : Request → Refusal → Type 0) (refused : SeatState → Call → Refusal → Type 0) (ended : SeatState → Why → Type 0) (always : Bool) (from base : Option (List ℕ)) (ring : PushingEnd) (p : PumpState) (s : SessionState)
-    → IsFreshRing ring → Pumps from ring p → Settles unopened refused ended always base p s → ClosedSaid ended s.answers s.end_is
+    → IsFreshRing ring → Pumps from ring p → Settles unopened refused ended always base p s → CutSaid ended s.answers s.end_is
 given_up unopened refused ended always from base ring p s fresh h settles =
     let ending = settles.ending in
     let by = ending.left_by in
     let at = is_over (producer_capacity ring) base h.input p ending.old ending.found fresh.room (pushed_from from ring p fresh h) h.met ending.ends in
-    subst (λ (x : SessionState). ClosedSaid ended x.answers x.end_is) settles.is
-    (closed_said unopened ended base h.input ending.old settles.o ending.found settles.left (with_last settles.o.answers settles.left.last) at.0 by.over_said by.closes refl)
+    subst (λ (x : SessionState). CutSaid ended x.answers x.end_is) settles.is
+    (cut_said unopened ended base h.input ending.old settles.o ending.found settles.left (with_last settles.o.answers settles.left.last) at.0 by.over_said by.closes refl)
 
 pub refusals_said : (unopened : Request → Refusal → Type 0) (refused : SeatState → Call → Refusal → Type 0) (ended : SeatState → Why → Type 0) (always : Bool) (from base : Option (List ℕ)) (ring : PushingEnd) (p : PumpState) (s : SessionState)
     → IsFreshRing ring → Pumps from ring p → Settles unopened refused ended always base p s → RefusalsSaid unopened refused ended from s

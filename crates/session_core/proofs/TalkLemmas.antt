@@ -47,9 +47,9 @@ first_receipts old new receipt empty put = ap receipts_of (put.answers ∙ ap (�
 same_first : (a b : Receipted) (receipts : List Receipted) → receipts ≡ a ∷ [] → receipts ≡ b ∷ [] → a ≡ b
 same_first a b receipts h k = cc
 
-pub seated : (next : Request) (seat : SeatState) (receipts : List Receipted) (old new : OutputState) → receipts ≡ seat.receipts → OpensBy next (Ok (opened.Seated seat)) → PutsFirst receipts old new
-    → TakesUp stage.Opening next old new (turn.GoesOn (stage.Ready seat))
-seated next seat receipts old new same_list h put_list base handled holds talking =
+pub seated : (admission : Unit {0}) (next : Request) (seat : SeatState) (receipts : List Receipted) (old new : OutputState) → receipts ≡ seat.receipts → OpensBy next (Ok (opened.Seated seat)) → PutsFirst receipts old new
+    → TakesUp (stage.Opening admission) next old new (turn.GoesOn (stage.Ready seat))
+seated admission next seat receipts old new same_list h put_list base handled holds talking =
     let put = subst (λ (l : List Receipted). PutsFirst l old new) same_list put_list in
     let first = first_of next seat h.0 h.1 in
     let same : h.0 ≡ put.receipt = same_first h.0 put.receipt seat.receipts first.0 put.is in
@@ -58,9 +58,9 @@ seated next seat receipts old new same_list h put_list base handled holds talkin
       (first_talk next handled old new put.receipt record_of talking.0 talking.1 put.puts, put.is ∙ sym (first_receipts old new put.receipt talking.1 put.puts)),
     )
 
-pub unseated : (next : Request) (seat : SeatState) (receipts : List Receipted) (old new : OutputState) → receipts ≡ seat.receipts → OpensBy next (Ok (opened.Refused seat)) → PutsFirst receipts old new
-    → TakesUp stage.Opening next old new (turn.Over (over.Refused seat))
-unseated next seat receipts old new same_list h put_list base handled holds talking =
+pub unseated : (admission : Unit {0}) (next : Request) (seat : SeatState) (receipts : List Receipted) (old new : OutputState) → receipts ≡ seat.receipts → OpensBy next (Ok (opened.Refused seat)) → PutsFirst receipts old new
+    → TakesUp (stage.Opening admission) next old new (turn.Over (over.Refused seat))
+unseated admission next seat receipts old new same_list h put_list base handled holds talking =
     let put = subst (λ (l : List Receipted). PutsFirst l old new) same_list put_list in
     let first = first_of next seat h.0 h.1 in
     let same : h.0 ≡ put.receipt = same_first h.0 put.receipt seat.receipts first.0 put.is in
@@ -111,11 +111,11 @@ untold_opening base next handled old new seat receipt h e holds none empty =
     let first = first_of next seat receipt h in
     record { holds = fresh.holds; answers = fresh.answers; unsent = fresh.unsent; one = first.0; with_it = untold_talk next handled receipt first.1 none }
 
-pub opening_untold : (next : Request) (seat : SeatState) (old new : OutputState) → OpensBy next (Ok (opened.Seated seat)) → new ≡ old → TakesUp stage.Opening next old new (turn.Over (over.OpeningUntold seat))
-opening_untold next seat old new h e base handled holds talking = (h.0, untold_opening base next handled old new seat h.0 h.1 e holds talking.0 talking.1)
+pub opening_untold : (admission : Unit {0}) (next : Request) (seat : SeatState) (old new : OutputState) → OpensBy next (Ok (opened.Seated seat)) → new ≡ old → TakesUp (stage.Opening admission) next old new (turn.Over (over.OpeningUntold seat))
+opening_untold admission next seat old new h e base handled holds talking = (h.0, untold_opening base next handled old new seat h.0 h.1 e holds talking.0 talking.1)
 
-pub refusal_untold : (next : Request) (seat : SeatState) (old new : OutputState) → OpensBy next (Ok (opened.Refused seat)) → new ≡ old → TakesUp stage.Opening next old new (turn.Over (over.RefusalUntold seat))
-refusal_untold next seat old new h e base handled holds talking = (h.0, untold_opening base next handled old new seat h.0 h.1 e holds talking.0 talking.1, h.2)
+pub refusal_untold : (admission : Unit {0}) (next : Request) (seat : SeatState) (old new : OutputState) → OpensBy next (Ok (opened.Refused seat)) → new ≡ old → TakesUp (stage.Opening admission) next old new (turn.Over (over.RefusalUntold seat))
+refusal_untold admission next seat old new h e base handled holds talking = (h.0, untold_opening base next handled old new seat h.0 h.1 e holds talking.0 talking.1, h.2)
 
 -- ---- openings that are not recorded
 
@@ -131,25 +131,25 @@ is_unopened next handled old new refusal is_opening wants none empty put = recor
 no_receipts : (next : Request) (handled : List Request) (answers : List Told) (refusal : Refusal) → IsUnopened (handled ++ next ∷ []) answers refusal → receipts_of answers ≡ []
 no_receipts next handled answers refusal h = ap receipts_of h.answers_are
 
-refused_by : (base : Option (List ℕ)) (next : Request) (handled : List Request) (o : OutputState) (refusal : Refusal) (found : LeaveCause) → WhyRefused refusal found → Holds base o → IsUnopened (handled ++ next ∷ []) o.answers refusal
-    → LeavesBy base handled next o stage.Opening found
-refused_by base next handled o refusal.NoMemory found e holds h = subst (LeavesBy base handled next o stage.Opening) (sym e) (
+refused_by : (admission : Unit {0}) (base : Option (List ℕ)) (next : Request) (handled : List Request) (o : OutputState) (refusal : Refusal) (found : LeaveCause) → WhyRefused refusal found → Holds base o → IsUnopened (handled ++ next ∷ []) o.answers refusal
+    → LeavesBy base handled next o (stage.Opening admission) found
+refused_by admission base next handled o refusal.NoMemory found e holds h = subst (LeavesBy base handled next o (stage.Opening admission)) (sym e) (
   holds,
   no_receipts next handled o.answers refusal.NoMemory h,
   record { handled = handled ++ next ∷ []; later = []; requests_are = sym (append-nil (handled ++ next ∷ [])); is = inr (inr (refusal.NoMemory, h)) },
 )
-refused_by base next handled o refusal.RunFull found e holds h =
-    subst (LeavesBy base handled next o stage.Opening) (sym e) (holds, no_receipts next handled o.answers refusal.RunFull h, h)
-refused_by base next handled o refusal.Waiting found e holds h = absurd e
-refused_by base next handled o refusal.NotHere found e holds h = absurd e
-refused_by base next handled o (refusal.Foreign seen len) found e holds h = absurd e
+refused_by admission base next handled o refusal.RunFull found e holds h =
+    subst (LeavesBy base handled next o (stage.Opening admission)) (sym e) (holds, no_receipts next handled o.answers refusal.RunFull h, h)
+refused_by admission base next handled o refusal.Waiting found e holds h = absurd e
+refused_by admission base next handled o refusal.NotHere found e holds h = absurd e
+refused_by admission base next handled o (refusal.Foreign seen len) found e holds h = absurd e
 
-pub unopened : (next : Request) (old new : OutputState) (refusal : Refusal) (found : LeaveCause) → IsOpening next → PutsGivenUp old new refusal found → TakesUp stage.Opening next old new (turn.Over (over.Leaves stage.Opening found))
-unopened next old new refusal found is_opening (inl h) base handled holds talking =
-    refused_by base next handled new refusal found h.0 (h.1.holds base holds) (is_unopened next handled old new refusal is_opening (wanting refusal found h.0) talking.0 talking.1 h.1)
-unopened next old new refusal found is_opening (inr h) base handled holds talking =
+pub unopened : (admission back : Unit {0}) (next : Request) (old new : OutputState) (refusal : Refusal) (found : LeaveCause) → IsOpening next → PutsGivenUp old new refusal found → TakesUp (stage.Opening admission) next old new (turn.Over (over.Leaves (stage.Opening back) found))
+unopened admission back next old new refusal found is_opening (inl h) base handled holds talking =
+    refused_by back base next handled new refusal found h.0 (h.1.holds base holds) (is_unopened next handled old new refusal is_opening (wanting refusal found h.0) talking.0 talking.1 h.1)
+unopened admission back next old new refusal found is_opening (inr h) base handled holds talking =
     let fresh = still_fresh base old new h.1 holds talking.1 in
-    subst (LeavesBy base handled next new stage.Opening) (sym h.0) (
+    subst (LeavesBy base handled next new (stage.Opening back)) (sym h.0) (
       fresh.holds,
       ap receipts_of fresh.answers,
       record { handled = []; later = handled ++ next ∷ []; requests_are = refl; is = inl (inl (refl, fresh.answers)) },

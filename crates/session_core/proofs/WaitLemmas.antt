@@ -23,7 +23,7 @@ use Rattle.session_core.specs.Answers.{receipt_of, receipts_of}
 use Rattle.session_core.specs.Output.{OutputState, Holds, Puts, SendsAll, FailsToSend}
 use Rattle.session_core.specs.Served.{HasExited}
 use Rattle.session_core.specs.Talk.{Group, told_of_all, told_last, goes_on, IsReply, IsPart, IsPartTold, AreParts, IsCallGroup, AreCalls, IsWaiting, Talked, Waits, IsWantingLast, IsCut, Converses}
-use Rattle.session_core.specs.Turns.{WhyRefused, PutsGivenUp, EndedBy, OverBy, TurnBy, IsWaitingAt}
+use Rattle.session_core.specs.Turns.{WhyRefused, PutsGivenUp, EndedBy, IsGivenUp, OverBy, TurnBy, IsWaitingAt}
 
 -- ---- receipts
 
@@ -141,8 +141,8 @@ ended_by base handled call seat spent old new refusal found (inr h) w exits =
       (None, subst (λ (l : List Told). IsCut (handled ++ request.Call call ∷ []) l None) (sym same) (cut_now handled old.answers call w.waits)),
     )
 
-pub lost_by : (base : Option (List ℕ)) (handled : List Request) (call : Call) (seat spent : SeatState) (o : OutputState) → IsWaitingAt base handled call seat o → Exits seat spent → OverBy base handled (request.Call call) o (over.Lost spent)
-lost_by base handled call seat spent o w exits = (w.holds, exits_with seat spent o.answers o.answers exits w.receipts refl, cut_now handled o.answers call w.waits)
+pub lost_by : (base : Option (List ℕ)) (handled : List Request) (call : Call) (seat spent : SeatState) (o : OutputState) → o.unsent ≡ [] → IsWaitingAt base handled call seat o → Exits seat spent → IsGivenUp base (handled ++ request.Call call ∷ []) o spent
+lost_by base handled call seat spent o sent w exits = record { holds = w.holds; sent = sent; exited = exits_with seat spent o.answers o.answers exits w.receipts refl; cut = cut_now handled o.answers call w.waits }
 
 pub foreign_by : (base : Option (List ℕ)) (handled : List Request) (call : Call) (seat spent : SeatState) (o : OutputState) → IsWaitingAt base handled call seat o → spent ≡ seat → OverBy base handled (request.Call call) o (over.Foreign spent)
 foreign_by base handled call seat spent o w same = (w.holds, ap (λ (s : SeatState). s.receipts) same ∙ w.receipts, cut_now handled o.answers call w.waits)

@@ -1,5 +1,6 @@
 -- How a session is closed (own).
-use Rattle.std.specs.Prelude.{◌≡◌, ◌≤◌, ℕ, ◌⊎◌, List, [], ◌∷◌, ◌++◌, Option, None, Some}
+use Rattle.std.specs.Prelude.{◌≡◌, ◌≤◌, ℕ, ◌⊎◌, List, [], ◌∷◌, ◌++◌, Option, None, Some, Result, Ok, Err}
+use Rattle.std.specs.Result.{result_ok}
 use Rattle.record_book.specs.Seat.{Receipted, SeatState}
 use Rattle.system_lock.specs.Kernel.{Exits}
 use Rattle.session_core.specs.declared.end.End.{End}
@@ -15,7 +16,7 @@ use Rattle.logged_streams.specs.declared.stream_log.TheConstants.{INTERRUPTIONS_
 use Rattle.session_core.specs.Output.{OutputState, SendsAll, FailsToSend}
 use Rattle.session_core.specs.Ends.{IsOver, IsMet}
 use Rattle.session_core.specs.Served.{SessionState, ComesTo}
-use Rattle.logged_streams.specs.Streams.{LoggedReaderState, LogState}
+use Rattle.logged_streams.specs.Streams.{LoggedReaderState, LoggedWriterState}
 
 -- the end of a session that has written all its answers
 abbrev pub end_of : LeaveCause → End
@@ -35,10 +36,10 @@ abbrev pub HangsUp : SeatState → End → SeatState → End → Type 0
 HangsUp old wanted spent found = (Exits old spent × (found ≡ wanted)) ⊎ ((spent ≡ old) × (found ≡ end.Foreign))
 
 -- the same of a session that may have no process
-abbrev pub LeavesWith : Stage → End → Option SeatState → End → Type 0
-LeavesWith stage.Opening wanted seat found = (seat ≡ None) × (found ≡ wanted)
-LeavesWith (stage.Ready seat) wanted None found = ⊥
-LeavesWith (stage.Ready seat) wanted (Some spent) found = HangsUp seat wanted spent found
+abbrev pub LeavesWith : Stage → End → Result SeatState (Unit {0}) → End → Type 0
+LeavesWith (stage.Opening admission) wanted seat found = (seat ≡ Err admission) × (found ≡ wanted)
+LeavesWith (stage.Ready seat) wanted (Err admission) found = ⊥
+LeavesWith (stage.Ready seat) wanted (Ok spent) found = HangsUp seat wanted spent found
 
 -- the answers, and after them that of a last receipt, if there is one
 abbrev pub with_last : List Told → Option Receipted → List Told
@@ -46,20 +47,17 @@ with_last answers None = answers
 with_last answers (Some receipt) = answers ++ told.Recorded receipt ∷ []
 
 -- what is left of the output of a session
-pub record IsTaken (o : OutputState) (last : Option Receipted) (answers : List Told) (held : Option (List ℕ)) (log : LogState) : Type 0 where
+pub record IsTaken (o : OutputState) (last : Option Receipted) (answers : List Told) (writer : LoggedWriterState) : Type 0 where
   pub answers_are : answers ≡ with_last o.answers last
-  pub held_is : held ≡ o.sink.contents
-  pub log_is : log ≡ o.sink.log
-  pub few : log.interruptions ≤ INTERRUPTIONS_MAX
+  pub writer_is : writer ≡ o.sink
+  pub few : writer.log.interruptions ≤ INTERRUPTIONS_MAX
 
 -- the session that is left
 abbrev pub session_of : LoggedReaderState → OutputState → LeftSession → SessionState
 session_of source o left = record {
-  remaining = Some source.remaining;
-  reads = source.log;
-  contents = o.sink.contents;
-  writes = o.sink.log;
-  seat = left.seat;
+  reader = Some source;
+  writer = o.sink;
+  seat = result_ok left.seat;
   answers = with_last o.answers left.last;
   end_is = left.end;
 }
@@ -69,25 +67,33 @@ abbrev pub LeavesAll : OutputState → OutputState → Over → LeftSession → 
 LeavesAll old new found left =
     (base : Option (List ℕ)) (input : List ℕ) (source : LoggedReaderState) → IsOver base input old found → IsMet source found → ComesTo input base (session_of source new left)
 
--- the ways to be over after which a session may be closed
+-- why no more is read, or taken up, of a session whose answers are all written
+abbrev pub IsOfReads : LeaveCause → Type 0
+IsOfReads why.Closed = Unit {0}
+IsOfReads why.ReadFault = Unit {0}
+IsOfReads why.Malformed = Unit {0}
+IsOfReads why.Ahead = Unit {0}
+IsOfReads other = ⊥
+
+-- the ways to be over after which a session may end for that
 abbrev pub MayClose : Over → Type 0
-MayClose (over.Leaves stage cause) = cause ≡ why.Closed
+MayClose (over.Leaves stage cause) = IsOfReads cause
 MayClose (over.Unwritten stage) = ⊥
 MayClose (over.OpeningUntold seat) = ⊥
 MayClose (over.RefusalUntold seat) = ⊥
 MayClose (over.Untold seat receipt) = ⊥
 MayClose (over.Refused seat) = Unit {0}
-MayClose (over.Lost seat) = Unit {0}
-MayClose (over.Ended seat cause) = cause ≡ why.Closed
+MayClose (over.Lost seat cause) = Unit {0}
+MayClose (over.Ended seat cause) = IsOfReads cause
 MayClose (over.Foreign seat) = ⊥
 
--- a session is closed only after one of these, and with the answers that it had by then
+-- a session ends for that only after one of these, and with the answers that it had by then
 abbrev pub ClosesAs : Over → OutputState → List Told → End → Type 0
 ClosesAs found old answers end.Closed = MayClose found × (answers ≡ old.answers)
-ClosesAs found old answers end.ReadFault = Unit {0}
+ClosesAs found old answers end.ReadFault = MayClose found × (answers ≡ old.answers)
 ClosesAs found old answers (end.WriteFault sent) = Unit {0}
-ClosesAs found old answers end.Malformed = Unit {0}
-ClosesAs found old answers end.Ahead = Unit {0}
+ClosesAs found old answers end.Malformed = MayClose found × (answers ≡ old.answers)
+ClosesAs found old answers end.Ahead = MayClose found × (answers ≡ old.answers)
 ClosesAs found old answers end.RunFull = Unit {0}
 ClosesAs found old answers end.NoMemory = Unit {0}
 ClosesAs found old answers end.Foreign = Unit {0}
@@ -99,18 +105,18 @@ ClosesBy found old new left = ClosesAs found old (with_last new.answers left.las
 
 -- a process is hung up
 abbrev pub HangsUpSeat : SeatState → LeftSession → Type 0
-HangsUpSeat seat left = (wanted : End) × (spent : SeatState) × (left.seat ≡ Some spent) × HangsUp seat wanted spent left.end
+HangsUpSeat seat left = (wanted : End) × (spent : SeatState) × (left.seat ≡ Ok spent) × HangsUp seat wanted spent left.end
 
 -- what becomes of the seat of a session that is over: a process that still is there is hung up
 abbrev pub KeepsSeat : Over → LeftSession → Type 0
-KeepsSeat (over.Leaves stage.Opening why) left = left.seat ≡ None
+KeepsSeat (over.Leaves (stage.Opening admission) why) left = left.seat ≡ Err admission
 KeepsSeat (over.Leaves (stage.Ready seat) why) left = HangsUpSeat seat left
-KeepsSeat (over.Unwritten stage.Opening) left = left.seat ≡ None
+KeepsSeat (over.Unwritten (stage.Opening admission)) left = left.seat ≡ Err admission
 KeepsSeat (over.Unwritten (stage.Ready seat)) left = HangsUpSeat seat left
 KeepsSeat (over.OpeningUntold seat) left = HangsUpSeat seat left
-KeepsSeat (over.RefusalUntold seat) left = left.seat ≡ Some seat
+KeepsSeat (over.RefusalUntold seat) left = left.seat ≡ Ok seat
 KeepsSeat (over.Untold seat receipt) left = HangsUpSeat seat left
-KeepsSeat (over.Refused seat) left = left.seat ≡ Some seat
-KeepsSeat (over.Lost seat) left = left.seat ≡ Some seat
-KeepsSeat (over.Ended seat why) left = left.seat ≡ Some seat
-KeepsSeat (over.Foreign seat) left = left.seat ≡ Some seat
+KeepsSeat (over.Refused seat) left = left.seat ≡ Ok seat
+KeepsSeat (over.Lost seat why) left = left.seat ≡ Ok seat
+KeepsSeat (over.Ended seat why) left = left.seat ≡ Ok seat
+KeepsSeat (over.Foreign seat) left = left.seat ≡ Ok seat

@@ -11,19 +11,21 @@ use Rattle.call_types.specs.declared.request.Request.{Request}
 use Rattle.call_types.specs.declared.request.Request.TheVariants as request
 use Rattle.record_book.specs.Seat.{SeatState}
 use Rattle.system_lock.specs.declared.kernel.Why.{Why}
+use Rattle.system_lock.specs.declared.kernel.Why.TheVariants as ended_why
 use Rattle.session_core.specs.declared.told.Told.{Told}
 use Rattle.session_core.specs.Stages.{Stage, Over, Turn, LeftSession, Standing}
+use Rattle.session_core.specs.declared.desk.Attended.{Attended}
+use Rattle.session_core.specs.declared.desk.Attended.TheVariants as attended
 use Rattle.session_core.specs.declared.stage.LeaveCause.{LeaveCause}
-use Rattle.session_core.specs.declared.stage.LeaveCause.TheVariants as why
 use Rattle.session_core.specs.declared.stage.Over.TheVariants as over
 use Rattle.session_core.specs.declared.stage.Standing.TheVariants as standing
 use Rattle.session_core.specs.declared.stage.Turn.TheVariants as turn
 use Rattle.session_core.specs.Output.{OutputState, Holds, Broke}
 use Rattle.session_core.specs.Talk.{Converses}
-use Rattle.session_core.specs.Turns.{IsTalking, IsWaitingAt, HasReceipts, OverBy}
+use Rattle.session_core.specs.Turns.{IsTalking, IsWaitingAt, IsGivenUp, HasReceipts, OverBy}
 use Rattle.session_core.specs.Closing.{ClosesBy, LeavesAll}
 use Rattle.session_core.specs.Refusals.{AreSaid, RefusalSaid}
-use Rattle.session_core.specs.Said.{EndSaid, OverSaid, TurnSaid}
+use Rattle.session_core.specs.Said.{EndSaid, OverSaid, SaidEnded, TurnSaid}
 
 -- ---- the ring
 
@@ -57,6 +59,11 @@ pub record IsWaitingIn (Said : List Request → List Told → Refusal → Type 0
   pub waits : IsWaitingAt base handled call seat o
   pub said : AreSaid (Said taken) o.answers
 
+-- the last of these is a call that waited and is given up
+pub record IsLostIn (Said : List Request → List Told → Refusal → Type 0) (base : Option (List ℕ)) (taken : List Request) (o : OutputState) (seat : SeatState) : Type 0 where
+  pub is : IsGivenUp base taken o seat
+  pub said : AreSaid (Said taken) o.answers
+
 -- a session is over at the last of these
 pub record IsOverAt (base : Option (List ℕ)) (taken : List Request) (o : OutputState) (found : Over) : Type 0 where
   pub handled : List Request
@@ -82,6 +89,7 @@ pub record IsOverAfter (Said : List Request → List Told → Refusal → Type 0
 abbrev pub TurnStands : (List Request → List Told → Refusal → Type 0) → Option (List ℕ) → List Request → OutputState → Turn → Type 0
 TurnStands Said base taken o (turn.GoesOn at) = IsReady Said base taken o at
 TurnStands Said base taken o (turn.Waits seat) = IsWaitingIn Said base taken o seat
+TurnStands Said base taken o (turn.Lost seat) = IsLostIn Said base taken o seat
 TurnStands Said base taken o (turn.Over found) = IsOverAfter Said base taken o found
 
 -- ---- a session that is left
@@ -106,13 +114,26 @@ pub record HasLeft (unopened : Request → Refusal → Type 0) (refused : SeatSt
 abbrev pub Stands : (Request → Refusal → Type 0) → (SeatState → Call → Refusal → Type 0) → (SeatState → Why → Type 0) → Option (List ℕ) → List Request → OutputState → Standing → Type 0
 Stands unopened refused ended base taken o (standing.Ready at) = IsReady (RefusalSaid unopened refused ended) base taken o at
 Stands unopened refused ended base taken o (standing.Waits seat) = IsWaitingIn (RefusalSaid unopened refused ended) base taken o seat
+Stands unopened refused ended base taken o (standing.Lost seat) = IsLostIn (RefusalSaid unopened refused ended) base taken o seat × SaidEnded ended ended_why.Lost
 Stands unopened refused ended base taken o (standing.Left left) = HasLeft unopened refused ended base taken o left
+
+-- the same at a desk from which it is not taken away
+abbrev pub StandsThere : (Request → Refusal → Type 0) → (SeatState → Call → Refusal → Type 0) → (SeatState → Why → Type 0) → Option (List ℕ) → List Request → OutputState → Option Standing → Type 0
+StandsThere unopened refused ended base taken o None = ⊥
+StandsThere unopened refused ended base taken o (Some standing) = Stands unopened refused ended base taken o standing
+
+-- what a desk has come to whose session stands there
+abbrev pub comes_to : Standing → Attended
+comes_to (standing.Ready at) = attended.Ready
+comes_to (standing.Waits seat) = attended.Waits
+comes_to (standing.Lost seat) = attended.Left
+comes_to (standing.Left left) = attended.Left
 
 -- what a desk holds
 pub record DeskState : Type 0 where
   pub ring : TakingEnd
   pub output_is : OutputState
-  pub standing : Standing
+  pub standing : Option Standing
 
 -- where a session stands after a turn
 abbrev pub StandsBy : (Request → Refusal → Type 0) → (SeatState → Call → Refusal → Type 0) → (SeatState → Why → Type 0) → OutputState → Turn → OutputState → Standing → Type 0
@@ -128,12 +149,22 @@ abbrev pub SendsOn : (Request → Refusal → Type 0) → (SeatState → Call �
 SendsOn unopened refused ended old at new found =
     (base : Option (List ℕ)) (taken : List Request) → IsReady (RefusalSaid unopened refused ended) base taken old at → TurnStands (RefusalSaid unopened refused ended) base taken new found
 
--- ---- how a session ends
+-- all answers are written, if the session goes on with the next request
+abbrev pub SentIfOn : OutputState → Turn → Type 0
+SentIfOn o (turn.GoesOn at) = o.unsent ≡ []
+SentIfOn o other = Unit {0}
 
--- a session may leave off for this when no more is read
-abbrev pub IsReadingEnd : LeaveCause → Type 0
-IsReadingEnd why.RunFull = ⊥
-IsReadingEnd other = Unit {0}
+abbrev pub SentIfReady : OutputState → Standing → Type 0
+SentIfReady o (standing.Ready at) = o.unsent ≡ []
+SentIfReady o other = Unit {0}
+
+-- the same, and no call waits
+abbrev pub IsAtRest : OutputState → Standing → Type 0
+IsAtRest o (standing.Ready at) = o.unsent ≡ []
+IsAtRest o (standing.Waits seat) = ⊥
+IsAtRest o other = Unit {0}
+
+-- ---- how a session ends
 
 -- it was over at one of the requests that were sent
 pub record EndsEarly (base : Option (List ℕ)) (sent : List Request) (o : OutputState) (found : Over) : Type 0 where
@@ -149,8 +180,17 @@ pub record EndsAfterAll (base : Option (List ℕ)) (sent : List Request) (cause 
   pub holds : Holds base o
   pub talking : IsTalking sent o.answers at
 
+-- the last of its requests that were taken is a call that was given up, and it leaves off for this
+pub record EndsGivenUp (base : Option (List ℕ)) (sent : List Request) (cause : LeaveCause) (o : OutputState) (found : Over) : Type 0 where
+  pub taken : List Request
+  pub later : List Request
+  pub seat : SeatState
+  pub sent_are : sent ≡ taken ++ later
+  pub found_is : found ≡ over.Lost seat cause
+  pub is : IsGivenUp base taken o seat
+
 abbrev pub EndsAs : Option (List ℕ) → List Request → LeaveCause → OutputState → Over → Type 0
-EndsAs base sent cause o found = EndsEarly base sent o found ⊎ EndsAfterAll base sent cause o found
+EndsAs base sent cause o found = EndsEarly base sent o found ⊎ (EndsAfterAll base sent cause o found ⊎ EndsGivenUp base sent cause o found)
 
 -- a session is left to which these requests were sent, and which leaves off for this where each of them is answered
 pub record IsEnding (unopened : Request → Refusal → Type 0) (refused : SeatState → Call → Refusal → Type 0) (ended : SeatState → Why → Type 0) (base : Option (List ℕ)) (sent : List Request) (cause : LeaveCause) (o : OutputState) (left : LeftSession) : Type 0 where

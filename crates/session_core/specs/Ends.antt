@@ -1,7 +1,8 @@
 -- A session that is over, and the bytes that it read (own).
-use Rattle.std.specs.Prelude.{◌≡◌, ℕ, ◌≤◌, ◌⊎◌, List, ◌∷◌, ◌++◌, Option, length}
+use Rattle.std.specs.Prelude.{ℕ, ◌≤◌, ◌⊎◌, List, ◌∷◌, ◌++◌, Option, length}
 use Rattle.std.specs.Io.KnownBytes.{IsAtEnd}
 use Rattle.call_types.specs.declared.request.Request.{Request}
+use Rattle.record_book.specs.Seat.{SeatState}
 use Rattle.frame_codec.specs.declared.decoder.Progress.{Progress}
 use Rattle.frame_codec.specs.declared.decoder.Progress.TheVariants as progress
 use Rattle.session_core.specs.Stages.{Stage, Over}
@@ -13,7 +14,8 @@ use Rattle.request_pump.specs.Input.{Begins, AreRequests, IsFault}
 use Rattle.request_pump.specs.declared.pump.TheConstants.{READS_MAX}
 use Rattle.session_core.specs.declared.serve.TheConstants.{REQUESTS_AHEAD}
 use Rattle.session_core.specs.Talk.{Converses}
-use Rattle.session_core.specs.Turns.{IsTalking, HasReceipts, OverBy}
+use Rattle.session_core.specs.Served.{HasNoFault, HasFault, RunsAhead}
+use Rattle.session_core.specs.Turns.{IsTalking, IsGivenUp, HasReceipts, OverBy}
 
 -- a session that is over at one of its requests
 pub record IsOverAtOne (base : Option (List ℕ)) (input : List ℕ) (o : OutputState) (found : Over) : Type 0 where
@@ -65,7 +67,14 @@ pub record IsAhead (base : Option (List ℕ)) (input : List ℕ) (o : OutputStat
   pub holds : Holds base o
   pub talking : IsTalking requests o.answers at
 
--- why a session leaves off between two requests
+-- a session the last of whose answered requests is a call that waited and is given up
+pub record IsCutOff (base : Option (List ℕ)) (input : List ℕ) (o : OutputState) (seat : SeatState) : Type 0 where
+  pub requests : List Request
+  pub later : List Request
+  pub begins : Begins input (requests ++ later)
+  pub is : IsGivenUp base requests o seat
+
+-- why a session leaves off between two requests, or in a call that is given up
 abbrev pub LeavesOff : Option (List ℕ) → List ℕ → OutputState → Over → Type 0
 LeavesOff base input o (over.Leaves at why.Closed) = IsAnswered base input o at
 LeavesOff base input o (over.Leaves at why.ReadFault) = IsAnswered base input o at
@@ -73,6 +82,11 @@ LeavesOff base input o (over.Leaves at why.Malformed) = IsMalformed base input o
 LeavesOff base input o (over.Leaves at why.NoMemory) = IsUnread base input o at
 LeavesOff base input o (over.Leaves at why.Ahead) = IsAhead base input o at
 LeavesOff base input o (over.Unwritten at) = IsUnwritten base input o at
+LeavesOff base input o (over.Lost seat why.Closed) = IsCutOff base input o seat × HasNoFault input
+LeavesOff base input o (over.Lost seat why.ReadFault) = IsCutOff base input o seat × HasNoFault input
+LeavesOff base input o (over.Lost seat why.Malformed) = IsCutOff base input o seat × HasFault input
+LeavesOff base input o (over.Lost seat why.NoMemory) = IsCutOff base input o seat
+LeavesOff base input o (over.Lost seat why.Ahead) = IsCutOff base input o seat × RunsAhead input
 LeavesOff base input o other = ⊥
 
 -- a session that is over
@@ -83,4 +97,6 @@ IsOver base input o found = IsOverAtOne base input o found ⊎ LeavesOff base in
 abbrev pub IsMet : LoggedReaderState → Over → Type 0
 IsMet source (over.Leaves at why.Closed) = IsAtEnd source.remaining
 IsMet source (over.Leaves at why.ReadFault) = IsReadNoMore READS_MAX source.log
+IsMet source (over.Lost seat why.Closed) = IsAtEnd source.remaining
+IsMet source (over.Lost seat why.ReadFault) = IsReadNoMore READS_MAX source.log
 IsMet source other = Unit {0}

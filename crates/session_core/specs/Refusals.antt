@@ -12,6 +12,7 @@ use Rattle.session_core.specs.declared.told.Told.{Told}
 use Rattle.session_core.specs.declared.told.Told.TheVariants as told
 use Rattle.session_core.specs.Answers.{receipts_of}
 use Rattle.session_core.specs.Output.{OutputState, Holds}
+use Rattle.logged_streams.specs.Streams.{LoggedReaderState}
 use Rattle.request_pump.specs.Input.{Begins}
 use Rattle.session_core.specs.Served.{HasRead, SessionState}
 use Rattle.session_core.specs.Stages.{Stage}
@@ -69,14 +70,14 @@ pub record BeginsSaid (Said : List Request → List Told → Refusal → Type 0)
   pub said : AreSaid (Said requests) answers
 
 -- the same, of what a reader gave
-pub record ReadSaid (Said : List Request → List Told → Refusal → Type 0) (from : Option (List ℕ)) (left : Option (Option (List ℕ))) (answers : List Told) : Type 0 where
+pub record ReadSaid (Said : List Request → List Told → Refusal → Type 0) (from : Option (List ℕ)) (reader : Option LoggedReaderState) (answers : List Told) : Type 0 where
   pub input : List ℕ
-  pub consumes : HasRead from left input
+  pub consumes : HasRead from reader input
   pub begins_said : BeginsSaid Said input answers
 
 -- each refusal that a session told was said by a kernel, where this is what its reader had at the start
 abbrev pub RefusalsSaid : (Request → Refusal → Type 0) → (SeatState → Call → Refusal → Type 0) → (SeatState → Why → Type 0) → Option (List ℕ) → SessionState → Type 0
-RefusalsSaid unopened refused ended from s = ReadSaid (RefusalSaid unopened refused ended) from s.remaining s.answers
+RefusalsSaid unopened refused ended from s = ReadSaid (RefusalSaid unopened refused ended) from s.reader s.answers
 
 -- ---- how a session comes to them
 

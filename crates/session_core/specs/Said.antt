@@ -1,5 +1,5 @@
 -- What a session ends for is what its kernel said (own).
-use Rattle.std.specs.Prelude.{◌≡◌, ◌⊎◌, List, None}
+use Rattle.std.specs.Prelude.{◌⊎◌, List, None}
 use Rattle.call_types.specs.declared.refusal.Refusal.{Refusal}
 use Rattle.call_types.specs.declared.refusal.Refusal.TheVariants as refusal
 use Rattle.call_types.specs.declared.request.Request.{Request}
@@ -42,6 +42,11 @@ CauseEndedSaid ended why.Ahead = ⊥
 CauseEndedSaid ended why.RunFull = SaidEnded ended ended_why.RunFull
 CauseEndedSaid ended why.NoMemory = SaidEnded ended ended_why.NoMemory ⊎ SaidEnded ended ended_why.RunFull
 
+-- a session may leave off for this when no more is read
+abbrev pub IsReadingEnd : LeaveCause → Type 0
+IsReadingEnd why.RunFull = ⊥
+IsReadingEnd other = Unit {0}
+
 -- where a session is over for a reason that only a kernel can give, the kernel gave it
 abbrev pub OverSaid : (Request → Refusal → Type 0) → (SeatState → Why → Type 0) → Over → Type 0
 OverSaid unopened ended (over.Leaves stage why) = CauseSaid unopened why
@@ -50,7 +55,7 @@ OverSaid unopened ended (over.OpeningUntold seat) = Unit {0}
 OverSaid unopened ended (over.RefusalUntold seat) = Unit {0}
 OverSaid unopened ended (over.Untold seat receipt) = Unit {0}
 OverSaid unopened ended (over.Refused seat) = Unit {0}
-OverSaid unopened ended (over.Lost seat) = SaidEnded ended ended_why.Lost
+OverSaid unopened ended (over.Lost seat why) = SaidEnded ended ended_why.Lost × IsReadingEnd why
 OverSaid unopened ended (over.Ended seat why) = CauseEndedSaid ended why
 OverSaid unopened ended (over.Foreign seat) = SaidEnded ended ended_why.Foreign
 
@@ -58,6 +63,7 @@ OverSaid unopened ended (over.Foreign seat) = SaidEnded ended ended_why.Foreign
 abbrev pub TurnSaid : (Request → Refusal → Type 0) → (SeatState → Why → Type 0) → Turn → Type 0
 TurnSaid unopened ended (turn.GoesOn stage) = Unit {0}
 TurnSaid unopened ended (turn.Waits seat) = Unit {0}
+TurnSaid unopened ended (turn.Lost seat) = SaidEnded ended ended_why.Lost
 TurnSaid unopened ended (turn.Over over) = OverSaid unopened ended over
 
 -- a session ends with Foreign or RunFull only where its kernel said so
@@ -72,6 +78,14 @@ EndSaid unopened ended end.RunFull = SaidUnopened unopened ⊎ SaidEnded ended e
 EndSaid unopened ended end.NoMemory = Unit {0}
 EndSaid unopened ended end.Foreign = SaidEnded ended ended_why.Foreign
 
--- a session is closed in a call that waits only where its kernel gave that call up
-abbrev pub ClosedSaid : (SeatState → Why → Type 0) → List Told → End → Type 0
-ClosedSaid ended answers is = is ≡ end.Closed → (requests : List Request) → IsCut requests answers None → SaidEnded ended ended_why.Lost
+-- the ends for which a session leaves off when no more is read or taken up, with all answers written
+abbrev pub IsEndOfReads : End → Type 0
+IsEndOfReads end.Closed = Unit {0}
+IsEndOfReads end.ReadFault = Unit {0}
+IsEndOfReads end.Malformed = Unit {0}
+IsEndOfReads end.Ahead = Unit {0}
+IsEndOfReads other = ⊥
+
+-- a session ends so in a call that waits only where its kernel gave that call up
+abbrev pub CutSaid : (SeatState → Why → Type 0) → List Told → End → Type 0
+CutSaid ended answers is = IsEndOfReads is → (requests : List Request) → IsCut requests answers None → SaidEnded ended ended_why.Lost

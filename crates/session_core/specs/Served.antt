@@ -19,25 +19,50 @@ use Rattle.session_core.specs.declared.end.End.TheVariants as end
 use Rattle.session_core.specs.declared.told.Told.{Told}
 use Rattle.session_core.specs.declared.told.Told.TheVariants as told
 use Rattle.session_core.specs.Answers.{answers_text, receipts_of, IsFrontWritten}
-use Rattle.logged_streams.specs.Streams.{LogState, IsWrittenNoMore, IsReadNoMore}
+use Rattle.logged_streams.specs.Streams.{LogState, LoggedReaderState, LoggedWriterState, fresh_log, IsWrittenNoMore, IsReadNoMore}
 use Rattle.session_core.specs.Talk.{AreAnswered, Converses, IsCut}
 
 -- ---- what was read
 
 -- what a session's reader has left is told, where the reader is handed back: these bytes were read; of one that is gone, none
-abbrev pub HasRead : Option (List ℕ) → Option (Option (List ℕ)) → List ℕ → Type 0
+abbrev pub HasRead : Option (List ℕ) → Option LoggedReaderState → List ℕ → Type 0
 HasRead from None input = input ≡ []
-HasRead from (Some left) input = Consumes from left input
+HasRead from (Some reader) input = Consumes from reader.remaining input
 
 -- a reader that is handed back is at its end
-abbrev pub IsReadToEnd : Option (Option (List ℕ)) → Type 0
+abbrev pub IsReadToEnd : Option LoggedReaderState → Type 0
 IsReadToEnd None = ⊥
-IsReadToEnd (Some left) = IsAtEnd left
+IsReadToEnd (Some reader) = IsAtEnd reader.remaining
+
+-- what became of the reads: of a reader that is gone there were none
+abbrev pub reads_of : Option LoggedReaderState → LogState
+reads_of None = fresh_log
+reads_of (Some reader) = reader.log
 
 -- the reader is gone only where no thread could be started for it
-abbrev pub KeepsReader : Option (Option (List ℕ)) → End → Type 0
+abbrev pub KeepsReader : Option LoggedReaderState → End → Type 0
 KeepsReader None found = found ≡ end.NoThread
-KeepsReader (Some left) found = Unit {0}
+KeepsReader (Some reader) found = Unit {0}
+
+-- the bytes that were read have no fault
+pub record HasNoFault (input : List ℕ) : Type 0 where
+  pub requests : List Request
+  pub read : AreRequests input requests progress.More
+
+-- they have one
+pub record HasFault (input : List ℕ) : Type 0 where
+  pub requests : List Request
+  pub told : Progress
+  pub fault : IsFault told
+  pub read : AreRequests input requests told
+
+-- one of their requests found at least as many sent as the ring has room for
+pub record RunsAhead (input : List ℕ) : Type 0 where
+  pub requests : List Request
+  pub back : Request
+  pub later : List Request
+  pub begins : Begins input (requests ++ back ∷ later)
+  pub full : REQUESTS_AHEAD ≤ length requests
 
 -- a request that has no place after these
 abbrev pub IsMisplaced : List Request → Request → Type 0
@@ -160,12 +185,10 @@ IsWritten old new answers other = Appends old new (answers_text answers)
 
 -- ---- why it ended
 
--- a session that is over: its reader, if that is handed back, and what it has left; what its writer holds; what became of their calls; its seat, its answers and its end
+-- a session that is over: its reader, if that is handed back, and its writer, each with what became of its calls; its seat, its answers and its end
 pub record SessionState : Type 0 where
-  pub remaining : Option (Option (List ℕ))
-  pub reads : LogState
-  pub contents : Option (List ℕ)
-  pub writes : LogState
+  pub reader : Option LoggedReaderState
+  pub writer : LoggedWriterState
   pub seat : Option SeatState
   pub answers : List Told
   pub end_is : End
@@ -174,9 +197,21 @@ pub record SessionState : Type 0 where
 abbrev pub IsTurnedAway : Option SeatState → List Told → Type 0
 IsTurnedAway seat answers = (spent : SeatState) × (seat ≡ Some spent) × IsRefusedOpening spent answers
 
--- the reader is at its end and each request is answered; or the opening is refused; or the call that waited is given up
+-- the bytes have no fault, and each of their requests is answered, or each up to a call that waits and is given up
+abbrev pub AnswersAllOrCut : List ℕ → List Told → Type 0
+AnswersAllOrCut input answers = AnswersAll input answers ⊎ (HasNoFault input × AnswersToCut input answers None)
+
+-- the reader is at its end, or the opening is refused
 abbrev pub IsClosed : List ℕ → SessionState → Type 0
-IsClosed input s = (IsReadToEnd s.remaining × AnswersAll input s.answers) ⊎ (IsTurnedAway s.seat s.answers ⊎ AnswersToCut input s.answers None)
+IsClosed input s = (IsReadToEnd s.reader × AnswersAllOrCut input s.answers) ⊎ IsTurnedAway s.seat s.answers
+
+-- the bytes have a fault, or a request out of place
+abbrev pub IsFaulty : List ℕ → List Told → Type 0
+IsFaulty input answers = AnswersToFault input answers ⊎ (AnswersToMisplaced input answers ⊎ (HasFault input × AnswersToCut input answers None))
+
+-- a request found the ring full
+abbrev pub IsOverrun : List ℕ → List Told → Type 0
+IsOverrun input answers = AnswersToAhead input answers ⊎ (RunsAhead input × AnswersToCut input answers None)
 
 -- the run was full for the opening, or when the call that waited could go on
 abbrev pub IsRunFull : List ℕ → List Told → Type 0
@@ -189,10 +224,10 @@ IsUnstarted input s = (input ≡ []) × (s.seat ≡ None) × (s.answers ≡ [])
 -- why a session ends. Nothing is said here of want of memory, and of a seat that the kernel does not know
 abbrev pub EndsFor : List ℕ → SessionState → End → Type 0
 EndsFor input s end.Closed = IsClosed input s
-EndsFor input s end.ReadFault = IsReadNoMore READS_MAX s.reads × AnswersAll input s.answers
-EndsFor input s (end.WriteFault sent) = IsWrittenNoMore s.writes
-EndsFor input s end.Malformed = AnswersToFault input s.answers ⊎ AnswersToMisplaced input s.answers
-EndsFor input s end.Ahead = AnswersToAhead input s.answers
+EndsFor input s end.ReadFault = IsReadNoMore READS_MAX (reads_of s.reader) × AnswersAllOrCut input s.answers
+EndsFor input s (end.WriteFault sent) = IsWrittenNoMore s.writer.log
+EndsFor input s end.Malformed = IsFaulty input s.answers
+EndsFor input s end.Ahead = IsOverrun input s.answers
 EndsFor input s end.RunFull = IsRunFull input s.answers
 EndsFor input s end.NoMemory = Unit {0}
 EndsFor input s end.Foreign = Unit {0}
@@ -201,16 +236,16 @@ EndsFor input s end.NoThread = IsUnstarted input s
 -- what a session comes to that read these bytes and whose writer held this before
 pub record ComesTo (input : List ℕ) (base : Option (List ℕ)) (s : SessionState) : Type 0 where
   pub talks : AnswersFirst input s.answers
-  pub written : IsWritten base s.contents s.answers s.end_is
+  pub written : IsWritten base s.writer.contents s.answers s.end_is
   pub seated : IsSeated input s.seat s.answers s.end_is
   pub ends : EndsFor input s s.end_is
 
 -- what a session comes to, where this is what its reader had and its writer held at the start; a gate that always says yes has refused no answer
 pub record Serves (always : Bool) (from base : Option (List ℕ)) (s : SessionState) : Type 0 where
   pub input : List ℕ
-  pub consumes : HasRead from s.remaining input
-  pub kept : KeepsReader s.remaining s.end_is
-  pub few_reads : s.reads.calls ≤ READS_MAX
-  pub few_interrupted : (s.reads.interruptions ≤ INTERRUPTIONS_MAX) × (s.writes.interruptions ≤ INTERRUPTIONS_MAX)
-  pub let_through : always ≡ true → s.writes.refusals ≡ 0
+  pub consumes : HasRead from s.reader input
+  pub kept : KeepsReader s.reader s.end_is
+  pub few_reads : (reads_of s.reader).calls ≤ READS_MAX
+  pub few_interrupted : ((reads_of s.reader).interruptions ≤ INTERRUPTIONS_MAX) × (s.writer.log.interruptions ≤ INTERRUPTIONS_MAX)
+  pub let_through : always ≡ true → s.writer.log.refusals ≡ 0
   pub comes : ComesTo input base s

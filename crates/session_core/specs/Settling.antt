@@ -1,5 +1,6 @@
 -- How a session is put together once no more is read (own).
-use Rattle.std.specs.Prelude.{◌≡◌, ℕ, ◌≤◌, Bool, true, List, [], Option, None, Some}
+use Rattle.std.specs.Prelude.{◌≡◌, ℕ, ◌≤◌, Bool, true, List, [], Option, None}
+use Rattle.std.specs.Option.{option_map}
 use Rattle.rtrb.specs.Ring.{sent}
 use Rattle.call_types.specs.declared.call.Call.{Call}
 use Rattle.call_types.specs.declared.refusal.Refusal.{Refusal}
@@ -28,19 +29,19 @@ why_of pump_end.Malformed = why.Malformed
 why_of pump_end.NoMemory = why.NoMemory
 why_of pump_end.Ahead = why.Ahead
 
--- the reader of a pump that is over
-abbrev pub reader_of : PumpState → LoggedReaderState
-reader_of p = record { remaining = p.remaining; log = p.reads }
-
 -- a session whose pump came to this is put together: it is left, and its writer held this at the start
 pub record Settles (unopened : Request → Refusal → Type 0) (refused : SeatState → Call → Refusal → Type 0) (ended : SeatState → Why → Type 0) (always : Bool) (base : Option (List ℕ)) (p : PumpState) (s : SessionState) : Type 0 where
   pub o : OutputState
   pub left : LeftSession
   pub ending : IsEnding unopened refused ended base (sent p.producer) (why_of p.end_is) o left
-  pub is : session_of (reader_of p) o left ≡ s
-  pub few : s.writes.interruptions ≤ INTERRUPTIONS_MAX
-  pub let_through : always ≡ true → s.writes.refusals ≡ 0
+  pub is : session_of p.reader o left ≡ s
+  pub few : s.writer.log.interruptions ≤ INTERRUPTIONS_MAX
+  pub let_through : always ≡ true → s.writer.log.refusals ≡ 0
+
+-- a stream for which nothing was called yet
+abbrev pub unread : Option (List ℕ) → LoggedReaderState
+unread remaining = record { remaining = remaining; log = fresh_log }
 
 -- a session that has read nothing
 abbrev pub unserved_by : Option (Option (List ℕ)) → Option (List ℕ) → End → SessionState
-unserved_by remaining contents found = record { remaining = remaining; reads = fresh_log; contents = contents; writes = fresh_log; seat = None; answers = []; end_is = found }
+unserved_by remaining contents found = record { reader = option_map unread remaining; writer = record { contents = contents; log = fresh_log }; seat = None; answers = []; end_is = found }

@@ -1,4 +1,4 @@
--- How far a session of some book has come, and how it ends (own): contracts see a seat as what it holds.
+-- How far a session of some book has come, and how it ends (own): contracts see a seat as what it holds, and nothing of an admission.
 use Rattle.record_book.specs.Seat.{SeatState}
 use Rattle.session_core.specs.declared.stage.Stage.{Stage as StageOf}
 use Rattle.session_core.specs.declared.stage.Over.{Over as OverOf}
@@ -7,16 +7,16 @@ use Rattle.session_core.specs.declared.stage.LeftSession.{LeftSession as LeftOf}
 use Rattle.session_core.specs.declared.stage.Standing.{Standing as StandingOf}
 
 abbrev pub Stage : Type 0
-Stage = StageOf SeatState
+Stage = StageOf SeatState (Unit {0})
 
 abbrev pub Over : Type 0
-Over = OverOf SeatState SeatState
+Over = OverOf SeatState SeatState (Unit {0})
 
 abbrev pub Turn : Type 0
-Turn = TurnOf SeatState SeatState
+Turn = TurnOf SeatState SeatState (Unit {0})
 
 abbrev pub LeftSession : Type 0
-LeftSession = LeftOf SeatState
+LeftSession = LeftOf SeatState (Unit {0})
 
 abbrev pub Standing : Type 0
-Standing = StandingOf SeatState SeatState
+Standing = StandingOf SeatState SeatState (Unit {0})

@@ -24,21 +24,21 @@ use Rattle.session_core.specs.declared.stage.Turn.TheVariants as turn
 
 -- these requests are answered to their end, and the seat has the receipts of the answers
 abbrev pub IsTalking : List Request → List Told → Stage → Type 0
-IsTalking handled answers stage.Opening = (handled ≡ []) × (answers ≡ [])
+IsTalking handled answers (stage.Opening admission) = (handled ≡ []) × (answers ≡ [])
 IsTalking handled answers (stage.Ready seat) = Talked handled answers × (seat.receipts ≡ receipts_of answers)
 
 -- a request that has no place where a session is
 abbrev pub IsOutOfPlace : Stage → Request → Type 0
-IsOutOfPlace stage.Opening request.Join = ⊥
-IsOutOfPlace stage.Opening (request.Attach process) = ⊥
-IsOutOfPlace stage.Opening (request.Call call) = Unit {0}
+IsOutOfPlace (stage.Opening admission) request.Join = ⊥
+IsOutOfPlace (stage.Opening admission) (request.Attach process) = ⊥
+IsOutOfPlace (stage.Opening admission) (request.Call call) = Unit {0}
 IsOutOfPlace (stage.Ready seat) request.Join = Unit {0}
 IsOutOfPlace (stage.Ready seat) (request.Attach process) = Unit {0}
 IsOutOfPlace (stage.Ready seat) (request.Call call) = ⊥
 
 -- the receipts of the seat are those of the answers; without a seat no answer has one
 abbrev pub HasReceipts : Stage → List Told → Type 0
-HasReceipts stage.Opening answers = receipts_of answers ≡ []
+HasReceipts (stage.Opening admission) answers = receipts_of answers ≡ []
 HasReceipts (stage.Ready seat) answers = seat.receipts ≡ receipts_of answers
 
 -- a session that leaves off at the last of its requests so far
@@ -81,7 +81,7 @@ OverBy base handled next o (over.OpeningUntold seat) = (receipt : Receipted) × 
 OverBy base handled next o (over.RefusalUntold seat) = (receipt : Receipted) × IsUntoldOpening base (handled ++ next ∷ []) o seat.receipts receipt × IsError receipt.record_is.outcome
 OverBy base handled next o (over.Untold seat receipt) = IsUntold base (handled ++ next ∷ []) o seat.receipts receipt
 OverBy base handled next o (over.Refused seat) = Holds base o × IsRefusedOpening seat o.answers × Talked (handled ++ next ∷ []) o.answers
-OverBy base handled next o (over.Lost seat) = Holds base o × HasExited seat o.answers × IsCut (handled ++ next ∷ []) o.answers None
+OverBy base handled next o (over.Lost seat why) = ⊥
 OverBy base handled next o (over.Ended seat why) = EndedBy base (handled ++ next ∷ []) o seat why
 OverBy base handled next o (over.Foreign seat) = Holds base o × (seat.receipts ≡ receipts_of o.answers) × IsCut (handled ++ next ∷ []) o.answers None
 
@@ -95,10 +95,18 @@ pub record IsWaitingAt (base : Option (List ℕ)) (handled : List Request) (call
 abbrev pub WaitsIn : Option (List ℕ) → List Request → Request → OutputState → SeatState → Type 0
 WaitsIn base handled next o seat = (call : Call) × (next ≡ request.Call call) × IsWaitingAt base handled call seat o
 
+-- a call that waited is given up, the last of these requests, and the exit of its process is recorded
+pub record IsGivenUp (base : Option (List ℕ)) (requests : List Request) (o : OutputState) (seat : SeatState) : Type 0 where
+  pub holds : Holds base o
+  pub sent : o.unsent ≡ []
+  pub exited : HasExited seat o.answers
+  pub cut : IsCut requests o.answers None
+
 -- what came of the next request
 abbrev pub TurnBy : Option (List ℕ) → List Request → Request → OutputState → Turn → Type 0
 TurnBy base handled next o (turn.GoesOn stage) = Holds base o × IsTalking (handled ++ next ∷ []) o.answers stage
 TurnBy base handled next o (turn.Waits seat) = WaitsIn base handled next o seat
+TurnBy base handled next o (turn.Lost seat) = IsGivenUp base (handled ++ next ∷ []) o seat
 TurnBy base handled next o (turn.Over over) = OverBy base handled next o over
 
 -- a request is taken up
@@ -125,15 +133,15 @@ pub record PutsFirst (receipts : List Receipted) (old new : OutputState) : Type 
 abbrev pub WaitsOnce : SeatState → OutputState → OutputState → Turn → Type 0
 WaitsOnce seat old new found = (base : Option (List ℕ)) (handled : List Request) (call : Call) → IsWaitingAt base handled call seat old → TurnBy base handled (request.Call call) new found
 
--- a call that waits is given up
-abbrev pub GivesUp : Ended → OutputState → OutputState → Over → Type 0
+-- the process ends in a call that waits
+abbrev pub GivesUp : Ended → OutputState → OutputState → Turn → Type 0
 GivesUp ended old new found =
-    (base : Option (List ℕ)) (handled : List Request) (call : Call) (seat : SeatState) → IsWaitingAt base handled call seat old → EndsBy seat ended.seat ended.why → OverBy base handled (request.Call call) new found
+    (base : Option (List ℕ)) (handled : List Request) (call : Call) (seat : SeatState) → IsWaitingAt base handled call seat old → EndsBy seat ended.seat ended.why → TurnBy base handled (request.Call call) new found
 
 -- what is answered of a process that has ended in the call that it waited in
-abbrev pub TellsWhy : Why → OutputState → OutputState → Over → Type 0
-TellsWhy ended_why.NoMemory old new (over.Ended seat why) = PutsGivenUp old new refusal.NoMemory why
-TellsWhy ended_why.RunFull old new (over.Ended seat why) = PutsGivenUp old new refusal.RunFull why
-TellsWhy ended_why.Lost old new (over.Lost seat) = new ≡ old
-TellsWhy ended_why.Foreign old new (over.Foreign seat) = new ≡ old
+abbrev pub TellsWhy : Why → OutputState → OutputState → Turn → Type 0
+TellsWhy ended_why.NoMemory old new (turn.Over (over.Ended seat why)) = PutsGivenUp old new refusal.NoMemory why
+TellsWhy ended_why.RunFull old new (turn.Over (over.Ended seat why)) = PutsGivenUp old new refusal.RunFull why
+TellsWhy ended_why.Lost old new (turn.Lost seat) = new ≡ old
+TellsWhy ended_why.Foreign old new (turn.Over (over.Foreign seat)) = new ≡ old
 TellsWhy other old new found = ⊥

@@ -2,7 +2,7 @@
 
 ghost use Rattle.session_core.specs.Closing.{SendsLast, HangsUp, LeavesWith, LeavesAll, HangsUpSeat, KeepsSeat, ClosesBy, end_of};
 ghost use Rattle.session_core.specs.Said.{EndSaid, OverSaid};
-ghost use Rattle.std.specs.Prelude.{◌≡◌, Some, None};
+ghost use Rattle.std.specs.Prelude.{◌≡◌, Ok, None};
 ghost use Rattle.session_core.specs.declared.stage.Over.TheVariants as over;
 
 use crate::end::End;
@@ -70,8 +70,8 @@ fn leave<Rt: Wait, L: Ledgers, K: Kernel<Seat<L>, SpentSeat<L>>>(
     ensures last { result.last ≡ None }
 {
     match stage {
-        Stage::Opening => LeftSession {
-            seat: None,
+        Stage::Opening(admission) => LeftSession {
+            seat: Err(admission),
             end,
             last: None,
         },
@@ -80,12 +80,12 @@ fn leave<Rt: Wait, L: Ledgers, K: Kernel<Seat<L>, SpentSeat<L>>>(
 }
 
 /// A session with this seat and end.
-fn left_by<P: Drop>(ended: (P, End), last: Option<Receipt>) -> LeftSession<P>
-    ensures { result ≡ record { seat = Some ended.0; end = ended.1; last = last } }
+fn left_by<L: Ledgers>(ended: (SpentSeat<L>, End), last: Option<Receipt>) -> LeftOf<L>
+    ensures { result ≡ record { seat = Ok ended.0; end = ended.1; last = last } }
 {
     let (seat, end) = ended;
     LeftSession {
-        seat: Some(seat),
+        seat: Ok(seat),
         end,
         last,
     }
@@ -148,8 +148,8 @@ pub(crate) fn leave_all<Rt: Wait, W: Write, G: Gate, L: Ledgers, K: Kernel<Seat<
             let end = send_last(output, LeaveCause::Closed);
             left_by((seat, end), None)
         }
-        Over::Lost(seat) => {
-            let end = send_last(output, LeaveCause::Closed);
+        Over::Lost { seat, why } => {
+            let end = send_last(output, why);
             left_by((seat, end), None)
         }
         Over::Ended { seat, why } => {

@@ -3,9 +3,9 @@
 ghost use Rattle.std.specs.Prelude.{◌≡◌, ◌∷◌, ◌++◌, ℕ, List, Option, [], length};
 ghost use Rattle.rtrb.specs.Ring.{received, known_items, SameConsumer};
 ghost use Rattle.call_types.specs.declared.request.Request.{Request};
-ghost use Rattle.session_core.specs.Desk.{TurnStands, StandsBy, StandsOn, SendsOn, IsReady, LeftBy, EndsOn, IsReadingEnd};
+ghost use Rattle.session_core.specs.Desk.{TurnStands, StandsBy, StandsOn, SendsOn, SentIfOn, SentIfReady, IsReady, LeftBy, EndsOn, comes_to};
 ghost use Rattle.session_core.specs.Refusals.{AreSaid, RefusalSaid};
-ghost use Rattle.session_core.specs.Said.{OverSaid, TurnSaid};
+ghost use Rattle.session_core.specs.Said.{IsReadingEnd, OverSaid, TurnSaid};
 ghost use Rattle.session_core.specs.declared.stage.Standing.TheVariants as standings;
 
 use crate::closing::leave_all;
@@ -23,9 +23,8 @@ use record_book::seat::{Seat, SpentSeat};
 use rtrb::Consumer;
 use std::io::Write;
 use std::marker::{Brand, Model, PhantomData};
-use std::mem;
 use std::sync::Wait;
-use system_lock::kernel::Kernel;
+use system_lock::kernel::{AdmissionTo, Kernel};
 
 /// Which session it is: the end of its ring that gives requests, and what its writer held at the start.
 pub(crate) trait Naming {
@@ -51,7 +50,8 @@ impl Naming for Brand {
 pub(crate) struct Desk<D: Naming, W: Write, G: Gate, L: Ledgers, K: Kernel<Seat<L>, SpentSeat<L>>> {
     pub(crate) consumer: Consumer<Request>,
     pub(crate) output: Output<W, G>,
-    pub(crate) standing: StandingOf<L>,
+    /// It is taken away only while it changes.
+    pub(crate) standing: Option<StandingOf<L>>,
     session: PhantomData<D>,
     kernel: PhantomData<K>,
 }
@@ -59,13 +59,13 @@ pub(crate) struct Desk<D: Naming, W: Write, G: Gate, L: Ledgers, K: Kernel<Seat<
 impl<D: Naming, W: Write, G: Gate, L: Ledgers, K: Kernel<Seat<L>, SpentSeat<L>>> Model
     for Desk<D, W, G, L, K> {
     ghost use Rattle.rtrb.specs.Ring.{received};
-    ghost use Rattle.session_core.specs.Desk.{DeskState, IsRingOf, Stands};
+    ghost use Rattle.session_core.specs.Desk.{DeskState, IsRingOf, StandsThere};
 
     ghost Value = { DeskState };
 
     ghost view = { λ d. record { ring = d.consumer; output_is = d.output; standing = d.standing } };
 
-    ghost invariant = { λ d. IsRingOf D.ring d.consumer × Stands K.not_opened K.refused K.ended D.base (received d.consumer) d.output d.standing };
+    ghost invariant = { λ d. IsRingOf D.ring d.consumer × StandsThere K.not_opened K.refused K.ended D.base (received d.consumer) d.output d.standing };
 }
 
 /// Leaves a session that is over, and shuts its connection.
@@ -82,18 +82,21 @@ fn leave<Rt: Wait, W: Write + Connection, G: Gate, L: Ledgers, K: Kernel<Seat<L>
     left
 }
 
-/// Where a session stands after a turn. One that is over is left.
+/// Where a session stands after a turn. One that is over is left, but for one whose call was given up: how that ends is known once no more
+/// is read.
 fn stand<Rt: Wait, W: Write + Connection, G: Gate, L: Ledgers, K: Kernel<Seat<L>, SpentSeat<L>>>(
     rt: &Rt,
     output: &mut Output<W, G>,
     kernel: &K,
     turn: TurnOf<L>,
 ) -> StandingOf<L>
-    ensures { StandsBy K.not_opened K.refused K.ended output.old turn output.new result }
+    ensures stands { StandsBy K.not_opened K.refused K.ended output.old turn output.new result }
+    ensures sent { SentIfOn output.old turn → SentIfReady output.new result }
 {
     match turn {
         Turn::GoesOn(stage) => Standing::Ready(stage),
         Turn::Waits(seat) => Standing::Waits(seat),
+        Turn::Lost(seat) => Standing::Lost(seat),
         Turn::Over(over) => Standing::Left(leave(rt, output, kernel, over)),
     }
 }
@@ -120,6 +123,7 @@ fn take_ring<Rt: Wait, W: Write, G: Gate, L: Ledgers, K: Kernel<Seat<L>, SpentSe
         match take_next(rt, note, output, kernel, stage, request) {
             Turn::GoesOn(after) => stage = after,
             Turn::Waits(seat) => return Turn::Waits(seat),
+            Turn::Lost(seat) => return Turn::Lost(seat),
             Turn::Over(over) => return Turn::Over(over),
         }
     }
@@ -127,7 +131,7 @@ fn take_ring<Rt: Wait, W: Write, G: Gate, L: Ledgers, K: Kernel<Seat<L>, SpentSe
 }
 
 /// Takes up what the ring holds, if a request may be taken up.
-fn take_ready<
+pub(crate) fn take_ready<
     Rt: Wait,
     W: Write + Connection,
     G: Gate,
@@ -150,6 +154,7 @@ fn take_ready<
             stand(rt, output, kernel, turn)
         }
         Standing::Waits(seat) => Standing::Waits(seat),
+        Standing::Lost(seat) => Standing::Lost(seat),
         Standing::Left(left) => Standing::Left(left),
     }
 }
@@ -161,6 +166,7 @@ fn send<W: Write, G: Gate, L: Ledgers, K: Kernel<Seat<L>, SpentSeat<L>>>(
 ) -> TurnOf<L>
     ensures stands { SendsOn K.not_opened K.refused K.ended output.old stage output.new result }
     ensures said { TurnSaid K.not_opened K.ended result }
+    ensures sent { SentIfOn output.new result }
 {
     match output.flush() {
         Ok(()) => Turn::GoesOn(stage),
@@ -169,14 +175,15 @@ fn send<W: Write, G: Gate, L: Ledgers, K: Kernel<Seat<L>, SpentSeat<L>>>(
 }
 
 /// Writes the answers of a session, if a request may be taken up.
-fn send_ready<
+pub(crate) fn send_ready<
     Rt: Wait,
     W: Write + Connection,
     G: Gate,
     L: Ledgers,
     K: Kernel<Seat<L>, SpentSeat<L>>,
 >(rt: &Rt, kernel: &K, output: &mut Output<W, G>, standing: StandingOf<L>) -> StandingOf<L>
-    ensures { (taken : List Request) → StandsOn K.not_opened K.refused K.ended taken output.old standing taken output.new result }
+    ensures stands { (taken : List Request) → StandsOn K.not_opened K.refused K.ended taken output.old standing taken output.new result }
+    ensures sent { SentIfReady output.new result }
 {
     match standing {
         Standing::Ready(stage) => {
@@ -184,17 +191,19 @@ fn send_ready<
             stand(rt, output, kernel, turn)
         }
         Standing::Waits(seat) => Standing::Waits(seat),
+        Standing::Lost(seat) => Standing::Lost(seat),
         Standing::Left(left) => Standing::Left(left),
     }
 }
 
 /// Waits until a call goes on.
-fn wait_on<Rt: Wait, W: Write + Connection, G: Gate, L: Ledgers, K: Kernel<Seat<L>, SpentSeat<L>>>(
-    rt: &Rt,
-    kernel: &K,
-    output: &mut Output<W, G>,
-    seat: Seat<L>,
-) -> StandingOf<L>
+pub(crate) fn wait_on<
+    Rt: Wait,
+    W: Write + Connection,
+    G: Gate,
+    L: Ledgers,
+    K: Kernel<Seat<L>, SpentSeat<L>>,
+>(rt: &Rt, kernel: &K, output: &mut Output<W, G>, seat: Seat<L>) -> StandingOf<L>
     ensures { (taken : List Request) → StandsOn K.not_opened K.refused K.ended taken output.old (standings.Waits seat) taken output.new result }
 {
     let turn = wait_once(rt, output, kernel, seat);
@@ -202,9 +211,9 @@ fn wait_on<Rt: Wait, W: Write + Connection, G: Gate, L: Ledgers, K: Kernel<Seat<
 }
 
 /// Whether no process is opened yet.
-fn is_opening<S>(stage: &Stage<S>) -> bool {
+fn is_opening<S, A>(stage: &Stage<S, A>) -> bool {
     match stage {
-        Stage::Opening => true,
+        Stage::Opening(_) => true,
         Stage::Ready(_) => false,
     }
 }
@@ -217,7 +226,10 @@ fn give_up<Rt: Wait, L: Ledgers, K: Kernel<Seat<L>, SpentSeat<L>>>(
 ) {
     match standing {
         Standing::Ready(Stage::Ready(seat)) => kernel.lost(rt, seat.pid()),
-        Standing::Ready(Stage::Opening) | Standing::Waits(_) | Standing::Left(_) => {}
+        Standing::Ready(Stage::Opening(_))
+        | Standing::Waits(_)
+        | Standing::Lost(_)
+        | Standing::Left(_) => {}
     }
 }
 
@@ -247,7 +259,8 @@ fn take_late<
     standing
 }
 
-/// Answers the requests that the ring still holds, so many, once both its ends are in one thread; then leaves the session.
+/// Answers the requests that the ring still holds, so many, once both its ends are in one thread; then leaves the session, for what ended
+/// its reads.
 pub(crate) fn leave_requests<
     Rt: Wait,
     W: Write + Connection,
@@ -280,6 +293,7 @@ pub(crate) fn leave_requests<
                 take_late(rt, note, kernel, output, stage, consumer.pop_known())
             }
             Standing::Waits(seat) => wait_on(rt, kernel, output, seat),
+            Standing::Lost(seat) => return leave(rt, output, kernel, Over::Lost { seat, why }),
             Standing::Left(left) => return left,
         };
     }
@@ -293,22 +307,19 @@ pub(crate) enum Attended {
     Ready,
     /// A call waits.
     Waits,
-    /// The session is left.
+    /// No request is taken up any more.
     Left,
 }
 
 /// What a desk has come to whose session stands there.
-fn comes_to<S, P>(standing: &Standing<S, P>) -> Attended {
+fn comes_to<L: Ledgers>(standing: &StandingOf<L>) -> Attended
+    ensures { result ≡ comes_to standing.now }
+{
     match standing {
         Standing::Ready(_) => Attended::Ready,
         Standing::Waits(_) => Attended::Waits,
-        Standing::Left(_) => Attended::Left,
+        Standing::Lost(_) | Standing::Left(_) => Attended::Left,
     }
-}
-
-/// Where a session stands whose standing is taken from its desk, to be put back at once.
-fn nowhere<S, P>() -> Standing<S, P> {
-    Standing::Ready(Stage::Opening)
 }
 
 impl<D: Naming, W: Write + Connection, G: Gate, L: Ledgers, K: Kernel<Seat<L>, SpentSeat<L>>> Desk<
@@ -323,7 +334,11 @@ impl<D: Naming, W: Write + Connection, G: Gate, L: Ledgers, K: Kernel<Seat<L>, S
     ghost use Rattle.session_core.specs.Output.{fresh_output};
 
     /// A desk at which nothing was taken up.
-    pub(crate) fn new(consumer: Consumer<Request>, output: Output<W, G>) -> Self
+    pub(crate) fn new(
+        consumer: Consumer<Request>,
+        output: Output<W, G>,
+        admission: AdmissionTo<L>,
+    ) -> Self
         requires ring { D.ring ≡ Some consumer }
         requires none { received consumer ≡ [] }
         requires fresh { output ≡ fresh_output D.base }
@@ -331,7 +346,7 @@ impl<D: Naming, W: Write + Connection, G: Gate, L: Ledgers, K: Kernel<Seat<L>, S
         Desk {
             consumer,
             output,
-            standing: Standing::Ready(Stage::Opening),
+            standing: Some(Standing::Ready(Stage::Opening(admission))),
             session: PhantomData,
             kernel: PhantomData,
         }
@@ -339,21 +354,9 @@ impl<D: Naming, W: Write + Connection, G: Gate, L: Ledgers, K: Kernel<Seat<L>, S
 
     /// Answers what the ring holds, up to a call that waits. What is answered is written later.
     pub(crate) fn make_room<Rt: Wait>(&mut self, rt: &Rt, note: &Note, kernel: &K) -> Attended {
-        let standing = mem::replace(&mut self.standing, nowhere());
-        self.standing = take_ready(
-            rt,
-            note,
-            kernel,
-            &mut self.consumer,
-            &mut self.output,
-            standing,
-        );
-        comes_to(&self.standing)
-    }
-
-    /// Answers what the ring holds, up to a call that waits, and writes it.
-    pub(crate) fn attend<Rt: Wait>(&mut self, rt: &Rt, note: &Note, kernel: &K) -> Attended {
-        let standing = mem::replace(&mut self.standing, nowhere());
+        let Some(standing) = self.standing.take() else {
+            unreachable!()
+        };
         let standing = take_ready(
             rt,
             note,
@@ -362,17 +365,41 @@ impl<D: Naming, W: Write + Connection, G: Gate, L: Ledgers, K: Kernel<Seat<L>, S
             &mut self.output,
             standing,
         );
-        self.standing = send_ready(rt, kernel, &mut self.output, standing);
-        comes_to(&self.standing)
+        let attended = comes_to(&standing);
+        self.standing = Some(standing);
+        attended
+    }
+
+    /// Answers what the ring holds, up to a call that waits, and writes it.
+    pub(crate) fn attend<Rt: Wait>(&mut self, rt: &Rt, note: &Note, kernel: &K) -> Attended
+        ensures { result ≡ Attended.Ready → self.new.output_is.unsent ≡ [] }
+    {
+        let Some(standing) = self.standing.take() else {
+            unreachable!()
+        };
+        let standing = take_ready(
+            rt,
+            note,
+            kernel,
+            &mut self.consumer,
+            &mut self.output,
+            standing,
+        );
+        let standing = send_ready(rt, kernel, &mut self.output, standing);
+        let attended = comes_to(&standing);
+        self.standing = Some(standing);
+        attended
     }
 
     /// Writes what is answered and waits until a call goes on, where one waits.
     pub(crate) fn wait<Rt: Wait>(&mut self, rt: &Rt, kernel: &K) {
-        let standing = mem::replace(&mut self.standing, nowhere());
-        self.standing = match standing {
-            Standing::Waits(seat) => wait_on(rt, kernel, &mut self.output, seat),
-            Standing::Ready(stage) => Standing::Ready(stage),
-            Standing::Left(left) => Standing::Left(left),
+        let Some(standing) = self.standing.take() else {
+            unreachable!()
         };
+        let standing = match standing {
+            Standing::Waits(seat) => wait_on(rt, kernel, &mut self.output, seat),
+            other => other,
+        };
+        self.standing = Some(standing);
     }
 }

@@ -1,7 +1,7 @@
-/// Why a session has ended.
+/// Why a session has ended. Where the kernel gave up the call that its process waited in, that is what ended its reads.
 #[derive(Clone, Copy, Debug, PartialEq, Eq)]
 pub enum End {
-    /// The reader's end was met, the opening was refused in the record, or the kernel gave up the call that the process waited in.
+    /// The reader's end was met, or the opening was refused in the record.
     Closed,
     /// The reader failed, was interrupted sixteen times in a row, or was read 1,048,576 times.
     ReadFault,

@@ -1,6 +1,7 @@
 //! One session: requests as bytes in, answers as bytes out, over any reader, writer and kernel.
 #![tactic(auto)]
 
+pub mod answer;
 mod asking;
 mod closing;
 pub mod connection;
@@ -9,7 +10,7 @@ pub mod end;
 pub mod gate;
 pub mod laws;
 pub mod memory;
-mod note;
+pub mod note;
 mod output;
 pub mod serve;
 mod stage;

@@ -1,6 +1,8 @@
 //! What the two threads of a session tell each other.
 
+use request_pump::inlet::Bell;
 use std::sync::{Condvar, Mutex, Wait};
+use std::thread::Parker;
 
 /// What is known of the process of a session.
 #[derive(Clone, Copy, Debug, PartialEq, Eq)]
@@ -18,28 +20,31 @@ struct Lines {
     process: Process,
 }
 
-/// Whether the thread that reads has ended, and which process the session has.
+/// Whether the thread that reads has ended, and which process the session has; and where the thread that answers sleeps.
 #[derive(Drop)]
-pub(crate) struct Note {
+pub struct Note {
     lines: Mutex<Lines>,
     changed: Condvar,
+    bed: Parker,
 }
 
 impl Note {
     /// Nothing is known yet.
-    pub(crate) fn new() -> Self {
+    pub fn new() -> Self {
         Note {
             lines: Mutex::new(Lines {
                 read_ended: false,
                 process: Process::Unknown,
             }),
             changed: Condvar::new(),
+            bed: Parker::new(),
         }
     }
 
-    /// Tells that no more is read.
-    pub(crate) fn end_reading<R: Wait>(&self, rt: &R) {
+    /// Tells that no more is read, and wakes the thread that answers.
+    pub fn end_reading<R: Wait>(&self, rt: &R) {
         self.lines.lock(rt).read_ended = true;
+        self.wake();
     }
 
     /// Whether no more is read.
@@ -63,7 +68,7 @@ impl Note {
     }
 
     /// Waits until it is known whether there is a process: its number, if there is one.
-    pub(crate) fn process<R: Wait>(&self, rt: &R) -> Option<u32> {
+    pub fn process<R: Wait>(&self, rt: &R) -> Option<u32> {
         let lines = self.changed.wait_while(rt, self.lines.lock(rt), |lines| {
             lines.process == Process::Unknown
         });
@@ -71,5 +76,26 @@ impl Note {
             Process::Opened(process) => Some(process),
             Process::Unknown | Process::None => None,
         }
+    }
+
+    /// Wakes the thread that answers, now or as soon as it sleeps.
+    pub fn wake(&self) {
+        self.bed.unpark();
+    }
+
+    /// Sleeps until it is woken, or for no reason.
+    pub(crate) fn sleep<R: Wait>(&self, rt: &R) {
+        self.bed.park(rt);
+    }
+}
+
+/// Wakes the thread that answers.
+impl Bell for Note {
+    fn make_room(&self) {
+        self.wake();
+    }
+
+    fn end_of_piece(&self) {
+        self.wake();
     }
 }

@@ -11,7 +11,6 @@ use crate::gate::Gate;
 use crate::told::Told;
 use call_types::refusal::Refusal;
 use frame_codec::encode::{encode_recorded, encode_refused};
-use logged_streams::stream_log::StreamLog;
 use logged_streams::writer::{LoggedWriter, WriterFailed};
 use record_book::seat::Receipt;
 use std::alloc::{AllocError, Global};
@@ -204,17 +203,17 @@ impl<W: Write, G: Gate> Output<W, G> {
         Ok(())
     }
 
-    /// The answers, the writer, and what became of the writer's calls. A last answer that is not written is added to the answers.
-    pub(crate) fn into_parts(self, last: Option<Receipt>) -> (Vec<Told>, W, StreamLog)
-        ensures taken { IsTaken self last result.0.items (W.contents result.1) result.2 }
-        ensures gate { G.is_open ≡ true → result.2.refusals ≡ 0 }
+    /// The answers, and the writer with what became of its calls. A last answer that is not written is added to the answers.
+    pub(crate) fn into_parts(self, last: Option<Receipt>) -> (Vec<Told>, LoggedWriter<W>)
+        ensures taken { IsTaken self last result.0.items result.1 }
+        ensures gate { G.is_open ≡ true → result.1.log.refusals ≡ 0 }
     {
         let mut answers = self.answers;
         if let Some(receipt) = last {
             answers.push_reserved(Told::Recorded(receipt));
         }
-        let (writer, log) = self.sink.into_parts();
-        (answers, writer, log)
+        let _few = self.sink.log().interruptions();
+        (answers, self.sink)
     }
 }
 

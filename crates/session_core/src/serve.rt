@@ -3,11 +3,12 @@
 ghost use Rattle.std.specs.Prelude.{◌≡◌, ℕ, List, Option, Some, []};
 ghost use Rattle.std.specs.Option.{option_map};
 ghost use Rattle.rtrb.specs.Ring.{sent, received, producer_capacity, IsPair};
-ghost use Rattle.session_core.specs.Desk.{IsNamedPair, IsReadingEnd};
+ghost use Rattle.session_core.specs.Desk.{IsNamedPair};
 ghost use Rattle.session_core.specs.Settling.{Settles, unserved_by, why_of};
 ghost use Rattle.session_core.specs.Output.{fresh_output};
 ghost use Rattle.session_core.specs.Served.{Serves};
-ghost use Rattle.session_core.specs.Said.{ClosedSaid, EndSaid};
+ghost use Rattle.session_core.specs.Said.{CutSaid, EndSaid, IsReadingEnd};
+ghost use Rattle.logged_streams.specs.Streams.{fresh_log};
 ghost use Rattle.session_core.specs.Refusals.{RefusalsSaid};
 
 use crate::connection::Connection;
@@ -20,7 +21,8 @@ use crate::threads::{Helper, Pushed, Shared, start_reading};
 use crate::told::Told;
 use byte_ledger::ledgers::Ledgers;
 use call_types::request::Request;
-use logged_streams::stream_log::StreamLog;
+use logged_streams::reader::LoggedReader;
+use logged_streams::writer::LoggedWriter;
 use record_book::seat::{Seat, SpentSeat};
 use request_pump::pumped::PumpEnd;
 use rtrb::{Consumer, Producer, RingBuffer};
@@ -29,7 +31,7 @@ use std::io::{Read, Write};
 use std::marker::{Brand, Model};
 use std::sync::{Arc, Wait};
 use std::thread::Threads;
-use system_lock::kernel::Kernel;
+use system_lock::kernel::{AdmissionTo, Kernel};
 
 /// How many requests may wait to be answered.
 pub const REQUESTS_AHEAD: usize = 16;
@@ -38,33 +40,30 @@ pub const REQUESTS_AHEAD: usize = 16;
 #[derive(Drop)]
 pub struct Served<R: Read, W: Write, L: Ledgers> {
     /// The seat of its process. Its last receipt is that of the exit, except at `End::Foreign`. Where the opening was refused in the
-    /// record, the seat has only the receipt of that. `None` where no opening was recorded.
-    pub seat: Option<SpentSeat<L>>,
+    /// record, the seat has only the receipt of that. Where no opening was recorded, the admission is handed back.
+    pub seat: Result<SpentSeat<L>, AdmissionTo<L>>,
     /// What it told its client, in order.
     pub answers: Vec<Told>,
     pub end: End,
-    /// `None` at `End::NoThread` alone.
-    pub reader: Option<R>,
-    /// What became of the reads.
-    pub reads: StreamLog,
-    pub writer: W,
-    /// What became of the writes.
-    pub writes: StreamLog,
+    /// The reader, with what became of its reads. `None` at `End::NoThread` alone.
+    pub reader: Option<LoggedReader<R>>,
+    /// The writer, with what became of its writes.
+    pub writer: LoggedWriter<W>,
 }
 
 impl<R: Read, W: Write, L: Ledgers> Model for Served<R, W, L> {
-    ghost use Rattle.std.specs.Option.{option_map};
+    ghost use Rattle.std.specs.Result.{result_ok};
     ghost use Rattle.session_core.specs.Served.{SessionState};
 
     ghost Value = { SessionState };
 
-    ghost view = { λ s. record { remaining = option_map R.remaining s.reader; reads = s.reads; contents = W.contents s.writer; writes = s.writes; seat = s.seat; answers = s.answers.items; end_is = s.end } };
+    ghost view = { λ s. record { reader = s.reader; writer = s.writer; seat = result_ok s.seat; answers = s.answers.items; end_is = s.end } };
 }
 
 /// Serves one process: reads its requests, asks the kernel for each, and writes each answer once the gate lets it through. This goes on
 /// until the session ends for one of the reasons of `End`; then its process is hung up and its connection shut. A thread of its own
 /// reads, so that the end of the connection is noticed while a call of the process waits: such a call is given up. The gate knows the
-/// session by its number.
+/// session by its number. The admission is for its one opening.
 pub fn serve<
     Rt: Threads + Wait + Copy + Drop + Send + Sync + 'static,
     R: Read + Send + Drop + 'static,
@@ -78,23 +77,30 @@ pub fn serve<
     reader: R,
     writer: W,
     kernel: Arc<K>,
+    admission: AdmissionTo<L>,
     session: u64,
     gate: G,
 ) -> Served<R, W, L>
     ensures serves { Serves G.is_open (R.remaining reader) (W.contents writer) result }
     ensures said { EndSaid K.not_opened K.ended result.end_is }
-    ensures given_up { ClosedSaid K.ended result.answers result.end_is }
+    ensures given_up { CutSaid K.ended result.answers result.end_is }
     ensures refusals { RefusalsSaid K.not_opened K.refused K.ended (R.remaining reader) result }
 {
     let (producer, consumer) = match RingBuffer::new(alloc, REQUESTS_AHEAD) {
         Ok(ends) => ends,
-        Err(_) => return unserved(alloc, Some(reader), writer, End::NoMemory),
+        Err(_) => {
+            let writer = LoggedWriter::new(writer);
+            return unserved(alloc, Some(reader), writer, admission, End::NoMemory);
+        }
     };
     match Output::new(alloc, writer, session, gate) {
         Ok(output) => serve_named::<Rt, R, Brand, W, G, L, K>(
-            rt, alloc, reader, output, kernel, producer, consumer,
+            rt, alloc, reader, output, kernel, admission, producer, consumer,
         ),
-        Err(writer) => unserved(alloc, Some(reader), writer, End::NoMemory),
+        Err(writer) => {
+            let writer = LoggedWriter::new(writer);
+            unserved(alloc, Some(reader), writer, admission, End::NoMemory)
+        }
     }
 }
 
@@ -113,6 +119,7 @@ fn serve_named<
     reader: R,
     output: Output<W, G>,
     kernel: Arc<K>,
+    admission: AdmissionTo<L>,
     producer: Producer<Request>,
     consumer: Consumer<Request>,
 ) -> Served<R, W, L>
@@ -123,24 +130,24 @@ fn serve_named<
     requires room { producer_capacity producer ≡ REQUESTS_AHEAD }
     ensures serves { Serves G.is_open (R.remaining reader) D.base result }
     ensures said { EndSaid K.not_opened K.ended result.end_is }
-    ensures given_up { ClosedSaid K.ended result.answers result.end_is }
+    ensures given_up { CutSaid K.ended result.answers result.end_is }
     ensures refusals { RefusalsSaid K.not_opened K.refused K.ended (R.remaining reader) result }
 {
     let (shared, other) = match shared_twice::<D, W, G, L, K>(alloc, kernel) {
         Ok(shared) => shared,
-        Err(_) => return unstarted(alloc, Some(reader), output, End::NoMemory),
+        Err(_) => return unstarted(alloc, Some(reader), output, admission, End::NoMemory),
     };
     // the thread that reads finds the desk locked until it is there
     let mut place = shared.desk.lock(&rt);
     let helper = Helper { rt, shared: other };
     match start_reading(rt, alloc, reader, producer, helper) {
         Some(thread) => {
-            *place = Some(Desk::new(consumer, output));
+            *place = Some(Desk::new(consumer, output, admission));
             drop(place);
             shared.attend(&rt);
             leave_rest(&rt, &*shared, thread.join(&rt))
         }
-        None => unstarted(alloc, None, output, End::NoThread),
+        None => unstarted(alloc, None, output, admission, End::NoThread),
     }
 }
 
@@ -190,7 +197,6 @@ fn leave_rest<
     let Pushed {
         end,
         reader,
-        reads,
         producer,
     } = pushed;
     let Desk {
@@ -199,6 +205,9 @@ fn leave_rest<
         standing,
         ..
     } = shared.take_desk(rt);
+    let Some(standing) = standing else {
+        unreachable!()
+    };
     let mut producer = producer;
     let count = consumer.slots_beside(&mut producer);
     let left = leave_requests(
@@ -211,15 +220,13 @@ fn leave_rest<
         count,
         why_of(end),
     );
-    let (answers, writer, writes) = output.into_parts(left.last);
+    let (answers, writer) = output.into_parts(left.last);
     Served {
         seat: left.seat,
         answers,
         end: left.end,
         reader: Some(reader),
-        reads,
         writer,
-        writes,
     }
 }
 
@@ -227,20 +234,23 @@ fn leave_rest<
 fn unserved<R: Read, W: Write + Connection + Drop, L: Ledgers>(
     alloc: Global,
     reader: Option<R>,
-    writer: W,
+    writer: LoggedWriter<W>,
+    admission: AdmissionTo<L>,
     end: End,
 ) -> Served<R, W, L>
-    ensures { result ≡ unserved_by (option_map R.remaining reader) (W.contents writer) end }
+    ensures { writer.log ≡ fresh_log → result ≡ unserved_by (option_map R.remaining reader) writer.contents end }
 {
-    writer.shut();
+    writer.get_ref().shut();
+    let reader = match reader {
+        Some(reader) => Some(LoggedReader::new(reader)),
+        None => None,
+    };
     Served {
-        seat: None,
+        seat: Err(admission),
         answers: Vec::new(alloc),
         end,
         reader,
-        reads: StreamLog::new(),
         writer,
-        writes: StreamLog::new(),
     }
 }
 
@@ -249,10 +259,11 @@ fn unstarted<R: Read, W: Write + Connection + Drop, G: Gate, L: Ledgers>(
     alloc: Global,
     reader: Option<R>,
     output: Output<W, G>,
+    admission: AdmissionTo<L>,
     end: End,
 ) -> Served<R, W, L>
     ensures { (base : Option (List ℕ)) → output ≡ fresh_output base → result ≡ unserved_by (option_map R.remaining reader) base end }
 {
-    let (_none, writer, _unwritten) = output.into_parts(None);
-    unserved(alloc, reader, writer, end)
+    let (_none, writer) = output.into_parts(None);
+    unserved(alloc, reader, writer, admission, end)
 }

@@ -2,12 +2,13 @@
 
 use crate::end::End;
 use record_book::seat::{Receipt, Seat, SpentSeat};
+use system_lock::kernel::AdmissionTo;
 
-/// How far a session has come, with a seat of the kind `S`.
+/// How far a session has come, with a seat of the kind `S` or an admission of the kind `A`.
 #[derive(Drop)]
-pub(crate) enum Stage<S> {
-    /// No process is opened yet.
-    Opening,
+pub(crate) enum Stage<S, A> {
+    /// No process is opened yet: there still is leave to open one.
+    Opening(A),
     /// The process of this seat makes calls.
     Ready(S),
 }
@@ -23,13 +24,13 @@ pub(crate) enum LeaveCause {
     Ahead,
 }
 
-/// A session that goes on no more, with a seat of the kind `S`, or a spent one of the kind `P`.
+/// A session that goes on no more, with a seat of the kind `S`, a spent one of the kind `P`, or an admission of the kind `A`.
 #[derive(Drop)]
-pub(crate) enum Over<S, P> {
+pub(crate) enum Over<S, P, A> {
     /// It leaves off where it is. Its process, if it has one, is still to be hung up.
-    Leaves { stage: Stage<S>, why: LeaveCause },
+    Leaves { stage: Stage<S, A>, why: LeaveCause },
     /// Its writer has failed. Its process, if it has one, is still to be hung up.
-    Unwritten(Stage<S>),
+    Unwritten(Stage<S, A>),
     /// Memory ran out for the answer of its opening. Nothing was answered, and its process is still to be hung up.
     OpeningUntold(S),
     /// Memory ran out for the answer of its refused opening. Nothing was answered.
@@ -38,8 +39,8 @@ pub(crate) enum Over<S, P> {
     Untold { seat: S, receipt: Receipt },
     /// Its opening was refused in the record, and that was answered.
     Refused(P),
-    /// The kernel gave up the call that its process waited in, and has recorded its exit.
-    Lost(P),
+    /// The kernel gave up the call that its process waited in, and has recorded its exit. It leaves off for what ended its reads.
+    Lost { seat: P, why: LeaveCause },
     /// The process has ended in the call that it waited in, since memory ran out or the run was full. That was answered, unless memory ran
     /// out for the answer.
     Ended { seat: P, why: LeaveCause },
@@ -49,39 +50,44 @@ pub(crate) enum Over<S, P> {
 
 /// What came of a request.
 #[derive(Drop)]
-pub(crate) enum Turn<S, P> {
-    GoesOn(Stage<S>),
+pub(crate) enum Turn<S, P, A> {
+    GoesOn(Stage<S, A>),
     /// It is a call, in which the process of this seat waits.
     Waits(S),
-    Over(Over<S, P>),
+    /// It was a call that waited. The kernel gave it up, and has recorded the exit of the process.
+    Lost(P),
+    Over(Over<S, P, A>),
 }
 
-/// A session that is left: its spent seat, of the kind `P`; its end; and, if its last answer is not written, the receipt of that answer.
+/// A session that is left: its spent seat, of the kind `P`, or its admission, of the kind `A`; its end; and, if its last answer is not
+/// written, the receipt of that answer.
 #[derive(Drop)]
-pub(crate) struct LeftSession<P> {
-    pub(crate) seat: Option<P>,
+pub(crate) struct LeftSession<P, A> {
+    pub(crate) seat: Result<P, A>,
     pub(crate) end: End,
     pub(crate) last: Option<Receipt>,
 }
 
 /// Where a session stands between two turns.
 #[derive(Drop)]
-pub(crate) enum Standing<S, P> {
+pub(crate) enum Standing<S, P, A> {
     /// A request may be taken up.
-    Ready(Stage<S>),
+    Ready(Stage<S, A>),
     /// The process of this seat waits in a call.
     Waits(S),
-    /// No request is taken up any more.
-    Left(LeftSession<P>),
+    /// The kernel gave up the call that the process waited in, and has recorded its exit. No request is taken up any more.
+    Lost(P),
+    /// It is left. No request is taken up any more.
+    Left(LeftSession<P, A>),
 }
 
 /// Each of these for the seats of one book.
-pub(crate) type StageOf<L> = Stage<Seat<L>>;
+pub(crate) type StageOf<L> = Stage<Seat<L>, AdmissionTo<L>>;
 
-pub(crate) type OverOf<L> = Over<Seat<L>, SpentSeat<L>>;
+pub(crate) type OverOf<L> = Over<Seat<L>, SpentSeat<L>, AdmissionTo<L>>;
 
-pub(crate) type TurnOf<L> = Turn<Seat<L>, SpentSeat<L>>;
+pub(crate) type TurnOf<L> = Turn<Seat<L>, SpentSeat<L>, AdmissionTo<L>>;
 
-pub(crate) type LeftOf<L> = LeftSession<SpentSeat<L>>;
+pub(crate) type LeftOf<L> = LeftSession<SpentSeat<L>, AdmissionTo<L>>;
 
-pub(crate) type StandingOf<L> = Standing<Seat<L>, SpentSeat<L>>;
+pub(crate) type StandingOf<L> = Standing<Seat<L>, SpentSeat<L>, AdmissionTo<L>>;

@@ -10,7 +10,7 @@ use crate::gate::Gate;
 use crate::note::Note;
 use byte_ledger::ledgers::Ledgers;
 use call_types::request::Request;
-use logged_streams::stream_log::StreamLog;
+use logged_streams::reader::LoggedReader;
 use record_book::seat::{Seat, SpentSeat};
 use request_pump::inlet::{Bell, Inlet};
 use request_pump::pump::pump;
@@ -22,7 +22,7 @@ use std::marker::Model;
 use std::snapshot::Snapshot;
 use std::sync::{Arc, Mutex, Wait};
 use std::thread;
-use std::thread::{Parker, Promise, PromisedHandle, Threads};
+use std::thread::{Promise, PromisedHandle, Threads};
 use system_lock::kernel::Kernel;
 
 /// What the two threads of a session share. The desk is put there as the thread that reads starts. Whoever answers holds its lock; the
@@ -37,8 +37,6 @@ pub(crate) struct Shared<
 > {
     pub(crate) desk: Mutex<Option<Desk<D, W, G, L, K>>>,
     pub(crate) note: Note,
-    /// Where the thread that waits sleeps.
-    bell: Parker,
     pub(crate) kernel: Arc<K>,
 }
 
@@ -54,7 +52,6 @@ impl<
         Shared {
             desk: Mutex::new(None),
             note: Note::new(),
-            bell: Parker::new(),
             kernel,
         }
     }
@@ -73,7 +70,6 @@ impl<
     /// Tells that no more is read: a call that the process waits in, now or later, is given up.
     fn end_reading<Rt: Wait>(&self, rt: &Rt) {
         self.note.end_reading(rt);
-        self.bell.unpark();
         if let Some(process) = self.note.process(rt) {
             self.kernel.lost(rt, process);
         }
@@ -112,7 +108,7 @@ impl<
             let has_ended = self.note.has_ended(rt);
             match self.answer(rt) {
                 Attended::Waits => self.wait_out(rt),
-                Attended::Ready if !has_ended => self.bell.park(rt),
+                Attended::Ready if !has_ended => self.note.sleep(rt),
                 Attended::Ready | Attended::Left => break,
             }
         }
@@ -123,7 +119,7 @@ impl<
     fn wake(&self, attended: Attended) {
         match attended {
             Attended::Ready => {}
-            Attended::Waits | Attended::Left => self.bell.unpark(),
+            Attended::Waits | Attended::Left => self.note.wake(),
         }
     }
 }
@@ -182,8 +178,7 @@ impl<
 #[derive(Drop)]
 pub(crate) struct Pushed<R: Read> {
     pub(crate) end: PumpEnd,
-    pub(crate) reader: R,
-    pub(crate) reads: StreamLog,
+    pub(crate) reader: LoggedReader<R>,
     pub(crate) producer: Producer<Request>,
 }
 
@@ -192,7 +187,7 @@ impl<R: Read> Model for Pushed<R> {
 
     ghost Value = { PumpState };
 
-    ghost view = { λ s. record { remaining = R.remaining s.reader; reads = s.reads; producer = s.producer; end_is = s.end } };
+    ghost view = { λ s. record { reader = s.reader; producer = s.producer; end_is = s.end } };
 }
 
 /// What the thread that reads promises: that it pushes, in order, the requests that it reads from this reader into this ring.
@@ -245,7 +240,6 @@ fn read_to_end<R: Read, H: Attendant>(
     Pushed {
         end: pumped.end,
         reader: pumped.reader,
-        reads: pumped.reads,
         producer,
     }
 }

@@ -12,7 +12,7 @@ ghost use Rattle.session_core.specs.Talk.{goes_on};
 use crate::gate::Gate;
 use crate::note::Note;
 use crate::output::Output;
-use crate::stage::{LeaveCause, Over, OverOf, Stage, StageOf, Turn, TurnOf};
+use crate::stage::{LeaveCause, Over, Stage, StageOf, Turn, TurnOf};
 use byte_ledger::ledgers::Ledgers;
 use call_types::call::Call;
 use call_types::outcome::Outcome;
@@ -23,7 +23,7 @@ use record_book::seat::{Receipt, Seat, SpentSeat};
 use std::alloc::AllocError;
 use std::io::Write;
 use std::sync::Wait;
-use system_lock::kernel::{EndedIn, Finished, FinishedIn, Kernel, Why};
+use system_lock::kernel::{AdmissionTo, EndedIn, Finished, FinishedIn, Kernel, NotOpened, Why};
 
 /// Answers an opening by the one receipt that there is.
 fn put_first<W: Write, G: Gate>(
@@ -58,14 +58,15 @@ fn take_opening<Rt: Wait, W: Write, G: Gate, L: Ledgers, K: Kernel<Seat<L>, Spen
     note: &Note,
     output: &mut Output<W, G>,
     kernel: &K,
+    admission: AdmissionTo<L>,
     request: Request,
 ) -> TurnOf<L>
     requires { IsOpening request }
-    ensures takes { TakesUp stage.Opening request output.old output.new result }
+    ensures takes { TakesUp (stage.Opening admission) request output.old output.new result }
     ensures said { TurnSaid K.not_opened K.ended result }
-    ensures refusals { TurnSays (RefusalSaid K.not_opened K.refused K.ended) stage.Opening (request ∷ []) output.old output.new }
+    ensures refusals { TurnSays (RefusalSaid K.not_opened K.refused K.ended) (stage.Opening admission) (request ∷ []) output.old output.new }
 {
-    match kernel.open(rt, request) {
+    match kernel.open(rt, admission, request) {
         Ok(Opened::Seated(seat)) => {
             note.opened(rt, seat.pid());
             match put_first(output, seat.receipts()) {
@@ -77,10 +78,10 @@ fn take_opening<Rt: Wait, W: Write, G: Gate, L: Ledgers, K: Kernel<Seat<L>, Spen
             Ok(()) => Turn::Over(Over::Refused(seat)),
             Err(_) => Turn::Over(Over::RefusalUntold(seat)),
         },
-        Err(refusal) => {
+        Err(NotOpened { admission, refusal }) => {
             let why = put_given_up(output, refusal);
             Turn::Over(Over::Leaves {
-                stage: Stage::Opening,
+                stage: Stage::Opening(admission),
                 why,
             })
         }
@@ -97,25 +98,26 @@ fn goes_on(outcome: &Outcome) -> bool
     }
 }
 
-/// How a session is over whose process has ended in the call that it waited in. Where memory ran out or the run was full, that is
-/// answered.
-fn give_up<W: Write, G: Gate, L: Ledgers>(output: &mut Output<W, G>, ended: EndedIn<L>) -> OverOf<L>
-    requires { IsWhyFinished ended.why }
+/// What became of a session whose process has ended in the call that it waited in. All answers so far have been written. Where memory ran
+/// out or the run was full, that is answered.
+fn give_up<W: Write, G: Gate, L: Ledgers>(output: &mut Output<W, G>, ended: EndedIn<L>) -> TurnOf<L>
+    requires why { IsWhyFinished ended.why }
+    requires sent { output.old.unsent ≡ [] }
     ensures gives { GivesUp ended output.old output.new result }
     ensures tells { TellsWhy ended.why output.old output.new result }
 {
     let seat = ended.seat;
     match ended.why {
-        Why::NoMemory => Over::Ended {
+        Why::NoMemory => Turn::Over(Over::Ended {
             seat,
             why: put_given_up(output, Refusal::NoMemory),
-        },
-        Why::RunFull => Over::Ended {
+        }),
+        Why::RunFull => Turn::Over(Over::Ended {
             seat,
             why: put_given_up(output, Refusal::RunFull),
-        },
-        Why::Lost => Over::Lost(seat),
-        Why::Foreign => Over::Foreign(seat),
+        }),
+        Why::Lost => Turn::Lost(seat),
+        Why::Foreign => Turn::Over(Over::Foreign(seat)),
         Why::HungUp => unreachable!(),
     }
 }
@@ -152,7 +154,7 @@ pub(crate) fn wait_once<Rt: Wait, W: Write, G: Gate, L: Ledgers, K: Kernel<Seat<
     }
     let (seat, receipt) = match finish_sent(rt, output, kernel, seat) {
         Finished::Resumed { seat, receipt } => (seat, receipt),
-        Finished::Ended(ended) => return Turn::Over(give_up(output, ended)),
+        Finished::Ended(ended) => return give_up(output, ended),
     };
     let waits = goes_on(&receipt.record().outcome);
     match output.put_recorded(receipt) {
@@ -209,10 +211,17 @@ fn take_up<Rt: Wait, W: Write, G: Gate, L: Ledgers, K: Kernel<Seat<L>, SpentSeat
     ensures refusals { TurnSays (RefusalSaid K.not_opened K.refused K.ended) stage (request ∷ []) output.old output.new }
 {
     match (stage, request) {
-        (Stage::Opening, Request::Join) => take_opening(rt, note, output, kernel, Request::Join),
-        (Stage::Opening, Request::Attach { process }) => {
-            take_opening(rt, note, output, kernel, Request::Attach { process })
+        (Stage::Opening(admission), Request::Join) => {
+            take_opening(rt, note, output, kernel, admission, Request::Join)
         }
+        (Stage::Opening(admission), Request::Attach { process }) => take_opening(
+            rt,
+            note,
+            output,
+            kernel,
+            admission,
+            Request::Attach { process },
+        ),
         (Stage::Ready(seat), Request::Call(call)) => take_call(rt, output, kernel, seat, call),
         (stage, _) => Turn::Over(Over::Leaves {
             stage,

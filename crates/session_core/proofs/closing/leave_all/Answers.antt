@@ -4,7 +4,7 @@ use Rattle.session_core.specs.declared.stage.Over.TheVariants as over
 use Rattle.session_core.specs.declared.stage.LeaveCause.TheVariants as why
 use Rattle.session_core.specs.Stages.{Over}
 use Rattle.session_core.specs.Closing.{ClosesBy, LeavesWith, MayClose}
-use Rattle.session_core.proofs.SaidLemmas.{keeps_left, leaves_said, ended_said, closed_said, foreign_said}
+use Rattle.session_core.proofs.SaidLemmas.{keeps_left, leaves_said, ended_said, closed_said, foreign_said, lost_said}
 use Rattle.session_core.proofs.CutLemmas.{hung_up_closes, leaves_closes, seat_closes, unwritten_closes}
 use Rattle.session_core.proofs.ClosingLemmas as laws
 use Rattle.session_core.proofs.closing.leave_all.Goals as goal
@@ -36,8 +36,8 @@ returns-in-Refused-clause-all g c =
 
 pub returns-in-Lost-clause-all : goal.returns-in-Lost-clause-all
 returns-in-Lost-clause-all g c =
-    laws.left_as c.args.output.now c.send_last-end-in-Lost.new.output c.args.over (over.Lost c.in-Lost.seat) c.left_by-in-Lost.result _ c.in-Lost.is c.left_by-in-Lost.ensures
-    (laws.lost c.args.output.now c.send_last-end-in-Lost.new.output c.in-Lost.seat c.send_last-end-in-Lost.result c.send_last-end-in-Lost.ensures)
+    laws.left_as c.args.output.now c.send_last-end-in-Lost.new.output c.args.over (over.Lost c.in-Lost.seat c.in-Lost.why) c.left_by-in-Lost.result _ c.in-Lost.is c.left_by-in-Lost.ensures
+    (laws.lost c.args.output.now c.send_last-end-in-Lost.new.output c.in-Lost.seat c.in-Lost.why c.send_last-end-in-Lost.result c.send_last-end-in-Lost.ensures)
 
 pub returns-in-Ended-clause-all : goal.returns-in-Ended-clause-all
 returns-in-Ended-clause-all g c =
@@ -61,7 +61,7 @@ pub returns-in-Refused-clause-said : goal.returns-in-Refused-clause-said
 returns-in-Refused-clause-said g c = λ said. rw c.left_by-in-Refused.ensures (closed_said g.K.Kernel.not_opened g.K.Kernel.ended _ _ c.send_last-end-in-Refused.result c.send_last-end-in-Refused.ensures)
 
 pub returns-in-Lost-clause-said : goal.returns-in-Lost-clause-said
-returns-in-Lost-clause-said g c = λ said. rw c.left_by-in-Lost.ensures (closed_said g.K.Kernel.not_opened g.K.Kernel.ended _ _ c.send_last-end-in-Lost.result c.send_last-end-in-Lost.ensures)
+returns-in-Lost-clause-said g c = λ said. rw c.left_by-in-Lost.ensures (lost_said g.K.Kernel.not_opened g.K.Kernel.ended _ _ c.args.over c.in-Lost.seat c.in-Lost.why c.send_last-end-in-Lost.result c.in-Lost.is c.send_last-end-in-Lost.ensures said)
 
 pub returns-in-Ended-clause-said : goal.returns-in-Ended-clause-said
 returns-in-Ended-clause-said g c = λ said. rw c.left_by-in-Ended.ensures (ended_said g.K.Kernel.not_opened g.K.Kernel.ended _ _ c.args.over c.in-Ended.seat c.in-Ended.why c.send_last-end-in-Ended.result c.in-Ended.is c.send_last-end-in-Ended.ensures said)
@@ -98,7 +98,7 @@ returns-in-Refused-clause-closes g c =
 
 pub returns-in-Lost-clause-closes : goal.returns-in-Lost-clause-closes
 returns-in-Lost-clause-closes g c =
-    seat_closes c.args.over c.args.output.now c.send_last-end-in-Lost.new.output why.Closed c.in-Lost.seat c.send_last-end-in-Lost.result c.left_by-in-Lost.result (λ closed. subst MayClose (sym c.in-Lost.is) tt)
+    seat_closes c.args.over c.args.output.now c.send_last-end-in-Lost.new.output c.in-Lost.why c.in-Lost.seat c.send_last-end-in-Lost.result c.left_by-in-Lost.result (λ closed. subst MayClose (sym c.in-Lost.is) tt)
     c.send_last-end-in-Lost.ensures c.left_by-in-Lost.ensures
 
 pub returns-in-Ended-clause-closes : goal.returns-in-Ended-clause-closes
@@ -116,7 +116,7 @@ pub returns-in-Refused-clause-answers : goal.returns-in-Refused-clause-answers
 returns-in-Refused-clause-answers g c = laws.answers_sent c.args.output.now c.send_last-end-in-Refused.new.output why.Closed c.send_last-end-in-Refused.result c.send_last-end-in-Refused.ensures
 
 pub returns-in-Lost-clause-answers : goal.returns-in-Lost-clause-answers
-returns-in-Lost-clause-answers g c = laws.answers_sent c.args.output.now c.send_last-end-in-Lost.new.output why.Closed c.send_last-end-in-Lost.result c.send_last-end-in-Lost.ensures
+returns-in-Lost-clause-answers g c = laws.answers_sent c.args.output.now c.send_last-end-in-Lost.new.output c.in-Lost.why c.send_last-end-in-Lost.result c.send_last-end-in-Lost.ensures
 
 pub returns-in-Ended-clause-answers : goal.returns-in-Ended-clause-answers
 returns-in-Ended-clause-answers g c = laws.answers_sent c.args.output.now c.send_last-end-in-Ended.new.output c.in-Ended.why c.send_last-end-in-Ended.result c.send_last-end-in-Ended.ensures

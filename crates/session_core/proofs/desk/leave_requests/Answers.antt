@@ -12,6 +12,12 @@ returns-then-count-eq0 g c base is =
     (c.loop.invariant.left ∙ c.if-count-eq0.true) (subst (Stands g.K.Kernel.not_opened g.K.Kernel.refused g.K.Kernel.ended base (received c.loop.consumer) c.loop.output) c.in-Ready.is (c.loop.invariant.stands base is))
     c.leave.ensures (laws.reading_said g.K.Kernel.not_opened g.K.Kernel.ended c.in-Ready.stage c.args.why c.requires.reading)
 
+pub returns-in-Lost : goal.returns-in-Lost
+returns-in-Lost g c base is =
+    laws.ends_given_up g.K.Kernel.not_opened g.K.Kernel.refused g.K.Kernel.ended base (received c.loop.consumer) (known_items c.loop.consumer)
+    (received c.args.consumer.now ++ known_items c.args.consumer.now) c.args.why c.in-Lost.seat c.loop.output c.leave-in-Lost.new.output c.leave-in-Lost.result c.loop.invariant.same c.requires.reading
+    (subst (Stands g.K.Kernel.not_opened g.K.Kernel.refused g.K.Kernel.ended base (received c.loop.consumer) c.loop.output) c.in-Lost.is (c.loop.invariant.stands base is)) c.leave-in-Lost.ensures
+
 pub returns-in-Left : goal.returns-in-Left
 returns-in-Left g c base is =
     laws.ends_early g.K.Kernel.not_opened g.K.Kernel.refused g.K.Kernel.ended base (received c.loop.consumer) (known_items c.loop.consumer)

@@ -27,3 +27,8 @@ pub returns-in-Over-clause-stands : goal.returns-in-Over-clause-stands
 returns-in-Over-clause-stands g c base is =
     laws.one_taken (RefusalSaid g.K.Kernel.not_opened g.K.Kernel.refused g.K.Kernel.ended) base (received c.loop.consumer) (received c.pop.new.self) c.in-Ok.request c.loop.stage c.loop.output c.take_next.new.output (turn.Over c.in-Over.over) c.in-Ok.ensures.ok.0
     (c.loop.invariant.stands base is) c.in-Over.ensures.takes c.in-Over.ensures.refusals
+
+pub returns-in-Lost-clause-stands : goal.returns-in-Lost-clause-stands
+returns-in-Lost-clause-stands g c base is =
+    laws.one_taken (RefusalSaid g.K.Kernel.not_opened g.K.Kernel.refused g.K.Kernel.ended) base (received c.loop.consumer) (received c.pop.new.self) c.in-Ok.request c.loop.stage c.loop.output c.take_next.new.output (turn.Lost c.in-Lost.seat) c.in-Ok.ensures.ok.0
+    (c.loop.invariant.stands base is) c.in-Lost.ensures.takes c.in-Lost.ensures.refusals

@@ -4,5 +4,5 @@ use Rattle.session_core.proofs.desk.wait_on.Goals as goal
 
 pub returns : goal.returns
 returns g c taken base is =
-    c.stand.ensures base taken
+    c.stand.ensures.stands base taken
     (laws.waited (RefusalSaid g.K.Kernel.not_opened g.K.Kernel.refused g.K.Kernel.ended) base taken c.args.seat c.args.output.now c.wait_once-turn.new.output c.wait_once-turn.result is c.wait_once-turn.ensures.waits c.wait_once-turn.ensures.refusals) c.wait_once-turn.ensures.said

@@ -1,6 +1,6 @@
 use Rattle.std.proofs.Common.{[], sym, subst}
 use Rattle.session_core.specs.Refusals.{RefusalSaid, RefusalsSaid}
-use Rattle.session_core.specs.Said.{ClosedSaid, EndSaid}
+use Rattle.session_core.specs.Said.{CutSaid, EndSaid}
 use Rattle.session_core.specs.Served.{Serves, SessionState}
 use Rattle.session_core.proofs.ServeLemmas as laws
 use Rattle.session_core.proofs.serve.serve_named.Goals as goal
@@ -12,7 +12,7 @@ pub returns-in-Err-clause-said : goal.returns-in-Err-clause-said
 returns-in-Err-clause-said g c = subst (λ (s : SessionState). EndSaid g.K.Kernel.not_opened g.K.Kernel.ended s.end_is) (sym (c.unstarted.ensures g.D.Naming.base c.requires.base)) tt
 
 pub returns-in-Err-clause-given_up : goal.returns-in-Err-clause-given_up
-returns-in-Err-clause-given_up g c = subst (λ (s : SessionState). ClosedSaid g.K.Kernel.ended s.answers s.end_is) (sym (c.unstarted.ensures g.D.Naming.base c.requires.base)) (laws.unserved_open g.K.Kernel.ended [])
+returns-in-Err-clause-given_up g c = subst (λ (s : SessionState). CutSaid g.K.Kernel.ended s.answers s.end_is) (sym (c.unstarted.ensures g.D.Naming.base c.requires.base)) (laws.unserved_open g.K.Kernel.ended [])
 
 pub returns-in-Err-clause-refusals : goal.returns-in-Err-clause-refusals
 returns-in-Err-clause-refusals g c =
@@ -26,7 +26,7 @@ pub returns-in-None-clause-said : goal.returns-in-None-clause-said
 returns-in-None-clause-said g c = subst (λ (s : SessionState). EndSaid g.K.Kernel.not_opened g.K.Kernel.ended s.end_is) (sym (c.unstarted-in-None.ensures g.D.Naming.base c.requires.base)) tt
 
 pub returns-in-None-clause-given_up : goal.returns-in-None-clause-given_up
-returns-in-None-clause-given_up g c = subst (λ (s : SessionState). ClosedSaid g.K.Kernel.ended s.answers s.end_is) (sym (c.unstarted-in-None.ensures g.D.Naming.base c.requires.base)) (laws.unstarted_open g.K.Kernel.ended [])
+returns-in-None-clause-given_up g c = subst (λ (s : SessionState). CutSaid g.K.Kernel.ended s.answers s.end_is) (sym (c.unstarted-in-None.ensures g.D.Naming.base c.requires.base)) (laws.unstarted_open g.K.Kernel.ended [])
 
 pub returns-in-None-clause-refusals : goal.returns-in-None-clause-refusals
 returns-in-None-clause-refusals g c =

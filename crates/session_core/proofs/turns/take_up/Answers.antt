@@ -14,12 +14,12 @@ returns-in-Opening-Attach-clause-takes g c = laws.same_place _ _ _ _ _ _ _ c.in-
 
 pub returns-in-Opening-Join-clause-refusals : goal.returns-in-Opening-Join-clause-refusals
 returns-in-Opening-Join-clause-refusals g c =
-    same_turn (RefusalSaid g.K.Kernel.not_opened g.K.Kernel.refused g.K.Kernel.ended) c.args.stage stage.Opening c.args.request request.Join c.args.output.now c.take_opening.new.output c.in-Opening-Join.is-0
+    same_turn (RefusalSaid g.K.Kernel.not_opened g.K.Kernel.refused g.K.Kernel.ended) c.args.stage (stage.Opening c.in-Opening-Join.admission) c.args.request request.Join c.args.output.now c.take_opening.new.output c.in-Opening-Join.is-0
     c.in-Opening-Join.is-1 c.take_opening.ensures.refusals
 
 pub returns-in-Opening-Attach-clause-refusals : goal.returns-in-Opening-Attach-clause-refusals
 returns-in-Opening-Attach-clause-refusals g c =
-    same_turn (RefusalSaid g.K.Kernel.not_opened g.K.Kernel.refused g.K.Kernel.ended) c.args.stage stage.Opening c.args.request (request.Attach c.in-Opening-Attach.process) c.args.output.now
+    same_turn (RefusalSaid g.K.Kernel.not_opened g.K.Kernel.refused g.K.Kernel.ended) c.args.stage (stage.Opening c.in-Opening-Attach.admission) c.args.request (request.Attach c.in-Opening-Attach.process) c.args.output.now
     c.take_opening-in-Opening-Attach.new.output c.in-Opening-Attach.is-0 c.in-Opening-Attach.is-1 c.take_opening-in-Opening-Attach.ensures.refusals
 
 pub returns-in-Ready-Call-clause-refusals : goal.returns-in-Ready-Call-clause-refusals
