@@ -19,10 +19,10 @@ use Rattle.run_core.specs.declared.closing.CloseFault.TheVariants as fault
 use Rattle.session_core.specs.declared.end.End.{End}
 use Rattle.session_core.specs.declared.told.Told.{Told}
 use Rattle.session_core.specs.Refusals.{RefusalsSaid}
-use Rattle.session_core.specs.Said.{ClosedSaid, EndSaid}
+use Rattle.session_core.specs.Said.{CutSaid, EndSaid}
 use Rattle.session_core.specs.Served.{SessionState, Serves}
 use Rattle.system_lock.specs.Says.{IsEnded, IsNotOpened, IsRefused}
-use Rattle.logged_streams.specs.Streams.{LogState}
+use Rattle.logged_streams.specs.Streams.{LoggedReaderState, LoggedWriterState}
 
 -- what a seat holds beside its counts
 abbrev pub held_in : SeatState → Held
@@ -34,17 +34,15 @@ IsOf seat process = process ≡ option_map held_in seat
 
 -- a session of a report: a session that is over, with its process in place of its seat
 pub record ReportedSession : Type 0 where
-  pub remaining : Option (Option (List ℕ))
-  pub reads : LogState
-  pub contents : Option (List ℕ)
-  pub writes : LogState
+  pub reader : Option LoggedReaderState
+  pub writer : LoggedWriterState
   pub process : Option Held
   pub answers : List Told
   pub end_is : End
 
 -- the same session with this seat in place of its process
 abbrev pub with_seat : Option SeatState → ReportedSession → SessionState
-with_seat seat s = record { remaining = s.remaining; reads = s.reads; contents = s.contents; writes = s.writes; seat = seat; answers = s.answers; end_is = s.end_is }
+with_seat seat s = record { reader = s.reader; writer = s.writer; seat = seat; answers = s.answers; end_is = s.end_is }
 
 -- ---- connections
 
@@ -73,11 +71,11 @@ abbrev pub IsBlank : Option (List ℕ) → Type 0
 IsBlank contents = is_blank contents ≡ true
 
 -- a session was served under the lock of a run: it did what is promised of any session; it ends as full or foreign, refuses a request, and
--- is closed in a call that waits only where that was due in some book
+-- leaves off in a call that waits only where that was due in some book
 pub record ServesInRun (always : Bool) (from base : Option (List ℕ)) (s : SessionState) : Type 0 where
   pub serves : Serves always from base s
   pub said : EndSaid IsNotOpened IsEnded s.end_is
-  pub given_up : ClosedSaid IsEnded s.answers s.end_is
+  pub given_up : CutSaid IsEnded s.answers s.end_is
   pub refusals : RefusalsSaid IsNotOpened IsRefused IsEnded from s
 
 -- a connection that was served: what its reader had and its writer held at the start, and the seat of its process, if there is one

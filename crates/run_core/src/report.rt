@@ -5,7 +5,8 @@ ghost use Rattle.run_core.specs.Receipts.{held_by};
 
 use crate::comparison::HasReceipts;
 use byte_ledger::gather::Missing;
-use logged_streams::stream_log::StreamLog;
+use logged_streams::reader::LoggedReader;
+use logged_streams::writer::LoggedWriter;
 use record_book::seat::Receipt;
 use session_core::end::End;
 use session_core::told::Told;
@@ -56,22 +57,18 @@ pub struct Session<R: Read, W: Write> {
     /// What it told its client, in order.
     pub answers: Vec<Told>,
     pub end: End,
-    /// `None` where no thread could be started for it.
-    pub reader: Option<R>,
-    /// What became of the reads.
-    pub reads: StreamLog,
-    pub writer: W,
-    /// What became of the writes.
-    pub writes: StreamLog,
+    /// The reader, with what became of its reads. `None` where no thread could be started for it.
+    pub reader: Option<LoggedReader<R>>,
+    /// The writer, with what became of its writes.
+    pub writer: LoggedWriter<W>,
 }
 
 impl<R: Read, W: Write> Model for Session<R, W> {
-    ghost use Rattle.std.specs.Option.{option_map};
     ghost use Rattle.run_core.specs.Run.{ReportedSession};
 
     ghost Value = { ReportedSession };
 
-    ghost view = { λ s. record { remaining = option_map R.remaining s.reader; reads = s.reads; contents = W.contents s.writer; writes = s.writes; process = s.process; answers = s.answers.items; end_is = s.end } };
+    ghost view = { λ s. record { reader = s.reader; writer = s.writer; process = s.process; answers = s.answers.items; end_is = s.end } };
 }
 
 impl<R: Read, W: Write> HasReceipts for Session<R, W> {

@@ -98,7 +98,8 @@ fn serve_connection<
 ) -> Served<S::Reader, S::Writer, L>
     ensures { ServesInRun G.is_open (S.Reader.Read.remaining reader) (S.Writer.Write.contents writer) result }
 {
-    serve(rt, alloc, reader, writer, lock, session, gate)
+    let admission = lock.admit();
+    serve(rt, alloc, reader, writer, lock, admission, session, gate)
 }
 
 /// Serves a connection in a thread of its own, if one can be started.
@@ -246,26 +247,22 @@ fn part<R: Read + Drop, W: Write + Drop, L: Ledgers>(
         answers,
         end,
         reader,
-        reads,
         writer,
-        writes,
     } = served;
     let (process, shares) = match seat {
-        Some(seat) => {
+        Ok(seat) => {
             let pid = seat.pid();
             let (receipts, shares) = seat.into_parts();
             (Some(Process { pid, receipts }), Some(shares))
         }
-        None => (None, None),
+        Err(_unused) => (None, None),
     };
     let session = Session {
         process,
         answers,
         end,
         reader,
-        reads,
         writer,
-        writes,
     };
     (session, shares)
 }
@@ -383,8 +380,10 @@ fn serve_all<
     if no_thread {
         return Err(RunFault::NoThread);
     }
-    let closed = close(unshared(&rt, shared.lock).take().into_book())?;
-    Ok(Ended { closed, parted })
+    match close(unshared(&rt, shared.lock).take().into_book()) {
+        Ok(closed) => Ok(Ended { closed, parted }),
+        Err(fault) => Err(fault),
+    }
 }
 
 /// Compares and gathers what sessions and their trace left.
