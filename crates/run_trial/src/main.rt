@@ -53,7 +53,7 @@ fn print_session(
 ) -> io::Result<()> {
     let end = session.end;
     let answers = session.answers.len();
-    if session.writes.refusals() == REFUSALS_MAX {
+    if session.writer.log().refusals() == REFUSALS_MAX {
         return print!(rt; "end {end:?} answers {answers} held back\n");
     }
     print!(rt; "end {end:?} answers {answers}\n")

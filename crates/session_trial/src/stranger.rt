@@ -1,7 +1,7 @@
 //! A kernel that does not know its seats any more.
 
-ghost use Rattle.std.specs.Prelude.{◌≡◌, ⊤};
-ghost use Rattle.system_lock.specs.Kernel.{FinishesBy, HangsUpBy, SaysEnded};
+ghost use Rattle.std.specs.Prelude.{◌≡◌, ⊤, IfErr};
+ghost use Rattle.system_lock.specs.Kernel.{FinishesBy, HangsUpBy, IsOpening, OpensAs, SaysEnded, itself};
 
 use byte_ledger::ledgers::Ledgers;
 use byte_ledger::tallies::Sums;
@@ -11,7 +11,9 @@ use call_types::request::Request;
 use record_book::opening::OpenedIn;
 use record_book::seat::{Receipt, Seat, SpentSeat};
 use std::sync::Wait;
-use system_lock::kernel::{Ended, EndedIn, Finished, FinishedIn, Kernel, Why};
+use system_lock::kernel::{
+    AdmissionTo, Ended, EndedIn, Finished, FinishedIn, Kernel, NotOpenedIn, Why,
+};
 use system_lock::one_book::OneBook;
 
 /// What it does not know.
@@ -35,6 +37,11 @@ impl<L: Ledgers> Stranger<L> {
     /// A kernel of this book that forgets so much.
     pub(crate) fn new(book: OneBook<L>, forgets: Forgets) -> Self {
         Stranger { book, forgets }
+    }
+
+    /// Leave to open one process.
+    pub(crate) fn admit(&self) -> AdmissionTo<L> {
+        self.book.admit()
     }
 
     /// How much its book holds.
@@ -63,8 +70,17 @@ impl<L: Ledgers> Kernel<Seat<L>, SpentSeat<L>> for Stranger<L> {
 
     ghost ended = { λ _ _. ⊤ };
 
-    fn open<R: Wait>(&self, rt: &R, request: Request) -> Result<OpenedIn<L>, Refusal> {
-        self.book.open(rt, request)
+    fn open<R: Wait>(
+        &self,
+        rt: &R,
+        admission: AdmissionTo<L>,
+        request: Request,
+    ) -> Result<OpenedIn<L>, NotOpenedIn<L>>
+        requires { IsOpening request }
+        ensures opens { OpensAs itself itself request result }
+        ensures refused { IfErr result (λ _. ⊤) }
+    {
+        self.book.open(rt, admission, request)
     }
 
     fn call<R: Wait>(&self, rt: &R, seat: &mut Seat<L>, call: Call) -> Result<Receipt, Refusal> {

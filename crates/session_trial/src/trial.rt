@@ -8,6 +8,7 @@ use crate::stranger::Stranger;
 use crate::trial_fault::TrialFault;
 use byte_ledger::ledgers::{Blanks, Ledgers};
 use byte_ledger::tallies::Sums;
+use logged_streams::reader::LoggedReader;
 use record_book::book::Book;
 use record_book::seat::SpentSeat;
 use script_text::lines::{write_record, write_totals};
@@ -18,6 +19,7 @@ use session_core::serve::{Served, serve};
 use std::alloc::{AllocError, Global};
 use std::sync::{Arc, Wait};
 use std::thread::Threads;
+use system_lock::kernel::AdmissionTo;
 use system_lock::one_book::OneBook;
 
 /// Appends the line of an end.
@@ -36,15 +38,29 @@ fn put_end(out: &mut Vec<u8>, end: End) -> Result<(), AllocError> {
 }
 
 /// Appends the lines of a seat's receipts.
-fn put_seat<L: Ledgers>(out: &mut Vec<u8>, seat: &Option<SpentSeat<L>>) -> Result<(), AllocError> {
+fn put_seat<L: Ledgers>(
+    out: &mut Vec<u8>,
+    seat: &Result<SpentSeat<L>, AdmissionTo<L>>,
+) -> Result<(), AllocError> {
     match seat {
-        Some(seat) => {
+        Ok(seat) => {
             for receipt in seat.receipts() {
                 write_record(out, receipt.place(), receipt.record())?;
             }
             Ok(())
         }
-        None => put_word(out, b"no seat\n"),
+        Err(_) => put_word(out, b"no seat\n"),
+    }
+}
+
+/// Appends the line of what became of the reads.
+fn put_reads(
+    out: &mut Vec<u8>,
+    reader: &Option<LoggedReader<MemoryReader>>,
+) -> Result<(), AllocError> {
+    match reader {
+        Some(reader) => put_log(out, b"reads ", reader.log()),
+        None => put_word(out, b"no reader\n"),
     }
 }
 
@@ -53,12 +69,12 @@ fn put_served<L: Ledgers>(
     out: &mut Vec<u8>,
     served: &Served<MemoryReader, MemoryWriter, L>,
 ) -> Result<(), AllocError> {
-    put_written(out, served.writer.bytes())?;
+    put_written(out, served.writer.get_ref().bytes())?;
     put_end(out, served.end)?;
     put_number(out, b"answers ", served.answers.len() as u64)?;
-    put_log(out, b"reads ", &served.reads)?;
-    put_log(out, b"writes ", &served.writes)?;
-    put_number(out, b"flushes ", served.writer.flushes())?;
+    put_reads(out, &served.reader)?;
+    put_log(out, b"writes ", served.writer.log())?;
+    put_number(out, b"flushes ", served.writer.get_ref().flushes())?;
     put_seat(out, &served.seat)
 }
 
@@ -92,6 +108,7 @@ pub(crate) fn tried<
     let shared = Arc::try_clone(&kernel)?;
     let reader = MemoryReader::new(input, job.reads);
     let writer = MemoryWriter::new(alloc, job.writes);
-    let served = serve(rt, alloc, reader, writer, shared, 0, OpenGate);
+    let admission = kernel.admit();
+    let served = serve(rt, alloc, reader, writer, shared, admission, 0, OpenGate);
     Ok(lines_of(alloc, &served, kernel.counts(&rt))?)
 }

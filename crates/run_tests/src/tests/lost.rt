@@ -45,7 +45,7 @@ fn opened<Rt: Wait, L: Ledgers>(
 ) -> Result<Seat<L>, Fail> {
     match request {
         Request::Call(_) => Err("a call opens nothing")?,
-        opening => match kernel.open(rt, opening) {
+        opening => match kernel.open(rt, kernel.admit(), opening) {
             Ok(Opened::Seated(seat)) => Ok(seat),
             _ => Err("there is room for a process")?,
         },

@@ -342,11 +342,11 @@ fn came_of(
     match report.ends.as_slice() {
         [only] => {
             let answers = only.answers.len();
-            let written = only.writer.bytes().len();
+            let written = only.writer.get_ref().bytes().len();
             Some((
                 only.end,
                 answers,
-                only.writes.refusals(),
+                only.writer.log().refusals(),
                 written,
                 report.records,
             ))
