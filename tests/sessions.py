@@ -341,9 +341,18 @@ class Talk:
                 yield Writing.IF_MUCH
                 yield from self.take(line)
                 yield self.writing()
-            yield pump.end if self.limit > len(pump.requests) else "Ahead"
+            yield self.read_end(self.limit)
         except Over as over:
             yield over.end
+
+    def read_end(self, limit: int) -> str:
+        """Why no more is read, where there is no room for the request with this number."""
+        pump = self.session.pump
+        return pump.end if limit > len(pump.requests) else "Ahead"
+
+    def last_read(self) -> int:
+        """The request for which there is no room once no more is taken up, if so many come."""
+        return min(self.limit, self.taken + AHEAD_MOST + 1)
 
     def writing(self) -> Writing:
         """Whether answers are written before the next request.
@@ -398,7 +407,7 @@ class Talk:
             place, outcome = self.act(resume)
         if outcome == "still":
             self.hang_up()
-            raise Over("Closed")
+            raise Over(self.read_end(self.last_read()))
         if place is None:
             self.hang_up()
             raise Over("RunFull")
@@ -567,7 +576,16 @@ WRITTEN_OUT: list[tuple[str, str, Sequence[str], list[str], str, int, str]] = [
         JOIN_PIPE_READ + CLOSE * 40,
         (),
         [OPENED, PIPED, PARKED],
-        "Closed",
+        "Ahead",
+        4,
+        "3 p0 exit = ok",
+    ),
+    (
+        "a fault behind a read that waits for nobody",
+        JOIN_PIPE_READ + "00000001 09",
+        (),
+        [OPENED, PIPED, PARKED],
+        "Malformed",
         4,
         "3 p0 exit = ok",
     ),
@@ -672,12 +690,12 @@ def ahead_or_not(trial: str) -> None:
     require(told(given) in (all_answered, one_dropped), given.said())
 
 
-# What a session is over with, how its writer answers, and what comes of it.
+# What a session is over with, how its writer answers, and what comes of it. Without an end it ends for what ends its reads.
 LEFT: list[tuple[str, str, Manner, Row]] = [
     ("a refused opening", ATTACH, PLAIN, ([UNATTACHED], "Closed", 1, "0 p9 attach = error ESRCH")),
     ("a call before an opening", CLOSE, PLAIN, ([], "Malformed", 0, "no seat")),
     ("a second join", "00000001 01 00000001 01", PLAIN, ([OPENED], "Malformed", 2, "1 p0 exit = ok")),
-    ("a wait for nobody", JOIN_PIPE_READ, PLAIN, ([OPENED, PIPED, PARKED], "Closed", 4, "3 p0 exit = ok")),
+    ("a wait for nobody", JOIN_PIPE_READ, PLAIN, ([OPENED, PIPED, PARKED], "", 4, "3 p0 exit = ok")),
     ("a write that fails", "00000001 01", Manner(fails_at=1), ([], "WriteFault 0", 2, "1 p0 exit = ok")),
     ("a flush that fails", "00000001 01", Manner(flush_fails_at=1), ([OPENED], "WriteFault 22", 2, "1 p0 exit = ok")),
 ]
@@ -688,8 +706,12 @@ def left(trial: str) -> Iterator[Case]:
     for what, text, writes, row in LEFT:
         size = len(bytes.fromhex(text))
         for behind in (0, 15, 16, 17, 18, 40):
-            reads = size + 9 * behind + 1 if behind <= AHEAD_MOST else size + 9 * (AHEAD_MOST + 1)
-            case = partial(written_as_told, trial, text + CLOSE * behind, (), *row, [f"reads {reads} 0 whole"])
+            is_room = behind <= AHEAD_MOST
+            reads = size + 9 * behind + 1 if is_room else size + 9 * (AHEAD_MOST + 1)
+            answers, end, *rest = row
+            end = end or ("Closed" if is_room else "Ahead")
+            told_of = [answers, end, *rest, [f"reads {reads} 0 whole"]]
+            case = partial(written_as_told, trial, text + CLOSE * behind, (), *told_of)
             yield f"{behind} requests behind {what}", partial(case, reads=Manner(1), writes=writes)
 
 
@@ -826,7 +848,7 @@ def refusals(refuser: Refuser, trial: str) -> Iterator[Case]:
 
 # What is printed of a session for which no thread can be started.
 UNSTARTED = (
-    b"written \nend NoThread\nanswers 0\nreads 0 0 whole\nwrites 0 0 whole\nflushes 0\nno seat\n"
+    b"written \nend NoThread\nanswers 0\nno reader\nwrites 0 0 whole\nflushes 0\nno seat\n"
     b"records 0 in 0 out 0\n"
 )
 
