@@ -10,6 +10,8 @@ STAND_INS = TESTS / "stand_ins"
 CRATES = TOP / "crates"
 EXAMPLES = TOP / "examples"
 CLIENT = TOP / "clients" / "python"
+C_CLIENT = TOP / "clients" / "c"
+C_TESTS = TESTS / "c"
 TOOLS = TOP / "tools"
 
 

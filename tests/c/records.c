@@ -1,0 +1,178 @@
+/* Writes traces by fdref.h, for the tests.
+
+   usage: records WHICH FILE
+
+   WHICH is `each`, which writes the records of RECORDS in tests/parts/python_traces.py, in that order; `large`, the
+   largest records and one that is flushed; or `faults`, which looks at what cannot be written. The line of each check
+   that fails is printed, and the status is 1 then. */
+
+#include <limits.h>
+#include <stdio.h>
+#include <string.h>
+
+#include "odd.h"
+
+static int failures;
+static char bytes[FDREF_DATA_MOST + 1];
+
+#define CHECK(is_right) check(is_right, #is_right, __LINE__)
+
+static void check(int is_right, const char *text, int line)
+{
+    if (!is_right)
+        printf("line %d: not so: %s (errno %d)\n", line, text, errno);
+    failures += !is_right;
+}
+
+static struct fdref_outcome failed(int number)
+{
+    errno = number;
+    return fdref_result(-1);
+}
+
+static void each(struct fdref_trace *to)
+{
+    static const int errors[] = {
+        EBADF, EINVAL, ESPIPE, EFBIG, EOVERFLOW, ENOENT, EEXIST, EMLINK,
+        ENAMETOOLONG, EMFILE, ENFILE, ENOSPC, EAGAIN, EPIPE, ENXIO, ESRCH
+    };
+    fdref_record(to, 0, fdref_act_join(), fdref_number(0));
+    fdref_record(to, 9, fdref_act_attach(), fdref_done());
+    fdref_record(to, 9, fdref_act_attach(), fdref_error(ESRCH));
+    fdref_record(to, 1, fdref_act_resume(), fdref_part(7));
+    fdref_record(to, 1, fdref_act_exit(), fdref_done());
+    fdref_record(to, FDREF_HOUSE, fdref_act_close_run(), fdref_done());
+    fdref_record(to, 1, fdref_act_open("a", O_RDWR | O_CREAT | O_EXCL | O_TRUNC | O_APPEND | O_NONBLOCK),
+                 fdref_result(3));
+    fdref_record(to, 1, fdref_act_open("", O_RDONLY), failed(ENOENT));
+    fdref_record(to, 1, fdref_act_open("a", FDREF_O_NEITHER), fdref_error(EINVAL));
+    fdref_record(to, 1, fdref_act_open("\xff", O_WRONLY), fdref_parked(0));
+    errno = EBADF;
+    fdref_record(to, 1, fdref_act_close(-1), fdref_result_done(-1));
+    fdref_record(to, 1, fdref_act_read(0, 5), fdref_result_data("hello", 5));
+    fdref_record(to, 1, fdref_act_read(0, 9), fdref_parked(0));
+    fdref_record(to, 1, fdref_act_write(1, "hi", 2), fdref_result(2));
+    fdref_record(to, 1, fdref_act_pread(0, 5, 77), fdref_data(NULL, 0));
+    fdref_record(to, 1, fdref_act_pwrite(0, "x", 1, 77), fdref_number(1));
+    fdref_record(to, 1, fdref_act_lseek(0, -5, SEEK_END), fdref_number(0));
+    fdref_record(to, 1, fdref_act_lseek(0, 5, SEEK_CUR), fdref_number(5));
+    fdref_record(to, 1, fdref_act_lseek(0, 5, SEEK_SET), fdref_number(5));
+    fdref_record(to, 1, fdref_act_ftruncate(0, INT64_MAX), fdref_error(EFBIG));
+    fdref_record(to, 1, fdref_act_dup(0), fdref_number(1));
+    fdref_record(to, 1, fdref_act_dup2(0, 31), fdref_number(31));
+    fdref_record(to, 1, fdref_act_pipe(), fdref_descriptors(0, 1));
+    fdref_record(to, 1, fdref_act_mkfifo("f"), fdref_result_done(0));
+    fdref_record(to, 1, fdref_act_link("a", "b"), fdref_done());
+    fdref_record(to, 1, fdref_act_unlink("b"), fdref_done());
+    fdref_record(to, 1, fdref_act_fstat(0), fdref_told(FDREF_KIND_FIFO, 5, 1));
+    fdref_record(to, 1, fdref_act_fstat(0), fdref_told(FDREF_KIND_REGULAR, 5, 1));
+    fdref_record(to, 1, fdref_act_fork(), fdref_number(2));
+    for (size_t at = 0; at < sizeof errors / sizeof errors[0]; at++)
+        fdref_record(to, 1, fdref_act_fork(), fdref_error(errors[at]));
+    CHECK(fdref_trace_close(to) == 0);
+}
+
+static void large(struct fdref_trace *to, const char *path)
+{
+    char name[FDREF_NAME_MOST + 1];
+    struct fdref_trace *other;
+    memset(bytes, 'b', sizeof bytes);
+    memset(name, 'n', sizeof name);
+    name[FDREF_NAME_MOST] = 0;
+    for (int at = 0; at < 3; at++) {
+        fdref_record(to, UINT32_MAX, fdref_act_pwrite(INT_MIN, bytes, FDREF_DATA_MOST, INT64_MIN),
+                     fdref_number(UINT64_MAX));
+        fdref_record(to, 0, fdref_act_read(INT_MAX, UINT32_MAX), fdref_data(bytes, FDREF_TRANSFER_MOST));
+        fdref_record(to, 0, fdref_act_link(name, name), fdref_parked(UINT32_MAX));
+        fdref_record(to, 0, fdref_act_pipe(), fdref_descriptors(INT_MAX, INT_MAX));
+        fdref_record(to, 0, fdref_act_fstat(0), fdref_told(FDREF_KIND_PIPE, UINT64_MAX, UINT32_MAX));
+    }
+    CHECK(fdref_trace_flush(to) == 0);
+    /* what is flushed is there, though the trace is not closed */
+    other = fdref_trace_open("/dev/null");
+    CHECK(other != NULL && fdref_trace_close(other) == 0);
+    FILE *file = fopen(path, "rb");
+    CHECK(file && fseek(file, 0, SEEK_END) == 0 && ftell(file) > 3 * 65536);
+    if (file)
+        fclose(file);
+    fdref_record(to, 0, fdref_act_exit(), fdref_done());
+    CHECK(fdref_trace_close(to) == 0);
+}
+
+/* A record with a fault is refused, and everything after it; what was recorded before is written. */
+static void refuses(const char *path, int64_t process, struct fdref_act act, struct fdref_outcome outcome, int number)
+{
+    struct fdref_trace *to = fdref_trace_open(path);
+    char head[40];
+    FILE *file;
+    CHECK(to != NULL);
+    CHECK(fdref_record(to, 0, fdref_act_join(), fdref_number(0)) == 0);
+    CHECK(fdref_record(to, process, act, outcome) == -1 && errno == number);
+    CHECK(fdref_record(to, 0, fdref_act_exit(), fdref_done()) == -1 && errno == number);
+    CHECK(fdref_trace_flush(to) == -1 && errno == number);
+    CHECK(fdref_trace_close(to) == -1 && errno == number);
+    file = fopen(path, "rb");
+    CHECK(file && fread(head, 1, sizeof head, file) == 26);
+    if (file)
+        fclose(file);
+}
+
+static void faults(const char *path)
+{
+    char name[FDREF_NAME_MOST + 2];
+    struct fdref_act act = fdref_act_fork();
+    struct fdref_outcome outcome = fdref_done();
+    struct fdref_trace *to;
+    memset(name, 'n', sizeof name);
+    name[FDREF_NAME_MOST + 1] = 0;
+    refuses(path, -1, fdref_act_exit(), fdref_done(), EINVAL);
+    refuses(path, FDREF_HOUSE + 1, fdref_act_exit(), fdref_done(), EINVAL);
+    refuses(path, 0, fdref_act_close_run(), fdref_done(), EINVAL);
+    refuses(path, 0, fdref_act_mkfifo(name), fdref_done(), ENAMETOOLONG);
+    refuses(path, 0, fdref_act_mkfifo(NULL), fdref_done(), EINVAL);
+    refuses(path, 0, fdref_act_write(0, bytes, FDREF_DATA_MOST + 1), fdref_number(0), EINVAL);
+    refuses(path, 0, fdref_act_write(0, NULL, 1), fdref_number(0), EINVAL);
+    refuses(path, 0, fdref_act_read(0, 1), fdref_data(bytes, FDREF_TRANSFER_MOST + 1), EINVAL);
+    refuses(path, 0, fdref_act_write(0, bytes, FDREF_DATA_MOST), fdref_data(bytes, FDREF_TRANSFER_MOST), EINVAL);
+    refuses(path, 0, fdref_act_open("a", O_RDWR | O_SYNC), fdref_number(0), EINVAL);
+    refuses(path, 0, fdref_act_lseek(0, 0, 9), fdref_number(0), EINVAL);
+    refuses(path, 0, fdref_act_pipe(), fdref_descriptors(-1, 0), EINVAL);
+    refuses(path, 0, fdref_act_pipe(), fdref_descriptors(0, -1), EINVAL);
+    refuses(path, 0, fdref_act_fstat(0), fdref_told(3, 0, 0), EINVAL);
+    refuses(path, 0, fdref_act_fork(), failed(EPERM), EINVAL);
+    refuses(path, 0, fdref_act_fork(), fdref_error(0), EINVAL);
+    if (sizeof(size_t) > 4)
+        refuses(path, 0, fdref_act_read(0, (size_t)UINT32_MAX + 1), fdref_done(), EINVAL);
+    for (act.kind = -1; act.kind <= FDREF_FORK + 1; act.kind++)
+        if (act.kind < FDREF_JOIN || (act.kind > FDREF_CLOSE_RUN && act.kind < FDREF_OPEN) || act.kind > FDREF_FORK)
+            refuses(path, 0, act, fdref_done(), EINVAL);
+    outcome.kind = 0;
+    refuses(path, 0, fdref_act_fork(), outcome, EINVAL);
+    outcome.kind = FDREF_PART + 1;
+    refuses(path, 0, fdref_act_fork(), outcome, EINVAL);
+
+    CHECK(fdref_trace_open("/no/such/file") == NULL && errno == ENOENT);
+    to = fdref_trace_open("/dev/full");
+    CHECK(to != NULL && fdref_record(to, 0, fdref_act_exit(), fdref_done()) == 0);
+    CHECK(fdref_trace_flush(to) == -1 && errno == ENOSPC);
+    CHECK(fdref_record(to, 0, fdref_act_exit(), fdref_done()) == -1 && errno == ENOSPC);
+    CHECK(fdref_trace_close(to) == -1 && errno == ENOSPC);
+}
+
+int main(int count, char **words)
+{
+    struct fdref_trace *to = count == 3 ? fdref_trace_open(words[2]) : NULL;
+    CHECK(to != NULL);
+    if (!to)
+        return 1;
+    odd_choice = 1;
+    if (strcmp(words[1], "each") == 0) {
+        each(to);
+    } else if (strcmp(words[1], "large") == 0) {
+        large(to, words[2]);
+    } else {
+        CHECK(fdref_trace_close(to) == 0);
+        faults(words[2]);
+    }
+    return failures > 0;
+}
