@@ -37,7 +37,7 @@ from collections.abc import Iterable, Iterator, Sequence
 from functools import partial
 
 from parts import enemy_audits, enemy_frames, enemy_growth, enemy_lies, enemy_server
-from parts.enemy_audits import given_all, is_right, judged
+from parts.enemy_audits import is_right, judged
 from parts.written_traces import LINES, SHORT, Named, with_byte
 from stand_ins import wrong_auditor
 from support.auditing import audited
@@ -141,7 +141,7 @@ def is_found_out(rule: str, named: Iterable[Named]) -> None:
 def is_a_program(rule: str) -> None:
     """As a program a wrong auditor says what it says here; it says right things of the short trace."""
     traces = [SHORT, with_byte(SHORT, 23, 9), with_byte(SHORT, 51, 1)]
-    given = given_all(str(STAND_INS / "wrong_auditor.py"), f"{rule} audit", traces)
+    given = ran_all(str(STAND_INS / "wrong_auditor.py"), traces, f"{rule} audit")
     is_right("audit", SHORT, given[0])
     same([wrong_auditor.RULES[rule][1](trace) for trace in traces], given)
 

@@ -49,8 +49,8 @@ from support.auditing import Frames, audited, illegal, legal, shown
 from support.counting import FAULTS, Case, Count, require, same
 from support.frames import ERRORS, TRACE_HEADER, trace_of, u32
 from support.options import add_count, add_only, add_path, add_seed, end_without
-from support.places import FDREF, SCRATCH
-from support.running import Ran, run
+from support.places import FDREF
+from support.running import Ran, ran_all, run
 from support.runs import line_of
 from support.serving import A_WHILE, SECONDS, Server, outcome_of, serve_words, started
 from support.sources import changed, numbered, source
@@ -64,20 +64,6 @@ OF_ONE_SCRIPT = 5
 
 
 # ---- many audits
-
-
-def ran_all(program: str, traces: Sequence[bytes], words: str = "audit") -> list[Ran]:
-    """What the program gives for each trace. One shell starts it for all of them, which takes less time."""
-    one = f'"$0" {words} $n; echo "status $?"; echo "status $?" >&2'
-    loop = f"n=0; while [ $n -lt {len(traces)} ]; do {one}; n=$((n + 1)); done"
-    with tempfile.TemporaryDirectory(prefix="fdref-", dir=SCRATCH) as folder:
-        for number, trace in enumerate(traces):
-            Path(folder, str(number)).write_bytes(trace)
-        ran = run(["sh", "-c", loop, program], seconds=SECONDS + len(traces), folder=folder)
-    outs = re.findall(rb"(.*?)status (\d+)\n", ran.stdout, re.DOTALL)
-    errors = re.findall(rb"(.*?)status \d+\n", ran.stderr, re.DOTALL)
-    require(len(outs) == len(errors) == len(traces), f"{len(outs)} of {len(traces)} audits, {ran.said()}")
-    return [Ran(int(status), out, error) for (out, status), error in zip(outs, errors, strict=True)]
 
 
 def judge_all(count: Count, program: str, named: Sequence[Named], jobs: int) -> None:

@@ -2,7 +2,6 @@
 
 import fcntl
 import os
-import re
 import subprocess
 import tempfile
 import termios
@@ -15,7 +14,7 @@ from parts.written_traces import Named
 from support.auditing import audited, shown
 from support.counting import Case, Failure, require
 from support.places import SCRATCH
-from support.running import Ran, run
+from support.running import Ran, ran_all, run
 from support.serving import SECONDS
 from support.sources import numbered, source
 from support.texts import difference
@@ -40,20 +39,6 @@ SIZES = (1, 3, 54)
 # ---- as files
 
 
-def given_all(program: str, words: str, traces: Sequence[bytes]) -> list[Ran]:
-    """What the program gives for each trace. One shell starts it for all of them, which takes less time."""
-    one = f'"$0" {words} $n; echo "status $?"; echo "status $?" >&2'
-    loop = f"n=0; while [ $n -lt {len(traces)} ]; do {one}; n=$((n + 1)); done"
-    with tempfile.TemporaryDirectory(prefix="fdref-", dir=SCRATCH) as folder:
-        for number, trace in enumerate(traces):
-            Path(folder, str(number)).write_bytes(trace)
-        ran = run(["sh", "-c", loop, program], seconds=SECONDS + len(traces), folder=folder)
-    outs = re.findall(rb"(.*?)status (\d+)\n", ran.stdout, re.DOTALL)
-    errors = re.findall(rb"(.*?)status \d+\n", ran.stderr, re.DOTALL)
-    require(len(outs) == len(errors) == len(traces), f"{len(outs)} of {len(traces)} audits, {ran.said()}")
-    return [Ran(int(status), out, error) for (out, status), error in zip(outs, errors, strict=True)]
-
-
 def is_right(words: str, trace: bytes, given: Ran) -> None:
     """Fails unless this is what the plain auditor gives for a trace, and tells in one line what it is."""
     wanted = WANTED[words](trace)
@@ -69,7 +54,7 @@ def judged(program: str, named: Iterable[Named], words: str = "audit") -> Iterat
     left = iter(named)
     while piece := [it for _, it in zip(range(PIECE), left, strict=False)]:
         try:
-            given = given_all(program, words, [trace for _, trace in piece])
+            given = ran_all(program, [trace for _, trace in piece], words)
         except Failure as failure:
             yield f"{words} of {len(piece)} traces from {piece[0][0]} on", partial(fails, failure)
             continue
