@@ -787,11 +787,7 @@ void fdref_exit(struct fdref *p)
 
 ssize_t fdref_finish(struct fdref *p)
 {
-    if (p->socket < 0)
-        return (ssize_t)fdref_refuse(p, FDREF_LOST, ENOTCONN);
-    if (!p->is_parked)
-        return (ssize_t)fdref_refuse(p, FDREF_UNSENT, EINVAL);
-    return (ssize_t)fdref_hear(p);
+    return (ssize_t)(p->is_parked ? fdref_hear(p) : fdref_refuse(p, FDREF_UNSENT, EINVAL));
 }
 
 /* ---- calls */
@@ -891,26 +887,29 @@ struct fdref_trace {
 struct fdref_trace *fdref_trace_open(const char *path)
 {
     struct fdref_trace *trace = (struct fdref_trace *)calloc(1, sizeof *trace);
+    int error;
     if (!trace)
         return NULL;
     do
         trace->file = open(path, O_WRONLY | O_CREAT | O_TRUNC, 0666);
     while (trace->file < 0 && errno == EINTR);
-    if (trace->file < 0) {
-        free(trace);
-        return NULL;
+    if (trace->file >= 0) {
+        fcntl(trace->file, F_SETFD, FD_CLOEXEC);
+        trace->size = 8;
+        memcpy(trace->frames, "FDTRACE1", trace->size);
+        return trace;
     }
-    fcntl(trace->file, F_SETFD, FD_CLOEXEC);
-    trace->size = 8;
-    memcpy(trace->frames, "FDTRACE1", trace->size);
-    return trace;
+    error = errno;
+    free(trace);
+    errno = error;
+    return NULL;
 }
 
 /* Fails where there was a fault. */
-static int fdref_trace_result(const struct fdref_trace *trace)
+static int fdref_trace_result(int fault)
 {
-    errno = trace->fault != 0 ? trace->fault : errno;
-    return trace->fault != 0 ? -1 : 0;
+    errno = fault != 0 ? fault : errno;
+    return fault != 0 ? -1 : 0;
 }
 
 int fdref_trace_flush(struct fdref_trace *trace)
@@ -924,18 +923,18 @@ int fdref_trace_flush(struct fdref_trace *trace)
         at += written > 0 ? (size_t)written : 0;
     }
     trace->size = 0;
-    return fdref_trace_result(trace);
+    return fdref_trace_result(trace->fault);
 }
 
 int fdref_trace_close(struct fdref_trace *trace)
 {
-    int result;
+    int fault;
     fdref_trace_flush(trace);
-    if (close(trace->file) != 0 && errno != EINTR && trace->fault == 0)
-        trace->fault = errno;
-    result = fdref_trace_result(trace);
+    fault = trace->fault;
+    if (close(trace->file) != 0 && errno != EINTR && fault == 0)
+        fault = errno;
     free(trace);
-    return result;
+    return fdref_trace_result(fault);
 }
 
 int fdref_record(struct fdref_trace *trace, int64_t process, struct fdref_act act, struct fdref_outcome outcome)
@@ -943,7 +942,7 @@ int fdref_record(struct fdref_trace *trace, int64_t process, struct fdref_act ac
     if (trace->fault == 0 && sizeof trace->frames - trace->size < 4 + FDREF_FRAME_MOST)
         fdref_trace_flush(trace);
     if (trace->fault != 0)
-        return fdref_trace_result(trace);
+        return fdref_trace_result(trace->fault);
     struct fdref_payload record = {trace->frames + trace->size + 4, 0, 0};
     fdref_need(&record, process >= 0 && process <= FDREF_HOUSE, EINVAL);
     fdref_need(&record, process == FDREF_HOUSE || act.kind != FDREF_CLOSE_RUN, EINVAL);
@@ -952,7 +951,7 @@ int fdref_record(struct fdref_trace *trace, int64_t process, struct fdref_act ac
     fdref_put_outcome(&record, &outcome);
     trace->fault = record.fault;
     trace->size += record.fault == 0 ? fdref_end_frame(&record) : 0;
-    return fdref_trace_result(trace);
+    return fdref_trace_result(trace->fault);
 }
 
 #ifdef __cplusplus

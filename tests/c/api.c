@@ -26,6 +26,14 @@ static void check(int is_right, const char *text, int line)
     failures += !is_right;
 }
 
+/* The lowest free descriptor of this program itself. */
+static int lowest_free(void)
+{
+    int fd = fcntl(0, F_DUPFD, 0);
+    close(fd);
+    return fd;
+}
+
 /* Whether an answer is there within so many milliseconds. */
 static int has_answer(const struct fdref *p, int ms)
 {
@@ -35,17 +43,20 @@ static int has_answer(const struct fdref *p, int ms)
 
 static void connecting(const char *path)
 {
-    char long_path[200];
+    char long_path[sizeof ((struct sockaddr_un *)NULL)->sun_path + 1];
+    int fd = lowest_free();
     memset(long_path, 'p', sizeof long_path - 1);
     long_path[sizeof long_path - 1] = 0;
     CHECK(fdref_join("") == NULL && errno == ENOENT);
     CHECK(fdref_join("/no/such/socket") == NULL && errno == ENOENT);
     CHECK(fdref_join_within("/no/such/socket", 0) == NULL && errno == ENOENT);
+    CHECK(fdref_join(long_path + 1) == NULL && errno == ENOENT);
     CHECK(fdref_join(long_path) == NULL && errno == ENAMETOOLONG);
     CHECK(fdref_join("/dev/null") == NULL && errno == ECONNREFUSED);
     CHECK(fdref_attach(path, -1) == NULL && errno == ESRCH);
     CHECK(fdref_attach(path, 7) == NULL && errno == ESRCH);
     fdref_exit(NULL);
+    CHECK(lowest_free() == fd);
 }
 
 static void names(void)

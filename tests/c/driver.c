@@ -180,8 +180,10 @@ static void take_line(void)
     fflush(stdout);
 }
 
+/* Status 1: a descriptor was left open. */
 int main(int given_count, char **given)
 {
+    int fd = lowest_free();
     buffer = malloc(FDREF_TRANSFER_MOST);
     if (given_count != 3 || !buffer)
         return 2;
@@ -196,5 +198,5 @@ int main(int given_count, char **given)
     }
     fdref_exit(process);
     free(buffer);
-    return 0;
+    return lowest_free() != fd;
 }

@@ -1,7 +1,8 @@
 /* fdref.h with its code, whose system calls can be odd: one of four is interrupted, and the others move few bytes. They
-   are so while odd_choice is not 0. */
+   are so while odd_choice is not 0. lowest_free tells whether a descriptor is left open. */
 
 #include <errno.h>
+#include <fcntl.h>
 #include <stddef.h>
 #include <stdint.h>
 #include <sys/socket.h>
@@ -9,6 +10,14 @@
 #include <unistd.h>
 
 static uint64_t odd_choice;
+
+/* The lowest free descriptor of this program itself. */
+static int lowest_free(void)
+{
+    int fd = fcntl(0, F_DUPFD, 0);
+    close(fd);
+    return fd;
+}
 
 /* How many bytes of so many a call may move; 0 where it is interrupted. */
 static size_t odd_size(size_t size)

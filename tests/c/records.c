@@ -161,6 +161,7 @@ static void faults(const char *path)
 
 int main(int count, char **words)
 {
+    int fd = lowest_free();
     struct fdref_trace *to = count == 3 ? fdref_trace_open(words[2]) : NULL;
     CHECK(to != NULL);
     if (!to)
@@ -174,5 +175,6 @@ int main(int count, char **words)
         CHECK(fdref_trace_close(to) == 0);
         faults(words[2]);
     }
+    CHECK(lowest_free() == fd);
     return failures > 0;
 }

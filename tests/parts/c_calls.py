@@ -5,6 +5,7 @@ import re
 import socket
 import tempfile
 import threading
+import time
 from collections.abc import Callable, Iterator, Sequence
 from functools import partial
 from pathlib import Path
@@ -16,7 +17,7 @@ from support.counting import Case, require, same
 from support.frames import ERRORS, REFUSALS, framed, outcome_bytes, recorded, u32, u64
 from support.places import C_CLIENT
 from support.runs import line_of
-from support.serving import ALL_RECORDS, SECONDS, Client, Server, report
+from support.serving import A_WHILE, ALL_RECORDS, SECONDS, Client, Server, report
 
 # Where the system calls of a driver are odd.
 ODD = 7
@@ -72,12 +73,17 @@ class Told(Driven):
 
     def __init__(self, build: Build, odd: int) -> None:
         self.folder = tempfile.TemporaryDirectory(prefix="fdref-")
-        path = os.path.join(self.folder.name, "socket")
-        self.socket = socket.socket(socket.AF_UNIX, socket.SOCK_STREAM)
-        self.socket.bind(path)
-        self.socket.listen()
-        self.socket.settimeout(SECONDS)
-        super().__init__(build, path, odd)
+        self.path = os.path.join(self.folder.name, "socket")
+        self.socket = self.listening()
+        super().__init__(build, self.path, odd)
+
+    def listening(self) -> socket.socket:
+        """A socket that listens."""
+        made = socket.socket(socket.AF_UNIX, socket.SOCK_STREAM)
+        made.bind(self.path)
+        made.listen()
+        made.settimeout(SECONDS)
+        return made
 
     def serve(self, answers: Sequence[bytes], sent: list[bytes]) -> None:
         """Takes a connection, answers so many requests by these bytes, keeps what was sent, and hangs up."""
@@ -218,6 +224,19 @@ def is_cut_off(told: Told) -> None:
         same([[*waited, "- lost ECONNRESET"]], answers)
 
 
+def waits_for_a_server(told: Told) -> None:
+    """A join waits for a server that is only starting: nobody listens, then there is no socket, then it answers."""
+    told.socket.close()
+    told.ask("join")
+    time.sleep(A_WHILE)
+    os.remove(told.path)
+    time.sleep(A_WHILE)
+    told.socket = told.listening()
+    told.serve([answer(3, "5")], [])
+    same("3 5", told.answer())
+    told.exit()
+
+
 def told_cases(builds: Sequence[Build]) -> Iterator[Case]:
     """The client with servers that answer what they are told."""
     cases = {
@@ -226,6 +245,7 @@ def told_cases(builds: Sequence[Build]) -> Iterator[Case]:
         "how a call has waited": tells_of_waiting,
         "what is no answer": gives_up,
         "answers that are cut off": is_cut_off,
+        "a server that is only starting": waits_for_a_server,
     }
     for build in builds:
         for name, case in cases.items():
