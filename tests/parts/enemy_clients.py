@@ -331,8 +331,7 @@ def half_closed(it: Talker) -> None:
 
 def never_reads(it: Talker) -> None:
     """Fills its socket with answers, stays, and reads none."""
-    text = plain_model.data_text(bytes(range(256)) * 256)
-    it.send(it.opening("open e rw,creat", f"pwrite 0 0 {text}", *["pread 0 0 65536"] * 12), PATIENCE)
+    it.send(it.opening("open e rw,creat", "pwrite 0 0 61*65536", *["pread 0 0 65536"] * 12), PATIENCE)
     it.send(frames_of(*["pread 0 0 65536"] * it.pick.choice([0, 2_000])), PATIENCE)
     it.pick.choice([stays, stays, stops_and_stays])(it)
 
