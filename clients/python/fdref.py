@@ -593,8 +593,9 @@ def write_trace(path: str | os.PathLike[str], records: Iterable[Record]) -> int:
     It holds no record back, so `records` may be of any length and may still come while it writes. A record that has no
     place in a trace is a ValueError which tells the place of the record, counted from 0, and why: an unknown act, too
     many or too few arguments, a number out of its range, a name of more than 255 bytes, data of more than 65,700 bytes
-    in a call or 65,536 in an outcome, flags that fdref does not know, an error that is none of fdref's, or a close-run
-    of another `pid` than HOUSE. The file then has the records before it.
+    in a call or 65,536 in an outcome, or of both together more than 66,048 with all else, flags that fdref does not
+    know, an error that is none of fdref's, or a close-run of another `pid` than HOUSE. The file then has the records
+    before it.
     """
     count = 0
     with open(path, "wb") as file:
@@ -649,7 +650,9 @@ def _record_frame(record: Record, place: int) -> bytes:
     except ValueError as fault:
         why = str(fault)
     else:
-        return _number(len(payload), 4) + payload
+        if len(payload) <= RECORD_MOST:
+            return _number(len(payload), 4) + payload
+        why = f"{len(payload)} bytes are more than a record has"
     raise ValueError(f"record {place}: {why}")
 
 

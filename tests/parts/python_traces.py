@@ -66,6 +66,7 @@ REFUSED: list[tuple[fdref.Record, str]] = [
     (fdref.Record(0, "read", ("0", 1), b""), "a value is of the wrong kind"),
     (fdref.Record(0, "write", (0, 5), 5), "a value is of the wrong kind"),
     (fdref.Record(0, "lseek", (0, 0, 3), 0), "3 is no place to seek from"),
+    (fdref.Record(0, "write", (0, bytes(65_700)), bytes(65_536)), "131254 bytes are more than a record has"),
     (fdref.Record(0, "open", ("a", os.O_SYNC), 0), f"flags that no request holds: {os.O_SYNC:#o}"),
     (fdref.Record(0, "mkfifo", ("n" * 256,)), "a name of 256 bytes, and a request holds 255"),
     (fdref.Record(0, "write", (0, bytes(65_701)), 0), "65701 bytes, and at most 65700 have a place here"),
