@@ -121,6 +121,12 @@ def check_frames(kinds: Kinds, program: str, seed: str) -> None:
         kinds.check(f"bent fields: {words}", judged(program, enemy_frames.random_ones(seed, words, count), words))
 
 
+def with_children(count: int) -> Named:
+    """A trace in which a process forks so many children, however many may live, and the last of them exits."""
+    forks = [f"0 p0 fork = {number}" for number in range(1, count + 1)]
+    return f"{count} children", trace_of([*forks, f"0 p{count} exit = ok"])
+
+
 def check_pieces(kinds: Kinds, program: str, seed: str) -> None:
     """Traces of a seed are judged rightly wherever they are cut, and however a pipe hands them over."""
     kinds.check("cuts", judged(program, enemy_audits.fronts(small_lies(seed))))
@@ -165,6 +171,7 @@ def check_bounded(kinds: Kinds, program: str, seed: str, runs: int, met: Counter
     kinds.check("fields", judged(program, enemy_frames.every_field()[first::ONE_IN]))
     check_frames(kinds, program, seed)
     check_lies(kinds, program, seed)
+    kinds.check("children", judged(program, map(with_children, (1, 64, 65, 200)), "show --acts"))
     kinds.check("cuts", judged(program, enemy_audits.fronts(SMALL_ONES)))
     large = [(name, trace_of(lines.split("; "))) for name, lines, _ in LINES if name == "a part that is too small"]
     kinds.check("pipes", enemy_audits.by_pipes(program, [*SMALL_ONES, *small_lies(seed), *large]))

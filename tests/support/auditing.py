@@ -118,17 +118,17 @@ def audited(trace: bytes) -> Ran:
 
 def script_lines(lines: Iterable[str]) -> Iterator[str]:
     """The lines of a script that asks for the acts of some records. None asks for the exit of a child that was never
-    attached, which the closing makes."""
-    children: set[str] = set()
+    attached, which the closing makes. At most so many children are minded as may live."""
+    children: list[str] = []
     for text in lines:
         line = run_line_of(text)
         actor, word = line.act.split(" ")[:2]
-        if word == "fork" and line.outcome.isdigit():
-            children.add(f"p{line.outcome}")
         if word != "exit" or actor not in children:
             yield word if word in ("join", "close-run") else line.act
         if word == "exit" or (word == "attach" and line.outcome == "ok"):
-            children.discard(actor)
+            children = [child for child in children if child != actor]
+        elif word == "fork" and line.outcome.isdigit() and len(children) < plain_model.PROCESSES_MAX:
+            children.append(f"p{line.outcome}")
 
 
 def shown(trace: bytes, acts: bool = False) -> Ran:
