@@ -45,6 +45,7 @@ from support.counting import Case, Count, require, same
 from support.frames import Malformed, trace_of
 from support.options import add_count, add_only, add_path, add_seed, end_without
 from support.places import FDREF, STAND_INS
+from support.running import ran_all
 from support.sources import source
 
 TELL_MOST = 10
