@@ -1,6 +1,6 @@
 //! A decoder of a stream of frames, which comes in any pieces.
 
-ghost use Rattle.std.specs.Prelude.{◌≡◌, ◌≤◌, ◌++◌, List, length, drop, IfOk, OnOk, OnErr};
+ghost use Rattle.std.specs.Prelude.{◌≡◌, ◌≤◌, ◌++◌, List, length, drop, vec_capacity, IfOk, OnOk, OnErr};
 ghost use Rattle.call_types.specs.Writing.{KeepsFront};
 ghost use Rattle.frame_codec.specs.Frames.{IsShort, BeginsWith};
 ghost use Rattle.frame_codec.specs.Decoding.{fresh, Fills, FillsHead, Completes, HoldsRest, ReadsIn, told_progress, Feeds};
@@ -126,14 +126,33 @@ fn frames_of<K: FrameKind>(
     }
 }
 
-/// Holds what is left after a stop, where it may become a frame. After an error what was held is held.
-fn keep_rest(alloc: Global, held: &mut Vec<u8>, stop: Stop, rest: &[u8]) -> Result<(), AllocError>
+/// Makes room for so many bytes in all. What was held is held, after an error too.
+#[cold]
+#[inline(never)]
+fn make_room(held: &mut Vec<u8>, len: usize) -> Result<(), AllocError>
+    ensures items { held.new.items ≡ held.old.items }
+    ensures room { OnOk result (len ≤ vec_capacity held.new) }
+{
+    if held.capacity() < len {
+        held.reserve_exact(len - held.len())?;
+    }
+    Ok(())
+}
+
+/// Holds what is left after a stop, where it may become a frame. The first time that anything is left, room is made for the longest
+/// frame, and never again. After an error what was held is held.
+fn keep_rest<K: FrameKind>(held: &mut Vec<u8>, stop: Stop, rest: &[u8]) -> Result<(), AllocError>
     ensures ok { OnOk result (HoldsRest held.new.items rest.now stop) }
     ensures err { OnErr result (held.new.items ≡ held.old.items) }
 {
-    if stop == Stop::Short {
-        *held = Vec::from_slice(alloc, rest)?;
+    if stop != Stop::Short {
+        return Ok(());
     }
+    if rest.len() > held.capacity() {
+        make_room(held, rest.len().max(HEAD.saturating_add(K::most())))?;
+    }
+    held.clear();
+    held.extend_from_slice(rest).unwrap();
     Ok(())
 }
 
@@ -149,7 +168,7 @@ fn read_on<K: FrameKind>(
 {
     let (used, stop) = frames_of::<K>(alloc, values, bytes)?;
     let (_, rest) = bytes.split_at(used);
-    keep_rest(alloc, held, stop, rest)?;
+    keep_rest::<K>(held, stop, rest)?;
     Ok((used, stop))
 }
 
