@@ -151,6 +151,11 @@ def is_version(program: str, text: str, *words: str) -> None:
 @case("help of serve", "--trace <FILE>", "serve", "--help")
 @case("help of audit", "<FILE>", "audit", "--help")
 @case("help of show", "--acts", "show", "--help")
+@case("what the help of replay says", "Reads a script", "replay", "-h")
+@case("what the help of serve says", "Ends with 0", "serve", "-h")
+@case("what the help of audit says", "Writes 'legal N rest B'", "audit", "-h")
+@case("what the help of show says", "Example:", "show", "-h")
+@case("an example in the help", "printf 'join\\np0 pipe\\np0 write 1 x6869\\np0 read 0 9\\n' | fdref replay", "-h")
 def is_shown(program: str, part: str, *words: str) -> None:
     """A text with a part."""
     ran = run(program, words)
@@ -203,15 +208,34 @@ def process_is_quiet(program: str) -> None:
 
 # ---- scripts
 
+LATER_FLAGS = ",creat ,excl ,trunc ,append ,nonblock"
 
-@case("nothing but NUL", b"\0" * 1000, 1)
-@case("nothing but NUL at the greatest length", b"\0" * SCRIPT_MOST, 1)
-@case("bytes past ASCII", b"\xff\xfe\n", 1)
-@case("one long word", b"j" * 1_000_000, 1)
-@case("fault in the last of many lines", b"\n" * 1_000_000 + b"p0", 1_000_001, 3)
-def is_bad_line(program: str, script: bytes, line: int, column: int = 1) -> None:
-    """A script that is refused for a line."""
-    expect(replay(program, script), status=3, stderr=told(f"line {line} column {column}: not an act"))
+
+@case("nothing but NUL", b"\0" * 1000)
+@case("nothing but NUL at the greatest length", b"\0" * SCRIPT_MOST)
+@case("bytes past ASCII", b"\xff\xfe\n")
+@case("one long word", b"j" * 1_000_000)
+@case("fault in the last of many lines", b"\n" * 1_000_000 + b"p0", 1_000_001, 3, "a call, attach, resume or exit")
+@case("no call", b"join\np0 opne a r", 2, 4, "a call, attach, resume or exit")
+@case("no descriptor", b"p0 close 00", 1, 10, "a descriptor, from -2147483648 to 2147483647")
+@case("no position", b"p0 pread 0", 1, 11, "an offset or a length, from -9223372036854775808 to 9223372036854775807")
+@case("no count", b"p0 read 0 -1", 1, 11, "a count of bytes, from 0 to 4294967295")
+@case("no name", b"p0 unlink %4", 1, 11, "a name of at most 255 bytes, as a or a%20b")
+@case("no data", b"p0 write 0 hello", 1, 12, "data of at most 65700 bytes, as x6869 or 61*512")
+@case("no flags", b"p0 open a +", 1, 11, f"r, w, rw or -, and after it {LATER_FLAGS} in this order")
+@case("no base", b"p0 lseek 0 0 at", 1, 14, "set, cur or end")
+@case("a word too many", b"p0 fork 1", 1, 9, "the end of the line")
+@case("an empty word at the end", b"join ", 1, 6, "the end of the line")
+def is_bad_line(
+    program: str,
+    script: bytes,
+    line: int = 1,
+    column: int = 1,
+    expected: str = "a process, as p0, or join or close-run",
+) -> None:
+    """A script that is refused for a line, and is told what could stand there."""
+    text = f"line {line} column {column}: not an act\nexpected {expected}"
+    expect(replay(program, script), status=3, stderr=told(text))
 
 
 @case("a million empty lines", b"\n" * 1_000_000)

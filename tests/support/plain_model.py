@@ -572,7 +572,7 @@ Reader = Callable[[bytes], Any]
 
 
 class NotAnAct(Exception):
-    """A line that is no act, with the column of its fault."""
+    """A line that is no act, with the column of its fault, and what could stand there."""
 
 
 def number(low: int, high: int) -> Callable[[bytes], int | None]:
@@ -655,6 +655,20 @@ def read_call(word: bytes) -> str | None:
     return word.decode("latin-1") if word.decode("latin-1") in FIELDS else None
 
 
+# what is said to be expected where a word is not read
+EXPECTED: dict[Reader, str] = {
+    read_actor: "a process, as p0, or join or close-run",
+    read_call: "a call, attach, resume or exit",
+    read_fd: "a descriptor, from -2147483648 to 2147483647",
+    read_place: "an offset or a length, from -9223372036854775808 to 9223372036854775807",
+    read_count: "a count of bytes, from 0 to 4294967295",
+    read_name: "a name of at most 255 bytes, as a or a%20b",
+    read_data: "data of at most 65700 bytes, as x6869 or 61*512",
+    read_flags: "r, w, rw or -, and after it ,creat ,excl ,trunc ,append ,nonblock in this order",
+    read_whence: "set, cur or end",
+}
+
+
 def read_act(line: bytes) -> Act:
     """The act that a line is; its first fault is told by NotAnAct."""
     words = line.split(b" ")
@@ -663,10 +677,10 @@ def read_act(line: bytes) -> Act:
     def take(reader: Reader) -> Any:
         nonlocal at
         if not words:
-            raise NotAnAct(len(line) + 1)
+            raise NotAnAct(len(line) + 1, EXPECTED[reader])
         value = reader(words[0])
         if value is None:
-            raise NotAnAct(at + 1)
+            raise NotAnAct(at + 1, EXPECTED[reader])
         at += len(words.pop(0)) + 1
         return value
 
@@ -677,7 +691,7 @@ def read_act(line: bytes) -> Act:
         word = take(read_call)
         act = Act(first, word, tuple(take(reader) for reader in FIELDS[word]))
     if words:
-        raise NotAnAct(at + 1)
+        raise NotAnAct(at + 1, "the end of the line")
     return act
 
 
@@ -723,7 +737,9 @@ def replay(script: bytes, records: int = RECORDS_DEFAULT) -> Ran:
             if line:
                 acts.append(read_act(line))
         except NotAnAct as fault:
-            return Ran(3, b"", b"line %d column %d: not an act\n" % (place, fault.args[0]))
+            column, expected = fault.args
+            text = f"line {place} column {column}: not an act\nexpected {expected}\n"
+            return Ran(3, b"", text.encode())
     run = Run(records)
     for act in acts:
         run.take(act)

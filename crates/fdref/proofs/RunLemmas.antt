@@ -59,7 +59,7 @@ runs_one_more read rest last first book new none seats after before lines more a
 pub fails_so_far : (read rest : Result (List ScriptAct) ScriptFault) (first book : BookState) (none seats : Seats) (before lines : List ℕ) (fault : ScriptFault)
     → RunsOn read rest first book none seats before lines → ScriptFails fault rest → ScriptFails fault read
 fails_so_far read rest first book none seats before lines faults.NoMemory so_far fails = tt
-fails_so_far read rest first book none seats before lines (faults.BadLine line column) so_far fails = so_far.is_read ∙ ap (followed so_far.acts) fails
+fails_so_far read rest first book none seats before lines (faults.BadLine line column expected) so_far fails = so_far.is_read ∙ ap (followed so_far.acts) fails
 fails_so_far read rest first book none seats before lines faults.TooLong so_far fails = so_far.is_read ∙ ap (followed so_far.acts) fails
 
 -- no act was read, so none is left
@@ -114,4 +114,4 @@ pub fails_ends : (limits : Limits) (input old : Option (List ℕ)) (text : List 
     → FailsAs text end → Ends limits input old old end
 fails_ends limits input old text end spelled same (faults.NoMemory, is, fails) = subst (Ends limits input old old) (sym is) refl
 fails_ends limits input old text end spelled same (faults.TooLong, is, fails) = subst (Ends limits input old old) (sym is) (refused input faults.TooLong text spelled same fails, refl)
-fails_ends limits input old text end spelled same (faults.BadLine line column, is, fails) = subst (Ends limits input old old) (sym is) (refused input (faults.BadLine line column) text spelled same fails, refl)
+fails_ends limits input old text end spelled same (faults.BadLine line column expected, is, fails) = subst (Ends limits input old old) (sym is) (refused input (faults.BadLine line column expected) text spelled same fails, refl)

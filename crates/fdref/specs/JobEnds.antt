@@ -1,12 +1,13 @@
--- What the end of a job is told by: an exit status, and a line on standard error (own).
+-- What the end of a job is told by: an exit status, and what is written on standard error (own).
 use Rattle.std.specs.Prelude.{ℕ, List, [], ◌++◌, codes, decimal}
+use Rattle.script_text.specs.Expected.{expected_text}
 use Rattle.fdref.specs.declared.job_end.JobEnd.{JobEnd}
 use Rattle.fdref.specs.declared.job_end.JobEnd.TheVariants as ended
 
 -- the exit status of an end
 abbrev pub ended_status : JobEnd → ℕ
 ended_status ended.Done = 0
-ended_status (ended.BadLine line column) = 3
+ended_status (ended.BadLine line column expected) = 3
 ended_status ended.TooLong = 3
 ended_status ended.CannotRead = 4
 ended_status ended.CannotWrite = 4
@@ -24,7 +25,8 @@ ended_status (ended.Malformed at) = 8
 -- what is written of an end on standard error (own)
 abbrev pub ended_text : JobEnd → List ℕ
 ended_text ended.Done = []
-ended_text (ended.BadLine line column) = codes "line " ++ (decimal line ++ (codes " column " ++ (decimal column ++ codes ": not an act\n")))
+ended_text (ended.BadLine line column expected) =
+    codes "line " ++ (decimal line ++ (codes " column " ++ (decimal column ++ (codes ": not an act\nexpected " ++ (expected_text expected ++ codes "\n")))))
 ended_text ended.TooLong = codes "script too long\n"
 ended_text ended.CannotRead = codes "cannot read\n"
 ended_text ended.CannotWrite = codes "cannot write\n"

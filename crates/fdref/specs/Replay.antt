@@ -67,7 +67,7 @@ RunsScript limits text output = (acts : List ScriptAct) × (script text ≡ Ok a
 
 -- the end that a fault of a script is
 abbrev pub ended_by : ScriptFault → JobEnd
-ended_by (faults.BadLine line column) = ended.BadLine line column
+ended_by (faults.BadLine line column expected) = ended.BadLine line column expected
 ended_by faults.TooLong = ended.TooLong
 ended_by faults.NoMemory = ended.NoMemory
 
@@ -103,7 +103,7 @@ OfInput input P = (text : List ℕ) × IfSome input (λ known. text ≡ known) �
 -- what the end says of the input, where that is known, and of what was written
 abbrev pub Ends : Limits → Option (List ℕ) → Option (List ℕ) → Option (List ℕ) → JobEnd → Type 0
 Ends limits input old new ended.Done = OfInput input (WritesReplay limits old new)
-Ends limits input old new (ended.BadLine line column) = IfSome input (Refuses (faults.BadLine line column)) × (new ≡ old)
+Ends limits input old new (ended.BadLine line column expected) = IfSome input (Refuses (faults.BadLine line column expected)) × (new ≡ old)
 Ends limits input old new ended.TooLong = IfSome input (Refuses faults.TooLong) × (new ≡ old)
 Ends limits input old new ended.CannotRead = new ≡ old
 Ends limits input old new ended.CannotWrite = OfInput input (WritesReplayFront limits old new)

@@ -88,6 +88,54 @@ impl From<AllocError> for JobFault {
     }
 }
 
+/// What the help of `replay` says after its options.
+const REPLAY_HELP: &str =
+    "Reads a script, one act a line, such as 'p0 read 0 5'. The first act is 'join'.
+Writes 'PLACE pN ACT = OUTCOME' for each record, and the totals.
+Ends with 0 when all was run, 3 where a line is no act, 4 where input or output
+failed, 5 for want of memory.
+
+Example:
+  printf 'join\\np0 open a rw,creat\\np0 write 0 x6869\\n' | fdref replay";
+
+/// The same of `serve`.
+const SERVE_HELP: &str =
+    "Reads requests and writes answers, on each connection. Clients in C and in Python
+are in the folder 'clients', the bytes in docs/FORMATS.md.
+Writes 'sessions N records R in I out O trace T' when N connections have ended.
+Ends with 0 then, 4 where it cannot listen or the trace is not whole, 5 for want
+of memory or of a thread, 6 where counts or records disagree.
+
+Example:
+  fdref serve --socket /tmp/fdref.socket --sessions 2 --records 100 --trace /tmp/fdref.trace";
+
+/// The same of `audit`.
+const AUDIT_HELP: &str = "Reads a trace that 'fdref serve' wrote, or a program of your own.
+Writes 'legal N rest B', 'illegal PLACE expected OUTCOME' or 'malformed AT'.
+Ends with 0 where it is legal, 7 where it is illegal, 8 where it is malformed,
+4 where FILE cannot be read or output failed, 5 for want of memory.
+
+Example:
+  fdref audit /tmp/fdref.trace";
+
+/// The same of `show`.
+const SHOW_HELP: &str = "Reads a trace that 'fdref serve' wrote, or a program of your own.
+Writes 'PLACE pN ACT = OUTCOME' for each record, or the act alone, and on
+standard error how many bytes are left over.
+Ends with 0 at its end, 8 where it is malformed, 4 where FILE cannot be read or
+output failed, 5 for want of memory.
+
+Example:
+  fdref show --acts /tmp/fdref.trace | fdref replay";
+
+/// What the help of the program says after its commands.
+const FDREF_HELP: &str =
+    "'fdref COMMAND --help' tells what a command reads, writes and ends with. Wrong
+words end with 2.
+
+Example:
+  printf 'join\\np0 pipe\\np0 write 1 x6869\\np0 read 0 9\\n' | fdref replay";
+
 /// An option `--name VALUE`.
 fn option_arg<'a>(alloc: Global, name: &'a str, value: &'a str) -> Arg<'a>
     ensures rule { rule_of result ≡ option_rule name.entry.now }
@@ -133,6 +181,7 @@ fn replay_command<'a>(alloc: Global) -> Result<Command<'a>, AllocError>
 {
     Command::new(alloc, "replay")
         .about("Runs the script on standard input and prints a line for each record")
+        .after_help(REPLAY_HELP)
         .arg(option_arg(alloc, "records", "N").help(
             "Records that the run may have, 1 to 1000000 [default: 10000]",
         ))
@@ -151,6 +200,7 @@ fn serve_command<'a>(alloc: Global) -> Result<Command<'a>, AllocError>
         .about(
             "Answers requests over a Unix socket and prints a report when all sessions have ended",
         )
+        .after_help(SERVE_HELP)
         .arg(required_arg(alloc, "socket", "PATH", socket))?
         .arg(required_arg(alloc, "sessions", "N", sessions))?
         .arg(required_arg(alloc, "records", "N", records))?
@@ -164,6 +214,7 @@ fn audit_command<'a>(alloc: Global) -> Result<Command<'a>, AllocError>
 {
     Command::new(alloc, "audit")
         .about("Prints whether each record of a trace is what the model gives")
+        .after_help(AUDIT_HELP)
         .arg(file_arg(alloc))
 }
 
@@ -175,6 +226,7 @@ fn show_command<'a>(alloc: Global) -> Result<Command<'a>, AllocError>
     let acts = "Print the lines of a script that asks for the same acts";
     Command::new(alloc, "show")
         .about("Prints a line for each record of a trace, and judges none")
+        .after_help(SHOW_HELP)
         .arg(flag_arg(alloc, "acts", acts))?
         .arg(file_arg(alloc))
 }
@@ -187,6 +239,7 @@ fn fdref_command<'a>(alloc: Global) -> Result<Command<'a>, AllocError>
     Command::new(alloc, "fdref")
         .version("0.1.0")
         .about("A machine-checked reference for POSIX file descriptors")
+        .after_help(FDREF_HELP)
         .propagate_version(true)
         .subcommand_required(true)
         .disable_help_subcommand(true)

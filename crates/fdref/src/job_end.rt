@@ -2,7 +2,7 @@
 ghost use Rattle.std.specs.Prelude.{◌≡◌};
 ghost use Rattle.fdref.specs.JobEnds.{ended_status};
 
-use script_text::fault::ScriptFault;
+use script_text::fault::{Expected, ScriptFault};
 use std::alloc::AllocError;
 use std::fmt;
 
@@ -12,7 +12,11 @@ pub enum JobEnd {
     /// All was done and written.
     Done,
     /// A line of the script is no act; line and column are counted from 1. Nothing was written.
-    BadLine { line: usize, column: usize },
+    BadLine {
+        line: usize,
+        column: usize,
+        expected: Expected,
+    },
     /// The script has more than 16,777,216 bytes. Nothing was run or written.
     TooLong,
     /// The input failed, or could not be opened. Of a trace that is shown, lines may have been written; else nothing was run or written.
@@ -30,15 +34,21 @@ pub enum JobEnd {
     /// Shares of some seats are missing, so nothing was reported.
     MissingShare,
     /// The receipts of the sessions, the records and those that the trace is of differ, at this place at the least, so nothing was reported.
-    Disagree { place: u64 },
+    Disagree {
+        place: u64,
+    },
     /// A record of the trace is not what the model gives; the verdict was written.
     IllegalTrace,
     /// The trace has no header, or a frame that spells no record; the verdict was written.
     MalformedTrace,
     /// All whole records were shown, and so many bytes of one that is not finished are left over.
-    Rest { bytes: u64 },
+    Rest {
+        bytes: u64,
+    },
     /// The records were shown up to a frame that spells none, or is too long, at this byte of the trace; at 0 it has no header.
-    Malformed { at: u64 },
+    Malformed {
+        at: u64,
+    },
 }
 
 impl JobEnd {
@@ -68,9 +78,14 @@ impl fmt::Display for JobEnd {
     fn fmt<W: fmt::Write>(&self, f: &mut fmt::Formatter<W>) -> fmt::Result {
         match self {
             JobEnd::Done | JobEnd::IllegalTrace | JobEnd::MalformedTrace => Ok(()),
-            JobEnd::BadLine { line, column } => {
-                write!(f, "line {line} column {column}: not an act\n")
-            }
+            JobEnd::BadLine {
+                line,
+                column,
+                expected,
+            } => write!(
+                f,
+                "line {line} column {column}: not an act\nexpected {expected}\n"
+            ),
             JobEnd::TooLong => f.write_str("script too long\n"),
             JobEnd::CannotRead => f.write_str("cannot read\n"),
             JobEnd::CannotWrite => f.write_str("cannot write\n"),
@@ -105,7 +120,15 @@ impl From<ScriptFault> for JobEnd {
 
     fn from(fault: ScriptFault) -> JobEnd {
         match fault {
-            ScriptFault::BadLine { line, column } => JobEnd::BadLine { line, column },
+            ScriptFault::BadLine {
+                line,
+                column,
+                expected,
+            } => JobEnd::BadLine {
+                line,
+                column,
+                expected,
+            },
             ScriptFault::TooLong => JobEnd::TooLong,
             ScriptFault::NoMemory => JobEnd::NoMemory,
         }

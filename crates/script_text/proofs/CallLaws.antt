@@ -9,7 +9,9 @@ use Rattle.call_types.specs.declared.call.Call.{Call}
 use Rattle.call_types.specs.declared.call.Call.TheVariants as calls
 use Rattle.call_types.specs.declared.act.ScriptAct.{ScriptAct}
 use Rattle.call_types.specs.declared.act.ScriptAct.TheVariants as acts
-use Rattle.script_text.specs.Reading.{◌>>=◌, Unread, Word, cut, word_at, ended}
+use Rattle.script_text.specs.declared.fault.Expected.{Expected}
+use Rattle.script_text.specs.declared.fault.Expected.TheVariants as expect
+use Rattle.script_text.specs.Reading.{◌>>=◌, BadWord, Unread, Word, cut, word_at, ended}
 use Rattle.script_text.specs.ReadingNumbers.{process_of}
 use Rattle.call_types.specs.CallTable.{Entry, Parts, Parted, parts, made, call_table}
 use Rattle.script_text.proofs.CallParts.{all_parted, made_again}
@@ -42,9 +44,9 @@ one_of_takes (e ∷ es) w call h r =
 named_takes : (w : Word) (call : Call) → named_call w ≡ Ok call → Spelled w call
 named_takes w call e = one_of_takes call_table w call all_parted e
 
-word_takes : (left : Unread) (w : Word) → word_at left ≡ Ok w → left ≡ Some (w.text ++ tail w.after)
-word_takes None w e = absurd cc
-word_takes (Some bytes) w e =
+word_takes : (expected : Expected) (left : Unread) (w : Word) → word_at expected left ≡ Ok w → left ≡ Some (w.text ++ tail w.after)
+word_takes expected None w e = absurd cc
+word_takes expected (Some bytes) w e =
     let is : record { text = (cut 32 bytes).0; remaining = length bytes; after = (cut 32 bytes).1 } ≡ w = ok_is _ w e in
     ap (λ (b : List ℕ). Some b) (cut_joined bytes ∙ ap (λ (v : Word). v.text ++ tail v.after) is)
 
@@ -64,7 +66,7 @@ call_act_takes process w act h e =
     (text_from w, h, named_takes w k.0 k.1, refl)
 
 -- a word that is the last of its line, or else what else is read
-word_or_takes : (word : List ℕ) (last act : ScriptAct) (w : Word) (other : Result ScriptAct ℕ) (line : List ℕ → List ℕ) → SpellsAct last (line word)
+word_or_takes : (word : List ℕ) (last act : ScriptAct) (w : Word) (other : Result ScriptAct BadWord) (line : List ℕ → List ℕ) → SpellsAct last (line word)
     → (other ≡ Ok act → SpellsAct act (line (text_from w))) → cond (bytes_eq w.text word) (last_word last w.after) other ≡ Ok act → SpellsAct act (line (text_from w))
 word_or_takes word last act w other line spelled rest e =
     elim (chosen (bytes_eq w.text word) (last_word last w.after) other (Ok act) e) [
@@ -77,17 +79,17 @@ word_or_takes word last act w other line spelled rest e =
 process_act_takes : (process : ℕ) (w : Word) (act : ScriptAct) → process < 2 ^ 32 → process_act process w ≡ Ok act → SpellsAct act (process_word process ++ (32 ∷ text_from w))
 process_act_takes process w act h =
     let line : List ℕ → List ℕ = λ text. process_word process ++ (32 ∷ text) in
-    let a_call : Result ScriptAct ℕ = named_call w >>= λ call. Ok (acts.Call process call) in
-    let an_exit : Result ScriptAct ℕ = cond (bytes_eq w.text (codes "exit")) (last_word (acts.Exit process) w.after) a_call in
-    let a_resume : Result ScriptAct ℕ = cond (bytes_eq w.text (codes "resume")) (last_word (acts.Resume process) w.after) an_exit in
+    let a_call : Result ScriptAct BadWord = named_call w >>= λ call. Ok (acts.Call process call) in
+    let an_exit : Result ScriptAct BadWord = cond (bytes_eq w.text (codes "exit")) (last_word (acts.Exit process) w.after) a_call in
+    let a_resume : Result ScriptAct BadWord = cond (bytes_eq w.text (codes "resume")) (last_word (acts.Resume process) w.after) an_exit in
     word_or_takes (codes "attach") (acts.Attach process) act w a_resume line (h, refl)
     (word_or_takes (codes "resume") (acts.Resume process) act w an_exit line (h, refl)
     (word_or_takes (codes "exit") (acts.Exit process) act w a_call line (h, refl) (call_act_takes process w act h)))
 
 run_act_takes : (w : Word) (act : ScriptAct) → run_act w ≡ Ok act → SpellsAct act (text_from w)
 run_act_takes w act =
-    let no_act : Result ScriptAct ℕ = Err w.remaining in
-    let a_closing : Result ScriptAct ℕ = cond (bytes_eq w.text (codes "close-run")) (last_word acts.CloseRun w.after) no_act in
+    let no_act : Result ScriptAct BadWord = Err (record { remaining = w.remaining; expected = expect.Actor }) in
+    let a_closing : Result ScriptAct BadWord = cond (bytes_eq w.text (codes "close-run")) (last_word acts.CloseRun w.after) no_act in
     word_or_takes (codes "join") acts.Join act w a_closing (λ text. text) refl
     (word_or_takes (codes "close-run") acts.CloseRun act w no_act (λ text. text) refl (λ e. absurd cc))
 
@@ -95,9 +97,9 @@ act_of_takes : (o : Option ℕ) (w : Word) (act : ScriptAct) → process_of w.te
 act_of_takes None w act is e = run_act_takes w act e
 act_of_takes (Some process) w act is e =
     let spelled = process_takes w.text process is in
-    let v = bind_ok (word_at w.after) (λ word. process_act process word) act e in
+    let v = bind_ok (word_at expect.Act w.after) (λ word. process_act process word) act e in
     let line : text_from w ≡ process_word process ++ (32 ∷ text_from v.0) =
-    ap (λ (t : List ℕ). t ++ tail w.after) spelled.0 ∙ ap (λ (l : Unread). process_word process ++ tail l) (word_takes w.after v.0 v.1) in
+    ap (λ (t : List ℕ). t ++ tail w.after) spelled.0 ∙ ap (λ (l : Unread). process_word process ++ tail l) (word_takes expect.Act w.after v.0 v.1) in
     subst (SpellsAct act) (sym line) (process_act_takes process v.0 act spelled.1 v.2)
 
 -- what is read is spelled so
@@ -106,9 +108,9 @@ act_takes line act e =
     let w : Word = record { text = (cut 32 line).0; remaining = length line; after = (cut 32 line).1 } in
     subst (SpellsAct act) (sym (cut_joined line)) (act_of_takes (process_of w.text) w act refl e)
 
-column_takes : (len : ℕ) (read : Result ScriptAct ℕ) (act : ScriptAct) → with_column len read ≡ Ok act → read ≡ Ok act
-column_takes len (Ok a) act e = e
-column_takes len (Err left) act e = absurd cc
+column_takes : (len : ℕ) (read : Result ScriptAct BadWord) (act : ScriptAct) → with_column len read ≡ Ok act → read ≡ Ok act
+column_takes len (Ok a) act e = ap (done BadWord) (ok_is a act e)
+column_takes len (Err bad) act e = absurd cc
 
 -- what is read is spelled so
 pub reading_takes : (line : List ℕ) (act : ScriptAct) → reading line ≡ Ok act → SpellsAct act line
@@ -117,8 +119,8 @@ reading_takes line act e = act_takes line act (column_takes (length line) (act_a
 -- ---- and what is spelled so is read
 
 -- the act of a process, from the text after it
-abbrev act_from : ℕ → List ℕ → Result ScriptAct ℕ
-act_from process text = word_at (Some text) >>= λ w. process_act process w
+abbrev act_from : ℕ → List ℕ → Result ScriptAct BadWord
+act_from process text = word_at expect.Act (Some text) >>= λ w. process_act process w
 
 -- an entry is found by its word
 abbrev Finds : Parts → Type 0
@@ -136,10 +138,10 @@ parts_again process p text finds one s =
     ap (act_from process) is
     ∙ ap (λ (parts : List ℕ × Unread). process_act process (record { text = parts.0; remaining = length (p.entry.word ++ tail left.0); after = parts.1 })) (cut_again p.entry.word left.0 one)
     ∙ finds process (length (p.entry.word ++ tail left.0)) left.0
-    ∙ ap (λ (r : Result Call ℕ). r >>= λ call. Ok (acts.Call process call)) (fields_again p.entry.fields p.entry.make p.values left.0 (subst (SpellsFields p.entry.fields p.values) left.1 s.1))
+    ∙ ap (λ (r : Result Call BadWord). r >>= λ call. Ok (acts.Call process call)) (fields_again p.entry.fields p.entry.make p.values left.0 (subst (SpellsFields p.entry.fields p.values) left.1 s.1))
 
 call_again : (process : ℕ) (call : Call) (text : List ℕ) → SpellsCall call text → act_from process text ≡ Ok (acts.Call process call)
-call_again process call text s = parts_again process (parts call) text (finds call).0 (finds call).1 s ∙ ap (λ (c : Call). done ℕ (acts.Call process c)) (made_again call)
+call_again process call text s = parts_again process (parts call) text (finds call).0 (finds call).1 s ∙ ap (λ (c : Call). done BadWord (acts.Call process c)) (made_again call)
 
 -- the act of a line that begins with a process
 line_again : (process : ℕ) (line text : List ℕ) → process < 2 ^ 32 → line ≡ process_word process ++ (32 ∷ text) → act_at (Some line) ≡ act_from process text
@@ -161,5 +163,5 @@ pub reading_again : (line : List ℕ) (act : ScriptAct) → SpellsAct act line �
 reading_again line act s = ap (with_column (length line)) (act_again act line s)
 
 -- a line on which reading fails spells no act
-pub fails_on_none : (line : List ℕ) (remaining : ℕ) (act : ScriptAct) → act_at (Some line) ≡ Err remaining → SpellsAct act line → ⊥
-fails_on_none line remaining act e s = let both : done ℕ act ≡ Err remaining = sym (act_again act line s) ∙ e in cc
+pub fails_on_none : (line : List ℕ) (bad : BadWord) (act : ScriptAct) → act_at (Some line) ≡ Err bad → SpellsAct act line → ⊥
+fails_on_none line bad act e s = let both : done BadWord act ≡ Err bad = sym (act_again act line s) ∙ e in cc

@@ -2,8 +2,8 @@
 use Rattle.std.proofs.Common.{◌≡◌, ℕ, List, [], ◌∷◌, ◌++◌, Some, None, Result, Ok, refl, ap, subst, ◌∙◌}
 use Rattle.call_types.specs.CallTable.{FieldKind, Value, Values, Makes, made}
 use Rattle.call_types.specs.declared.call.Call.{Call}
-use Rattle.script_text.specs.Reading.{◌>>=◌, Unread, field, ended}
-use Rattle.script_text.specs.ReadingCalls.{value_of, fields_at}
+use Rattle.script_text.specs.Reading.{◌>>=◌, BadWord, Unread, field, ended}
+use Rattle.script_text.specs.ReadingCalls.{value_of, expected_of, fields_at}
 use Rattle.script_text.specs.Spellings.{SpellsFields}
 use Rattle.script_text.proofs.WordLaws.{tail, field_takes, field_again, ok_is, bind_ok, ended_takes}
 use Rattle.script_text.proofs.FieldKinds.{value_takes, value_again, value_unbroken}
@@ -19,8 +19,8 @@ fields_take [] make left call e =
     let last = bind_ok (ended left) (λ end. Ok make) call e in
     record { values = tt; spelled = ap tail (ended_takes left last.0 last.1); is = ok_is make call last.2 }
 fields_take (k ∷ ks) make left call e =
-    let x = bind_ok (field (value_of k) left) (λ (x : Value k × Unread). fields_at ks (make x.0) x.1) call e in
-    let f = field_takes (value_of k) left x.0.0 x.0.1 x.1 in
+    let x = bind_ok (field (expected_of k) (value_of k) left) (λ (x : Value k × Unread). fields_at ks (make x.0) x.1) call e in
+    let f = field_takes (expected_of k) (value_of k) left x.0.0 x.0.1 x.1 in
     let rest = fields_take ks (make x.0.0) x.0.1 call x.2 in
     record {
       values = (x.0.0, rest.values);
@@ -41,5 +41,5 @@ fields_again (k ∷ ks) make vs (Some bytes) s =
     let rest = left_of ks vs.1 s.1 s.4 in
     let is : bytes ≡ s.0 ++ tail rest.0 = (let e = s.3 in cc) ∙ ap (λ (r : List ℕ). s.0 ++ r) rest.1 in
     ap (λ (b : List ℕ). fields_at (k ∷ ks) make (Some b)) is
-    ∙ ap (λ (r : Result (Value k × Unread) ℕ). r >>= λ x. fields_at ks (make x.0) x.1) (field_again (value_of k) s.0 vs.0 rest.0 (value_unbroken k s.0 vs.0 s.2) (value_again k s.0 vs.0 s.2))
+    ∙ ap (λ (r : Result (Value k × Unread) BadWord). r >>= λ x. fields_at ks (make x.0) x.1) (field_again (expected_of k) (value_of k) s.0 vs.0 rest.0 (value_unbroken k s.0 vs.0 s.2) (value_again k s.0 vs.0 s.2))
     ∙ fields_again ks (make vs.0) vs.1 rest.0 (subst (SpellsFields ks vs.1) rest.1 s.4)

@@ -7,7 +7,7 @@ use Rattle.script_text.specs.declared.fault.ScriptFault.{ScriptFault}
 use Rattle.script_text.specs.declared.fault.ScriptFault.TheVariants as faults
 use Rattle.script_text.specs.declared.script.TheConstants.{SCRIPT_MAX}
 use Rattle.script_text.specs.Reading.{◌>>=◌, line_feed}
-use Rattle.script_text.specs.ReadingCalls.{reading}
+use Rattle.script_text.specs.ReadingCalls.{BadColumn, reading}
 use Rattle.script_text.specs.ReadingScripts.{numbered, line_acts, lines_acts, followed, script_acts, script}
 use Rattle.script_text.specs.Spellings.{SpellsLine, SpellsLines, SpellsScript}
 use Rattle.script_text.proofs.WordLaws.{ok_is, bind_ok}
@@ -17,9 +17,9 @@ followed_parts : (front acts : List ScriptAct) (read : Result (List ScriptAct) S
 followed_parts front acts (Ok rest) e = (rest, refl, ok_is (front ++ rest) acts e)
 followed_parts front acts (Err d) e = absurd cc
 
-numbered_takes : (n : ℕ) (read : Result ScriptAct ℕ) (acts : List ScriptAct) → numbered n read ≡ Ok acts → (act : ScriptAct) × (read ≡ Ok act) × (act ∷ [] ≡ acts)
+numbered_takes : (n : ℕ) (read : Result ScriptAct BadColumn) (acts : List ScriptAct) → numbered n read ≡ Ok acts → (act : ScriptAct) × (read ≡ Ok act) × (act ∷ [] ≡ acts)
 numbered_takes n (Ok act) acts e = (act, refl, ok_is (act ∷ []) acts e)
-numbered_takes n (Err column) acts e = absurd cc
+numbered_takes n (Err bad) acts e = absurd cc
 
 line_takes : (n : ℕ) (line : List ℕ) (acts rest : List ScriptAct) → line_acts n line ≡ Ok acts → SpellsLine (acts ++ rest) rest line
 line_takes n [] acts rest e = ap (λ (a : List ScriptAct). a ++ rest) (sym (ok_is [] acts e))
@@ -37,7 +37,7 @@ lines_takes n (line ∷ lines) acts e =
 line_again : (n : ℕ) (line : List ℕ) (acts rest : List ScriptAct) (others : Result (List ScriptAct) ScriptFault) → SpellsLine acts rest line → others ≡ Ok rest → (line_acts n line >>= λ found. followed found others) ≡ Ok acts
 line_again n [] acts rest others s e = ap (followed []) e ∙ ap (λ (a : List ScriptAct). Ok a) (sym s)
 line_again n (c ∷ cs) acts rest others s e =
-    ap (λ (r : Result ScriptAct ℕ). numbered n r >>= λ found. followed found others) (reading_again (c ∷ cs) s.0 s.2)
+    ap (λ (r : Result ScriptAct BadColumn). numbered n r >>= λ found. followed found others) (reading_again (c ∷ cs) s.0 s.2)
     ∙ ap (followed (s.0 ∷ [])) e ∙ ap (λ (a : List ScriptAct). Ok a) (sym s.1)
 
 lines_again : (n : ℕ) (lines : List (List ℕ)) (acts : List ScriptAct) → SpellsLines acts lines → lines_acts n lines ≡ Ok acts

@@ -55,7 +55,7 @@ fault_first fault n bytes line after e some is =
 -- its fault is that of all lines
 pub fails : (fault : ScriptFault) (n : ℕ) (bytes line : List ℕ) (after : Unread) → (line, after) ≡ cut 10 bytes → eqb (length line) 0 ≡ false → ScriptFails fault (numbered n (reading line)) → ScriptFails fault (lines_acts n (lines_of bytes))
 fails faults.NoMemory n bytes line after e some is = tt
-fails (faults.BadLine l c) n bytes line after e some is = fault_first (faults.BadLine l c) n bytes line after e some is
+fails (faults.BadLine l c x) n bytes line after e some is = fault_first (faults.BadLine l c x) n bytes line after e some is
 fails faults.TooLong n bytes line after e some is = fault_first faults.TooLong n bytes line after e some is
 
 -- what is left falls

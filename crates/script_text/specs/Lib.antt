@@ -10,3 +10,4 @@ pub mod Lines
 pub mod Spellings
 pub mod CallRows
 pub mod Room
+pub mod Expected

@@ -1,7 +1,15 @@
--- Reading a line from left to right, with the first fault that is met: how many bytes of the line remain there (own).
+-- Reading a line from left to right, with the first fault that is met: how many bytes of the line remain there, and what could
+-- stand there (own).
 use Rattle.std.specs.Prelude.{◌≡◌, ℕ, ◌==◌, List, [], ◌∷◌, length, codes, Option, Some, None, Result, Ok, Err, if◌then◌else◌}
+use Rattle.script_text.specs.declared.fault.Expected.{Expected}
+use Rattle.script_text.specs.declared.fault.Expected.TheVariants as expect
 use Rattle.script_text.specs.declared.fault.WordFault.{WordFault}
 use Rattle.script_text.specs.declared.fault.WordFault.TheVariants as faults
+
+-- a word that isn't allowed, or is missing: how many bytes of the line remain there, and what could stand there
+pub record BadWord : Type 0 where
+  pub remaining : ℕ
+  pub expected : Expected
 
 -- a value is read on from, a fault ends the reading
 infixl 10 ◌>>=◌
@@ -16,12 +24,12 @@ both f (Some x) None = None
 both f (Some x) (Some y) = Some (f x y)
 
 -- a returned fault is the one that reading gives, unless memory ran out
-abbrev pub Fails : {Y : Type 0} → WordFault → Result Y ℕ → Type 0
+abbrev pub Fails : {Y : Type 0} → WordFault → Result Y BadWord → Type 0
 Fails faults.NoMemory read = Unit {0}
-Fails (faults.At remaining) read = read ≡ Err remaining
+Fails (faults.At remaining expected) read = read ≡ Err (record { remaining = remaining; expected = expected })
 
 -- the value, or that fault
-abbrev pub Gives : {X Y : Type 0} → (X → Y) → Result X WordFault → Result Y ℕ → Type 0
+abbrev pub Gives : {X Y : Type 0} → (X → Y) → Result X WordFault → Result Y BadWord → Type 0
 Gives view (Ok x) read = read ≡ Ok (view x)
 Gives view (Err e) read = Fails e read
 
@@ -57,21 +65,21 @@ pub record Word : Type 0 where
   pub remaining : ℕ
   pub after : Unread
 
--- the next word, which may be missing
-abbrev pub word_at : Unread → Result Word ℕ
-word_at None = Err 0
-word_at (Some bytes) = Ok (record { text = (cut space bytes).0; remaining = length bytes; after = (cut space bytes).1 })
+-- the next word; what is expected may be missing
+abbrev pub word_at : Expected → Unread → Result Word BadWord
+word_at expected None = Err (record { remaining = 0; expected = expected })
+word_at expected (Some bytes) = Ok (record { text = (cut space bytes).0; remaining = length bytes; after = (cut space bytes).1 })
 
 -- the value of a word, with what is left after it; a word without a value isn't allowed
-abbrev pub valued : {A : Type 0} → Option A → ℕ → Unread → Result (A × Unread) ℕ
-valued None remaining after = Err remaining
-valued (Some value) remaining after = Ok (value, after)
+abbrev pub valued : {A : Type 0} → Expected → Option A → ℕ → Unread → Result (A × Unread) BadWord
+valued expected None remaining after = Err (record { remaining = remaining; expected = expected })
+valued expected (Some value) remaining after = Ok (value, after)
 
 -- a line ends where its act does
-abbrev pub ended : Unread → Result (Unit {0}) ℕ
+abbrev pub ended : Unread → Result (Unit {0}) BadWord
 ended None = Ok tt
-ended (Some bytes) = Err (length bytes)
+ended (Some bytes) = Err (record { remaining = length bytes; expected = expect.End })
 
 -- the next word as a value, with what is left after it
-abbrev pub field : {A : Type 0} → (List ℕ → Option A) → Unread → Result (A × Unread) ℕ
-field value left = word_at left >>= λ word. valued (value word.text) word.remaining word.after
+abbrev pub field : {A : Type 0} → Expected → (List ℕ → Option A) → Unread → Result (A × Unread) BadWord
+field expected value left = word_at expected left >>= λ word. valued expected (value word.text) word.remaining word.after

@@ -7,7 +7,9 @@ use Rattle.call_types.specs.declared.whence.Whence.{Whence}
 use Rattle.call_types.specs.declared.whence.Whence.TheVariants as whences
 use Rattle.call_types.specs.declared.act.ScriptAct.{ScriptAct}
 use Rattle.call_types.specs.declared.act.ScriptAct.TheVariants as acts
-use Rattle.script_text.specs.Reading.{◌>>=◌, Unread, Word, word_at, field, ended}
+use Rattle.script_text.specs.declared.fault.Expected.{Expected}
+use Rattle.script_text.specs.declared.fault.Expected.TheVariants as expect
+use Rattle.script_text.specs.Reading.{◌>>=◌, BadWord, Unread, Word, word_at, field, ended}
 use Rattle.script_text.specs.ReadingNumbers.{count_of, process_of, descriptor_of, position_of}
 use Rattle.script_text.specs.ReadingNames.{name_of}
 use Rattle.script_text.specs.ReadingData.{data_of}
@@ -31,32 +33,42 @@ value_of a_payload word = data_of word
 value_of some_flags word = flags_of word
 value_of a_whence word = whence_of word
 
+-- what is said to be expected of a field of a kind
+abbrev pub expected_of : FieldKind → Expected
+expected_of a_descriptor = expect.Descriptor
+expected_of a_position = expect.Position
+expected_of a_count = expect.Count
+expected_of a_name = expect.Name
+expected_of a_payload = expect.Data
+expected_of some_flags = expect.Flags
+expected_of a_whence = expect.Whence
+
 -- fields of these kinds, one word each, and then the end of the line
-abbrev pub fields_at : (ks : List FieldKind) → Makes ks → Unread → Result Call ℕ
+abbrev pub fields_at : (ks : List FieldKind) → Makes ks → Unread → Result Call BadWord
 fields_at [] make left = ended left >>= λ end. Ok make
-fields_at (k ∷ ks) make left = field (value_of k) left >>= λ value. fields_at ks (make value.0) value.1
+fields_at (k ∷ ks) make left = field (expected_of k) (value_of k) left >>= λ value. fields_at ks (make value.0) value.1
 
 -- the call of an entry, after its word
-abbrev pub entry_at : Entry → Unread → Result Call ℕ
+abbrev pub entry_at : Entry → Unread → Result Call BadWord
 entry_at e left = fields_at e.fields e.make left
 
 -- the call of the first entry that a word names; a word that names none isn't allowed
-abbrev pub one_of : List Entry → Word → Result Call ℕ
-one_of [] w = Err w.remaining
+abbrev pub one_of : List Entry → Word → Result Call BadWord
+one_of [] w = Err (record { remaining = w.remaining; expected = expect.Act })
 one_of (e ∷ es) w = if bytes_eq w.text e.word then entry_at e w.after else one_of es w
 
 -- a call, by its first word
-abbrev pub named_call : Word → Result Call ℕ
+abbrev pub named_call : Word → Result Call BadWord
 named_call w = one_of call_table w
 
 -- an act whose word is the last of its line
-abbrev pub last_word : ScriptAct → Unread → Result ScriptAct ℕ
+abbrev pub last_word : ScriptAct → Unread → Result ScriptAct BadWord
 last_word act left = do
   end ← ended left
   Ok act
 
 -- a process's act, by the word after the process: attach, resume, exit or a call
-abbrev pub process_act : ℕ → Word → Result ScriptAct ℕ
+abbrev pub process_act : ℕ → Word → Result ScriptAct BadWord
 process_act process w =
     if bytes_eq w.text (codes "attach") then last_word (acts.Attach process) w.after
     else if bytes_eq w.text (codes "resume") then last_word (acts.Resume process) w.after
@@ -64,28 +76,34 @@ process_act process w =
     else named_call w >>= λ call. Ok (acts.Call process call)
 
 -- an act that has no process in front: join or close-run; no other word is allowed
-abbrev pub run_act : Word → Result ScriptAct ℕ
+abbrev pub run_act : Word → Result ScriptAct BadWord
 run_act w =
     if bytes_eq w.text (codes "join") then last_word acts.Join w.after
     else if bytes_eq w.text (codes "close-run") then last_word acts.CloseRun w.after
-    else Err w.remaining
+    else Err (record { remaining = w.remaining; expected = expect.Actor })
 
 -- the act of a process, if the first word is one, or else of that word
-abbrev pub act_of : Option ℕ → Word → Result ScriptAct ℕ
-act_of (Some process) w = word_at w.after >>= λ word. process_act process word
+abbrev pub act_of : Option ℕ → Word → Result ScriptAct BadWord
+act_of (Some process) w = word_at expect.Act w.after >>= λ word. process_act process word
 act_of None w = run_act w
 
 -- the act of a line, by its first word
-abbrev pub act_at : Unread → Result ScriptAct ℕ
+abbrev pub act_at : Unread → Result ScriptAct BadWord
 act_at left = do
-  word ← word_at left
+  word ← word_at expect.Actor left
   act_of (process_of word.text) word
 
--- a fault where so many bytes remain, as a column
-abbrev pub with_column : ℕ → Result ScriptAct ℕ → Result ScriptAct ℕ
-with_column len (Ok act) = Ok act
-with_column len (Err remaining) = Err (len - remaining + 1)
+-- where a line is no act: a column, from 1, and what could stand there
+pub record BadColumn : Type 0 where
+  pub column : ℕ
+  pub expected : Expected
 
--- the act that a line spells, or the column of the first word that isn't allowed there, or one past the last byte where a word is missing
-abbrev pub reading : List ℕ → Result ScriptAct ℕ
+-- a fault where so many bytes remain, as a column
+abbrev pub with_column : ℕ → Result ScriptAct BadWord → Result ScriptAct BadColumn
+with_column len (Ok act) = Ok act
+with_column len (Err bad) = Err (record { column = len - bad.remaining + 1; expected = bad.expected })
+
+-- the act that a line spells, or the column of the first word that isn't allowed there, or one past the last byte where a word is missing, and
+-- what could stand there
+abbrev pub reading : List ℕ → Result ScriptAct BadColumn
 reading line = with_column (length line) (act_at (Some line))

@@ -1,6 +1,7 @@
 -- What a reader returns, where memory may run out (own).
 use Rattle.std.specs.Prelude.{◌≡◌, ◌≤◌, ℕ, List, [], ◌∷◌, length, Option, Some, None, Result, Ok, Err}
 use Rattle.call_types.specs.declared.act.ScriptAct.{ScriptAct}
+use Rattle.script_text.specs.ReadingCalls.{BadColumn}
 use Rattle.script_text.specs.ReadingScripts.{script, followed, Rest}
 use Rattle.script_text.specs.declared.script.TheConstants.{SCRIPT_MAX}
 use Rattle.script_text.specs.declared.fault.ReadFault.{ReadFault}
@@ -9,15 +10,15 @@ use Rattle.script_text.specs.declared.fault.ScriptFault.{ScriptFault}
 use Rattle.script_text.specs.declared.fault.ScriptFault.TheVariants as scripts
 
 -- a line gives what reading gives, unless memory ran out
-abbrev pub LineGives : Result ScriptAct ReadFault → Result ScriptAct ℕ → Type 0
+abbrev pub LineGives : Result ScriptAct ReadFault → Result ScriptAct BadColumn → Type 0
 LineGives (Ok act) read = read ≡ Ok act
-LineGives (Err (faults.BadLine column)) read = read ≡ Err column
+LineGives (Err (faults.BadLine column expected)) read = read ≡ Err (record { column = column; expected = expected })
 LineGives (Err faults.NoMemory) read = Unit {0}
 
 -- a script fails as reading does, unless memory ran out
 abbrev pub ScriptFails : ScriptFault → Result (List ScriptAct) ScriptFault → Type 0
 ScriptFails scripts.NoMemory read = Unit {0}
-ScriptFails (scripts.BadLine line column) read = read ≡ Err (scripts.BadLine line column)
+ScriptFails (scripts.BadLine line column expected) read = read ≡ Err (scripts.BadLine line column expected)
 ScriptFails scripts.TooLong read = read ≡ Err scripts.TooLong
 
 -- a script gives what reading gives, seen by view, unless memory ran out

@@ -6,12 +6,12 @@ use Rattle.script_text.specs.declared.fault.ScriptFault.{ScriptFault}
 use Rattle.script_text.specs.declared.fault.ScriptFault.TheVariants as faults
 use Rattle.script_text.specs.declared.script.TheConstants.{SCRIPT_MAX}
 use Rattle.script_text.specs.Reading.{◌>>=◌, Unread, line_feed}
-use Rattle.script_text.specs.ReadingCalls.{reading}
+use Rattle.script_text.specs.ReadingCalls.{BadColumn, reading}
 
 -- a line's act, or the fault with the line's number
-abbrev pub numbered : ℕ → Result ScriptAct ℕ → Result (List ScriptAct) ScriptFault
+abbrev pub numbered : ℕ → Result ScriptAct BadColumn → Result (List ScriptAct) ScriptFault
 numbered n (Ok act) = Ok (act ∷ [])
-numbered n (Err column) = Err (faults.BadLine n column)
+numbered n (Err bad) = Err (faults.BadLine n bad.column bad.expected)
 
 -- the acts of line n: an empty line has none
 abbrev pub line_acts : ℕ → List ℕ → Result (List ScriptAct) ScriptFault

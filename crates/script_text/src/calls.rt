@@ -11,7 +11,7 @@ ghost use Rattle.script_text.specs.Lines.{call_text};
 ghost use Rattle.script_text.specs.Room.{HasRoom, UsesRoom, name_room, data_room, call_room};
 
 use crate::cutting::Unread;
-use crate::fault::WordFault;
+use crate::fault::{Expected, WordFault};
 use crate::fields;
 use crate::flags::put_flags;
 use crate::name::put_name;
@@ -417,6 +417,7 @@ fn position_call(alloc: Global, word: Next<'_>) -> Result<Call, WordFault>
     } else {
         Err(WordFault::At {
             remaining: word.remaining,
+            expected: Expected::Act,
         })
     }
 }

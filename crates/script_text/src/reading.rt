@@ -9,7 +9,7 @@ ghost use Rattle.script_text.specs.Spellings.{SpellsAct};
 ghost use Rattle.call_types.specs.declared.act.ScriptAct.{ScriptAct};
 
 use crate::calls::call;
-use crate::fault::{ReadFault, WordFault};
+use crate::fault::{Expected, ReadFault, WordFault};
 use crate::number::process_value;
 use crate::words::{Next, line_end, next_word};
 use call_types::act::ScriptAct;
@@ -52,6 +52,7 @@ fn run_act(word: Next<'_>) -> Result<ScriptAct, WordFault>
     }
     Err(WordFault::At {
         remaining: word.remaining,
+        expected: Expected::Actor,
     })
 }
 
@@ -59,9 +60,9 @@ fn run_act(word: Next<'_>) -> Result<ScriptAct, WordFault>
 fn act(alloc: Global, line: &[u8]) -> Result<ScriptAct, WordFault>
     ensures { Gives (λ x. x) result (act_at (Some line.now)) }
 {
-    let word = next_word(Some(line))?;
+    let word = next_word(Expected::Actor, Some(line))?;
     match process_value(word.text) {
-        Some(process) => process_act(alloc, process, next_word(word.after)?),
+        Some(process) => process_act(alloc, process, next_word(Expected::Act, word.after)?),
         None => run_act(word),
     }
 }
@@ -78,8 +79,14 @@ pub fn read_act(alloc: Global, line: &[u8]) -> Result<ScriptAct, ReadFault>
     match act(alloc, line) {
         Ok(act) => Ok(act),
         Err(WordFault::NoMemory) => Err(ReadFault::NoMemory),
-        Err(WordFault::At { remaining }) => Err(ReadFault::BadLine {
+        Err(
+            WordFault::At {
+                remaining,
+                expected,
+            },
+        ) => Err(ReadFault::BadLine {
             column: line.len().saturating_sub(remaining) + 1,
+            expected,
         }),
     }
 }

@@ -45,9 +45,10 @@ fn line_act(alloc: Global, number: usize, line: &[u8]) -> Result<ScriptAct, Scri
     match read_act(alloc, line) {
         Ok(act) => Ok(act),
         Err(ReadFault::NoMemory) => Err(ScriptFault::NoMemory),
-        Err(ReadFault::BadLine { column }) => Err(ScriptFault::BadLine {
+        Err(ReadFault::BadLine { column, expected }) => Err(ScriptFault::BadLine {
             line: number,
             column,
+            expected,
         }),
     }
 }

@@ -7,7 +7,7 @@ ghost use Rattle.script_text.specs.Reading.{Gives, Word, word_at, valued, ended}
 ghost use Rattle.script_text.specs.declared.words.Next.{Next};
 
 use crate::cutting::{Unread, cut_at};
-use crate::fault::WordFault;
+use crate::fault::{Expected, WordFault};
 
 /// A word, how many bytes of the line remain where it begins, and what is left after it.
 #[derive(Clone, Copy)]
@@ -31,24 +31,32 @@ impl<'a> Next<'a> {
     }
 
     /// The value of the word, with what is left after it; a word without one isn't allowed.
-    pub(crate) fn valued<T: Drop>(self, value: Option<T>) -> Result<(T, Unread<'a>), WordFault>
-        ensures { Gives (λ x. (x.0, option_copied x.1)) result (valued value self.entry.remaining (option_copied self.entry.after)) }
+    pub(crate) fn valued<T: Drop>(
+        self,
+        expected: Expected,
+        value: Option<T>,
+    ) -> Result<(T, Unread<'a>), WordFault>
+        ensures { Gives (λ x. (x.0, option_copied x.1)) result (valued expected value self.entry.remaining (option_copied self.entry.after)) }
     {
         match value {
             None => Err(WordFault::At {
                 remaining: self.remaining,
+                expected,
             }),
             Some(value) => Ok((value, self.after)),
         }
     }
 }
 
-/// The next word of a line.
-pub(crate) fn next_word(left: Unread<'_>) -> Result<Next<'_>, WordFault>
-    ensures { Gives (λ w. record { text = w.text.now; remaining = w.remaining; after = option_copied w.after }) result (word_at (option_copied left.entry)) }
+/// The next word of a line; what it says is expected where there is none.
+pub(crate) fn next_word(expected: Expected, left: Unread<'_>) -> Result<Next<'_>, WordFault>
+    ensures { Gives (λ w. record { text = w.text.now; remaining = w.remaining; after = option_copied w.after }) result (word_at expected (option_copied left.entry)) }
 {
     match left {
-        None => Err(WordFault::At { remaining: 0 }),
+        None => Err(WordFault::At {
+            remaining: 0,
+            expected,
+        }),
         Some(bytes) => {
             let (text, after) = cut_at(b' ', bytes);
             Ok(Next {
@@ -69,6 +77,7 @@ pub(crate) fn line_end(left: Unread<'_>) -> Result<(), WordFault>
         None => Ok(()),
         Some(bytes) => Err(WordFault::At {
             remaining: bytes.len(),
+            expected: Expected::End,
         }),
     }
 }

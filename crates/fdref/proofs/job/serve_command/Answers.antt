@@ -7,7 +7,7 @@ use Rattle.fdref.proofs.job.serve_command.Goals as goal
 
 pub returns-clause-app : goal.returns-clause-app
 returns-clause-app c =
-    let start : app_of c.about.result ≡ new_app (codes "serve") = search rules in
+    let start : app_of c.after_help.result ≡ new_app (codes "serve") = search rules in
     let first = added_app _ _ _ _ _ c.in_ok-arg.ensures c.required_arg.ensures.local start c.required_arg.ensures.rule in
     let second = added_app _ _ _ _ _ c.in_ok-arg-2.ensures c.required_arg-2.ensures.local first c.required_arg-2.ensures.rule in
     let third = added_app _ _ _ _ _ c.in_ok-arg-3.ensures c.required_arg-3.ensures.local second c.required_arg-3.ensures.rule in
@@ -16,7 +16,7 @@ returns-clause-app c =
 
 pub returns-clause-local : goal.returns-clause-local
 returns-clause-local c =
-    let start : (fields_of c.about.result).has_globals ≡ false = search rules in
+    let start : (fields_of c.after_help.result).has_globals ≡ false = search rules in
     let first = added_local _ _ _ c.in_ok-arg.ensures c.required_arg.ensures.local start in
     let second = added_local _ _ _ c.in_ok-arg-2.ensures c.required_arg-2.ensures.local first in
     let third = added_local _ _ _ c.in_ok-arg-3.ensures c.required_arg-3.ensures.local second in

@@ -7,12 +7,12 @@ use Rattle.fdref.proofs.job.show_command.Goals as goal
 
 pub returns-clause-app : goal.returns-clause-app
 returns-clause-app c =
-    let start : app_of c.about.result ≡ new_app (codes "show") = search rules in
+    let start : app_of c.after_help.result ≡ new_app (codes "show") = search rules in
     let first = added_app _ _ _ _ _ c.in_ok-arg.ensures c.flag_arg.ensures.local start c.flag_arg.ensures.rule in
     IfOk-weaker c.arg-2.result _ _ (λ r added. added_app _ r _ _ _ added c.file_arg.ensures.local first c.file_arg.ensures.rule) c.arg-2.ensures
 
 pub returns-clause-local : goal.returns-clause-local
 returns-clause-local c =
-    let start : (fields_of c.about.result).has_globals ≡ false = search rules in
+    let start : (fields_of c.after_help.result).has_globals ≡ false = search rules in
     let first = added_local _ _ _ c.in_ok-arg.ensures c.flag_arg.ensures.local start in
     IfOk-weaker c.arg-2.result _ _ (λ r added. added_local _ r _ added c.file_arg.ensures.local first) c.arg-2.ensures
