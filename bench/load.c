@@ -15,7 +15,8 @@
      pipe      pairs of connections that share a pipe: one writes 8 bytes at a time, the other reads them
      sleepers  one connection makes fstats, while CONNECTIONS others wait in reads of a pipe
 
-   Time begins when all connections are ready. An answer that is an error or a refusal ends it with status 1. */
+   Time begins when all connections are ready. An answer that is an error, a refusal or none of its request ends it
+   with status 1, and so do answers that nobody asked for. */
 
 #define _POSIX_C_SOURCE 200809L
 
@@ -36,11 +37,16 @@ enum {
     DEPTH_MOST = 256,
     REQUEST_MOST = 64,
     ANSWER_MOST = 64,
-    PIECE = 65536,
-    ERROR = 6,
-    PARKED = 7,
-    PART = 8
+    PIECE = 65536
 };
+
+/* The bytes of some requests, and the kinds of outcomes. */
+enum { ATTACH = 2, CLOSE = 17, READ = 18, WRITE = 19, PIPE = 26, FSTAT = 30 };
+enum { DONE = 1, NUMBER, DATA, DESCRIPTORS, STAT, ERROR, PARKED, PART, KINDS };
+
+/* The sizes of the payloads of answers, by their kinds. A read is of COUNT bytes. */
+enum { COUNT = 8 };
+static const size_t sizes[KINDS] = {0, 10, 18, 14 + COUNT, 18, 23, 11, 14, 14};
 
 /* A request, and how many bytes it has. */
 struct request {
@@ -58,9 +64,12 @@ struct job {
     double from, to;
 };
 
+/* Ends this program, and tells why: the first thread that fails does. */
 static void fail(const char *what, ...)
 {
+    static pthread_mutex_t once = PTHREAD_MUTEX_INITIALIZER;
     va_list values;
+    pthread_mutex_lock(&once);
     va_start(values, what);
     fprintf(stderr, "load: ");
     vfprintf(stderr, what, values);
@@ -161,14 +170,46 @@ static void receive_exactly(int fd, unsigned char *bytes, size_t count)
     }
 }
 
-/* The kind of the outcome of an answer, whose payload is given. */
-static int kind_of(const unsigned char *payload, size_t size)
+/* The kind of the reply to a request, which its byte tells. */
+static int reply_kind(int byte)
 {
-    if (size < 10 || payload[0] != 1)
+    switch (byte) {
+    case ATTACH:
+    case CLOSE:
+        return DONE;
+    case READ:
+        return DATA;
+    case PIPE:
+        return DESCRIPTORS;
+    case FSTAT:
+        return STAT;
+    default:
+        return NUMBER;
+    }
+}
+
+/* The size of the payload of an answer, which comes after it. */
+static size_t size_at(const unsigned char *answer)
+{
+    size_t size = get_u32(answer);
+    if (size > ANSWER_MOST)
+        fail("an answer of %zu bytes", size);
+    return size;
+}
+
+/* Whether an answer, whose payload is given, is the reply to a request, and not that its call waits. */
+static int is_reply(int byte, const unsigned char *payload, size_t size)
+{
+    int may_wait = byte == READ || byte == WRITE, kind = size < 10 ? 0 : payload[9];
+    if (kind == 0 || payload[0] != 1)
         fail("a refusal, or no answer");
-    if (payload[9] == ERROR)
+    if (kind == ERROR)
         fail("an error");
-    return payload[9];
+    if (kind != reply_kind(byte) && !(may_wait && (kind == PARKED || kind == PART)))
+        fail("an answer of another kind than that of its request");
+    if (size != sizes[kind] || (kind == DATA && get_u32(payload + 10) != COUNT))
+        fail("an answer of another size than that of its request");
+    return kind == reply_kind(byte);
 }
 
 /* Asks once; the last four bytes of the answer, as a number. */
@@ -177,11 +218,9 @@ static unsigned long ask(int fd, struct request request)
     unsigned char answer[ANSWER_MOST];
     send_all(fd, request.bytes, request.size);
     receive_exactly(fd, answer, 4);
-    size_t size = get_u32(answer);
-    if (size > sizeof answer)
-        fail("an answer of %zu bytes", size);
+    size_t size = size_at(answer);
     receive_exactly(fd, answer, size);
-    kind_of(answer, size);
+    is_reply(request.bytes[4], answer, size);
     return get_u32(answer + size - 4);
 }
 
@@ -205,22 +244,6 @@ static int connected(const char *path)
 
 /* ---- the echo */
 
-/* The size of the payload of fdref's answer to a request. */
-static size_t answer_size(int byte)
-{
-    switch (byte) {
-    case 2:
-    case 17:
-        return 10;
-    case 18:
-        return 22;
-    case 30:
-        return 23;
-    default:
-        return 18;
-    }
-}
-
 /* Answers each request of a connection, all that came in one piece at once. */
 static void *echo(void *given)
 {
@@ -236,11 +259,14 @@ static void *echo(void *given)
         held += got;
         size_t at = 0, told = 0;
         while (held - at >= 4 && held - at >= 4 + get_u32(in + at)) {
-            size_t size = answer_size(in[at + 4]);
+            int kind = reply_kind(in[at + 4]);
+            size_t size = sizes[kind];
             memset(out + told, 0, 4 + size);
             put_u32(out + told, size);
             out[told + 4] = 1;
-            out[told + 13] = 1;
+            out[told + 13] = (unsigned char)kind;
+            if (kind == DATA)
+                put_u32(out + told + 14, COUNT);
             told += 4 + size;
             at += 4 + get_u32(in + at);
         }
@@ -284,15 +310,15 @@ static void start_echo(const char *path)
 
 /* ---- the load */
 
-/* How many of the answers that are held are replies; those that say that a call waits are none. What is left is moved to the front. */
-static long replies(unsigned char *in, size_t *held)
+/* How many of the answers to a request that are held are replies; those that say that its call waits are none. What is
+   left is moved to the front. */
+static long replies(int byte, unsigned char *in, size_t *held)
 {
     size_t at = 0;
     long count = 0;
-    while (*held - at >= 4 && *held - at >= 4 + get_u32(in + at)) {
-        size_t size = get_u32(in + at);
-        int kind = kind_of(in + at + 4, size);
-        count += kind != PARKED && kind != PART;
+    while (*held - at >= 4 && *held - at >= 4 + size_at(in + at)) {
+        size_t size = size_at(in + at);
+        count += is_reply(byte, in + at + 4, size);
         at += 4 + size;
     }
     memmove(in, in + at, *held - at);
@@ -320,12 +346,17 @@ static void *run(void *given)
             if (got == 0)
                 fail("the server has hung up");
             held += got;
-            done = replies(in, &held);
+            done = replies(job->request.bytes[4], in, &held);
         }
         answered += done;
+        if (answered > sent)
+            fail("more answers than requests");
         more = done < job->count - sent ? done : job->count - sent;
     }
     job->to = now();
+    shutdown(job->fd, SHUT_WR);
+    if (held > 0 || receive_some(job->fd, in, PIECE) > 0)
+        fail("more answers than requests");
     free(in);
     free(burst);
     return NULL;

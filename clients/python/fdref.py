@@ -24,8 +24,9 @@ What a call can end in:
     answer's `place`. It is never a ConnectionError, so that EPIPE and a lost server are told apart;
   - `Refused`, where the run could not record the call; its `reason` is RunFull, NoMemory, Waiting,
     NotHere or Foreign. The process may go on;
-  - ConnectionError, where the connection is lost. The process has ended then, as it has after a call
-    that is broken off in any other way, by KeyboardInterrupt or by what `on_wait` raises;
+  - ConnectionError, where the connection is lost, or what came is no answer of the call. The process
+    has ended then, as it has after a call that is broken off in any other way, by KeyboardInterrupt or
+    by what `on_wait` raises;
   - OverflowError or ValueError, where an argument has no place in a request. Nothing was sent.
 
 `write_trace` and `read_trace` need no server. An emulator that has run calls of its own writes them as a
@@ -265,7 +266,7 @@ class Process:
         while True:
             answer = self._receive()
             try:
-                waits, value = self._read_answer(answer)
+                waits, value = self._read_answer(answer, request[0])
             except (struct.error, IndexError, KeyError):
                 raise ConnectionError(f"the server sent what is no answer: {answer[:40].hex()}") from None
             if not waits:
@@ -287,19 +288,25 @@ class Process:
             raise ConnectionError("the server has closed the connection")
         return some
 
-    def _read_answer(self, answer: bytes) -> tuple[bool, Any]:
-        """Whether an answer tells that the call waits, and its value."""
+    def _read_answer(self, answer: bytes, asked: int) -> tuple[bool, Any]:
+        """Whether an answer to a request of this byte tells that the call waits, and its value."""
         if answer[0] == 2:
-            raise Refused(REFUSALS[answer[1]])
-        record, self.place = struct.unpack(">BQ", answer[:9])
+            reason = REFUSALS[answer[1]]
+            if len(answer) != (18 if reason == "Foreign" else 2):
+                raise KeyError(len(answer))
+            raise Refused(reason)
+        record, place = struct.unpack(">BQ", answer[:9])
         if record != 1:
             raise KeyError(record)
         outcome = _read_outcome(answer[9:])
         if isinstance(outcome, Error):
-            raise CallError(outcome.name, self.place)
-        if isinstance(outcome, Parked | Part):
-            return True, outcome.moved
-        return False, outcome
+            self.place = place
+            raise CallError(outcome.name, place)
+        waits = isinstance(outcome, Parked | Part)
+        if asked not in _MAY_WAIT if waits else type(outcome) is not _GIVES[asked]:
+            raise KeyError(asked)
+        self.place = place
+        return waits, outcome.moved if waits else outcome
 
 
 # -- outcomes
@@ -496,32 +503,37 @@ _FLAGS = _Field(_flags, _Reader.flags)
 
 
 class _Form(NamedTuple):
-    """The byte of a call, its fields in the order of a frame, and where each stands among its arguments."""
+    """The byte of a call, its fields in the order of a frame, where each stands among its arguments, and the type of
+    its value."""
 
     byte: int
     fields: tuple[_Field, ...] = ()
     places: tuple[int, ...] = ()
+    gives: type = type(None)
 
 
 _CALLS = {
-    "open": _Form(16, (_FLAGS, _NAME), (1, 0)),
+    "open": _Form(16, (_FLAGS, _NAME), (1, 0), int),
     "close": _Form(17, (_FD,), (0,)),
-    "read": _Form(18, (_FD, _COUNT), (0, 1)),
-    "write": _Form(19, (_FD, _DATA), (0, 1)),
-    "pread": _Form(20, (_FD, _OFFSET, _COUNT), (0, 2, 1)),
-    "pwrite": _Form(21, (_FD, _OFFSET, _DATA), (0, 2, 1)),
-    "lseek": _Form(22, (_FD, _OFFSET, _HOW), (0, 1, 2)),
+    "read": _Form(18, (_FD, _COUNT), (0, 1), bytes),
+    "write": _Form(19, (_FD, _DATA), (0, 1), int),
+    "pread": _Form(20, (_FD, _OFFSET, _COUNT), (0, 2, 1), bytes),
+    "pwrite": _Form(21, (_FD, _OFFSET, _DATA), (0, 2, 1), int),
+    "lseek": _Form(22, (_FD, _OFFSET, _HOW), (0, 1, 2), int),
     "ftruncate": _Form(23, (_FD, _OFFSET), (0, 1)),
-    "dup": _Form(24, (_FD,), (0,)),
-    "dup2": _Form(25, (_FD, _FD), (0, 1)),
-    "pipe": _Form(26),
+    "dup": _Form(24, (_FD,), (0,), int),
+    "dup2": _Form(25, (_FD, _FD), (0, 1), int),
+    "pipe": _Form(26, gives=tuple),
     "mkfifo": _Form(27, (_NAME,), (0,)),
     "link": _Form(28, (_NAME, _NAME), (0, 1)),
     "unlink": _Form(29, (_NAME,), (0,)),
-    "fstat": _Form(30, (_FD,), (0,)),
-    "fork": _Form(31),
+    "fstat": _Form(30, (_FD,), (0,), Stat),
+    "fork": _Form(31, gives=int),
 }
 _CALLS_BY_BYTE = {form.byte: name for name, form in _CALLS.items()}
+# The type of the value of each request, by its byte, and the requests that may have to wait: open, read and write.
+_GIVES = {1: int, 2: type(None)} | {form.byte: form.gives for form in _CALLS.values()}
+_MAY_WAIT = (16, 18, 19)
 
 
 def _call_bytes(name: str, values: Sequence[Any]) -> bytes:

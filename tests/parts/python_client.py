@@ -211,16 +211,16 @@ REQUESTS: list[tuple[str, Callable[[fdref.Process], object]]] = [
     ("fork", lambda it: it.fork()),
 ]
 
-# Each outcome of a reply, and the value that the client has of it.
-REPLIES: list[tuple[str, object]] = [
-    ("ok", None),
-    ("18446744073709551615", 2**64 - 1),
-    ("x", b""),
-    ("61*65536", b"a" * 65_536),
-    ("3 4", (3, 4)),
-    ("regular 5 1", ("regular", stat.S_IFREG, 5, 1)),
-    ("fifo 0 2", ("fifo", stat.S_IFIFO, 0, 2)),
-    ("pipe 18446744073709551615 0", ("pipe", stat.S_IFIFO, 2**64 - 1, 0)),
+# A call of each outcome of a reply, and the value that the client has of it.
+REPLIES: list[tuple[Callable[[fdref.Process], object], str, object]] = [
+    (lambda it: it.close(0), "ok", None),
+    (lambda it: it.lseek(0, 0, os.SEEK_CUR), "18446744073709551615", 2**64 - 1),
+    (lambda it: it.read(0, 65_536), "x", b""),
+    (lambda it: it.pread(0, 65_536, 0), "61*65536", b"a" * 65_536),
+    (lambda it: it.pipe(), "3 4", (3, 4)),
+    (lambda it: it.fstat(0), "regular 5 1", ("regular", stat.S_IFREG, 5, 1)),
+    (lambda it: it.fstat(0), "fifo 0 2", ("fifo", stat.S_IFIFO, 0, 2)),
+    (lambda it: it.fstat(0), "pipe 18446744073709551615 0", ("pipe", stat.S_IFIFO, 2**64 - 1, 0)),
 ]
 
 
@@ -278,7 +278,8 @@ def agrees_on_requests() -> None:
         words = {line.split(" ")[0] for line, _ in REQUESTS}
         same({form.word for form in frames.CALLS.values()}, words)
         for line, call in REQUESTS:
-            given, _ = listener.asked((fdref.join, answer_of(0, "0")), (call, answer_of(1, "ok")))
+            refused = partial(raised_by, call)
+            given, _ = listener.asked((fdref.join, answer_of(0, "0")), (refused, answer_of(1, "error EBADF")))
             same(frames.JOIN + frames.request_frame(line), b"".join(given))
         given, _ = listener.asked((lambda path: fdref.attach(path, 7), answer_of(0, "ok")))
         same([frames.attach_frame(7)], given)
@@ -291,9 +292,6 @@ def agrees_on_answers() -> None:
     listener = Listener()
     join = (fdref.join, answer_of(0, "0"))
 
-    def fork(process: fdref.Process) -> object:
-        return process.fork()
-
     def error(process: fdref.Process) -> object:
         raised = raises(fdref.CallError, process.fork)
         return raised.name, raised.errno, raised.place
@@ -302,8 +300,8 @@ def agrees_on_answers() -> None:
         return raises(fdref.Refused, process.fork).reason
 
     try:
-        for outcome, value in REPLIES:
-            same(value, listener.asked(join, (fork, answer_of(2**64 - 1, outcome)))[1][1])
+        for call, outcome, value in REPLIES:
+            same(value, listener.asked(join, (call, answer_of(2**64 - 1, outcome)))[1][1])
         for name in frames.ERRORS:
             given = listener.asked(join, (error, answer_of(5, f"error {name}")))[1][1]
             same((name, getattr(errno, name), 5), given)
@@ -311,7 +309,7 @@ def agrees_on_answers() -> None:
             payload = bytes([2, byte]) + bytes(16 if name == "Foreign" else 0)
             same(name, listener.asked(join, (reason, frames.framed(payload)))[1][1])
         waits = answer_of(3, "parked 7") + answer_of(4, "part 8") + answer_of(5, "9")
-        process, value = listener.asked(join, (fork, waits))[1]
+        process, value = listener.asked(join, (lambda it: it.write(0, bytes(9)), waits))[1]
         same(([(3, 7), (4, 8)], 9, 5), (process.waits, value, process.place))
     finally:
         listener.close()
