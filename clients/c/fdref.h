@@ -85,6 +85,9 @@ struct fdref *fdref_attach(const char *path, pid_t child);
    It does not change errno. */
 void fdref_exit(struct fdref *p);
 
+/* Frees a process in a child made by fork; the connection stays its parent's. It does not change errno. */
+void fdref_forget(struct fdref *p);
+
 pid_t fdref_getpid(const struct fdref *p);
 
 /* The place of the last answer. It stays where a call leaves no record. */
@@ -781,6 +784,15 @@ void fdref_exit(struct fdref *p)
         while (some > 0 || (some < 0 && errno == EINTR));
         close(p->socket);
     }
+    free(p);
+    errno = error;
+}
+
+void fdref_forget(struct fdref *p)
+{
+    int error = errno;
+    if (p && p->socket >= 0)
+        close(p->socket);
     free(p);
     errno = error;
 }

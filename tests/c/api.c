@@ -9,6 +9,7 @@
 #include <poll.h>
 #include <stdio.h>
 #include <string.h>
+#include <sys/wait.h>
 
 #define FDREF_IMPLEMENTATION
 #include "fdref.h"
@@ -125,6 +126,23 @@ static void refusals(struct fdref *p)
     CHECK(fdref_place(p) == 34 && fdref_refusal(p) == FDREF_RECORDED);
 }
 
+/* A child of this program frees its copy of a process, whose connection stays. */
+static void forgetting(struct fdref *p)
+{
+    int status = 1, fd = fdref_fileno(p);
+    pid_t child = fork();
+    if (child == 0) {
+        errno = EXDEV;
+        fdref_forget(p);
+        CHECK(errno == EXDEV && fcntl(fd, F_GETFD) == -1 && errno == EBADF);
+        fdref_forget(NULL);
+        fflush(stdout);
+        _exit(failures > 0);
+    }
+    CHECK(child > 0 && waitpid(child, &status, 0) == child && status == 0);
+    CHECK(!has_answer(p, 20));
+}
+
 /* A write that goes on in parts, and a read of two processes: nothing but fdref_finish goes on while they wait. */
 static void waiting(struct fdref *p, const char *path)
 {
@@ -191,6 +209,7 @@ int main(int count, char **words)
     connecting(words[1]);
     names();
     calls(p);
+    forgetting(p);
     refusals(p);
     waiting(p, words[1]);
     exits(p, words[1]);

@@ -53,7 +53,7 @@ def calls_are_the_tests() -> None:
     """Each call of the tests is a function of the header, and each act of theirs can be recorded."""
     calls = [form.word for form in frames.CALLS.values()]
     declared = functions_declared()
-    missing = {"join", "attach", "exit", *calls}.difference(declared)
+    missing = {"join", "attach", "exit", "forget", *calls}.difference(declared)
     require(not missing, f"no functions: {missing}")
     acts = [word.replace("-", "_") for word in [*frames.ACTS.values(), *calls]]
     same(acts, [name.removeprefix("act_") for name in declared if name.startswith("act_")])

@@ -1,0 +1,313 @@
+/* system.h: a part of fdref_preload.c. The system's functions, fdref.h by way of them, what is told, and the log. */
+
+/* ---- the system's functions, as they are behind the ones of this library */
+
+#ifdef __GLIBC__
+#define LARGE(name) #name "64"
+#else
+#define LARGE(name) #name
+#endif
+
+#define SYSTEM_CALLS(X) \
+    X(int, open, "open", (const char *, int, ...)) \
+    X(int, openat, "openat", (int, const char *, int, ...)) \
+    X(int, close, "close", (int)) \
+    X(ssize_t, read, "read", (int, void *, size_t)) \
+    X(ssize_t, write, "write", (int, const void *, size_t)) \
+    X(ssize_t, pread, LARGE(pread), (int, void *, size_t, int64_t)) \
+    X(ssize_t, pwrite, LARGE(pwrite), (int, const void *, size_t, int64_t)) \
+    X(ssize_t, readv, "readv", (int, const struct iovec *, int)) \
+    X(ssize_t, writev, "writev", (int, const struct iovec *, int)) \
+    X(int64_t, lseek, LARGE(lseek), (int, int64_t, int)) \
+    X(int, ftruncate, LARGE(ftruncate), (int, int64_t)) \
+    X(int, truncate, LARGE(truncate), (const char *, int64_t)) \
+    X(int, dup3, "dup3", (int, int, int)) \
+    X(int, pipe2, "pipe2", (int *, int)) \
+    X(int, mkfifoat, "mkfifoat", (int, const char *, mode_t)) \
+    X(int, linkat, "linkat", (int, const char *, int, const char *, int)) \
+    X(int, unlinkat, "unlinkat", (int, const char *, int)) \
+    X(int, remove, "remove", (const char *)) \
+    X(int, fcntl, "fcntl", (int, int, ...)) \
+    X(int, ioctl, "ioctl", (int, unsigned long, ...)) \
+    X(int, isatty, "isatty", (int)) \
+    X(int, fsync, "fsync", (int)) \
+    X(int, fdatasync, "fdatasync", (int)) \
+    X(int, fclose, "fclose", (FILE *)) \
+    X(int, faccessat, "faccessat", (int, const char *, int, int)) \
+    X(int, poll, "poll", (struct pollfd *, nfds_t, int)) \
+    X(pid_t, fork, "fork", (void)) \
+    X(long, sysconf, "sysconf", (int)) \
+    X(void, _exit, "_exit", (int))
+
+#define DECLARED(type, name, symbol, parameters) static type(*system_##name) parameters;
+SYSTEM_CALLS(DECLARED)
+#undef DECLARED
+
+static void end_with(int status, const char *format, ...) __attribute__((noreturn, format(printf, 2, 3)));
+
+/* Finds the system's function of a name, where that was not done yet. */
+static void find(void *function, const char *name)
+{
+    void *found;
+    memcpy(&found, function, sizeof found);
+    if (found)
+        return;
+    found = dlsym(RTLD_NEXT, name);
+    if (!found)
+        end_with(NO_ANSWER, "the system has no %s", name);
+    memcpy(function, &found, sizeof found);
+}
+
+static void find_all(void)
+{
+#define FOUND(type, name, symbol, parameters) find(&system_##name, symbol);
+    SYSTEM_CALLS(FOUND)
+#undef FOUND
+}
+
+/* A server that has all its sessions takes no further connection, and does not say so. */
+enum { PATIENCE = 10000 };
+static int is_joining;
+
+static ssize_t receive(int fd, void *bytes, size_t size, int flags)
+{
+    struct pollfd one = {fd, POLLIN, 0};
+    if (is_joining && system_poll(&one, 1, PATIENCE) == 0)
+        end_with(NO_ANSWER, "the server does not answer: it may have had all its sessions");
+    return recv(fd, bytes, size, flags);
+}
+
+/* The client calls the system, and is no part of what this library shows to a program. */
+#define open system_open
+#define close system_close
+#define write system_write
+#define fcntl system_fcntl
+#define poll(parts, count, ms) system_poll(parts, count, ms)
+#define recv receive
+#pragma GCC visibility push(hidden)
+#define FDREF_IMPLEMENTATION
+#include "../c/fdref.h"
+#pragma GCC visibility pop
+#undef open
+#undef close
+#undef write
+#undef fcntl
+#undef poll
+#undef recv
+
+/* ---- how it is used, and what is told */
+
+/* OFF: nothing is changed. NATIVE: calls are only logged. ASKED: they are asked of a server. ENDED: its exit is
+   recorded. */
+enum how { UNKNOWN, OFF, NATIVE, ASKED, ENDED };
+static volatile enum how how;
+
+static struct fdref *process;
+static char socket_path[sizeof ((struct sockaddr_un *)NULL)->sun_path + 1];
+static int is_strict, log_file = -1, blank = -1;
+
+/* The number of this process in a native run, and the next one, which all processes share. */
+static uint32_t native_number, *next_number;
+
+/* Tells on standard error, ends the process in fdref too, and ends the program. */
+static void end_with(int status, const char *format, ...)
+{
+    char text[300] = "fdref: ";
+    size_t start = strlen(text), size;
+    va_list words;
+    va_start(words, format);
+    vsnprintf(text + start, sizeof text - start - 1, format, words);
+    va_end(words);
+    size = strlen(text);
+    text[size++] = '\n';
+    if (system_write && system_write(2, text, size) < 0)
+        size = 0;
+    if (process)
+        fdref_exit(process);
+    process = NULL;
+    for (;;)
+        if (system__exit)
+            system__exit(status);
+        else
+            abort();
+}
+
+/* What fdref leaves out ends a program that has to be strict. */
+static void leave_out(const char *what)
+{
+    if (is_strict && how == ASKED)
+        end_with(LEFT_OUT, "%s is left out", what);
+}
+
+/* ---- numbers of this library's own, which are high */
+
+enum { HIGH = 1024, OWN = 16 };
+
+static int own_numbers(int at) { return at == 0 ? log_file : at == 1 ? blank : process ? process->socket : -1; }
+
+static int is_own(int fd)
+{
+    return fd >= 0 && (fd == own_numbers(0) || fd == own_numbers(1) || fd == own_numbers(2));
+}
+
+/* Lets numbers go up to HIGH where the system permits it, and gives the limits that were before. */
+static struct rlimit raise_limit(void)
+{
+    struct rlimit was = {0, 0}, raised;
+    getrlimit(RLIMIT_NOFILE, &was);
+    raised = was;
+    if (was.rlim_cur < HIGH) {
+        raised.rlim_cur = was.rlim_max < HIGH ? was.rlim_max : HIGH;
+        setrlimit(RLIMIT_NOFILE, &raised);
+    }
+    return was;
+}
+
+/* Moves a descriptor to a high number. */
+static int hidden(int fd)
+{
+    struct rlimit was = raise_limit(), now;
+    int moved;
+    getrlimit(RLIMIT_NOFILE, &now);
+    moved = system_fcntl(fd, F_DUPFD_CLOEXEC, (int)(now.rlim_cur < HIGH ? now.rlim_cur : HIGH) - OWN);
+    setrlimit(RLIMIT_NOFILE, &was);
+    if (moved < 0)
+        end_with(NO_ANSWER, "no descriptor is free: %s", strerror(errno));
+    system_close(fd);
+    return moved;
+}
+
+/* Moves what this library has at a number that the program is about to use. */
+static void make_way(int to)
+{
+    if (to >= 0 && to == log_file)
+        log_file = hidden(log_file);
+    else if (to >= 0 && to == blank)
+        blank = hidden(blank);
+    else if (to >= 0 && process && to == process->socket)
+        process->socket = hidden(to);
+}
+
+/* ---- the log: a line of a call is that of fdref */
+
+static const char *const words[] = {"open", "close", "read", "write", "pread", "pwrite", "lseek", "ftruncate", "dup",
+                                    "dup2", "pipe", "mkfifo", "link", "unlink", "fstat", "fork"};
+
+/* The longest line has all bytes of a transfer, or two names. */
+static char line[2 * FDREF_TRANSFER_MOST + 2 * 3 * FDREF_NAME_MOST + 300];
+static size_t line_size;
+
+static void put(const char *format, ...) __attribute__((format(printf, 1, 2)));
+static void put(const char *format, ...)
+{
+    va_list values;
+    int size;
+    va_start(values, format);
+    size = vsnprintf(line + line_size, sizeof line - line_size, format, values);
+    va_end(values);
+    line_size += size > 0 ? (size_t)size : 0;
+}
+
+static void put_data(const unsigned char *bytes, size_t size)
+{
+    static const char digits[] = "0123456789abcdef";
+    if (size > 16 && memcmp(bytes, bytes + 1, size - 1) == 0) {
+        put("%02x*%lu", bytes[0], (unsigned long)size);
+        return;
+    }
+    put("x");
+    for (size_t at = 0; at < size; at++) {
+        line[line_size++] = digits[bytes[at] >> 4];
+        line[line_size++] = digits[bytes[at] & 15];
+    }
+}
+
+static void put_name(const char *name)
+{
+    if (*name == 0)
+        put("%%");
+    for (; *name; name++) {
+        int is_itself = *name >= 33 && *name <= 126 && *name != '%';
+        put(is_itself ? "%c" : "%%%02x", is_itself ? *name : (unsigned char)*name);
+    }
+}
+
+static void put_flags(int flags)
+{
+    int mode = flags & O_ACCMODE;
+    put("%s", mode == O_RDONLY ? "r" : mode == O_WRONLY ? "w" : mode == O_RDWR ? "rw" : "-");
+    put("%s%s", flags & O_CREAT ? ",creat" : "", flags & O_EXCL ? ",excl" : "");
+    put("%s%s", flags & O_TRUNC ? ",trunc" : "", flags & O_APPEND ? ",append" : "");
+    put("%s", flags & O_NONBLOCK ? ",nonblock" : "");
+}
+
+static void put_field(const struct fdref_act *act, char field)
+{
+    put(" ");
+    switch (field) {
+    case 'f': put_flags(act->other); break;
+    case 's': put_name(act->name); break;
+    case 'S': put_name(act->new_name); break;
+    case 'd': put("%d", act->fd); break;
+    case 'D': put("%d", act->other); break;
+    case 'n': put("%llu", (unsigned long long)act->count); break;
+    case 'p': put("%lld", (long long)act->offset); break;
+    case 'b': put_data((const unsigned char *)act->data, (size_t)act->count); break;
+    default: put("%s", act->other == SEEK_SET ? "set" : act->other == SEEK_CUR ? "cur" : "end");
+    }
+}
+
+/* The names of the errors that fdref has, else those of the system, else the number. */
+static void put_error(int number)
+{
+    const char *name = fdref_error_byte(number) > 0 ? fdref_error_name(number) : NULL;
+#ifdef __GLIBC__
+#if __GLIBC_PREREQ(2, 32)
+    name = name ? name : strerrorname_np(number);
+#endif
+#endif
+    if (name)
+        put("error %s", name);
+    else
+        put("error %d", number);
+}
+
+static void put_outcome(const struct fdref_outcome *outcome)
+{
+    static const char *const kinds[] = {"regular", "fifo", "pipe", "other"};
+    const struct fdref_stat *stat = &outcome->stat;
+    switch (outcome->kind) {
+    case FDREF_DONE: put("ok"); break;
+    case FDREF_NUMBER: put("%llu", (unsigned long long)outcome->number); break;
+    case FDREF_DATA: put_data((const unsigned char *)outcome->data, outcome->size); break;
+    case FDREF_DESCRIPTORS: put("%d %d", outcome->ends[0], outcome->ends[1]); break;
+    case FDREF_STAT:
+        put("%s %llu %lu", kinds[stat->kind], (unsigned long long)stat->size, (unsigned long)stat->links);
+        break;
+    default: put_error(outcome->error);
+    }
+}
+
+/* Appends a line: at a place of the record, or `-`; with an outcome, or the name of a refusal. */
+static void log_line(const uint64_t *place, struct fdref_act act, const struct fdref_outcome *outcome,
+                     const char *refusal)
+{
+    const char *fields = fdref_calls[act.kind - FDREF_OPEN].fields;
+    if (log_file < 0)
+        return;
+    line_size = 0;
+    if (place)
+        put("%llu", (unsigned long long)*place);
+    put("%s p%lu %s", place ? "" : "-", (unsigned long)(process ? (uint32_t)process->number : native_number),
+        words[act.kind - FDREF_OPEN]);
+    for (fields = act.kind == FDREF_OPEN ? "sf" : fields; *fields; fields++)
+        put_field(&act, *fields);
+    put(" = ");
+    if (refusal)
+        put("refused %s", refusal);
+    else
+        put_outcome(outcome);
+    put("\n");
+    if (system_write(log_file, line, line_size) != (ssize_t)line_size)
+        end_with(NO_ANSWER, "the log cannot be written: %s", strerror(errno));
+}

@@ -1,0 +1,408 @@
+/* table.h: a part of fdref_preload.c. The lock, the table of descriptors, asking, and how a process begins and ends. */
+
+/* ---- one thread at a time */
+
+static pthread_mutex_t mutex = PTHREAD_MUTEX_INITIALIZER;
+static pthread_t owner;
+static volatile int is_held;
+static int errno_before;
+static sigset_t signals_before;
+
+/* In a native run no signal comes in between, so that nothing changes for a program with handlers. */
+static void enter(void)
+{
+    int error = errno;
+    sigset_t all, before;
+    if (is_held && pthread_equal(owner, pthread_self()))
+        end_with(NO_ANSWER, "a handler of a signal makes a call while a call waits");
+    sigfillset(&all);
+    if (how == NATIVE)
+        pthread_sigmask(SIG_BLOCK, &all, &before);
+    pthread_mutex_lock(&mutex);
+    if (how == NATIVE)
+        signals_before = before;
+    owner = pthread_self();
+    is_held = 1;
+    errno_before = error;
+}
+
+/* Hands on a value. One that is no failure leaves errno as it was. */
+static int64_t left(int64_t value)
+{
+    int error = value < 0 ? errno : errno_before;
+    sigset_t before = signals_before;
+    is_held = 0;
+    pthread_mutex_unlock(&mutex);
+    if (how == NATIVE)
+        pthread_sigmask(SIG_SETMASK, &before, NULL);
+    errno = error;
+    return value;
+}
+
+#define ALONE(call) (enter(), left(call))
+
+static int64_t fails(int number)
+{
+    errno = number;
+    return -1;
+}
+
+/* ---- the table */
+
+enum { NUMBERS = 32 };
+
+/* FREE numbers are fdref's to refuse. OURS: fdref has the file. REAL: the kernel has it at the same number, and fdref a
+   placeholder. The numbers of the others are taken in the kernel too, by `blank`. */
+enum held { FREE, OURS, REAL };
+struct slot {
+    enum held held;
+    int is_cloexec, flags, is_pipe;
+    uint64_t inode;
+};
+static struct slot slots[NUMBERS];
+
+static int is_open_in_kernel(int fd) { return system_fcntl(fd, F_GETFD) != -1; }
+
+static int lowest_free(int from)
+{
+    while (from < NUMBERS && slots[from].held != FREE)
+        from++;
+    return from;
+}
+
+/* A number that is real, or -1. */
+static int any_real(void)
+{
+    int at = 0;
+    while (at < NUMBERS && slots[at].held != REAL)
+        at++;
+    return at < NUMBERS ? at : -1;
+}
+
+static void take(int fd, struct slot slot, int is_cloexec)
+{
+    if (fd < 0 || fd >= NUMBERS)
+        return;
+    slots[fd] = slot;
+    slots[fd].is_cloexec = is_cloexec;
+}
+
+static void take_real(int fd)
+{
+    struct slot slot = {REAL, 0, 0, 0, 0};
+    take(fd, slot, 0);
+}
+
+static void set_free(int fd)
+{
+    struct slot slot = {FREE, 0, 0, 0, 0};
+    take(fd, slot, 0);
+}
+
+/* Files have numbers by the names that they were opened by, and pipes of their own. */
+static uint64_t inode_of_name(const char *name)
+{
+    uint64_t hash = UINT64_C(14695981039346656037);
+    for (; *name; name++)
+        hash = (hash ^ (unsigned char)*name) * UINT64_C(1099511628211);
+    return (hash & INT32_MAX) + 1;
+}
+
+static uint64_t inode_of_pipe(void)
+{
+    static uint32_t pipes;
+    uint32_t number = process ? (uint32_t)process->number : native_number;
+    return (UINT64_C(1) << 31) + ((uint64_t)number << 20) + pipes++;
+}
+
+/* ---- asking */
+
+/* Makes a call that is not logged. An answer that is none ends the program. */
+static int64_t ask_aside(struct fdref_act act, void *buffer, uint64_t most)
+{
+    int64_t value = process ? fdref_ask(process, act, buffer, most) : -1;
+    const char *word = words[act.kind - FDREF_OPEN];
+    int error = errno, refusal = process ? fdref_refusal(process) : FDREF_LOST;
+    if (value >= 0 || refusal <= FDREF_UNSENT)
+        return value;
+    if (!process)
+        end_with(NO_ANSWER, "%s after the exit", word);
+    if (refusal == FDREF_LOST)
+        end_with(NO_ANSWER, "the connection is lost in %s: %s", word, strerror(error));
+    log_line(NULL, act, NULL, fdref_refusals[refusal - FDREF_NO_MEMORY].name);
+    end_with(NO_ANSWER, "%s is refused: %s", word, fdref_refusals[refusal - FDREF_NO_MEMORY].name);
+}
+
+/* Makes a call, and logs what it came to. */
+static int64_t ask_most(struct fdref_act act, void *buffer, uint64_t most)
+{
+    int64_t value = ask_aside(act, buffer, most);
+    int error = errno;
+    if (fdref_refusal(process) == FDREF_RECORDED)
+        log_line(&process->place, act, &process->outcome, NULL);
+    errno = error;
+    return value;
+}
+
+static int64_t ask(struct fdref_act act) { return ask_most(act, NULL, INT_MAX); }
+
+/* Logs what the system answered, if fdref could be asked, and hands that on. */
+static int64_t note(struct fdref_act act, struct fdref_outcome outcome, int64_t value)
+{
+    int error = errno;
+    const char *name = act.name ? act.name : "", *new_name = act.new_name ? act.new_name : "";
+    if (strlen(name) <= FDREF_NAME_MOST && strlen(new_name) <= FDREF_NAME_MOST)
+        log_line(NULL, act, value < 0 ? (outcome = fdref_error(error), &outcome) : &outcome, NULL);
+    errno = error;
+    return value;
+}
+
+/* The same of a call that gives a number, or nothing. */
+static int64_t noted(struct fdref_act act, int64_t value)
+{
+    int is_number = fdref_calls[act.kind - FDREF_OPEN].gives == FDREF_NUMBER;
+    int error = errno;
+    enter();
+    errno = error;
+    return left(note(act, is_number ? fdref_number((uint64_t)value) : fdref_done(), value));
+}
+
+/* ---- placeholders, by which fdref holds the numbers of real files */
+
+/* A new file without a name, at the lowest free descriptor. */
+static int fresh(void)
+{
+    char name[FDREF_NAME_MOST];
+    int fd, error;
+    snprintf(name, sizeof name, "fdref-preload-p%ld", (long)process->number);
+    fd = (int)ask_aside(fdref_act_open(name, O_RDWR | O_CREAT | O_EXCL), NULL, NUMBERS);
+    error = errno;
+    if (fd >= 0)
+        ask_aside(fdref_act_unlink(name), NULL, 0);
+    errno = error;
+    return fd;
+}
+
+/* A placeholder at the lowest free descriptor. */
+static int hold(void)
+{
+    int other = any_real();
+    return other >= 0 ? (int)ask_aside(fdref_act_dup(other), NULL, NUMBERS) : fresh();
+}
+
+/* A placeholder at this descriptor, whatever is there. */
+static int64_t hold_at(int fd)
+{
+    int other = any_real(), made;
+    if (slots[fd].held == REAL)
+        return 0;
+    if (other >= 0)
+        return ask_aside(fdref_act_dup2(other, fd), NULL, NUMBERS);
+    if (slots[fd].held == OURS)
+        ask_aside(fdref_act_close(fd), NULL, 0);
+    made = fresh();
+    if (made < 0 || made == fd)
+        return made;
+    ask_aside(fdref_act_dup2(made, fd), NULL, NUMBERS);
+    return ask_aside(fdref_act_close(made), NULL, 0);
+}
+
+/* Takes a number in the kernel, by what can neither be read nor written, and leads to no folder. */
+static void make_blank(int fd)
+{
+    if (system_dup3(blank, fd, O_CLOEXEC) < 0)
+        end_with(NO_ANSWER, "descriptor %d cannot be held: %s", fd, strerror(errno));
+}
+
+/* Gives a file of the kernel the number that fdref gives, in place of the one that it has. */
+static int adopt(int high, int is_cloexec)
+{
+    int fd = hold(), error = errno;
+    if (fd >= 0 && system_dup3(high, fd, is_cloexec ? O_CLOEXEC : 0) < 0)
+        end_with(NO_ANSWER, "descriptor %d cannot be made: %s", fd, strerror(errno));
+    take_real(fd);
+    system_close(high);
+    errno = error;
+    return fd;
+}
+
+/* ---- files by their names */
+
+/* What fdref tells of a file, and the number that it has here. */
+struct file {
+    struct fdref_stat stat;
+    uint64_t inode;
+};
+
+/* A name that cannot be opened for reading and writing, though it may be one, is that of a FIFO. */
+static int is_fifo(const char *name)
+{
+    static const char portable[] = "ABCDEFGHIJKLMNOPQRSTUVWXYZabcdefghijklmnopqrstuvwxyz0123456789._-";
+    return errno == EINVAL && name[strspn(name, portable)] == 0;
+}
+
+static int64_t look_by_name(const char *name, struct file *file)
+{
+    struct fdref_stat fifo = {FDREF_KIND_FIFO, 0, 1};
+    int fd = (int)ask_aside(fdref_act_open(name, O_RDWR), NULL, NUMBERS);
+    file->inode = inode_of_name(name);
+    file->stat = fifo;
+    if (fd < 0)
+        return is_fifo(name) ? 0 : -1;
+    ask_aside(fdref_act_fstat(fd), NULL, 0);
+    file->stat = process->outcome.stat;
+    ask_aside(fdref_act_close(fd), NULL, 0);
+    return 0;
+}
+
+/* ---- beginning and ending */
+
+/* The exit is recorded when this returns. Where another thread waits in a call it comes with the end of the program. */
+static void end(void)
+{
+    if (how != ASKED || (is_held && pthread_equal(owner, pthread_self())) || pthread_mutex_trylock(&mutex) != 0)
+        return;
+    how = ENDED;
+    fdref_exit(process);
+    process = NULL;
+    pthread_mutex_unlock(&mutex);
+}
+
+static void end_at_exit(void *unused)
+{
+    (void)unused;
+    end();
+}
+
+static void end_quickly(void) { end(); }
+
+/* Every number below NUMBERS is taken in the kernel; fdref holds those that the program has open. */
+static void take_numbers(void)
+{
+    int made = fresh(), is_wanted = 0;
+    blank = hidden(system_open("/dev/null", O_PATH | O_CLOEXEC));
+    if (made != 0 || blank < NUMBERS)
+        end_with(NO_ANSWER, "descriptors cannot be held");
+    for (int fd = 0; fd < NUMBERS; fd++) {
+        if (!is_open_in_kernel(fd)) {
+            make_blank(fd);
+            continue;
+        }
+        is_wanted = is_wanted || fd == 0;
+        take_real(fd);
+        if (fd != 0)
+            ask_aside(fdref_act_dup2(0, fd), NULL, NUMBERS);
+    }
+    if (!is_wanted)
+        ask_aside(fdref_act_close(0), NULL, 0);
+}
+
+static void join(void)
+{
+    raise_limit();
+    is_joining = 1;
+    process = fdref_join_within(socket_path, 1);
+    is_joining = 0;
+    if (!process)
+        end_with(NO_ANSWER, "no server at %s: %s", socket_path, strerror(errno));
+    process->socket = hidden(process->socket);
+    take_numbers();
+    __cxa_atexit(end_at_exit, NULL, NULL);
+    at_quick_exit(end_quickly);
+}
+
+static void open_log(const char *path)
+{
+    int fd = system_open(path, O_WRONLY | O_CREAT | O_APPEND | O_CLOEXEC, 0666);
+    if (fd < 0)
+        end_with(NO_ANSWER, "the log %s cannot be opened: %s", path, strerror(errno));
+    log_file = hidden(fd);
+}
+
+/* A shared number, from which each process takes the next one. */
+static void share_numbers(void)
+{
+    void *shared = mmap(NULL, sizeof *next_number, PROT_READ | PROT_WRITE, MAP_SHARED | MAP_ANONYMOUS, -1, 0);
+    if (shared == MAP_FAILED)
+        end_with(NO_ANSWER, "no shared memory: %s", strerror(errno));
+    next_number = (uint32_t *)shared;
+    *next_number = 1;
+}
+
+/* Begins where that was not done yet. */
+static void prepare(void)
+{
+    const char *socket_named, *log_named, *strict;
+    int error = errno;
+    if (how != UNKNOWN)
+        return;
+    find_all();
+    socket_named = getenv("FDREF_SOCKET");
+    log_named = getenv("FDREF_LOG");
+    strict = getenv("FDREF_STRICT");
+    is_strict = strict && strcmp(strict, "1") == 0;
+    how = socket_named ? ASKED : log_named ? NATIVE : OFF;
+    if (log_named)
+        open_log(log_named);
+    if (how == NATIVE)
+        share_numbers();
+    if (how == ASKED) {
+        snprintf(socket_path, sizeof socket_path, "%s", socket_named);
+        join();
+    }
+    errno = error;
+}
+
+__attribute__((constructor)) static void prepare_at_load(void) { prepare(); }
+
+/* ---- ways */
+
+/* PASS: the call is the system's alone. NOTE: the same, and logged. ASK: it is asked of fdref. */
+enum way { PASS, NOTE, ASK };
+
+static enum way way_of_ours(void) { return how == OFF ? PASS : how == NATIVE ? NOTE : ASK; }
+
+/* The way of a call with a descriptor. In a native run the kernel knows best which are open. */
+static enum way way_of(int fd)
+{
+    int error = errno;
+    prepare();
+    if (how == OFF || fd >= NUMBERS)
+        return PASS;
+    if (how == NATIVE && fd >= 0 && slots[fd].held != OURS)
+        slots[fd].held = is_open_in_kernel(fd) ? REAL : FREE;
+    errno = error;
+    return fd >= 0 && slots[fd].held == REAL ? PASS : way_of_ours();
+}
+
+/* The name as fdref has it, or NULL where it leads elsewhere, and is the kernel's. */
+static const char *plain(const char *name)
+{
+    const char *rest = name;
+    if (!name)
+        return NULL;
+    while (rest[0] == '.' && rest[1] == '/')
+        for (rest += 2; *rest == '/';)
+            rest++;
+    if ((rest != name && *rest == 0) || strchr(rest, '/') || strcmp(rest, ".") == 0 || strcmp(rest, "..") == 0)
+        return NULL;
+    return rest;
+}
+
+/* The way of a call with a name, from which `./` is taken. */
+static enum way way_of_name(const char **name)
+{
+    const char *rest = plain(*name);
+    prepare();
+    if (!rest || how == OFF)
+        return PASS;
+    *name = rest;
+    return way_of_ours();
+}
+
+/* The same of a name in a folder. */
+static enum way way_in(int folder, const char **name)
+{
+    prepare();
+    return folder == AT_FDCWD ? way_of_name(name) : PASS;
+}

@@ -1,0 +1,336 @@
+/* Makes each call that the library of clients/preload answers, and checks what it gives. It runs in an empty folder, by
+   itself or with the library, with the descriptors 0, 1 and 2 alone. It has three children. The line of each check that
+   fails is printed, and the status is 1 then. */
+
+#include "preload.h"
+
+enum { LARGE_SIZE = 66000 };
+
+static char bytes[LARGE_SIZE], large[LARGE_SIZE];
+
+#ifdef __GLIBC__
+int __open_2(const char *name, int flags);
+int __open64_2(const char *name, int flags);
+int __openat_2(int folder, const char *name, int flags);
+int __openat64_2(int folder, const char *name, int flags);
+ssize_t __read_chk(int fd, void *buffer, size_t count, size_t room);
+ssize_t __pread_chk(int fd, void *buffer, size_t count, off_t offset, size_t room);
+ssize_t __pread64_chk(int fd, void *buffer, size_t count, off64_t offset, size_t room);
+ssize_t __read(int fd, void *buffer, size_t count);
+ssize_t __write(int fd, const void *data, size_t count);
+ssize_t __pread64(int fd, void *buffer, size_t count, off64_t offset);
+ssize_t __pwrite64(int fd, const void *data, size_t count, off64_t offset);
+int __open(const char *name, int flags, ...);
+int __open64(const char *name, int flags, ...);
+int __close(int fd);
+off_t __lseek(int fd, off_t offset, int whence);
+int __fcntl(int fd, int command, ...);
+int __dup2(int fd, int to);
+int __pipe(int ends[2]);
+#endif
+
+static void closes(int first, int last)
+{
+    for (int fd = first; fd <= last; fd++)
+        GIVES(close(fd), 0);
+}
+
+static void opens(void)
+{
+    GIVES(open("a", O_RDWR | O_CREAT | O_EXCL, 0600), 3);
+    GIVES(openat(AT_FDCWD, "./a", O_RDONLY | O_NOCTTY | O_NOFOLLOW), 4);
+    GIVES(open(".//.///a", O_WRONLY | O_SYNC | O_DSYNC), 5);
+    GIVES(creat("b", 0600), 6);
+    closes(3, 6);
+    FAILS(open("none", O_RDONLY), ENOENT);
+    FAILS(open("", O_RDONLY), ENOENT);
+    FAILS(open("a", O_RDWR | O_CREAT | O_EXCL, 0600), EEXIST);
+    FAILS(close(3), EBADF);
+    FAILS(close(-1), EBADF);
+    errno = 0;
+}
+
+static void moves(void)
+{
+    struct iovec parts[] = {{bytes, 2}, {NULL, 0}, {bytes + 10, 5}};
+    int fd = open("a", O_RDWR | O_CREAT | O_TRUNC, 0600);
+    GIVES(write(fd, "hello", 5), 5);
+    GIVES(write(fd, NULL, 0), 0);
+    GIVES(lseek(fd, -3, SEEK_END), 2);
+    GIVES(read(fd, bytes, 9), 3);
+    CHECK(memcmp(bytes, "llo", 3) == 0);
+    GIVES(read(fd, bytes, 9), 0);
+    GIVES(pread(fd, bytes, 3, 1), 3);
+    CHECK(memcmp(bytes, "ell", 3) == 0);
+    GIVES(pwrite(fd, "!!", 2, 6), 2);
+    GIVES(lseek(fd, 0, SEEK_SET), 0);
+    GIVES(readv(fd, parts, 3), 7);
+    CHECK(memcmp(bytes, "he", 2) == 0 && memcmp(bytes + 10, "llo\0!", 5) == 0);
+    GIVES(writev(fd, parts, 3), 7);
+    GIVES(lseek(fd, 0, SEEK_CUR), 14);
+    GIVES(pread(fd, bytes, 99, 6), 8);
+    CHECK(memcmp(bytes, "!hello\0!", 8) == 0);
+    GIVES(readv(fd, parts, 0), 0);
+    GIVES(ftruncate(fd, 4), 0);
+    GIVES(pread(fd, bytes, 99, 0), 4);
+    GIVES(close(fd), 0);
+}
+
+static void errors(void)
+{
+    struct iovec part = {bytes, 4}, wrong[] = {{bytes, SSIZE_MAX}, {bytes, SSIZE_MAX}};
+    int reading = open("a", O_RDONLY), writing = open("a", O_WRONLY | O_APPEND);
+    volatile int none = -1;
+    FAILS(write(reading, "x", 1), EBADF);
+    FAILS(writev(reading, &part, 1), EBADF);
+    FAILS(read(writing, bytes, 1), EBADF);
+    FAILS(readv(writing, &part, 1), EBADF);
+    FAILS(readv(reading, &part, none), EINVAL);
+    FAILS(readv(reading, wrong, 2), EINVAL);
+    FAILS(pread(reading, bytes, 1, -1), EINVAL);
+    FAILS(lseek(reading, -1, SEEK_SET), EINVAL);
+    FAILS(lseek(reading, 0, 99), EINVAL);
+    FAILS(ftruncate(reading, 0), EINVAL);
+    FAILS(ftruncate(writing, -1), EINVAL);
+    FAILS(read(9, bytes, 1), EBADF);
+    FAILS(write(-5, bytes, 1), EBADF);
+    FAILS(lseek(9, 0, SEEK_SET), EBADF);
+    FAILS(dup(9), EBADF);
+    FAILS(dup2(9, 4), EBADF);
+    FAILS(dup2(reading, -1), EBADF);
+    FAILS(dup3(reading, reading, 0), EINVAL);
+    FAILS(dup3(reading, 9, O_APPEND), EINVAL);
+    FAILS(fcntl(9, F_DUPFD, 5), EBADF);
+    FAILS(fcntl(9, F_DUPFD, 0), EBADF);
+    FAILS(fcntl(reading, F_DUPFD, -1), EINVAL);
+    FAILS(fcntl(9, F_GETFD), EBADF);
+    FAILS(fcntl(9, F_GETFL), EBADF);
+    FAILS(fsync(9), EBADF);
+    errno = 0;
+    GIVES(write(writing, "ab", 2), 2);
+    GIVES(lseek(writing, 0, SEEK_CUR), 6);
+    closes(reading, writing);
+}
+
+/* More than fdref moves in one call. */
+static void large_transfers(void)
+{
+    struct iovec parts[] = {{bytes, 100}, {bytes + 100, LARGE_SIZE - 100}};
+    int fd = open("large", O_RDWR | O_CREAT, 0600);
+    for (size_t at = 0; at < LARGE_SIZE; at++)
+        large[at] = (char)(at * 7 % 251);
+    GIVES(write(fd, large, LARGE_SIZE), LARGE_SIZE);
+    GIVES(pread(fd, bytes, LARGE_SIZE, 1), LARGE_SIZE - 1);
+    CHECK(memcmp(bytes, large + 1, LARGE_SIZE - 1) == 0);
+    GIVES(lseek(fd, 0, SEEK_SET), 0);
+    GIVES(readv(fd, parts, 2), LARGE_SIZE);
+    CHECK(memcmp(bytes, large, LARGE_SIZE) == 0);
+    GIVES(ftruncate(fd, 65536), 0);
+    GIVES(lseek(fd, 0, SEEK_SET), 0);
+    GIVES(read(fd, bytes, LARGE_SIZE), 65536);
+    GIVES(pwrite(fd, large, LARGE_SIZE, 65535), LARGE_SIZE);
+    GIVES(close(fd), 0);
+}
+
+static void duplicates(void)
+{
+    int fd = open("a", O_RDWR | O_APPEND | O_CLOEXEC);
+    GIVES(fd, 3);
+    GIVES(fcntl(fd, F_GETFD), FD_CLOEXEC);
+    GIVES(dup(fd), 4);
+    GIVES(fcntl(4, F_GETFD), 0);
+    GIVES(fcntl(4, F_SETFD, FD_CLOEXEC), 0);
+    GIVES(fcntl(4, F_GETFD), FD_CLOEXEC);
+    GIVES(ioctl(4, FIONCLEX), 0);
+    GIVES(fcntl(4, F_GETFD), 0);
+    GIVES(dup2(fd, 9), 9);
+    GIVES(dup2(fd, fd), fd);
+    GIVES(fcntl(fd, F_GETFD), FD_CLOEXEC);
+    GIVES(dup3(fd, 10, O_CLOEXEC), 10);
+    GIVES(fcntl(10, F_GETFD), FD_CLOEXEC);
+    GIVES(fcntl(fd, F_DUPFD, 9), 11);
+    GIVES(fcntl(fd, F_DUPFD, 0), 5);
+    GIVES(fcntl(fd, F_DUPFD_CLOEXEC, 20), 20);
+    GIVES(fcntl(20, F_GETFD), FD_CLOEXEC);
+    CHECK((fcntl(20, F_GETFL) & (O_ACCMODE | O_APPEND | O_NONBLOCK)) == (O_RDWR | O_APPEND));
+    GIVES(fcntl(20, F_SETFL, O_APPEND), 0);
+    GIVES(lseek(fd, 1, SEEK_SET), 1);
+    GIVES(lseek(20, 0, SEEK_CUR), 1);
+    CHECK(isatty(fd) == 0 && errno == ENOTTY);
+    errno = 0;
+    GIVES(fsync(fd), 0);
+    GIVES(fdatasync(fd), 0);
+    closes(3, 5);
+    closes(9, 11);
+    GIVES(close(20), 0);
+}
+
+static void pipes(void)
+{
+    int ends[2], others[2];
+    GIVES(pipe(ends), 0);
+    GIVES(ends[0] * 100 + ends[1], 304);
+    GIVES(pipe2(others, O_CLOEXEC), 0);
+    GIVES(others[0] * 100 + others[1], 506);
+    GIVES(fcntl(5, F_GETFD), FD_CLOEXEC);
+    CHECK((fcntl(5, F_GETFL) & O_ACCMODE) == O_RDONLY && (fcntl(6, F_GETFL) & O_ACCMODE) == O_WRONLY);
+    GIVES(write(4, "xyz", 3), 3);
+    GIVES(read(3, bytes, 2), 2);
+    GIVES(close(4), 0);
+    GIVES(read(3, bytes, 2), 1);
+    GIVES(read(3, bytes, 2), 0);
+    FAILS(lseek(3, 0, SEEK_CUR), ESPIPE);
+    FAILS(pread(3, bytes, 1, 0), ESPIPE);
+    errno = 0;
+    GIVES(close(3), 0);
+    closes(5, 6);
+}
+
+static void names(void)
+{
+    GIVES(mkfifo("f", 0600), 0);
+    FAILS(mkfifoat(AT_FDCWD, "./f", 0600), EEXIST);
+    errno = 0;
+    GIVES(link("a", "c"), 0);
+    GIVES(linkat(AT_FDCWD, "c", AT_FDCWD, "d", 0), 0);
+    FAILS(link("a", "c"), EEXIST);
+    FAILS(link("none", "e"), ENOENT);
+    FAILS(link("/dev/null", "e"), EXDEV);
+    FAILS(link("a", "/dev/none"), EXDEV);
+    errno = 0;
+    GIVES(unlink("c"), 0);
+    GIVES(unlinkat(AT_FDCWD, "d", 0), 0);
+    GIVES(remove("b"), 0);
+    FAILS(unlink("b"), ENOENT);
+    FAILS(remove("b"), ENOENT);
+    FAILS(open("f", O_WRONLY | O_NONBLOCK), ENXIO);
+    errno = 0;
+    GIVES(open("f", O_RDONLY | O_NONBLOCK), 3);
+    GIVES(read(3, bytes, 1), 0);
+    GIVES(open("f", O_WRONLY | O_NONBLOCK), 4);
+    FAILS(read(3, bytes, 1), EAGAIN);
+    errno = 0;
+    closes(3, 4);
+}
+
+/* What is told of a file by its name, and of its descriptor. */
+static void looks(void)
+{
+    struct stat one, other;
+    struct stat64 large_one;
+    struct statx further;
+    int fd = open("a", O_RDWR);
+    GIVES(truncate("a", 6), 0);
+    GIVES(stat("a", &one), 0);
+    GIVES(fstat(fd, &other), 0);
+    CHECK(S_ISREG(one.st_mode) && one.st_size == 6 && one.st_nlink == 1 && one.st_blksize == 4096);
+    CHECK(one.st_ino == other.st_ino && one.st_dev == other.st_dev && other.st_size == 6 && S_ISREG(other.st_mode));
+    GIVES(lstat("f", &one), 0);
+    CHECK(S_ISFIFO(one.st_mode) && one.st_ino != other.st_ino && one.st_size == 0 && one.st_nlink == 1);
+    GIVES(fstatat(AT_FDCWD, "./a", &one, 0), 0);
+    GIVES(fstatat(fd, "", &other, AT_EMPTY_PATH), 0);
+    CHECK(one.st_ino == other.st_ino && one.st_size == 6);
+    GIVES(stat64("a", &large_one), 0);
+    CHECK(large_one.st_size == 6);
+    GIVES(fstat64(fd, &large_one), 0);
+    GIVES(lstat64("a", &large_one), 0);
+    GIVES(fstatat64(AT_FDCWD, "a", &large_one, 0), 0);
+    CHECK(large_one.st_ino == other.st_ino && S_ISREG(large_one.st_mode));
+    GIVES(statx(AT_FDCWD, "a", 0, STATX_BASIC_STATS, &further), 0);
+    CHECK(S_ISREG(further.stx_mode) && further.stx_size == 6 && further.stx_nlink == 1);
+    CHECK(further.stx_ino == other.st_ino);
+    GIVES(access("a", F_OK), 0);
+    GIVES(faccessat(AT_FDCWD, "a", R_OK | W_OK, 0), 0);
+    GIVES(access("/dev/null", W_OK), 0);
+    GIVES(stat("/dev/null", &one), 0);
+    CHECK(S_ISCHR(one.st_mode));
+    FAILS(access("none", F_OK), ENOENT);
+    FAILS(access("a", X_OK), EACCES);
+    FAILS(stat("none", &one), ENOENT);
+    FAILS(stat("", &one), ENOENT);
+    FAILS(truncate("none", 1), ENOENT);
+    FAILS(truncate("a", -1), EINVAL);
+    FAILS(truncate("f", 1), EINVAL);
+    FAILS(open("a", O_RDONLY | O_DIRECTORY), ENOTDIR);
+    FAILS(open("none", O_RDONLY | O_DIRECTORY), ENOENT);
+    FAILS(fstat(9, &one), EBADF);
+    errno = 0;
+    GIVES(close(fd), 0);
+}
+
+static void forks(void)
+{
+    int fd = open("a", O_RDWR), ends[2];
+    pid_t child;
+    GIVES(pipe(ends), 0);
+    child = fork();
+    if (child == 0) {
+        CHECK(lseek(fd, 2, SEEK_SET) == 2);
+        _exit(5);
+    }
+    CHECK(status_of(child) == 5);
+    GIVES(lseek(fd, 0, SEEK_CUR), 2);
+    child = vfork();
+    if (child == 0)
+        _Exit(write(ends[1], "x", 1) == 1 ? 6 : 7);
+    CHECK(status_of(child) == 6);
+    child = fork();
+    if (child == 0)
+        exit(write(ends[1], "y", 1) == 1 ? 8 : 9);
+    CHECK(status_of(child) == 8);
+    GIVES(read(ends[0], bytes, 9), 2);
+    closes(3, 5);
+}
+
+/* The names of 64 bits, and what glibc calls itself. */
+static void further_names(void)
+{
+    int ends[2];
+    GIVES(open64("g", O_RDWR | O_CREAT, 0600), 3);
+    GIVES(openat64(AT_FDCWD, "g", O_RDWR), 4);
+    GIVES(creat64("h", 0600), 5);
+    GIVES(pwrite64(3, "hello", 5, 0), 5);
+    GIVES(pread64(4, bytes, 9, 1), 4);
+    GIVES(lseek64(3, 2, SEEK_SET), 2);
+    GIVES(ftruncate64(3, 4), 0);
+    GIVES(truncate64("g", 4), 0);
+    closes(3, 5);
+#ifdef __GLIBC__
+    GIVES(__open_2("g", O_RDWR), 3);
+    GIVES(__open64_2("g", O_RDWR), 4);
+    GIVES(__openat_2(AT_FDCWD, "g", O_RDWR), 5);
+    GIVES(__openat64_2(AT_FDCWD, "g", O_RDWR), 6);
+    GIVES(__read_chk(3, bytes, 9, sizeof bytes), 4);
+    GIVES(__pread_chk(3, bytes, 9, 1, sizeof bytes), 3);
+    GIVES(__pread64_chk(3, bytes, 9, 2, sizeof bytes), 2);
+    GIVES(__read(4, bytes, 1), 1);
+    GIVES(__write(4, "z", 1), 1);
+    GIVES(__pread64(4, bytes, 9, 0), 4);
+    GIVES(__pwrite64(4, "z", 1, 0), 1);
+    GIVES(__open("g", O_RDWR), 7);
+    GIVES(__open64("i", O_RDWR | O_CREAT, 0600), 8);
+    GIVES(__lseek(8, 3, SEEK_SET), 3);
+    GIVES(__fcntl(8, F_DUPFD, 0), 9);
+    GIVES(__dup2(8, 7), 7);
+    GIVES(__pipe(ends), 0);
+    GIVES(__close(ends[0]), 0);
+    GIVES(__close(ends[1]), 0);
+    closes(3, 9);
+#endif
+}
+
+int main(void)
+{
+    errno = 0;
+    opens();
+    moves();
+    errors();
+    large_transfers();
+    duplicates();
+    pipes();
+    names();
+    looks();
+    forks();
+    further_names();
+    return failures > 0;
+}

@@ -1,0 +1,249 @@
+"""Programs of tests/c with the library of clients/preload: what they are given natively, and by a server."""
+
+import errno
+import os
+import select
+import signal
+import subprocess
+import threading
+import time
+from collections.abc import Iterator, Sequence
+from functools import partial
+
+from parts.preload_builds import (
+    LEFT_OUT,
+    NO_ANSWER,
+    Given,
+    Library,
+    agree,
+    asking,
+    empty_folder,
+    ended,
+    environment,
+    listens,
+    natively,
+    started,
+)
+from support.counting import Case, require, same
+from support.running import Ran, run
+from support.serving import A_WHILE, ALL_RECORDS, SECONDS, Process, Server, outcome_of
+
+# A program, its words, how many processes it is, and what a shell does before.
+PROGRAMS: list[tuple[str, list[str], int, str]] = [
+    ("preload_calls", [], 4, ""),
+    ("preload_forks", [], 7, ""),
+    ("preload_numbers", ["mixed"], 1, ""),
+    ("preload_numbers", ["full"], 1, "ulimit -S -n 32"),
+    ("preload_numbers", ["closed"], 1, "exec <&-"),
+]
+SAYS = {"preload_forks": b"said\n", "preload_numbers mixed": b"said\n"}
+
+# More than a trace has before the calls that a server is to see.
+MANY_BYTES = 5_000
+
+# Ways to end, the status of each, and what the program writes before.
+ENDS = {
+    "exit": (7, b""),
+    "_exit": (7, b""),
+    "_Exit": (7, b""),
+    "quick_exit": (7, b""),
+    "abort": (-signal.SIGABRT, b""),
+    "broken pipe": (-signal.SIGPIPE, b""),
+    "broken pipe, heard": (errno.EPIPE, b"signal\n"),
+    "broken pipe, ignored": (errno.EPIPE, b""),
+}
+
+NAMES = [
+    "fopen", "freopen", "rename", "renameat", "symlink", "readlink", "mkdir", "rmdir", "unlinkat of a directory",
+    "opendir", "mkstemp", "mknod", "chmod", "chown", "utimensat", "chdir", "open with other flags",
+    "pipe2 with other flags", "execve", "execv", "execvp", "execl", "execle", "execlp", "system", "popen",
+    "posix_spawn", "posix_spawnp",
+]  # fmt: skip
+DESCRIPTORS = [
+    "fdopen", "mmap", "ioctl", "flock", "lockf", "sendfile", "copy_file_range", "splice", "preadv", "pwritev",
+    "fallocate", "fchmod", "fchown", "futimens", "fcntl with F_SETFL", "fcntl with another command", "poll", "ppoll",
+    "select", "pselect", "epoll_ctl",
+]  # fmt: skip
+SEEK = "lseek by SEEK_DATA and its kin"
+
+
+def both(program: str, library: Library, name: str, words: Sequence[str], sessions: int, before: str) -> None:
+    """A program is given the same natively and by a server, which records what is logged."""
+    command = [library.program(name), *words]
+    native = natively(library, command, before)
+    same(Ran(0, SAYS.get(" ".join([name, *words]), b""), b""), native.ran)
+    require(native.log, "nothing is logged")
+    with Server(program, sessions) as server:
+        asked = asking(library, server, command, (), before)
+        agree(native, asked)
+        ended(server, sessions, asked.log)
+
+
+def changes_nothing(library: Library) -> None:
+    """Without a server and a log the library changes nothing: a program makes its files."""
+    with empty_folder() as folder:
+        words = [*environment(library, []), library.program("preload_numbers"), "mixed"]
+        same(Ran(0, b"said\n", b""), run(words, folder=folder))
+        same(["a", "b", "c"], sorted(os.listdir(folder)))
+
+
+def ends(program: str, library: Library, word: str) -> None:
+    """A program ends in one way, and its exit is recorded."""
+    command = [library.program("preload_ends"), word]
+    native = natively(library, command)
+    status, stdout = ENDS[word]
+    same(Ran(status, stdout, b""), native.ran)
+    with Server(program, 1) as server:
+        asked = asking(library, server, command)
+        agree(native, asked)
+        ended(server, 1, asked.log)
+
+
+def is_interrupted(program: str, library: Library) -> None:
+    """A handler writes to a real file while a call waits. One that makes a call of fdref ends the program."""
+    command = [library.program("preload_ends"), "handler"]
+    native = natively(library, command)
+    with Server(program, 2) as server:
+        asked = asking(library, server, command)
+        same(Ran(0, b"signal\n", b""), asked.ran)
+        agree(native, asked)
+        ended(server, 2, asked.log)
+    with Server(program, 2) as server:
+        asked = asking(library, server, [*command[:1], "handler that calls"])
+        told = b"fdref: a handler of a signal makes a call while a call waits\n"
+        same(Ran(NO_ANSWER, b"", told), asked.ran)
+        ended(server, 2, asked.log)
+
+
+def says(process: Process, wanted: bytes, seconds: float) -> None:
+    """A program says this within a time."""
+    assert process.stdout
+    is_ready = select.select([process.stdout], [], [], seconds)[0]
+    same(wanted, os.read(process.stdout.fileno(), 99) if is_ready else b"")
+
+
+def exits_first(program: str, library: Library, way: str) -> None:
+    """A child has not ended before its exit is recorded: not while the server is stopped."""
+    with Server(program, 2) as server:
+        listens(server)
+        settings = [f"FDREF_SOCKET={server.path}"]
+        words = [*environment(library, settings), library.program("preload_ends"), f"child's {way}"]
+        pipe = subprocess.PIPE
+        with subprocess.Popen(words, stdin=pipe, stdout=pipe, stderr=pipe, start_new_session=True) as process:
+            try:
+                says(process, b"leaving\n", SECONDS)
+                server.process.send_signal(signal.SIGSTOP)
+                assert process.stdin
+                os.write(process.stdin.fileno(), b"!")
+                says(process, b"", A_WHILE)
+                server.process.send_signal(signal.SIGCONT)
+                says(process, b"gone\n", SECONDS)
+                same(0, process.wait(SECONDS))
+                same(0, outcome_of(server.process).status)
+            finally:
+                if process.poll() is None:
+                    os.killpg(process.pid, signal.SIGKILL)
+
+
+def leaves_out(program: str, library: Library) -> None:
+    """A program that has to be strict ends where fdref leaves something out, which is told."""
+    words = [*NAMES, *DESCRIPTORS, SEEK]
+    with Server(program, len(words), ALL_RECORDS) as server:
+        log: list[str] = []
+        for word in words:
+            given = asking(library, server, [library.program("preload_ends"), word], ["FDREF_STRICT=1"])
+            same(Ran(LEFT_OUT, b"", f"fdref: {word} is left out\n".encode()), given.ran)
+            log += given.log
+        ended(server, len(words), log)
+
+
+def refuses(program: str, library: Library) -> None:
+    """Of a program that need not be strict these calls fail, with descriptors of fdref."""
+    words = [*DESCRIPTORS, SEEK]
+    with Server(program, len(words), ALL_RECORDS) as server:
+        log: list[str] = []
+        for word in words:
+            given = asking(library, server, [library.program("preload_ends"), word])
+            wanted = errno.EINVAL if word == SEEK else errno.ENOSYS
+            require(given.ran == (wanted, b"", b""), f"{word}: {given.ran.said()}")
+            log += given.log
+        ended(server, len(words), log)
+
+
+def is_without_server(library: Library) -> None:
+    """Without a server the program does not begin."""
+    command = [library.program("preload_numbers"), "mixed"]
+    for path, why in (("/no/such/socket", errno.ENOENT), ("/dev/null", errno.ECONNREFUSED)):
+        given = started(library, command, [f"FDREF_SOCKET={path}"])
+        told = f"fdref: no server at {path}: {os.strerror(why)}\n".encode()
+        same(Given(Ran(NO_ANSWER, b"", told), []), given)
+    given = started(library, command, ["FDREF_LOG=/no/such/file"])
+    told = f"fdref: the log /no/such/file cannot be opened: {os.strerror(errno.ENOENT)}\n".encode()
+    same(Ran(NO_ANSWER, b"", told), given.ran)
+
+
+def is_full(program: str, library: Library) -> None:
+    """Where the run can have no more records, that is no answer."""
+    with Server(program, 1, 20) as server:
+        given = asking(library, server, [library.program("preload_ends"), "many calls"])
+        same(Ran(NO_ANSWER, b"", b"fdref: lseek is refused: RunFull\n"), given.ran)
+        same("- p0 lseek 3 0 set = refused RunFull", given.log[-1])
+        ended(server, 1, given.log)
+
+
+def has_recorded(server: Server) -> bool:
+    """Whether the trace of a server has many calls already."""
+    return os.path.exists(server.trace) and os.path.getsize(server.trace) > MANY_BYTES
+
+
+def vanishes(server: Server) -> None:
+    """Kills a server that has recorded many calls."""
+    until = time.monotonic() + SECONDS
+    while not has_recorded(server) and time.monotonic() < until:
+        time.sleep(0.01)
+    server.process.kill()
+
+
+def is_lost(program: str, library: Library) -> None:
+    """Where the server is gone, that is no answer."""
+    with Server(program, 1, ALL_RECORDS) as server:
+        killer = threading.Thread(target=vanishes, args=[server])
+        killer.start()
+        given = asking(library, server, [library.program("preload_ends"), "many calls"])
+        killer.join()
+        told = f"fdref: the connection is lost in lseek: {os.strerror(errno.ECONNRESET)}\n".encode()
+        same(Ran(NO_ANSWER, b"", told), given.ran)
+
+
+def goes_high(library: Library) -> None:
+    """A native run has its log though a program takes every high number."""
+    given = natively(library, [library.program("preload_numbers"), "high"], "ulimit -S -n 1024")
+    same(Ran(0, b"", b""), given.ran)
+    same([f"- p0 dup2 3 {fd} = {fd}" for fd in range(32, 1024)], [line for line in given.log if "dup2" in line])
+    same("- p0 dup 3 = 4", given.log[-1])
+
+
+def programs(program: str, library: Library) -> Iterator[Case]:
+    """What the programs are given."""
+    for name, words, sessions, before in PROGRAMS:
+        yield " ".join([name, *words, library.name]), partial(both, program, library, name, words, sessions, before)
+    yield f"high numbers, {library.name}", partial(goes_high, library)
+    yield f"neither server nor log, {library.name}", partial(changes_nothing, library)
+
+
+def endings(program: str, library: Library) -> Iterator[Case]:
+    """How programs end."""
+    for word in ENDS:
+        yield f"{word}, {library.name}", partial(ends, program, library, word)
+    for way in ("exit", "_exit", "_Exit", "quick_exit"):
+        yield f"a child's {way}, {library.name}", partial(exits_first, program, library, way)
+    yield f"handlers of signals, {library.name}", partial(is_interrupted, program, library)
+    yield f"no server, {library.name}", partial(is_without_server, library)
+    yield f"a run that is full, {library.name}", partial(is_full, program, library)
+    yield f"a server that is gone, {library.name}", partial(is_lost, program, library)
+
+
+def left_out(program: str, library: Library) -> Iterator[Case]:
+    """What fdref leaves out."""
+    yield f"told, {library.name}", partial(leaves_out, program, library)
+    yield f"refused, {library.name}", partial(refuses, program, library)
