@@ -698,6 +698,11 @@ def clipped(text: str) -> str:
     return text if len(text) <= 160 else text[:100] + "..." + text[-40:]
 
 
+def told_reason(reason: Reason | None) -> str:
+    """The reason of a difference, if it has one."""
+    return f"reason: {reason.name} ({reason.who}; {reason.page})" if reason else "reason: none"
+
+
 def told(difference: Difference) -> str:
     """A difference, with the lines before it and its reason."""
     before = difference.lines[max(difference.place - LINES_BEFORE, 0) : difference.place]
@@ -705,8 +710,7 @@ def told(difference: Difference) -> str:
     line = difference.lines[difference.place]
     parts += [f"system: {line.place} {line.act} = {difference.system}"]
     parts += [f"fdref:  {line.place} {line.act} = {difference.fdref}"]
-    reason = difference.reason
-    parts += [f"reason: {reason.name} ({reason.who}; {reason.page})" if reason else "reason: none"]
+    parts += [told_reason(difference.reason)]
     return "\n".join(map(clipped, parts))
 
 
@@ -823,13 +827,18 @@ def parse(words: Sequence[str]) -> argparse.Namespace:
     return args
 
 
-def check_all(args: argparse.Namespace, totals: Totals, driver: str) -> None:
-    """Compares all scripts that are asked for."""
-    program = shlex.split(args.program)
+def program_of(command: str) -> list[str]:
+    """The words of the command that runs fdref. The program of this tree has to be built."""
+    program = shlex.split(command)
     if program == [PROGRAM] and not os.path.exists(PROGRAM):
         ways = "'./fdref build' makes it; --program './fdref --unproved' takes the unproved one"
         raise CannotRun(f"no program at {PROGRAM}: {ways}")
-    asked = Asked(program, shlex.split(driver))
+    return program
+
+
+def check_all(args: argparse.Namespace, totals: Totals, driver: str) -> None:
+    """Compares all scripts that are asked for."""
+    asked = Asked(program_of(args.program), shlex.split(driver))
     for name, lines in scripts_in(args.paths):
         check_one(asked, totals, name, lines, False, args.keep)
     for number in range(args.first, args.first + args.random):

@@ -8,11 +8,11 @@ def shown(text: bytes, most: int = 60) -> str:
     return repr(text[:most])[1:] + ("..." if len(text) > most else "")
 
 
-def difference(wanted: bytes, given: bytes) -> str:
-    """The first line in which two outputs differ."""
+def difference(wanted: bytes, given: bytes, names: tuple[str, str] = ("wanted", "given")) -> str:
+    """The first line in which two outputs differ, which have these names."""
     for number, (one, other) in enumerate(zip(_lines(wanted), _lines(given), strict=False), 1):
         if one != other:
-            return f"line {number}: wanted {shown(one, 100)}, given {shown(other, 100)}"
+            return f"line {number}: {names[0]} {shown(one, 100)}, {names[1]} {shown(other, 100)}"
     return "no line differs"
 
 

@@ -1,0 +1,36 @@
+/* Does not end, or not with fdref, or leaves a process.
+
+   usage: judge_stays reads|fills|leaves
+
+   reads   reads its own empty pipe, in a child as well
+   fills   writes 2,000 bytes to its own pipe, for which fdref has no room
+   leaves  ends, and leaves a process in a session of its own */
+
+#define _POSIX_C_SOURCE 200809L
+
+#include <string.h>
+#include <unistd.h>
+
+static char bytes[2000];
+
+int main(int count, char **words)
+{
+    const char *what = count > 1 ? words[1] : "";
+    int ends[2];
+    if (pipe(ends) != 0)
+        return 1;
+    if (strcmp(what, "fills") == 0)
+        return write(ends[1], bytes, sizeof bytes) != (ssize_t)sizeof bytes;
+    pid_t child = fork();
+    if (child < 0)
+        return 1;
+    if (strcmp(what, "leaves") == 0 && child > 0)
+        return 0;
+    if (strcmp(what, "leaves") == 0) {
+        setsid();
+        close(0);
+        close(1);
+        close(2);
+    }
+    return read(ends[0], bytes, 1) != 0;
+}

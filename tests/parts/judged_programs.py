@@ -1,0 +1,283 @@
+"""Programs of tests/c that are judged by tools/judge.py: what it says of each, and that nothing is left."""
+
+import os
+import shlex
+import signal
+import subprocess
+import sys
+import time
+from collections.abc import Iterator
+from functools import partial
+from pathlib import Path
+from typing import NamedTuple
+
+from parts.c_programs import WARNINGS, compiles
+from support.counting import Case, require, same
+from support.places import C_TESTS, TOOLS, TOP
+from support.running import Ran, run
+
+JUDGE = TOOLS / "judge.py"
+SHIM = TOP / "clients" / "preload" / "fdref_preload.c"
+SECONDS = 60
+SESSIONS = ("--sessions", "8")
+GOING = 5.0
+A_LINE = "a line of its own\n"
+
+
+class Bench:
+    """A compiler, fdref, and folders: one for what is compiled, and one that is empty again after each judging."""
+
+    def __init__(self, compiler: str, program: str, folder: str) -> None:
+        self.compiler = compiler
+        self.program = program
+        self.folder = folder
+        self.scratch = os.path.join(folder, "scratch")
+        os.mkdir(self.scratch)
+
+    def path(self, name: str) -> str:
+        """A path in the folder of what is compiled."""
+        return os.path.join(self.folder, name)
+
+    def compiled(self, name: str) -> str:
+        """The path of a program of tests/c, which is compiled where it is not there yet."""
+        path = self.path(name)
+        if not os.path.exists(path):
+            compiles([self.compiler, "-std=c99", "-O2", *WARNINGS, str(C_TESTS / f"{name}.c"), "-o", path])
+        return path
+
+    def shim(self) -> str:
+        """The path of the shim, which is compiled where it is not there yet."""
+        path = self.path("libfdref_preload.so")
+        if not os.path.exists(path):
+            compiles([self.compiler, "-O2", "-shared", "-fPIC", "-o", path, str(SHIM), "-ldl"])
+        return path
+
+    def judged(self, *words: str, variables: tuple[str, ...] = ()) -> Ran:
+        """What judge.py says. It leaves no file, and no process that has this folder in its words."""
+        ran = run([*self.command(*variables), *words], seconds=SECONDS)
+        self.is_clean()
+        return ran
+
+    def command(self, *variables: str) -> list[str]:
+        """The command that runs judge.py."""
+        env = ["env", f"TMPDIR={self.scratch}", *variables]
+        return [*env, sys.executable, str(JUDGE), "--program", self.program, *SESSIONS]
+
+    def is_clean(self) -> None:
+        """Nothing is left, or it goes in a moment."""
+        same([], os.listdir(self.scratch))
+        until = time.monotonic() + GOING
+        while self.processes():
+            require(time.monotonic() < until, f"left: {self.processes()}")
+            time.sleep(0.01)
+
+    def processes(self) -> list[bytes]:
+        """The words of the processes that run with this folder in them."""
+        found = []
+        for number in filter(str.isdigit, os.listdir("/proc")):
+            try:
+                words = Path("/proc", number, "cmdline").read_bytes()
+            except OSError:
+                continue
+            found += [words] if os.fsencode(self.folder) in words else []
+        return found
+
+
+# ---- programs
+
+
+class Judged(NamedTuple):
+    """A program with its words, and what is said of it: the status, and lines that begin so, in this order."""
+
+    name: str
+    words: tuple[str, ...]
+    status: int
+    lines: tuple[str, ...]
+    options: tuple[str, ...] = ()
+
+
+APPENDS = "reason: pwrite under O_APPEND appends (the system departs; page of write (pwrite))"
+
+ROOM = "reason: room of a pipe (own; page of write)"
+NONE = "reason: none"
+SOON = ("--seconds", "2")
+NEITHER = "neither ended in 2 seconds: both were killed"
+WELL = "both ended with status 0"
+
+PROGRAMS = [
+    Judged("agrees", ("word",), 0, (WELL, "16 calls of 1 process: no answer differs", "audit: legal")),
+    Judged("family", (), 0, (WELL, "53 calls of 7 processes: no answer differs", "audit: legal")),
+    Judged(
+        "appends",
+        (),
+        0,
+        (
+            WELL,
+            "5 calls of 1 process: 1 answer differs",
+            "  5 p0 open a rw,creat,append = 3",
+            "  6 p0 write 3 x6f6c64 = 3",
+            "  7 p0 pwrite 3 0 x4e = 1",
+            "system: p0 pread 3 0 10 = x6f6c644e",
+            "fdref:  8 p0 pread 3 0 10 = x4e6c64",
+            APPENDS,
+            "       0 without a reason",
+            "audit: legal",
+        ),
+    ),
+    Judged(
+        "appends",
+        ("tell",),
+        1,
+        (WELL, r"standard output differs in line 1: system 'oldN\n', fdref 'Nld\n'", APPENDS, "audit: legal"),
+    ),
+    Judged("strays", ("call",), 1, (WELL, "  5 p0 open a rw,creat = 3", NONE, "       1 without a reason")),
+    Judged(
+        "strays",
+        ("answer",),
+        1,
+        (WELL, "system: p0 fstat 3 = regular 3 1", "fdref:  6 p0 fstat 3 = regular 0 1", NONE),
+        ("--before", "0"),
+    ),
+    Judged("strays", ("output",), 1, (WELL, "3 calls of 1 process: no answer differs")),
+    Judged("strays", ("leaves-out",), 0, (WELL, "3 calls of 1 process: no answer differs")),
+    Judged("stays", ("reads",), 3, (NEITHER, "2 calls of 2 processes: no answer differs"), SOON),
+    Judged(
+        "stays",
+        ("fills",),
+        1,
+        (
+            "system: ended with status 0",
+            "fdref:  did not end in 2 seconds, and was killed",
+            "  5 p0 pipe = 3 4",
+            "system: p0 write 4 00*2000 = 2000",
+            "fdref:  6 p0 write 4 00*2000 = parked 1024",
+            ROOM,
+        ),
+        SOON,
+    ),
+    Judged("stays", ("leaves",), 3, (NEITHER,), SOON),
+]
+
+
+def is_said(bench: Bench, judged: Judged) -> None:
+    """Just this is said of a program."""
+    program = bench.compiled(f"judge_{judged.name}")
+    ran = bench.judged("--shim", bench.shim(), *judged.options, program, *judged.words)
+    same((judged.status, b""), (ran.status, ran.stderr))
+    lines = ran.stdout.decode("ascii").splitlines()
+    rest = iter(lines)
+    for start in judged.lines:
+        is_there = any(line.startswith(start) for line in rest)
+        require(is_there, f"no line begins with {start!r} in its place in\n" + "\n".join(lines))
+
+
+def cases(bench: Bench) -> Iterator[Case]:
+    """Each program."""
+    for judged in PROGRAMS:
+        yield " ".join(["judge_" + judged.name, *judged.words]), partial(is_said, bench, judged)
+    yield "what is kept, and standard input", partial(is_kept, bench)
+    yield "the shim that is built for it", partial(builds_shim, bench)
+    yield "a trace that is not legal", partial(is_illegal, bench)
+
+
+def is_kept(bench: Bench) -> None:
+    """With --keep the logs and the trace are kept; with --stdin the program reads a file."""
+    into = bench.path("kept")
+    os.mkdir(into)
+    Path(bench.path("line")).write_text(A_LINE, encoding="ascii")
+    words = ["--shim", bench.shim(), "--keep", into, "--stdin", bench.path("line"), bench.compiled("judge_agrees")]
+    same(0, bench.judged(*words).status)
+    same(["fdref.log", "system.log", "trace"], sorted(os.listdir(into)))
+    data = f" x{A_LINE.encode().hex()} = {len(A_LINE)}\n"
+    for name in ("fdref.log", "system.log"):
+        require(data in Path(into, name).read_text(encoding="ascii"), f"{name} has no write of the line")
+    audit = run([bench.program, "audit", os.path.join(into, "trace")])
+    same((0, b""), (audit.status, audit.stderr))
+
+
+def builds_shim(bench: Bench) -> None:
+    """Where no shim is named it is compiled by $CC, and nothing of it is left."""
+    ran = bench.judged(bench.compiled("judge_agrees"), variables=(f"CC={bench.compiler}",))
+    same((0, b""), (ran.status, ran.stderr))
+
+
+def is_illegal(bench: Bench) -> None:
+    """A command of several words runs fdref. Where its audit finds a fault the two do not agree."""
+    script = 'test "$1" = audit && echo illegal 5 expected 3 && exit 7; exec "$0" "$@"'
+    program = shlex.join(["sh", "-c", script, bench.program])
+    ran = bench.judged("--shim", bench.shim(), "--strict", "--program", program, bench.compiled("judge_agrees"))
+    same((1, b""), (ran.status, ran.stderr))
+    lines = [WELL, "16 calls of 1 process: no answer differs", "audit: illegal 5 expected 3"]
+    same(lines, ran.stdout.decode("ascii").splitlines())
+
+
+# ---- what is refused
+
+WRONG_WORDS: list[tuple[str, ...]] = [
+    (),
+    ("--nothing", "true"),
+    ("--sessions", "0", "true"),
+    ("--sessions", "65", "true"),
+    ("--seconds", "0", "true"),
+    ("--before", "-1", "true"),
+    ("--stdin", "/no/such/file", "true"),
+    ("--shim", "/no/such/file", "true"),
+    ("--keep", "/no/such/folder", "true"),
+]
+
+
+def is_wrong(bench: Bench, words: tuple[str, ...]) -> None:
+    """Wrong words end with status 2, and tell why on standard error alone."""
+    ran = bench.judged(*words)
+    same((2, b""), (ran.status, ran.stdout))
+    require(ran.stderr.splitlines()[-1].startswith(b"judge.py: error: "), ran.said())
+
+
+def cannot_run(bench: Bench, words: tuple[str, ...], why: str, variables: tuple[str, ...]) -> None:
+    """What cannot be run ends with status 3, and tells why on standard error alone."""
+    ran = bench.judged(*words, variables=variables)
+    same((3, b"", f"judge.py: {why}\n"), (ran.status, ran.stdout, ran.stderr.decode("utf-8")))
+
+
+NO_CALLS = "made none of the calls that fdref knows, or does not load the shim, as a static program"
+
+
+def not_run(bench: Bench) -> Iterator[tuple[str, str, tuple[str, ...], tuple[str, ...]]]:
+    """What cannot be run or compared: its name, what is said of it, the words, and variables."""
+    agrees, shim = bench.compiled("judge_agrees"), ("--shim", bench.shim())
+    yield "a program that is not there", "no program ./nothing", (*shim, "./nothing"), ()
+    yield "a folder", "no program /tmp", (*shim, "/tmp"), ()
+    compiler = "no C compiler /no/cc: $CC names another one, and --shim a built library"
+    yield "no compiler", compiler, (agrees,), ("CC=/no/cc",)
+    yield "a server that ends", "no server: status 1: ", ("--program", "false", *shim, agrees), ()
+    nowhere = ("--program", "/no/fdref", *shim, agrees)
+    yield "no program of the server", "/no/fdref: No such file or directory", nowhere, ()
+    yield "no call", NO_CALLS, (*shim, "true"), ()
+    left_out = "uses what fdref leaves out: symlink"
+    yield "what is left out", left_out, ("--strict", *shim, bench.compiled("judge_strays"), "leaves-out"), ()
+    many = "has 7 processes, and the server takes 2 (--sessions, 64 at most)"
+    few = ("--sessions", "2", "--seconds", "2", *shim, bench.compiled("judge_family"))
+    yield "more processes than sessions", many, few, ()
+
+
+def ends_by_signal(bench: Bench) -> None:
+    """A signal ends judge.py, and all that it started."""
+    program = bench.compiled("judge_stays")
+    command = [*bench.command(), "--shim", bench.shim(), program, "reads"]
+    with subprocess.Popen(command, stdout=subprocess.DEVNULL, stderr=subprocess.DEVNULL) as judge:
+        until = time.monotonic() + SECONDS
+        while not any(words.startswith(os.fsencode(program)) for words in bench.processes()):
+            require(time.monotonic() < until and judge.poll() is None, "the program is not there")
+            time.sleep(0.01)
+        judge.terminate()
+        same(128 + signal.SIGTERM, judge.wait(SECONDS))
+    bench.is_clean()
+
+
+def refused(bench: Bench) -> Iterator[Case]:
+    """Wrong words, and programs that cannot be run."""
+    for words in WRONG_WORDS:
+        yield f"the words {words}", partial(is_wrong, bench, words)
+    for name, why, words, variables in not_run(bench):
+        yield name, partial(cannot_run, bench, words, why, variables)
+    yield "a signal", partial(ends_by_signal, bench)

@@ -1,0 +1,67 @@
+"""Logs of calls, as the shim writes them: the calls of each process in its order, whatever its number is.
+
+A line tells a call and the answer that ended it. Who came and went is not in a log, but for the forks.
+"""
+
+from typing import NamedTuple
+
+from support.counting import Failure
+from support.runs import Line, line_of
+
+# A process by its way from the first one: which child of which child it is.
+Way = tuple[int, ...]
+
+
+def read_lines(text: bytes) -> list[Line]:
+    """The whole lines of a log or of a trace that is shown."""
+    return [line_of(line) for line in text.decode("ascii", "replace").split("\n")[:-1]]
+
+
+def word_of(line: Line) -> str:
+    """The word of a line's act."""
+    return line.act.split(" ")[1]
+
+
+def call_of(line: Line) -> str:
+    """A line's act without the number of the process."""
+    return line.act.partition(" ")[2]
+
+
+def ways_of(lines: list[Line]) -> dict[int, Way]:
+    """The way to each process, by its number. Its parent's forks tell it, in their order."""
+    forks = [line for line in lines if word_of(line) == "fork" and line.outcome.isdigit()]
+    children = {int(line.outcome) for line in forks}
+    # a child may be logged before the fork that made it
+    roots = [number for number in dict.fromkeys(line.number() for line in lines) if number not in children]
+    ways: dict[int, Way] = {number: (at,) for at, number in enumerate(roots)}
+    counts: dict[int, int] = {}
+    waiting = forks
+    while waiting:
+        line = next((it for it in waiting if it.number() in ways), None)
+        if not line:
+            raise Failure(f"{waiting[0].act} = {waiting[0].outcome} comes from itself")
+        waiting.remove(line)
+        parent = line.number()
+        ways[int(line.outcome)] = (*ways[parent], counts.get(parent, 0))
+        counts[parent] = counts.get(parent, 0) + 1
+    return ways
+
+
+class Log(NamedTuple):
+    """A log: the calls of each process, by the way to it, and the number that each has."""
+
+    calls: dict[Way, list[Line]]
+    numbers: dict[Way, int]
+
+    def total(self) -> int:
+        """How many calls there are."""
+        return sum(map(len, self.calls.values()))
+
+
+def log_of(lines: list[Line]) -> Log:
+    """The log that has these lines."""
+    ways = ways_of(lines)
+    calls: dict[Way, list[Line]] = {way: [] for way in sorted(ways.values())}
+    for line in lines:
+        calls[ways[line.number()]].append(line)
+    return Log(calls, {way: number for number, way in ways.items()})

@@ -1,0 +1,131 @@
+"""Running a program with all the processes that come of it, of which none is left."""
+
+import contextlib
+import ctypes
+import os
+import signal
+import subprocess
+import time
+from collections.abc import Callable, Mapping, Sequence
+from typing import IO, NamedTuple
+
+PR_SET_CHILD_SUBREAPER = 36
+PAUSE = 0.005
+# How long it may take until what was killed is gone.
+GOING = 10.0
+
+
+class Ended(NamedTuple):
+    """How a program ended, or None where it was still running and was killed; and what it wrote."""
+
+    status: int | None
+    stdout: bytes
+    stderr: bytes
+
+
+def takes_over(is_on: int) -> None:
+    """Says by 1 or 0 whether this process takes over the processes whose parents end, where the system can do that."""
+    with contextlib.suppress(AttributeError, OSError):
+        ctypes.CDLL(None).prctl(PR_SET_CHILD_SUBREAPER, is_on, 0, 0, 0)
+
+
+def parents() -> dict[int, int]:
+    """The parent of each process, or nothing where the system does not list them."""
+    found: dict[int, int] = {}
+    with contextlib.suppress(OSError):
+        for number in filter(str.isdigit, os.listdir("/proc")):
+            with contextlib.suppress(OSError), open(f"/proc/{number}/stat", "rb") as file:
+                # a name in brackets comes first, which may hold anything
+                found[int(number)] = int(file.read().rpartition(b")")[2].split()[1])
+    return found
+
+
+def children_of(numbers: set[int], by_parent: dict[int, int]) -> set[int]:
+    """The children of some processes, and the children of these, and so on."""
+    found: set[int] = set()
+    while True:
+        more = {number for number, parent in by_parent.items() if parent in numbers | found} - found
+        if not more:
+            return found
+        found |= more
+
+
+class Tree:
+    """A program that runs, in a session of its own, and all that comes of it."""
+
+    def __init__(
+        self,
+        words: Sequence[str],
+        folder: str,
+        env: Mapping[str, str],
+        stdin: int | IO[bytes],
+        before: Callable[[], None] | None,
+    ) -> None:
+        self.others = {number for number, parent in parents().items() if parent == os.getpid()}
+        takes_over(1)
+        pipe = subprocess.PIPE
+        self.process = subprocess.Popen(
+            words,
+            stdin=stdin,
+            stdout=pipe,
+            stderr=pipe,
+            cwd=folder,
+            env=env,
+            start_new_session=True,
+            preexec_fn=before,
+        )
+
+    def left(self) -> set[int]:
+        """The processes that are left of it. Those that have ended and were taken over are waited for."""
+        by_parent = parents()
+        mine = {number for number, parent in by_parent.items() if parent == os.getpid()} - self.others
+        for number in mine - {self.process.pid}:
+            with contextlib.suppress(ChildProcessError):
+                if os.waitpid(number, os.WNOHANG)[0]:
+                    mine.discard(number)
+        if self.process.poll() is not None:
+            mine.discard(self.process.pid)
+        return mine | children_of(mine, by_parent)
+
+    def kill(self) -> None:
+        """Kills all of it."""
+        until = time.monotonic() + GOING
+        with contextlib.suppress(ProcessLookupError):
+            os.killpg(self.process.pid, signal.SIGKILL)
+        while (left := self.left()) and time.monotonic() < until:
+            for number in left:
+                with contextlib.suppress(ProcessLookupError):
+                    os.kill(number, signal.SIGKILL)
+            time.sleep(PAUSE)
+
+    def ended(self, seconds: float) -> Ended:
+        """How it ends by itself, with all that comes of it, or that it was killed after so many seconds."""
+        until = time.monotonic() + seconds
+        try:
+            stdout, stderr = self.process.communicate(timeout=seconds)
+        except subprocess.TimeoutExpired:
+            self.kill()
+            return Ended(None, *self.process.communicate())
+        while self.left() and time.monotonic() < until:
+            time.sleep(PAUSE)
+        return Ended(None if self.left() else self.process.returncode, stdout, stderr)
+
+
+def run_tree(
+    words: Sequence[str],
+    folder: str,
+    env: Mapping[str, str],
+    stdin: int | IO[bytes],
+    seconds: float,
+    before: Callable[[], None] | None = None,
+) -> Ended:
+    """Runs a program in a folder, at most so many seconds, and leaves no process of it. `before` is called in it at its
+    start."""
+    try:
+        tree = Tree(words, folder, env, stdin, before)
+        try:
+            return tree.ended(seconds)
+        finally:
+            tree.kill()
+    finally:
+        takes_over(0)

@@ -1,0 +1,409 @@
+#!/usr/bin/env python3
+"""Does a program get the same answers from fdref as from the system at hand?
+
+usage: tools/judge.py [OPTIONS] PROGRAM [WORD ...]
+
+On a built tree one command judges a program of your own, in a few seconds:
+
+    cc -o my-test my-test.c && python3 tools/judge.py ./my-test
+
+With the unproved fdref it is `python3 tools/judge.py --program './fdref --unproved' ./my-test`.
+
+The program is run twice, each time in an empty folder and with 32 descriptors at most: once with a live
+server that answers its calls in place of the system, and once natively. A library that is loaded before
+the C library (the shim, clients/preload) makes its calls, so it need not be changed. The shim is compiled
+for this run, by $CC or cc, unless --shim names a built one. A statically linked program does not load it.
+What fdref leaves out goes to the system; under --strict it ends the program, and is told.
+
+Told is how both ended, and where they part: the first call whose answer differs and has no reason, else
+the first that differs, after some lines before it and with its reason. The reasons are those of
+tools/compare.py, who comes first at a pipe, and the size that a file may have. Each process is compared
+in the order of its own calls. Where a difference with a reason leaves system and fdref apart, answers
+that differ later may follow from it, and are only counted. At last fdref audits the trace of its server.
+
+The processes of a program may come in another order in the next run, and where its answers depend on
+that, so may what is told of it.
+
+Exit status: 0 where both agree, or differ for reasons alone and end alike; 1 where they differ otherwise;
+2 for wrong words; 3 where the program could not be run or compared, or ended with neither.
+"""
+
+import argparse
+import collections
+import os
+import re
+import resource
+import shlex
+import shutil
+import signal
+import socket
+import subprocess
+import sys
+import tempfile
+import time
+from collections.abc import Callable, Sequence
+from pathlib import Path
+from types import FrameType, TracebackType
+from typing import NamedTuple, Self
+
+sys.path.insert(1, str(Path(__file__).resolve().parents[1] / "tests"))
+
+import compare
+from partings import Compared, Finding
+from support import plain_model
+from support.counting import Failure
+from support.places import TOP
+from support.running import Ran, run
+from support.runs import ALL_RECORDS, Line
+from support.serving import is_listening, outcome_of, serve_words, started
+from support.texts import difference
+from support.trees import Ended, run_tree
+
+SHIM = TOP / "clients" / "preload" / "fdref_preload.c"
+BUILD_SECONDS = 120
+# The unproved program may have to be compiled before it serves.
+START_SECONDS = 600
+AUDIT_SECONDS = 120
+END_SECONDS = 20
+SESSIONS_MOST = 64
+PAUSE = 0.005
+
+# How the shim ends a program where the server could not be asked, and what it says of what is left out.
+NOT_ASKED = 124
+LEAVES_OUT = "uses what fdref leaves out: "
+IS_TOLD = re.compile(rb"^fdref: (.*)$", re.MULTILINE)
+IS_LEFT_OUT = re.compile(rb"^fdref: (.*) is left out$", re.MULTILINE)
+
+
+class CannotJudge(Exception):
+    """The program could not be run or compared."""
+
+
+# ---- running
+
+
+class Server:
+    """fdref as it serves, with its trace, until it is finished."""
+
+    def __init__(self, program: list[str], folder: str, sessions: int) -> None:
+        self.sessions = sessions
+        self.path = os.path.join(folder, "socket")
+        self.trace = os.path.join(folder, "trace")
+        words = serve_words(program[-1], self.path, sessions, ALL_RECORDS, self.trace)
+        try:
+            self.process = started([*program[:-1], *words])
+        except OSError as fault:
+            raise CannotJudge(f"{program[0]}: {fault.strerror}") from None
+
+    def __enter__(self) -> Self:
+        until = time.monotonic() + START_SECONDS
+        while not is_listening(self.path):
+            if self.process.poll() is not None or time.monotonic() > until:
+                raise CannotJudge(f"no server: {self.killed()}")
+            time.sleep(PAUSE)
+        return self
+
+    def __exit__(
+        self, kind: type[BaseException] | None, raised: BaseException | None, trace: TracebackType | None
+    ) -> None:
+        self.killed()
+
+    def killed(self) -> str:
+        """How it ended, or that it was killed now, and what it wrote."""
+        if self.process.poll() is None:
+            os.killpg(self.process.pid, signal.SIGKILL)
+        stdout, stderr = self.process.communicate()
+        return Ran(self.process.returncode, stdout, stderr).said()
+
+    def finish(self) -> None:
+        """Makes the connections that it still waits for, so that it ends by itself with its trace whole."""
+        until = time.monotonic() + END_SECONDS
+        left = self.sessions
+        while self.process.poll() is None and time.monotonic() < until:
+            with socket.socket(socket.AF_UNIX, socket.SOCK_STREAM | socket.SOCK_NONBLOCK) as client:
+                is_taken = client.connect_ex(self.path) == 0
+            left -= is_taken
+            if not is_taken or left <= 0:
+                time.sleep(PAUSE)
+        try:
+            ran = outcome_of(self.process)
+        except Failure as fault:
+            raise CannotJudge(f"the server: {fault}") from None
+        if ran.status != 0:
+            raise CannotJudge(f"the server ends with {ran.said()}")
+
+
+def built_shim(folder: str) -> str:
+    """The shim, as it is compiled into a folder."""
+    compiler = os.environ.get("CC", "cc")
+    path = os.path.join(folder, "libfdref_preload.so")
+    if not shutil.which(compiler):
+        raise CannotJudge(f"no C compiler {compiler}: $CC names another one, and --shim a built library")
+    ran = run([compiler, "-O2", "-shared", "-fPIC", "-o", path, str(SHIM), "-ldl"], seconds=BUILD_SECONDS)
+    if ran.status != 0:
+        raise CannotJudge(f"{SHIM.relative_to(TOP)} is not compiled: {ran.said()}")
+    return path
+
+
+def found(program: str) -> str:
+    """The path of a program, which may be one that the shell would find."""
+    path = shutil.which(program)
+    if not path:
+        raise CannotJudge(f"no program {program}")
+    return os.path.abspath(path)
+
+
+def limit_descriptors() -> None:
+    """Lets this process open as many descriptors as one of fdref may."""
+    most = resource.getrlimit(resource.RLIMIT_NOFILE)[1]
+    resource.setrlimit(resource.RLIMIT_NOFILE, (plain_model.OPEN_MAX, most))
+
+
+def environment(shim: str, log: str, **more: str) -> dict[str, str]:
+    """The environment of a program that runs under the shim."""
+    others = {name: value for name, value in os.environ.items() if not name.startswith("FDREF_")}
+    before = [others["LD_PRELOAD"]] if others.get("LD_PRELOAD") else []
+    return {**others, "LD_PRELOAD": ":".join([shim, *before]), "FDREF_LOG": log, **more}
+
+
+class Both(NamedTuple):
+    """How a program ended on the system and with fdref, the logs of both, and the trace."""
+
+    system: Ended
+    fdref: Ended
+    system_log: bytes
+    fdref_log: bytes
+    trace: bytes
+
+
+class Job:
+    """A program that is to be judged, and how."""
+
+    def __init__(self, words: list[str], program: list[str], shim: str, folder: str) -> None:
+        self.words = words
+        self.program = program
+        self.shim = shim
+        self.folder = folder
+        self.stdin: str = os.devnull
+        self.seconds = 60.0
+        self.sessions = SESSIONS_MOST
+        self.is_strict = False
+
+    def ran(self, name: str, **more: str) -> tuple[Ended, bytes]:
+        """How the program ends in an empty folder, and the log of its calls."""
+        log = os.path.join(self.folder, f"{name}.log")
+        Path(log).touch()
+        env = environment(self.shim, log, **more)
+        # the same for both runs, since a program may tell its name
+        folder = os.path.join(self.folder, "run")
+        os.mkdir(folder)
+        try:
+            with open(self.stdin, "rb") as stdin:
+                ended = run_tree(self.words, folder, env, stdin, self.seconds, limit_descriptors)
+        except OSError as fault:
+            raise CannotJudge(f"{self.words[0]}: {fault.strerror}") from None
+        os.rename(folder, f"{folder}-{name}")
+        return ended, Path(log).read_bytes()
+
+    def both(self) -> Both:
+        """Runs it with fdref and on the system."""
+        strict = {"FDREF_STRICT": "1"} if self.is_strict else {}
+        with Server(self.program, self.folder, self.sessions) as server:
+            fdref, fdref_log = self.ran("fdref", FDREF_SOCKET=server.path, **strict)
+            server.finish()
+            trace = Path(server.trace).read_bytes()
+        left_out = IS_LEFT_OUT.search(fdref.stderr) if self.is_strict else None
+        if left_out:
+            raise CannotJudge(f"{LEAVES_OUT}{left_out[1].decode('utf-8', 'replace')}")
+        said = IS_TOLD.findall(fdref.stderr)
+        if fdref.status == NOT_ASKED and said:
+            raise CannotJudge(f"the server gave no answer: {said[-1].decode('utf-8', 'replace')}")
+        system, system_log = self.ran("system")
+        return Both(system, fdref, system_log, fdref_log, trace)
+
+    def audited(self) -> str:
+        """What the audit says of the trace."""
+        words = [*self.program, "audit", os.path.join(self.folder, "trace")]
+        return run(words, seconds=AUDIT_SECONDS).stdout.decode("ascii", "replace").strip()
+
+    def verdict(self) -> "Verdict":
+        """What comes of it."""
+        return Verdict(self.both(), self.audited(), self.sessions)
+
+
+class Verdict:
+    """What came of a program: how it ended twice, what differs, and what the audit says."""
+
+    def __init__(self, both: Both, audit: str, sessions: int = SESSIONS_MOST) -> None:
+        self.both = both
+        self.audit = audit
+        try:
+            self.compared = Compared(both.system_log, both.fdref_log, both.trace, both.system.status is None)
+        except Failure as fault:
+            raise CannotJudge(str(fault)) from None
+        self.findings, self.unexplained = self.compared.findings, self.compared.unexplained
+        if not self.compared.fdref.total() and not self.compared.system.total():
+            raise CannotJudge("made none of the calls that fdref knows, or does not load the shim, as a static program")
+        count = len(self.compared.system.calls)
+        if count > sessions:
+            most = f"--sessions, {SESSIONS_MOST} at most"
+            raise CannotJudge(f"has {count} processes, and the server takes {sessions} ({most})")
+
+    def has_ended(self) -> bool:
+        """Whether it ended by itself with either of the two."""
+        return self.both.system.status is not None or self.both.fdref.status is not None
+
+    def status(self) -> int:
+        """The exit status."""
+        if self.unexplained or not self.audit.startswith("legal "):
+            return 1
+        if not self.has_ended():
+            return 3
+        return 0 if self.both.system == self.both.fdref else 1
+
+
+# ---- telling
+
+
+def how(ended: Ended, seconds: float) -> str:
+    """How a program ended, for a reader."""
+    if ended.status is None:
+        return f"did not end in {seconds:g} seconds, and was killed"
+    return f"ended with status {ended.status}" if ended.status >= 0 else f"ended by signal {-ended.status}"
+
+
+def told_ends(both: Both, seconds: float) -> list[str]:
+    """How the two ended, and what they wrote otherwise."""
+    system, fdref = how(both.system, seconds), how(both.fdref, seconds)
+    lines = [f"both {system}"] if system == fdref else [f"system: {system}", f"fdref:  {fdref}"]
+    if both.system.status is None and both.fdref.status is None:
+        lines = [f"neither ended in {seconds:g} seconds: both were killed"]
+    for what, one, other in (
+        ("output", both.system.stdout, both.fdref.stdout),
+        ("error", both.system.stderr, both.fdref.stderr),
+    ):
+        if one != other:
+            lines.append(f"standard {what} differs in {difference(one, other, ('system', 'fdref'))}")
+    return lines
+
+
+def told_line(who: str, line: Line | None) -> str:
+    """One side of a parting."""
+    place = f"{line.place} " if line and line.place.isdigit() else ""
+    return f"{who} {place}{line.act} = {line.outcome}" if line else f"{who} no further call"
+
+
+def told_finding(finding: Finding, lines: list[Line], before: int) -> list[str]:
+    """A parting, with lines before it and its reason."""
+    parting = finding.parting
+    earlier = sorted((int(it.place), it) for it in lines if it.place.isdigit() and int(it.place) < parting.place)
+    told = [f"  {line.place} {line.act} = {line.outcome}" for _, line in earlier[max(len(earlier) - before, 0) :]]
+    told += [told_line("system:", parting.system), told_line("fdref: ", parting.fdref)]
+    return [compare.clipped(line) for line in [*told, compare.told_reason(finding.reason)]]
+
+
+def told(verdict: Verdict, seconds: float, before: int) -> str:
+    """All that is said of a program."""
+    findings = verdict.findings
+    lines = told_ends(verdict.both, seconds)
+    calls, processes = verdict.compared.fdref.total(), len(verdict.compared.fdref.calls)
+    differ = {0: "no answer differs", 1: "1 answer differs"}.get(len(findings), f"{len(findings)} answers differ")
+    lines.append(f"{calls} calls of {processes} {'process' if processes == 1 else 'processes'}: {differ}")
+    if findings:
+        lines += told_finding(verdict.unexplained or findings[0], verdict.compared.lines, before)
+    reasons = collections.Counter(it.reason for it in findings if it.reason)
+    lines += [f"{count:8} {reason.name} ({reason.who}; {reason.page})" for reason, count in reasons.items()]
+    follow = sum(it.follows for it in findings)
+    lines += [f"{follow:8} may follow from these"] if follow else []
+    lines += [f"{len(findings) - reasons.total() - follow:8} without a reason"] if findings else []
+    return "\n".join([*lines, f"audit: {verdict.audit}"])
+
+
+# ---- the whole
+
+
+def number_in(low: int, high: int) -> Callable[[str], int]:
+    """The reader of numbers of a range in the command line."""
+
+    def read(word: str) -> int:
+        value = int(word)
+        if not low <= value <= high:
+            raise ValueError(word)
+        return value
+
+    read.__name__ = f"number from {low} to {high}"
+    return read
+
+
+def parse(words: Sequence[str]) -> argparse.Namespace:
+    """What the command line asks for."""
+    parser = argparse.ArgumentParser(
+        description=__doc__, formatter_class=argparse.RawDescriptionHelpFormatter, usage=argparse.SUPPRESS
+    )
+    parser.add_argument("--program", default=shlex.quote(compare.PROGRAM), help="fdref, or a command that runs it")
+    parser.add_argument("--shim", metavar="PATH", help="the shim, where it is built already")
+    parser.add_argument("--stdin", metavar="FILE", default=os.devnull, help="its standard input, else /dev/null")
+    seconds = "how long it may take; 60 where no number is given"
+    parser.add_argument("--seconds", metavar="N", type=number_in(1, 10**6), default=60, help=seconds)
+    sessions = f"processes that may come in all, at most {SESSIONS_MOST}, which is what is taken where none is given"
+    parser.add_argument(
+        "--sessions", metavar="N", type=number_in(1, SESSIONS_MOST), default=SESSIONS_MOST, help=sessions
+    )
+    before = f"lines that are told before a difference; {compare.LINES_BEFORE} where no number is given"
+    parser.add_argument("--before", metavar="N", type=number_in(0, 10**6), default=compare.LINES_BEFORE, help=before)
+    parser.add_argument("--strict", action="store_true", help="end it where it uses what fdref leaves out")
+    parser.add_argument("--keep", metavar="DIR", help="a folder for both logs and the trace")
+    parser.add_argument("judged", metavar="PROGRAM", help="the program that is judged")
+    parser.add_argument("words", metavar="WORD", nargs=argparse.REMAINDER, help="its words")
+    args = parser.parse_args(words)
+    for path in (args.stdin, args.shim, args.keep):
+        if path and not os.path.exists(path):
+            parser.error(f"there is no {path}")
+    return args
+
+
+def job_of(args: argparse.Namespace, folder: str) -> Job:
+    """What is asked for."""
+    program = compare.program_of(args.program)
+    if os.path.exists(program[0]):
+        program[0] = os.path.abspath(program[0])
+    shim = os.path.abspath(args.shim) if args.shim else built_shim(folder)
+    job = Job([found(args.judged), *args.words], program, shim, folder)
+    job.stdin, job.seconds, job.sessions, job.is_strict = args.stdin, args.seconds, args.sessions, args.strict
+    return job
+
+
+def keep(folder: str, into: str) -> None:
+    """Keeps both logs and the trace, as far as they are there."""
+    for name in ("system.log", "fdref.log", "trace"):
+        if os.path.exists(os.path.join(folder, name)):
+            shutil.copy(os.path.join(folder, name), into)
+
+
+def end(number: int, _: FrameType | None) -> None:
+    """Ends this program by a signal, and first all that it started."""
+    sys.exit(128 + number)
+
+
+def main(words: Sequence[str]) -> int:
+    """Judges a program: the exit status."""
+    args = parse(words)
+    for number in (signal.SIGTERM, signal.SIGHUP):
+        signal.signal(number, end)
+    with tempfile.TemporaryDirectory(prefix="judge-") as folder:
+        try:
+            verdict = job_of(args, folder).verdict()
+        except (CannotJudge, compare.CannotRun, Failure) as fault:
+            print(f"judge.py: {fault}", file=sys.stderr)
+            return 3
+        finally:
+            if args.keep:
+                keep(folder, args.keep)
+    print(told(verdict, args.seconds, args.before))
+    if verdict.status() == 1 and not args.strict:
+        print("--strict tells whether it uses what fdref leaves out")
+    return verdict.status()
+
+
+if __name__ == "__main__":
+    sys.exit(main(sys.argv[1:]))

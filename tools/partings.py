@@ -1,0 +1,237 @@
+"""Where two runs of a program part, by the logs of their calls: what differs, and for which reason.
+
+Both logs are as the shim writes them, and the second is of a run with fdref, of which the trace is there. The reasons
+are those of tools/compare.py and some more, since a program has processes that run at once.
+"""
+
+import itertools
+import sys
+from collections.abc import Iterator
+from pathlib import Path
+from typing import NamedTuple
+
+sys.path.insert(1, str(Path(__file__).resolve().parents[1] / "tests"))
+
+import compare
+from support import plain_model
+from support.auditing import Frames, Judge, act_of
+from support.call_logs import Log, Way, call_of, log_of, read_lines, word_of
+from support.counting import require
+from support.runs import Line, line_of
+
+# ---- reasons
+
+
+def is_front(system: str, fdref: str) -> bool:
+    """Whether of two reads that gave bytes one gave the first bytes of the other."""
+    one, other = (plain_model.read_data(outcome.encode()) for outcome in (system, fdref))
+    return bool(one and other and one[: len(other)] == other[: len(one)])
+
+
+def is_of_time(it: compare.Difference) -> bool:
+    """A read of a pipe to which another process may have written before it, or not yet."""
+    if not it.words("read") or not it.at or not it.at.pipe or it.world.next_number < 2:
+        return False
+    is_dry = it.at.nonblock and "error EAGAIN" in (it.system, it.fdref)
+    return is_dry or is_front(it.system, it.fdref)
+
+
+def is_past_size(it: compare.Difference) -> bool:
+    """A write past the greatest size of a file, of which fdref takes less or nothing."""
+    if not it.words("write", "pwrite", "ftruncate") or not it.at or it.at.pipe or not compare.is_moved(it.system):
+        return it.words("ftruncate") and it.gives("error EFBIG") and it.system == "ok"
+    is_less = it.gives("error EFBIG") or (it.fdref.isdigit() and int(it.fdref) < int(it.system))
+    return is_less and it.start(it.at) + it.count() > plain_model.FILE_SIZE_MAX
+
+
+# Scripts that are compared do not meet these: one process acts at a time there, and the system has a limit of its own.
+MORE_REASONS = [
+    compare.Reason("what is read of a pipe depends on who comes first", compare.OWN, "page of read", is_of_time),
+    compare.Reason("more than 1,048,576 bytes in a file", compare.OWN, "page of write", is_past_size),
+]
+APPENDED = next(reason for reason in compare.REASONS if reason.fits is compare.is_pwrite_appended)
+
+
+class Parting(NamedTuple):
+    """Where the runs of a process part: the calls, one of which may be missing, and the place in the trace."""
+
+    place: int
+    way: Way
+    number: int
+    system: Line | None
+    fdref: Line | None
+
+    def is_same_call(self) -> bool:
+        """Whether both made the same call."""
+        return self.system is not None and self.fdref is not None and call_of(self.system) == call_of(self.fdref)
+
+
+def agrees(system: Line | None, fdref: Line | None) -> bool:
+    """Whether two calls are the same and got the same answer. Of a fork any number of a child is."""
+    if not system or not fdref or call_of(system) != call_of(fdref):
+        return False
+    are_numbers = system.outcome.isdigit() and fdref.outcome.isdigit()
+    return system.outcome == fdref.outcome or (word_of(system) == "fork" and are_numbers)
+
+
+def shared_reads(trace: list[Line]) -> set[int]:
+    """The places of the reads of a pipe that several processes read, or several write: who is first is left open."""
+    judge = Judge()
+    users: dict[tuple[plain_model.Pipe, str], set[int]] = {}
+    reads: list[tuple[int, plain_model.Pipe]] = []
+    for place, line in enumerate(trace):
+        act = act_of(line.act)
+        process = compare.process_of(judge.world, act)
+        at = process.table.get(act.fields[0]) if process and act.word in ("read", "write") else None
+        if process and at and at.pipe:
+            users.setdefault((at.pipe, act.word), set()).add(process.number)
+            reads += [(place, at.pipe)] if act.word == "read" else []
+        judge.outcome_of(act)
+    return {place for place, pipe in reads if any(len(users.get((pipe, word), ())) > 1 for word in ("read", "write"))}
+
+
+class Story:
+    """What fdref recorded, with the model beside it."""
+
+    def __init__(self, trace: list[Line]) -> None:
+        self.trace = trace
+        self.judge = Judge()
+        self.place = 0
+        # the files that a pwrite under append may have made another on the system
+        self.appended: list[plain_model.Regular] = []
+        self.shared = shared_reads(trace)
+
+    def start_of(self, line: Line) -> int:
+        """The place at which a call began that ended with a line."""
+        place = int(line.place)
+        who = f"p{line.number()} "
+        while word_of(self.trace[place]) == "resume":
+            place = next(at for at in range(place - 1, -1, -1) if self.trace[at].act.startswith(who))
+        return place
+
+    def waits(self, number: int) -> Line | None:
+        """The call that a process still waits in at the end, or waited in when it exited, if any."""
+        own = [line for line in self.trace if line.act.startswith(f"p{number} ") and word_of(line) != "exit"]
+        if not own or not own[-1].outcome.startswith(("parked ", "part ")):
+            return None
+        call = self.trace[self.start_of(own[-1])]
+        return call._replace(outcome=f"parked {own[-1].outcome.split(' ')[1]}")
+
+    def world_before(self, place: int) -> plain_model.World:
+        """The world before a place, which is none of those that were asked for already."""
+        for line in self.trace[self.place : place]:
+            act = act_of(line.act)
+            process = compare.process_of(self.judge.world, act)
+            at = process.table.get(act.fields[0]) if process and act.word == "pwrite" else None
+            if at and compare.is_append(act, at):
+                self.appended.append(at.regular)
+            self.judge.outcome_of(act)
+        self.place = max(self.place, place)
+        return self.judge.world
+
+
+class Finding(NamedTuple):
+    """A parting with its reason. One that has none may follow from an earlier one."""
+
+    parting: Parting
+    reason: compare.Reason | None
+    follows: bool
+
+
+def partings_of(way: Way, system: list[Line], fdref: list[Line], number: int, story: Story) -> Iterator[Parting]:
+    """The partings of a process, up to the first call that only one of its runs made."""
+    place = 0
+    for one, other in itertools.zip_longest(system, fdref):
+        if other and other.place.isdigit():
+            place = story.start_of(other)
+        if agrees(one, other):
+            continue
+        parting = Parting(place, way, number, one, other)
+        yield parting
+        if not parting.is_same_call():
+            return
+
+
+def add_waits(system: Log, fdref: Log, story: Story, is_killed: bool) -> None:
+    """Adds to the log of fdref the calls that got no answer to the end. Where the system was killed it may have made
+    the same call."""
+    for way, number in fdref.numbers.items():
+        calls = fdref.calls[way]
+        call = story.waits(number)
+        is_further = not is_killed or len(system.calls.get(way, [])) > len(calls)
+        if call and is_further and not any(line.place == call.place for line in calls[-1:]):
+            calls.append(call)
+
+
+def all_partings(system: Log, fdref: Log, story: Story) -> list[Parting]:
+    """The partings of all processes, in the order of the trace."""
+    found: list[Parting] = []
+    for way in sorted({*system.calls, *fdref.calls}):
+        number = fdref.numbers.get(way, system.numbers.get(way, 0))
+        found += partings_of(way, system.calls.get(way, []), fdref.calls.get(way, []), number, story)
+    return sorted(found, key=lambda it: (it.place, it.way))
+
+
+def difference_of(parting: Parting, story: Story) -> compare.Difference | None:
+    """A parting as a difference, which has to be one of answers to the same call."""
+    world = story.world_before(parting.place)
+    if not parting.is_same_call() or not parting.system or not parting.fdref:
+        return None
+    system = parting.system._replace(act=parting.fdref.act)
+    before = story.trace[: parting.place]
+    try:
+        return compare.Difference(len(before), [*before, system], system, parting.fdref, world)
+    except plain_model.NotAnAct:
+        return None
+
+
+def reason_of(it: compare.Difference, story: Story) -> compare.Reason | None:
+    """The reason of a difference, if it has one. It may be by a pwrite under append before it, or by who came first."""
+    reason = compare.reason_of(it) or next((more for more in MORE_REASONS if more.fits(it)), None)
+    is_appended = bool(it.at and not it.at.pipe and any(it.at.file is file for file in story.appended))
+    by_others = APPENDED if is_appended else MORE_REASONS[0] if is_shared(it, story) else None
+    return reason or by_others
+
+
+def is_shared(it: compare.Difference, story: Story) -> bool:
+    """Whether it is a read of a pipe whose users are several, that gave bytes or the end on both sides."""
+    outcomes = (it.system, it.fdref)
+    return it.place in story.shared and all(plain_model.read_data(text.encode()) is not None for text in outcomes)
+
+
+def findings_of(partings: list[Parting], story: Story) -> list[Finding]:
+    """The partings with their reasons."""
+    found: list[Finding] = []
+    are_apart = False
+    for parting in partings:
+        difference = difference_of(parting, story)
+        reason = reason_of(difference, story) if difference else None
+        found.append(Finding(parting, reason, not reason and are_apart))
+        are_apart = are_apart or bool(reason and difference and not difference.is_settled())
+    return found
+
+
+# ---- the whole
+
+
+def check_places(lines: list[Line], trace: list[Line]) -> None:
+    """Fails unless the log of fdref tells what stands in the trace."""
+    for line in lines:
+        place = int(line.place) if line.place.isdigit() else -1
+        record = trace[place] if 0 <= place < len(trace) else None
+        is_told = record and record.outcome == line.outcome and word_of(record) in (word_of(line), "resume")
+        require(place < 0 or is_told, f"the log of fdref has {line.act} at place {place}, and the trace has not")
+
+
+class Compared:
+    """Two logs, which are compared: what is found, and the first finding that has no reason and follows from none."""
+
+    def __init__(self, system: bytes, fdref: bytes, trace: bytes, is_killed: bool) -> None:
+        self.lines = read_lines(fdref)
+        self.system, self.fdref = log_of(read_lines(system)), log_of(self.lines)
+        records = [line_of(text) for text in Frames(trace).lines]
+        check_places(self.lines, records)
+        story = Story(records)
+        add_waits(self.system, self.fdref, story, is_killed)
+        self.findings = findings_of(all_partings(self.system, self.fdref, story), story)
+        self.unexplained = next((it for it in self.findings if not it.reason and not it.follows), None)
