@@ -15,6 +15,11 @@
 - `serving`: a server whose trace is audited, and clients of it whose waits are bounded
 - `players`: clients that keep what they were told, and the traces of servers that run still
 - `refusing`: runs in which allocations are refused
+- `histories`: what several processes did at once, call by call, with the times
+- `ordering`: whether an order explains a history; `searching` looks for it, by states (`worlds`), by what calls touch
+  (`footprints`), by what later answers tell (`foretold`) and by what nobody looks at (`unseen`); `shortening` makes
+  short what has none; `replaying` holds an order against the program
+- `call_logs`: the logs of the library for LD_PRELOAD; `trees`: a program with all that comes of it
 
 A test is a file tests/NAME.py. The first line of its docstring says what it asks and how long it takes, and
 `python3 tests` lists it. Its `main` takes the words of the command line and gives the exit status:

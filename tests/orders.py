@@ -1,0 +1,70 @@
+#!/usr/bin/env python3
+"""Is an order found for each history that has one, and for no other, and do places order live ones? (a minute)
+
+usage: tests/orders.py [--program PATH] [--seed WORD] [--histories N] [--calls N] [--only WORD]
+
+The program is crates/fdref/out/fdref where no PATH is given.
+
+  - Histories by hand have an order or have none, as is known of each; so it is with the call that is to blame, with the
+    page of the standard, and with the short part that is told.
+  - Of races of each kind, and of random walks, N histories (6) are made by the plain model, with random times that fit.
+    All have an order. In two of three an answer or a time is changed then. Whether there is an order is known by going
+    through all of them.
+  - What is left out where a history is made short must leave an order to each history that has one.
+  - Each order that is found must be one for the program, and tools/order.py must say so, by its lines and its status.
+  - Histories of 6 processes with 20 calls each are searched, with a wrong answer and without. The longest time is told.
+  - 64 clients of a live server make N calls (100,000) at full speed, in C, by clocks of their own. No order is searched
+    for: that of the places has to explain them, and answers in wrong places have to be found.
+
+Where no C compiler is there, it says so and leaves out the last part. All random choices follow from the seed, but the
+live server may order the calls otherwise. The last line is `N passed, M failed`, and the exit status is 1 where M is
+above 0.
+"""
+
+import argparse
+import sys
+import tempfile
+from collections.abc import Sequence
+
+from parts import clocked_clients, order_tool, random_histories, told_histories
+from parts.c_programs import builds
+from support.counting import Count
+from support.options import add_count, add_only, add_path, add_seed, end_without
+from support.places import FDREF
+
+TELL_MOST = 10
+
+
+def main(words: Sequence[str]) -> int:
+    """Makes all checks: the exit status."""
+    parser = argparse.ArgumentParser(description="Looks for orders of histories by hand, random ones and live ones.")
+    add_path(parser, "--program", "the program", FDREF)
+    add_seed(parser)
+    add_count(parser, "--histories", 6, "random histories of each kind")
+    add_count(parser, "--calls", 100_000, "calls of live clients")
+    add_only(parser)
+    args = parser.parse_args(words)
+    program = args.program
+    missing = end_without(program)
+    if missing is not None:
+        return missing
+    parts = [
+        ("by hand", told_histories.cases(program)),
+        ("short parts by hand", told_histories.short_cases()),
+        ("lines", order_tool.line_cases()),
+        ("tools/order.py", order_tool.cases(program)),
+        ("random histories", random_histories.cases(program, args.seed, args.histories)),
+        ("what is left out", random_histories.left_out_cases(args.seed, args.histories)),
+        ("6 processes with 20 calls", random_histories.large_cases(program, args.seed)),
+    ]
+    with tempfile.TemporaryDirectory(prefix="fdref-") as folder:
+        every = builds(folder)
+        if every:
+            parts.append(("live clients", clocked_clients.cases(program, every[0], args.seed, args.calls)))
+        else:
+            print("no C compiler: there are no clients of a live server at full speed")
+        return Count(TELL_MOST).parts(parts, args.only)
+
+
+if __name__ == "__main__":
+    sys.exit(main(sys.argv[1:]))

@@ -1,0 +1,176 @@
+"""What tools/order.py prints for histories, and its exit status; and which lines are no calls."""
+
+import os
+import stat
+import tempfile
+from collections.abc import Iterator
+from functools import partial
+from pathlib import Path
+
+from parts.told_histories import EXPLAINED, IMPOSSIBLE, Told
+from support.counting import Case, Failure, require, same
+from support.histories import BadHistory, form, history_text, read_histories
+from support.places import TOOLS
+from support.running import Ran, run
+
+# A history that has an order, what is printed of it, and the same one at other times.
+GOOD = """10 20 p0 join = 0
+30 40 p0 pipe = 0 1
+50 60 p0 fork = 1
+55 70 p1 attach = ok
+80 99 p0 read 0 4 = x61
+90 95 p1 write 1 x61 = 1
+"""
+GOOD_LINES = """an order explains it
+0 p0 join = 0
+1 p0 pipe = 0 1
+2 p0 fork = 1
+3 p1 attach = ok
+4 p1 write 1 x61 = 1
+5 p0 read 0 4 = x61
+"""
+LATER = GOOD.replace("80 99", "1080 1099").replace("90 95", "1081 1082")
+# The same calls with other times: here the write comes first.
+EARLY = GOOD.replace("90 95", "72 75")
+EARLY_LINES = GOOD_LINES
+# One that has none, and what is printed of it.
+BAD = GOOD.replace("= x61", "= x62")
+BAD_LINES = """no order explains it, nor this part of it:
+  10 20 p0 join = 0
+  30 40 p0 pipe = 0 1
+  50 60 p0 fork = 1
+  55 70 p1 attach = ok
+  80 99 p0 read 0 4 = x62
+  90 95 p1 write 1 x61 = ?
+which this call makes impossible, with those that overlap it:
+  80 99 p0 read 0 4 = x62
+  90 95 p1 write 1 x61 = ?
+page of write: at most PIPE_BUF bytes are not interleaved; page of read
+"""
+WAITING = GOOD.replace("80 99 p0 read 0 4 = x61\n90 95 p1 write 1 x61 = 1", "80 - p0 read 0 9 = parked ?")
+
+
+def told(program: str, text: str, *options: str) -> Ran:
+    """What the tool prints of histories."""
+    words = ["python3", str(TOOLS / "order.py"), "-", "--program", program, *options]
+    return run(words, text.encode())
+
+
+def prints(program: str, text: str, status: int, wanted: str, *options: str) -> None:
+    """The tool prints this of histories, and ends with this status."""
+    ran = told(program, text, *options)
+    same((status, wanted, ""), (ran.status, ran.stdout.decode(), ran.stderr.decode()))
+
+
+def fails(program: str, text: str, status: int, why: str, *options: str) -> None:
+    """The tool ends with a status, and says why."""
+    ran = told(program, text, *options)
+    same(status, ran.status)
+    require(why in (ran.stderr + ran.stdout).decode(), ran.said())
+
+
+def reads_a_file(program: str) -> None:
+    """A history may be in a file."""
+    with tempfile.TemporaryDirectory(prefix="fdref-") as folder:
+        path = Path(folder, "history")
+        path.write_text(GOOD, encoding="utf-8")
+        ran = run(["python3", str(TOOLS / "order.py"), str(path), "--program", program])
+        same((0, GOOD_LINES), (ran.status, ran.stdout.decode()))
+
+
+def finds_a_wrong_program(program: str) -> None:
+    """A program that is not what the plain model is, in an answer or where a call waits, is told."""
+    with tempfile.TemporaryDirectory(prefix="fdref-") as folder:
+        for wrong, text in (("s/= x61$/= x63/", GOOD), ("s/resume = still/resume = x61/", WAITING)):
+            path = os.path.join(folder, "wrong")
+            Path(path).write_text(f'#!/bin/sh\n"{program}" "$@" | sed "{wrong}"\n', encoding="utf-8")
+            os.chmod(path, stat.S_IRWXU)
+            fails(path, text, 3, "the program differs from the plain model")
+
+
+def cases(program: str) -> Iterator[Case]:
+    """What is printed, and each status."""
+    totals = "histories 4 explained 3 unexplained 1 given up 0\n"
+    several = f"history 1: {GOOD_LINES}history 2: {BAD_LINES}history 3: as history 1\nhistory 4: {EARLY_LINES}{totals}"
+    four = "\n".join([GOOD, BAD, LATER, EARLY])
+    yield "an order", partial(prints, program, GOOD, 0, GOOD_LINES)
+    yield "no order", partial(prints, program, BAD, 1, BAD_LINES)
+    yield "several histories", partial(prints, program, four, 1, several)
+    yield "quiet", partial(prints, program, four, 1, f"history 2: {BAD_LINES}{totals}", "--quiet")
+    nothing = "histories 0 explained 0 unexplained 0 given up 0\n"
+    yield "no history", partial(prints, program, "\n", 0, nothing)
+    yield "given up after states", partial(prints, program, GOOD, 5, "given up after 2 states\n", "--states", "1")
+    yield "wrong words", partial(fails, program, GOOD, 2, "unrecognized", "--no")
+    yield "no program", partial(fails, "/no/program", GOOD, 3, "no program at /no/program")
+    yield "a program that ends badly", partial(fails, "/bin/false", GOOD, 3, "status 1")
+    yield "a line that is no call", partial(fails, program, f"{GOOD}\n1 2 p0 jion = 0\n", 4, "line 8: ")
+    yield "a file", partial(reads_a_file, program)
+    yield "a program that differs", partial(finds_a_wrong_program, program)
+
+
+# ---- lines
+
+
+def is_bad(line: str, number: int = 2) -> None:
+    """A line is no call of a history, and is told by its number."""
+    try:
+        read_histories(f"1 2 p0 join = 0\n{line}\n")
+    except BadHistory as fault:
+        same(number, fault.line)
+        return
+    raise Failure("it is read")
+
+
+def is_read_again(histories: list[Told]) -> None:
+    """What is written of a history is read as that history."""
+    for one in histories:
+        same([one.history()], read_histories(history_text(one.history())))
+
+
+def forms_differ() -> None:
+    """Two histories have one form where they differ in their times alone, and not where they differ in more."""
+    like = [GOOD, GOOD.replace("10 20", "3 19"), LATER, GOOD.replace("90 95", "99 99"), GOOD.replace("60", "55")]
+    unlike = [BAD, EARLY, GOOD.replace("50 60", "50 54"), GOOD.replace("90 95", "100 101"), WAITING]
+    first, *forms = [form(read_histories(text)[0]) for text in [GOOD, *like, *unlike]]
+    same([True] * len(like) + [False] * len(unlike), [it == first for it in forms])
+
+
+def leaves_out() -> None:
+    """A call that was not asked is no part of a history, and data have one spelling."""
+    text = "1 2 p0 join = 0\n3 4 p0 open / r = not asked\n5 6 p0 read 0 2 = 61*2\n"
+    same("1 2 p0 join = 0\n5 6 p0 read 0 2 = x6161\n", history_text(read_histories(text)[0]))
+
+
+BAD_LINES_OF_HISTORIES = [
+    "3 4 p0 opne a r = 0",
+    "3 4 p0 open a r",
+    "3 4 p0 open a r =",
+    "3 4 p0 open a r = ",
+    "3 p0 open a r = 0",
+    "3 4 open a r = 0",
+    "03 4 p0 open a r = 0",
+    "-3 4 p0 open a r = 0",
+    "4 3 p0 open a r = 0",
+    " 3 4 p0 open a r = 0",
+    "3 4 p0  open a r = 0",
+    "3 - p0 open a r = 0",
+    "3 4 p0 read 0 9 = parked ?",
+    "3 4 p0 read 0 9 = parked 0",
+    "3 4 p0 resume = x61",
+    "3 4 p0 join = 1",
+    "1 4 p0 open a r = 0",
+    "3 4 p1 open a r = 0",
+    "3 4 close-run = ok",
+    "3 4 p0 open a r,x = 0",
+]
+
+
+def line_cases() -> Iterator[Case]:
+    """Lines that are calls, and lines that are none."""
+    for line in BAD_LINES_OF_HISTORIES:
+        yield f"bad line {line}", partial(is_bad, line)
+    yield "a call after one that waits", partial(is_bad, "3 - p0 read 0 9 = parked ?\n5 6 p0 fstat 0 = pipe 0 0", 3)
+    yield "a call after an exit", partial(is_bad, "3 4 p0 exit = ok\n5 6 p0 fstat 0 = pipe 0 0", 3)
+    yield "lines are read again", partial(is_read_again, [*EXPLAINED, *IMPOSSIBLE])
+    yield "forms", forms_differ
+    yield "what is left out of a history", leaves_out

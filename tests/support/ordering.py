@@ -1,0 +1,131 @@
+"""Whether there is an order of the calls of a history that explains it.
+
+An order explains a history where it keeps the order of each process, a call that came back before another one began
+comes first, and the plain model, to which the calls come one after another, gives the answers that were noted. At the
+end no call that waits may be ready.
+"""
+
+import time
+from collections.abc import Sequence
+from typing import NamedTuple
+
+from support.footprints import Footprints, Opened
+from support.histories import WAITS, Noted
+from support.plain_model import PIPE_BUF
+from support.searching import Search, Step, TooLong
+from support.shortening import Shortening
+
+STATES_MOST = 1_000_000
+SECONDS = 60
+SHRINK_SECONDS = 20
+# A search for a shorter part may take so many times as long as that of the whole, or so long.
+EACH_TIMES, EACH_LEAST = 4, 0.5
+# How many of the calls that overlap the one that is blamed are told.
+OVERLAPPING_MOST = 3
+
+
+class Explained(NamedTuple):
+    """A history that an order explains: the steps of that order."""
+
+    steps: list[Step]
+
+
+class Unexplained(NamedTuple):
+    """A history that no order explains: a small part of it that none explains either, the call that makes it impossible
+    with those that overlap it, and the page of the standard that it is about."""
+
+    shrunk: list[Noted]
+    blamed: list[Noted]
+    page: str
+
+
+class GivenUp(NamedTuple):
+    """A history that was given up, after so many states."""
+
+    states: int
+
+
+Result = Explained | Unexplained | GivenUp
+
+
+def explain(
+    history: Sequence[Noted],
+    states_most: int = STATES_MOST,
+    seconds: float = SECONDS,
+    shrink_seconds: float = SHRINK_SECONDS,
+) -> Result:
+    """Whether an order explains a history; a search that goes on for longer, or through more states, is given up."""
+    ordered = sorted(history, key=lambda noted: noted.start)
+    began = time.monotonic()
+    try:
+        steps = Search(ordered, states_most, seconds).order()
+    except TooLong as fault:
+        return GivenUp(fault.states)
+    if steps is not None:
+        return Explained(steps)
+    each = max(EACH_LEAST, EACH_TIMES * (time.monotonic() - began))
+    shrunk = Shortening(states_most, shrink_seconds, each).shortest(ordered)
+    blamed = blamed_in(shrunk)
+    return Unexplained(shrunk, blamed, page_of(shrunk, blamed[0]))
+
+
+# ---- who is to blame
+
+
+def blamed_in(history: Sequence[Noted]) -> list[Noted]:
+    """The call that makes a history impossible, with those that overlap it; the ones that may disturb it first."""
+    place = max(range(len(history)), key=lambda place: blame(history[place]))
+    first, touches = history[place], Footprints(history).touches
+    others = [
+        (not touches[place].disturbs(touches[other]), -noted.start, noted)
+        for other, noted in enumerate(history)
+        if other != place and not noted.precedes(first) and not first.precedes(noted)
+        if noted.process != first.process
+    ]
+    others.sort(key=lambda other: other[:2])
+    return [first, *(noted for _, _, noted in others[:OVERLAPPING_MOST])]
+
+
+def blame(noted: Noted) -> tuple[bool, int]:
+    """How much a call is to blame: one that waits in vain most, and else the last one that has come back."""
+    return noted.outcome == WAITS, -1 if noted.end is None else noted.end
+
+
+# ---- the page of the standard
+
+# What ends the waiting of each call that may wait.
+ENDS_OF_WAITING = {
+    "read": "page of read: it waits until there are data, or no writer",
+    "write": "page of write: it waits until there is room, or no reader",
+    "open": "page of open: it waits until the other end is opened",
+}
+# XSH 2.9.7 names these of the calls, where they are made on regular files.
+ATOMIC = ("close", "dup2", "fstat", "ftruncate", "link", "lseek", "open", "pread", "pwrite", "read", "unlink", "write")
+
+
+def page_of(history: Sequence[Noted], blamed: Noted) -> str:
+    """The page of the standard that a call departs from, if no order explains it."""
+    footprints = Footprints(history)
+    at = footprints.touches[list(history).index(blamed)].at
+    word = blamed.act.word
+    if blamed.outcome == WAITS:
+        return ENDS_OF_WAITING.get(word, f"page of {word}")
+    if word == "open" and footprints.names.first(blamed.act.fields[0]) in footprints.names.fifos:
+        return "page of open: a FIFO"
+    if at and at.may_be_pipe:
+        return page_of_pipe(history, footprints, blamed, at)
+    if word in ATOMIC:
+        return f"XSH 2.9.7: calls on regular files are atomic to each other; page of {word}"
+    return f"page of {word}"
+
+
+def page_of_pipe(history: Sequence[Noted], footprints: Footprints, blamed: Noted, at: Opened) -> str:
+    """The page that a call on a pipe departs from: where all writes are small that is also theirs."""
+    sizes = [
+        len(noted.act.fields[1])
+        for noted, touch in zip(history, footprints.touches, strict=True)
+        if noted.act.word == "write" and touch.at and touch.at.file == at.file
+    ]
+    if blamed.act.word in ("read", "write") and sizes and max(sizes) <= PIPE_BUF:
+        return f"page of write: at most PIPE_BUF bytes are not interleaved; page of {blamed.act.word}"
+    return f"page of {blamed.act.word}: a pipe or FIFO"

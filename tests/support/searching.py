@@ -1,0 +1,208 @@
+"""Searching for an order of the calls of a history in which the plain model gives the same answers.
+
+The method is that of Wing and Gong (Testing and Verifying Concurrent Objects, 1993): depth first, the next call of the
+order is one before which no other has to come, and its answer must be that of the model. With Lowe's pruning (Testing
+for Linearizability, 2017) what was tried in vain is remembered: the calls that are placed, with the state of the model.
+
+A call that waits is placed when it begins, and once more for each of its resumes. So each call that has come back is
+placed, ends there, and gives what was noted; what comes after it in time waits for that.
+"""
+
+import time
+from collections.abc import Callable, Iterator, Sequence
+from typing import NamedTuple
+
+from support import plain_model
+from support.footprints import Footprints, rivals
+from support.foretold import Foretold, Stream, Written, fits
+from support.histories import UNKNOWN, Noted
+from support.unseen import last_looks
+from support.worlds import States
+
+FOREVER = float("inf")
+
+
+class Step(NamedTuple):
+    """An act of a run in which one thing happens after another, and its outcome, as a record has it."""
+
+    act: plain_model.Act
+    outcome: str
+
+
+class TooLong(Exception):
+    """A search that was given up: how many states it had gone through."""
+
+    def __init__(self, states: int) -> None:
+        super().__init__(f"given up after {states} states")
+        self.states = states
+
+
+class Call:
+    """A call of a history, as the search has it."""
+
+    def __init__(self, noted: Noted, number: int, rivals: int, written: Written | None, looks: int | None) -> None:
+        self.noted = noted
+        self.rivals = rivals
+        self.written = written
+        self.looks = looks
+        self.act = noted.act
+        self.bit = 1 << number
+        self.start = noted.start
+        self.end: float = FOREVER if noted.end is None else noted.end
+        self.has_ended = noted.end is not None
+        # which process a join makes is known by its line
+        self.outcome = str(noted.process) if is_made_by(noted) else noted.outcome
+        self.is_known = self.outcome != UNKNOWN
+        self.is_optional = not self.has_ended and noted.outcome == UNKNOWN
+        self.resume = plain_model.Act(noted.process, "resume")
+
+    def can_give(self, outcome: str) -> bool:
+        """Whether the call may end with this outcome."""
+        return not self.is_known or outcome == self.outcome
+
+
+def is_made_by(noted: Noted) -> bool:
+    """Whether a call is the join of its process."""
+    return noted.act.word == "join" and noted.outcome == UNKNOWN
+
+
+class Place(NamedTuple):
+    """Where a search is: how many calls of each process have begun, these as bits, and the number of the state."""
+
+    begun: tuple[int, ...]
+    bits: int
+    state: int
+
+
+class Search:
+    """A search for the order of a history."""
+
+    def __init__(self, history: Sequence[Noted], states_most: int, seconds: float) -> None:
+        self.states = States()
+        self.states_most = states_most
+        self.until = time.monotonic() + seconds
+        self.processes = sorted({noted.process for noted in history})
+        footprints = Footprints(history)
+        known = rivals(history, footprints.touches)
+        self.foretold = Foretold(history, footprints)
+        writes, looks = self.foretold.writes, last_looks(history, footprints)
+        calls = [
+            Call(noted, number, known[number], writes.get(number), looks.get(number))
+            for number, noted in enumerate(history)
+        ]
+        self.calls = [[call for call in calls if call.noted.process == process] for process in self.processes]
+        self.wanted = sum(call.bit for call in calls if not call.is_optional)
+        self.seen: set[tuple[int, int]] = set()
+
+    def order(self) -> list[Step] | None:
+        """The steps of an order, or None where there is none."""
+        start = Place((0,) * len(self.processes), 0, 0)
+        path: list[Step] = []
+        if not self.foretold.is_possible:
+            return None
+        if self.is_end(start):
+            return path
+        open_moves = [self.moves(start)]
+        while open_moves:
+            move = next(open_moves[-1], None)
+            if move is None:
+                open_moves.pop()
+                del path[len(open_moves) - 1 :]
+                continue
+            step, place = move
+            if self.was_seen(place):
+                continue
+            del path[len(open_moves) - 1 :]
+            path.append(step)
+            if self.is_end(place):
+                return path
+            open_moves.append(self.moves(place))
+        return None
+
+    def was_seen(self, place: Place) -> bool:
+        """Whether a place was tried before; from now on it was."""
+        key = place.bits, place.state
+        if key in self.seen:
+            return True
+        self.seen.add(key)
+        if len(self.seen) > self.states_most or (len(self.seen) % 256 == 0 and time.monotonic() > self.until):
+            raise TooLong(len(self.seen))
+        return False
+
+    def is_end(self, place: Place) -> bool:
+        """Whether all calls are placed, and those that wait at the end are not ready."""
+        if self.wanted & ~place.bits:
+            return False
+        for process in self.states.waiting[place.state]:
+            at = self.processes.index(process)
+            call = self.calls[at][place.begun[at] - 1]
+            if call.has_ended or (call.is_known and self.states.is_ready(place.state, process)):
+                return False
+        return True
+
+    def moves(self, place: Place) -> Iterator[tuple[Step, Place]]:
+        """All that may come next, and where that leads. It is one call alone where the others can wait for that one."""
+        due = self.due(place)
+        limit = min((call.end for _, call, _ in due), default=FOREVER)
+        fit = [move for move in due if move[2] or move[1].start <= limit]
+        open_bits = ~place.bits
+        for _, call, is_waiting in due:
+            open_bits |= call.bit * is_waiting
+        free = next((move for move in fit if self.is_free(place, move, open_bits)), None)
+        for at, call, is_waiting in fit if free is None else [free]:
+            if is_waiting:
+                yield from self.resumed(place, call)
+            else:
+                yield from self.begun(place, at, call)
+
+    def due(self, place: Place) -> list[tuple[int, Call, bool]]:
+        """The call of each process that waits or comes next, what has to come back first in front, and whether it
+        waits."""
+        waiting = self.states.waiting[place.state]
+        found = []
+        for at, process in enumerate(self.processes):
+            is_waiting = process in waiting
+            number = place.begun[at] - is_waiting
+            if number < len(self.calls[at]):
+                found.append((at, self.calls[at][number], is_waiting))
+        return sorted(found, key=lambda move: move[1].end)
+
+    def is_free(self, place: Place, move: tuple[int, Call, bool], open_bits: int) -> bool:
+        """Whether no call that is still to come, or waits, can disturb a call or be disturbed by it."""
+        at, call, is_waiting = move
+        if call.rivals & open_bits:
+            return False
+        # one that waits for ever leaves the others alone
+        return not is_waiting or call.has_ended or self.states.is_ready(place.state, self.processes[at])
+
+    def resumed(self, place: Place, call: Call) -> Iterator[tuple[Step, Place]]:
+        """The next try of a call that waits."""
+        outcome, state = self.states.after(place.state, call.resume)
+        if outcome is not None and (outcome.startswith("part ") or call.can_give(outcome)):
+            after = place._replace(state=state)
+            if self.is_foretold(call, after):
+                yield Step(call.resume, outcome), after
+
+    def begun(self, place: Place, at: int, call: Call) -> Iterator[tuple[Step, Place]]:
+        """A call that takes effect, or begins to wait."""
+        outcome, state = self.states.after(place.state, call.act)
+        if outcome is not None and (outcome.startswith("parked ") or call.can_give(outcome)):
+            begun = (*place.begun[:at], place.begun[at] + 1, *place.begun[at + 1 :])
+            after = Place(begun, place.bits | call.bit, state)
+            if call.looks is not None and not call.looks & ~after.bits and not outcome.startswith("error "):
+                # nobody will look at what it has written
+                state = self.states.without_bytes(state, call.noted.process, call.act.fields[0])
+                yield Step(call.act, outcome), after._replace(state=state)
+            elif self.is_foretold(call, after):
+                yield Step(call.act, outcome), after
+
+    def is_foretold(self, call: Call, after: Place) -> bool:
+        """Whether no answer that is still to come contradicts what a call has written."""
+        if call.written is None:
+            return True
+        ended: dict[int, int] = {}
+        if isinstance(call.written.known, Stream):
+            waiting = self.states.waiting[after.state]
+            for process in (reader.process for reader in call.written.known.readers):
+                ended[process] = after.begun[self.processes.index(process)] - (process in waiting)
+        return fits(call.written, self.states.all[after.state], ended, after.bits)

@@ -1,0 +1,135 @@
+#!/usr/bin/env python3
+"""Tells whether there is an order of the calls of a history that explains what they gave.
+
+usage: tools/order.py HISTORY [--program PATH] [--seconds N] [--states N] [--quiet]
+
+HISTORY is a file, or - for the standard input. It has a line for each call, `START END pK ACT = OUTCOME`: the times
+before and after it, in nanoseconds, the call and its answer as in docs/FORMATS.md. A call that still waits at the end
+has END `-` and OUTCOME `parked ?`. tests/support/histories.py has more. An empty line stands between two histories.
+
+An order explains a history where each process makes its calls in its own order, a call that came back before another
+one began comes first, and fdref, to which the calls come one after another, gives all these answers. The order is
+searched for with the plain model of the tests, and then run through `fdref replay`: what is printed are the lines of
+the program, and each was compared with the history. A call that waits has a line where it begins to wait, and one for
+each resume.
+
+Where no order explains a history a part of it is printed that has none either. In it `?` is an answer that does not
+matter, and END `-` with `?` is a call of which nothing else is known. Then comes the call that makes it impossible,
+with those that overlap it, and the page of the standard. Histories that differ in their times alone are searched once.
+
+After several histories the last line counts them. Exit status: 0 where all are explained, 1 where one is not, 2 for
+wrong words, 3 where fdref could not be run or is not what the plain model is, 4 where a line is no call, 5 where one
+was given up and the others are explained.
+"""
+
+import argparse
+import sys
+from collections.abc import Sequence
+from pathlib import Path
+
+sys.path.insert(1, str(Path(__file__).resolve().parents[1] / "tests"))
+
+from support.histories import BadHistory, Noted, form, history_text, read_histories
+from support.options import add_path, is_missing
+from support.ordering import SECONDS, STATES_MOST, Explained, GivenUp, Result, Unexplained, explain
+from support.places import FDREF
+from support.replaying import CannotRun, Differs, verified
+
+EXPLAINED, NOT_EXPLAINED, CANNOT_RUN, NO_CALL, GIVEN_UP = 0, 1, 3, 4, 5
+
+
+class Orders:
+    """The histories that were looked at, with the answer to each form that was met."""
+
+    def __init__(self, args: argparse.Namespace, is_one: bool) -> None:
+        self.args = args
+        self.is_one = is_one
+        self.known: dict[tuple[object, ...], tuple[int, Result]] = {}
+        self.counts = {Explained: 0, Unexplained: 0, GivenUp: 0}
+
+    def answer(self, number: int, history: Sequence[Noted]) -> None:
+        """Answers for a history, and prints what is to be told of it."""
+        key = form(history)
+        is_new = key not in self.known
+        if is_new:
+            self.known[key] = number, explain(history, self.args.states, self.args.seconds)
+        first, result = self.known[key]
+        self.counts[type(result)] += 1
+        if isinstance(result, Explained) and is_new:
+            told = self.ordered(history, result)
+        else:
+            told = self.unordered(result) if is_new else f"as history {first}\n"
+        if not (self.args.quiet and (isinstance(result, Explained) or not is_new)):
+            print(("" if self.is_one else f"history {number}: ") + told, end="", flush=True)
+
+    def ordered(self, history: Sequence[Noted], result: Explained) -> str:
+        """The order of a history, as the program printed it."""
+        lines = verified(self.args.program, history, result.steps)
+        return "an order explains it\n" + "".join(f"{line.place} {line.act} = {line.outcome}\n" for line in lines)
+
+    def unordered(self, result: Result) -> str:
+        """What is told of a history without an order, or of one that was given up."""
+        if not isinstance(result, Unexplained):
+            return f"given up after {result.states} states\n" if isinstance(result, GivenUp) else ""
+        parts = ["no order explains it, nor this part of it:", indented(result.shrunk)]
+        parts += ["which this call makes impossible, with those that overlap it:", indented(result.blamed)]
+        return "\n".join(parts) + f"\n{result.page}\n"
+
+    def totals(self) -> str:
+        """The last line."""
+        explained, unexplained, given_up = self.counts.values()
+        total = explained + unexplained + given_up
+        return f"histories {total} explained {explained} unexplained {unexplained} given up {given_up}"
+
+    def status(self) -> int:
+        """The exit status."""
+        if self.counts[Unexplained]:
+            return NOT_EXPLAINED
+        return GIVEN_UP if self.counts[GivenUp] else EXPLAINED
+
+
+def indented(history: Sequence[Noted]) -> str:
+    """The lines of a history, moved to the right."""
+    return "\n".join(f"  {line}" for line in history_text(history).splitlines())
+
+
+def parse(words: Sequence[str]) -> argparse.Namespace:
+    """What the command line asks for."""
+    parser = argparse.ArgumentParser(
+        description=__doc__, formatter_class=argparse.RawDescriptionHelpFormatter, usage=argparse.SUPPRESS
+    )
+    parser.add_argument("history", metavar="HISTORY", help="a file with histories, or - for the standard input")
+    add_path(parser, "--program", "fdref", FDREF)
+    parser.add_argument("--seconds", type=float, default=SECONDS, metavar="N", help="give a history up after so long")
+    parser.add_argument("--states", type=int, default=STATES_MOST, metavar="N", help="or after so many states")
+    parser.add_argument("--quiet", action="store_true", help="print nothing of histories that are explained")
+    return parser.parse_args(words)
+
+
+def main(words: Sequence[str]) -> int:
+    """Answers for all histories: the exit status."""
+    args = parse(words)
+    if is_missing(args.program):
+        return CANNOT_RUN
+    try:
+        text = sys.stdin.read() if args.history == "-" else Path(args.history).read_text(encoding="utf-8")
+        histories = read_histories(text)
+        orders = Orders(args, len(histories) == 1)
+        for number, history in enumerate(histories, 1):
+            orders.answer(number, history)
+    except BadHistory as fault:
+        print(f"order.py: {fault}", file=sys.stderr)
+        return NO_CALL
+    except Differs as fault:
+        print(f"order.py: the program differs from the plain model: {fault}", file=sys.stderr)
+        return CANNOT_RUN
+    except (CannotRun, OSError, UnicodeDecodeError) as fault:
+        print(f"order.py: {fault}", file=sys.stderr)
+        return CANNOT_RUN
+    if len(histories) != 1:
+        print(orders.totals())
+    return orders.status()
+
+
+if __name__ == "__main__":
+    sys.exit(main(sys.argv[1:]))
