@@ -1,0 +1,415 @@
+#!/usr/bin/env python3
+"""Races processes on the system at hand, and tells which answers no order of their calls explains.
+
+usage: tools/race.py --seconds N [--kind WORD] [--seed WORD] [--processes N] [--pin] [--dir DIR] [--keep DIR]
+
+Random scripts of each kind (tools/race_kinds.py) are run by tools/race_kernel.c, many rounds of each: real processes
+make their calls at once, at full speed. XSH 2.9.7 asks that calls on regular files are atomic to each other, so there
+has to be an order of the calls of a round, which keeps each process's own order and that of time, in which the plain
+model gives all answers that were seen. The order is searched for, and given to `fdref replay`, which has to print the
+same answers. Histories of a script that have the same answers and the same calls before others are searched once.
+
+A history that no order explains is told with its reason, if there is one: the page of the standard, and what is known
+of the system. The last lines count histories by kind and by reason. Exit status: 0 where each history that no order
+explains has a reason, 1 where one has none, 2 for wrong words, 3 where a script could not be run. docs/KERNELS.md has
+more.
+"""
+
+import argparse
+import collections
+import itertools
+import os
+import re
+import signal
+import subprocess
+import sys
+import tempfile
+import time
+from collections.abc import Callable, Iterator, Sequence
+from pathlib import Path
+from typing import NamedTuple
+
+sys.path.insert(1, str(Path(__file__).resolve().parents[1] / "tests"))
+
+from support import histories, ordering, plain_model, replaying
+from support.counting import Failure
+from support.histories import History, Noted
+from support.options import add_path
+from support.places import FDREF, TOOLS
+from support.replaying import CannotRun
+from support.running import run
+
+import race_kinds
+
+# A script takes a share of the time; it has so many rounds, at least and at most, and a first guess of their speed.
+ROUNDS_LEAST = 10
+ROUNDS_MOST = 300
+ROUNDS_IN_A_SECOND = 20.0
+SHARE_MOST = 1.5
+# How long one script may take to run, one history to be searched, and through how many states.
+RUN_SECONDS = 120
+SEARCH_SECONDS = 20
+STATES_MOST = 200_000
+# Histories without a reason that are told, the others being counted, and how long each of them is made shorter.
+TOLD_MOST = 5
+SHRINK_SECONDS = 5
+PAGE = 4_096
+
+
+# ---- reasons
+
+
+class Race:
+    """A history of a script, and what is known of it where no order explains it."""
+
+    def __init__(self, script: str, history: History) -> None:
+        self.script = script
+        self.history = history
+        setup, _, parts = script.partition("race\n")
+        self.calls = history[setup.count("\n") :]
+        self.words = {line.split(" ")[1] for line in parts.splitlines()}
+        self.has_own_files = not re.search(r"\b(fork|dup2?|pipe|mkfifo)\b", script)
+        self.world = world_after(history[: setup.count("\n")])
+
+    def description(self, noted: Noted) -> plain_model.Description | None:
+        """The description that a call was made on, where no call of the race changes descriptors."""
+        has_fd = plain_model.FIELDS[noted.act.word][:1] == (plain_model.read_fd,)
+        if not has_fd or self.words & {"open", "dup", "dup2", "close"}:
+            return None
+        return self.world.processes[noted.process].table.get(noted.act.fields[0])
+
+    def are_apart(self, one: Noted, other: Noted) -> bool:
+        """Whether two calls are on one regular file, by descriptions of their own: known ones, or those of processes
+        that have nothing but what they opened."""
+        at, by = self.description(one), self.description(other)
+        if at is None or by is None:
+            return self.has_own_files and one.process != other.process
+        return at.file is by.file and not at.pipe and at is not by
+
+    def written(self) -> set[int]:
+        """The bytes of all writes, and 0."""
+        data = [noted.act.fields[-1] for noted in self.history if noted.act.word in ("write", "pwrite")]
+        return {0}.union(*data)
+
+
+def world_after(history: History) -> plain_model.World:
+    """The world after calls that come one after another."""
+    beside = plain_model.Run(len(history) + plain_model.RECORDS_DEFAULT)
+    for noted in history:
+        beside.take(noted.act)
+    return beside.world
+
+
+class Reason(NamedTuple):
+    """Why a system may give answers that no order explains: the page of the standard, and whether the answer of a call
+    is doubted because of another one that overlaps it. It fits where an order explains all but what is doubted."""
+
+    name: str
+    page: str
+    doubts: Callable[[Race, Noted, Noted], bool]
+
+    def doubted(self, race: Race) -> list[Noted]:
+        """The calls whose answers it doubts."""
+        pairs = itertools.permutations(race.calls, 2)
+        found = {id(one): one for one, other in pairs if overlap(one, other) and self.doubts(race, one, other)}
+        return list(found.values())
+
+    def fits(self, race: Race) -> bool:
+        """Whether an order explains a history without what is doubted."""
+        doubted = self.doubted(race)
+        return bool(doubted) and isinstance(explained(without(race.history, doubted)), ordering.Explained)
+
+
+def overlap(one: Noted, other: Noted) -> bool:
+    """Whether two calls overlap in time."""
+    return not one.precedes(other) and not other.precedes(one)
+
+
+def is_torn(race: Race, one: Noted, other: Noted) -> bool:
+    """A read of a regular file while it is written to or its length is set, not under the lock of one offset."""
+    data = plain_model.read_data(one.outcome.encode())
+    if one.act.word not in ("read", "pread") or other.act.word not in ("write", "pwrite", "ftruncate") or data is None:
+        return False
+    at = race.description(one)
+    has_no_lock = at is not None and not at.pipe and at is race.description(other)
+    has_no_lock = has_no_lock and (one.act.word, other.act.word) != ("read", "write")
+    return (has_no_lock or race.are_apart(one, other)) and set(data) <= race.written()
+
+
+def is_growing(race: Race, one: Noted, other: Noted) -> bool:
+    """A length that is told in whole pages while a write of several pages goes on."""
+    if other.act.word not in ("write", "pwrite") or len(other.act.fields[-1]) < PAGE:
+        return False
+    is_told = one.act.word == "fstat" or (one.act.word, one.act.fields[2:]) == ("lseek", ("end",))
+    length = one.outcome.split(" ")[1 if one.act.word == "fstat" else 0] if is_told else "-"
+    return race.are_apart(one, other) and length.isdigit() and int(length) % PAGE == 0
+
+
+def is_either(race: Race, one: Noted, other: Noted) -> bool:
+    """Either of both."""
+    return is_torn(race, one, other) or is_growing(race, one, other)
+
+
+# Each reason, the narrow ones first: only what was seen on a system.
+REASONS = [
+    Reason("a length grows by pages while a write goes on", "XSH 2.9.7; pages of fstat, lseek and write", is_growing),
+    Reason("a read gives a part of what is written meanwhile", "XSH 2.9.7; pages of read and write", is_torn),
+    Reason("both at once", "XSH 2.9.7", is_either),
+]
+
+
+def without(history: History, doubted: Sequence[Noted]) -> list[Noted]:
+    """A history in which nothing is known of the answers of some calls."""
+    gone = set(map(id, doubted))
+    return [noted._replace(outcome=histories.UNKNOWN) if id(noted) in gone else noted for noted in history]
+
+
+def explained(history: History, shrink_seconds: float = 0) -> ordering.Result:
+    """Whether an order explains a history; where none does, a part of it may be made short for so long."""
+    return ordering.explain(history, STATES_MOST, SEARCH_SECONDS, shrink_seconds)
+
+
+def reason_of(race: Race) -> Reason | None:
+    """The first reason that fits a history that no order explains."""
+    return next((reason for reason in REASONS if reason.fits(race)), None)
+
+
+# ---- the two that are asked
+
+
+class Asked:
+    """The driver and fdref, as they are called."""
+
+    def __init__(self, program: str, driver: list[str]) -> None:
+        self.program = program
+        self.driver = driver
+        self.verified: set[str] = set()
+
+    def histories(self, script: str, rounds: int, seed: int) -> list[list[Noted]]:
+        """The histories of so many rounds of a script."""
+        words = [*self.driver, "--rounds", str(rounds), "--seed", str(seed)]
+        try:
+            done = run(words, script.encode(), seconds=RUN_SECONDS)
+        except (Failure, OSError) as fault:
+            raise CannotRun(f"race_kernel: {fault}") from None
+        if done.status != 0:
+            raise CannotRun(f"race_kernel ends with {done.said()}")
+        return histories.read_histories(done.stdout.decode("ascii"))
+
+    def verify(self, history: History, explanation: ordering.Explained) -> None:
+        """Has fdref give the answers of a history in the order that was found, unless it gave them in it before."""
+        key = "\n".join(f"{plain_model.act_text(step.act)} = {step.outcome}" for step in explanation.steps)
+        if key not in self.verified:
+            replaying.verified(self.program, history, explanation.steps)
+            self.verified.add(key)
+
+
+# ---- one script
+
+
+class Unexplained(NamedTuple):
+    """A history that no order explains: the script that it is of, the history, and the reason, if there is one."""
+
+    script: str
+    history: History
+    reason: Reason | None
+
+
+class Counted:
+    """What is counted of the races of a kind."""
+
+    def __init__(self) -> None:
+        self.scripts = self.histories = self.distinct = self.calls = self.given_up = 0
+        self.by_reason: collections.Counter[str] = collections.Counter()
+        self.without_reason: list[Unexplained] = []
+
+    def add(self, script: str, found: Sequence[History], distinct: int) -> None:
+        """Counts the histories of a script, without the calls before each race."""
+        self.scripts += 1
+        self.histories += len(found)
+        self.distinct += distinct
+        self.calls += sum(map(len, found)) - len(found) * script.partition("race\n")[0].count("\n")
+
+    def lines(self, kind: str) -> list[str]:
+        """The counts, and those of each reason."""
+        unexplained = self.by_reason.total() + len(self.without_reason)
+        ends = [f"{self.histories - unexplained - self.given_up} explained", f"{unexplained} unexplained"]
+        ends += [f"{self.given_up} given up"] if self.given_up else []
+        text = f"{kind}: {self.scripts} scripts, {self.histories} histories, {self.distinct} distinct, "
+        text += f"{self.calls} calls, "
+        met = [reason for reason in REASONS if self.by_reason[reason.name]]
+        return [text + ", ".join(ends), *(f"{self.by_reason[it.name]:8} {it.name} ({it.page})" for it in met)]
+
+
+class Races:
+    """The races on a system, and what is counted of them by kind."""
+
+    def __init__(self, asked: Asked, seed: str, processes: int | None) -> None:
+        self.asked = asked
+        self.seed = seed
+        self.processes = processes
+        self.counted: dict[str, Counted] = {}
+        self.speeds: dict[str, float] = {}
+
+    def race(self, kind: str, number: int, seconds: float) -> Iterator[Unexplained]:
+        """Races a script for about so long, and gives each history without an order, those with equal forms once."""
+        script = race_kinds.script_of(kind, self.seed, number, self.processes)
+        rounds = int(self.speeds.get(kind, ROUNDS_IN_A_SECOND) * seconds)
+        start = time.monotonic()
+        found = self.asked.histories(script, max(ROUNDS_LEAST, min(ROUNDS_MOST, rounds)), number + 1)
+        counted = self.counted.setdefault(kind, Counted())
+        forms: dict[object, list[History]] = {}
+        for history in found:
+            forms.setdefault(histories.form(history), []).append(history)
+        counted.add(script, found, len(forms))
+        for alike in forms.values():
+            yield from self.judged(counted, script, alike[0], len(alike))
+        self.speeds[kind] = len(found) / (time.monotonic() - start)
+
+    def judged(self, counted: Counted, script: str, history: History, times: int) -> Iterator[Unexplained]:
+        """Gives a history that no order explains, which came so many times."""
+        explanation = explained(history)
+        if isinstance(explanation, ordering.Explained):
+            self.asked.verify(history, explanation)
+        elif isinstance(explanation, ordering.GivenUp):
+            counted.given_up += times
+        else:
+            found = Unexplained(script, history, reason_of(Race(script, history)))
+            if found.reason:
+                counted.by_reason[found.reason.name] += times
+            else:
+                counted.without_reason.append(found)
+            yield found
+
+    def text(self) -> str:
+        """The last lines: the counts of each kind, with its reasons."""
+        lines = [line for kind, counted in self.counted.items() for line in counted.lines(kind)]
+        return "\n".join([*lines, f"{self.unexplained():8} without a reason"])
+
+    def unexplained(self) -> int:
+        """How many histories have neither an order nor a reason."""
+        return sum(len(counted.without_reason) for counted in self.counted.values())
+
+
+# ---- telling
+
+
+def clipped(text: str) -> str:
+    """A line for a reader: a long one is cut in the middle."""
+    return text if len(text) <= 160 else text[:100] + "..." + text[-40:]
+
+
+def told(history: History) -> str:
+    """The calls of a history, a line each."""
+    return "\n".join(clipped(f"  {noted.text()}") for noted in history)
+
+
+def tell(found: Unexplained, name: str) -> None:
+    """Tells of a history without an order and without a reason: a short part of it, and the calls to look at."""
+    result = explained(found.history, SHRINK_SECONDS)
+    if isinstance(result, ordering.Unexplained):
+        print(f"{name}: no order explains\n{told(result.shrunk)}\nwhich this call makes impossible", flush=True)
+        print(f"{told(result.blamed)}\n{result.page}", flush=True)
+
+
+def keep_files(found: Unexplained, name: str, folder: str) -> None:
+    """Keeps a history, after those of its script, and the script."""
+    base = os.path.join(folder, name.replace(" ", "-"))
+    Path(f"{base}.script").write_text(found.script, encoding="ascii")
+    with open(f"{base}.histories", "a", encoding="ascii") as file:
+        file.write(histories.history_text(found.history) + "\n")
+
+
+# ---- the whole
+
+
+def compile_driver(folder: str) -> str:
+    """Compiles the driver, and gives its path."""
+    path = os.path.join(folder, "race_kernel")
+    source = str(TOOLS / "race_kernel.c")
+    try:
+        subprocess.run([os.environ.get("CC", "cc"), "-std=c11", "-O2", "-o", path, source], check=True)
+    except (OSError, subprocess.CalledProcessError) as fault:
+        raise CannotRun(f"tools/race_kernel.c is not compiled: {fault}") from None
+    return path
+
+
+def parse(words: Sequence[str]) -> argparse.Namespace:
+    """What the command line asks for."""
+    parser = argparse.ArgumentParser(
+        description=__doc__, formatter_class=argparse.RawDescriptionHelpFormatter, usage=argparse.SUPPRESS
+    )
+    parser.add_argument("--seconds", type=float, required=True, metavar="N", help="how long it races")
+    parser.add_argument("--seed", default="1", metavar="WORD", help="any word; script K of a seed is always the same")
+    parser.add_argument("--kind", default="", metavar="WORD", help="only the kinds that have this word in their name")
+    parser.add_argument("--processes", type=int, metavar="N", help="of each script; 3 to 5 where none is given")
+    parser.add_argument("--dir", metavar="DIR", help="where the files are made; else in $TMPDIR or /tmp")
+    add_path(parser, "--program", "fdref", FDREF)
+    driver = "tools/race_kernel.c, as it was compiled; compiled for this run where it is not given"
+    parser.add_argument("--driver", metavar="PATH", help=driver)
+    parser.add_argument("--pin", action="store_true", help="each process has a processor of its own")
+    parser.add_argument("--keep", metavar="DIR", help="a folder for histories without an order and without a reason")
+    args = parser.parse_args(words)
+    args.kinds = [kind for kind in race_kinds.KINDS if args.kind in kind]
+    if not args.kinds:
+        parser.error(f"no kind has {args.kind} in its name: there are {', '.join(race_kinds.KINDS)}")
+    if args.processes is not None and not 2 <= args.processes <= 12:
+        parser.error("2 to 12 processes can be raced")
+    for path in [it for it in (args.dir, args.keep) if it is not None]:
+        if not os.path.isdir(path):
+            parser.error(f"there is no folder {path}")
+    return args
+
+
+def race_all(args: argparse.Namespace, races: Races) -> None:
+    """Races scripts of all kinds that are asked for, by turns, until the time is over."""
+    until = time.monotonic() + args.seconds
+    share = min(SHARE_MOST, args.seconds / (2 * len(args.kinds)))
+    for number in itertools.count():
+        for kind in args.kinds:
+            if time.monotonic() > until and (number or kind in races.counted):
+                return
+            for found in races.race(kind, number, min(share, max(until - time.monotonic(), 0))):
+                if not found.reason:
+                    tell_and_keep(races, found, f"{kind} {number} of seed {args.seed}", args.keep)
+
+
+def tell_and_keep(races: Races, found: Unexplained, name: str, folder: str | None) -> None:
+    """Tells of a history without a reason, where not too many were told of, and keeps it where that is wanted."""
+    if races.unexplained() <= TOLD_MOST:
+        tell(found, name)
+    if folder:
+        keep_files(found, name, folder)
+
+
+def asked_for(args: argparse.Namespace, folder: str) -> Asked:
+    """The driver and fdref, as the command line has them."""
+    if not os.path.exists(args.program):
+        raise CannotRun(f"no program at {args.program}: './fdref build' makes it")
+    driver = [os.path.abspath(args.driver) if args.driver else compile_driver(folder)]
+    driver += ["--dir", args.dir] if args.dir else []
+    return Asked(args.program, [*driver, "--pin"] if args.pin else driver)
+
+
+def end_quietly(number: int, _: object) -> None:
+    """Ends this script as an exit does, so that nothing is left behind."""
+    sys.exit(128 + number)
+
+
+def main(words: Sequence[str]) -> int:
+    """Races what is asked for: the exit status."""
+    args = parse(words)
+    signal.signal(signal.SIGTERM, end_quietly)
+    with tempfile.TemporaryDirectory(prefix="race-") as folder:
+        try:
+            races = Races(asked_for(args, folder), args.seed, args.processes)
+            race_all(args, races)
+        except (CannotRun, replaying.Differs, histories.BadHistory) as fault:
+            print(f"race.py: {fault}", file=sys.stderr)
+            return 3
+    print(races.text())
+    return 1 if races.unexplained() else 0
+
+
+if __name__ == "__main__":
+    sys.exit(main(sys.argv[1:]))
