@@ -491,7 +491,9 @@ def table(program: str, runs: int, folder: str) -> None:
     for acts in (10_000, 100_000, 999_000):
         costs.append(line(mix(path, acts), costs[-1] if costs else None))
     print(f"growth of the cost of an act from 10,000 to 999,000 acts: {costs[-1] / costs[0]:.2f}")
-    for kind in (churn, wide, partial(wide, later=1_100), dups, forks, pipes, parks):
+    kinds: list[Callable[[str, int], Script]]
+    kinds = [churn, wide, partial(wide, later=1_100), dups, forks, pipes, parks]
+    for kind in kinds:
         few = line(kind(path, 10_000))
         many = line(kind(path, 999_000), few)
         print(f"an act of it over a small act: {few / costs[0]:.2f} of 10,000, {many / costs[-1]:.2f} of 999,000")

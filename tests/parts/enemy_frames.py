@@ -138,7 +138,7 @@ class Mark(NamedTuple):
     """Where some bytes of a payload are that are read at once."""
 
     at: int
-    count: int
+    size: int
 
 
 class Marked(Payload):
@@ -164,12 +164,12 @@ def marks_of(payload: bytes) -> list[Mark]:
 
 def number_at(payload: bytes, mark: Mark) -> int:
     """The number that a field holds."""
-    return int.from_bytes(payload[mark.at : mark.at + mark.count], "big")
+    return int.from_bytes(payload[mark.at : mark.at + mark.size], "big")
 
 
 def with_number(payload: bytes, mark: Mark, number: int) -> bytes:
     """A payload with another number in a field."""
-    return payload[: mark.at] + number.to_bytes(mark.count, "big") + payload[mark.at + mark.count :]
+    return payload[: mark.at] + number.to_bytes(mark.size, "big") + payload[mark.at + mark.size :]
 
 
 def about(count: int, value: int, more: Iterable[int]) -> list[int]:
@@ -192,10 +192,10 @@ def bent_lengths(payload: bytes) -> Iterator[Bent]:
 def bent_numbers(payload: bytes) -> Iterator[Bent]:
     """Each number at its edges, and as every kind of act that there is."""
     for mark in marks_of(payload):
-        if mark.count in EDGES:
-            more = [*ACTS, *CALLS] if mark.at == KIND else EDGES[mark.count]
-            for number in about(mark.count, number_at(payload, mark), more):
-                yield f"the {mark.count} bytes at {mark.at} as {number}", framed(with_number(payload, mark, number))
+        if mark.size in EDGES:
+            more = [*ACTS, *CALLS] if mark.at == KIND else EDGES[mark.size]
+            for number in about(mark.size, number_at(payload, mark), more):
+                yield f"the {mark.size} bytes at {mark.at} as {number}", framed(with_number(payload, mark, number))
 
 
 def bent_byte(payload: bytes, at: int) -> Iterator[Bent]:
@@ -208,16 +208,16 @@ def bent_insides(payload: bytes) -> Iterator[Bent]:
     """Each length of a name or of data at its edges: with the bytes that it tells, and as if they were there."""
     marks = marks_of(payload)
     for mark, some in zip(marks, marks[1:], strict=False):
-        if mark.count not in INSIDES or number_at(payload, mark) != some.count:
+        if mark.size not in INSIDES or number_at(payload, mark) != some.size:
             continue
-        data, rest = payload[some.at : some.at + some.count], payload[some.at + some.count :]
-        for number in about(mark.count, some.count, INSIDES[mark.count]):
+        data, rest = payload[some.at : some.at + some.size], payload[some.at + some.size :]
+        for number in about(mark.size, some.size, INSIDES[mark.size]):
             told = with_number(payload, mark, number)
             if number <= MOST["records"]:
                 grown = (data or b"a") * (number // max(len(data), 1) + 1)
                 yield f"{number} bytes at {some.at}", framed(told[: some.at] + grown[:number] + rest)
             yield f"{number} bytes told at {mark.at}", framed(told)
-            length = len(payload) + number - some.count
+            length = len(payload) + number - some.size
             if length < 2**32:
                 yield f"{number} bytes told at {mark.at} and in the length", u32(length) + told
 
