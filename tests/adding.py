@@ -34,8 +34,9 @@ from support.places import TOP
 
 PAGE = TOP / "docs" / "ADDING.md"
 SEARCHED = ("crates/*/src", "crates/*/specs", "crates/*/proofs", "tests", "tools", "clients", "bench")
-ENDINGS = {".rt", ".antt", ".py", ".c", ".edit", ""}
-COMMENTS = {".rt": r"//[^\n]*", ".antt": r"--[^\n]*", ".c": r"/\*.*?\*/|//[^\n]*"}
+ENDINGS = {".rt", ".antt", ".py", ".c", ".h", ".edit", ""}
+C_COMMENT = r"/\*.*?\*/|//[^\n]*"
+COMMENTS = {".rt": r"//[^\n]*", ".antt": r"--[^\n]*", ".c": C_COMMENT, ".h": C_COMMENT}
 ITEM = re.compile(r"(\d+\.|-) `([\w/-]+[\w./-]*)`(?: \((`[^`)]+`(?:, `[^`)]+`)*)\))?[:.]")
 PATH = re.compile(r"`((?:crates|tests|tools|clients|bench|docs|examples)/[\w./-]+)`")
 

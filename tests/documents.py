@@ -24,7 +24,7 @@ WORDS = 25_000
 
 # Where names have to stand that a document has in backquotes, and the endings of such files.
 SOURCES = ("crates", "tests", "tools", "clients", "bench", "examples", ".ci")
-ENDINGS = {".rt", ".antt", ".py", ".c", ".edit", ".script", ""}
+ENDINGS = {".rt", ".antt", ".py", ".c", ".h", ".edit", ".script", ""}
 
 # Names that a document may have though no source has them: of an example, of scripts, of other programs and crates, of
 # the prover.
