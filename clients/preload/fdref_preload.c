@@ -40,6 +40,7 @@
    What is ignored: the mode of a new file, O_NOCTTY, O_NOFOLLOW, O_SYNC and its kin, fsync. FD_CLOEXEC is only kept.
 
    What is left out, so that FDREF_STRICT tells it:
+     - paths that go to the kernel, in calls that fdref has,
      - exec is not followed: a new program joins as a new process, which has the real files alone. So do system, popen
        and posix_spawn.
      - of plain names: fopen, freopen, rename, symlink, readlink, mkdir, rmdir, opendir, mknod, mkstemp, chmod, chown,

@@ -389,13 +389,29 @@ static const char *plain(const char *name)
     return rest;
 }
 
+/* A path that leads elsewhere is the kernel's. */
+static enum way way_elsewhere(const char *name)
+{
+    if (is_strict && how == ASKED && name && *name)
+        end_with(LEFT_OUT, "the path %s is left out", name);
+    return PASS;
+}
+
+/* The same of a name in a folder. */
+static enum way way_in_folder(const char *name)
+{
+    if (is_strict && how == ASKED && name && *name && *name != '/')
+        end_with(LEFT_OUT, "%s in a folder is left out", name);
+    return way_elsewhere(name);
+}
+
 /* The way of a call with a name, from which `./` is taken. */
 static enum way way_of_name(const char **name)
 {
     const char *rest = plain(*name);
     prepare();
     if (!rest || how == OFF)
-        return PASS;
+        return way_elsewhere(*name);
     *name = rest;
     return way_of_ours();
 }
@@ -404,5 +420,5 @@ static enum way way_of_name(const char **name)
 static enum way way_in(int folder, const char **name)
 {
     prepare();
-    return folder == AT_FDCWD ? way_of_name(name) : PASS;
+    return folder == AT_FDCWD ? way_of_name(name) : way_in_folder(*name);
 }

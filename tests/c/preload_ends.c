@@ -106,11 +106,12 @@ static int of_names(const char *word)
 {
     struct timespec times[2] = {{0, UTIME_NOW}, {0, UTIME_NOW}};
     char name[] = "nameXXXXXX", *const list[] = {NULL};
-    int folder = open("/dev", O_RDONLY | O_DIRECTORY);
+    if (strcmp(word, "the path /dev/null") == 0) return of(open("/dev/null", O_RDONLY));
+    if (strcmp(word, "none in a folder") == 0) return of(openat(9, "none", O_RDONLY));
     if (strcmp(word, "fopen") == 0) return fopen("none", "r") ? 0 : errno;
     if (strcmp(word, "freopen") == 0) return freopen("none", "r", stdin) ? 0 : errno;
     if (strcmp(word, "rename") == 0) return of(rename("a", "b"));
-    if (strcmp(word, "renameat") == 0) return of(renameat(folder, "none", AT_FDCWD, "b"));
+    if (strcmp(word, "renameat") == 0) return of(renameat(AT_FDCWD, "none", AT_FDCWD, "b"));
     if (strcmp(word, "symlink") == 0) return of(symlink("a", "b"));
     if (strcmp(word, "readlink") == 0) return of(readlink("a", bytes, 9));
     if (strcmp(word, "mkdir") == 0) return of(mkdir("b", 0700));

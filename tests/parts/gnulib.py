@@ -5,7 +5,6 @@ folder. The tests are compiled against the C library at hand, without gnulib's o
 """
 
 import os
-import re
 import sys
 import tempfile
 from collections.abc import Iterator
@@ -53,7 +52,6 @@ CONFIG = """
 # What comes of a test: it passes, or it fails by one of these, or by a reason of docs/KERNELS.md.
 PASSES = "passes"
 LEFT_OUT = judge.LEAVES_OUT
-SLASH = "a name with a slash goes to the system, which does not have the file"
 
 
 class Test(NamedTuple):
@@ -78,23 +76,23 @@ TESTS = [
     Test("dup-safer", sources=(*SAFER, "cloexec", "dup-safer-flag", "fd-safer-flag")),
     Test("dup2"),
     Test("dup3"),
-    Test("faccessat", f"{LEFT_OUT}symlink"),
-    Test("fcntl-safer", SLASH, sources=(*SAFER, "open-safer")),
+    Test("faccessat", f"{LEFT_OUT}foo in a folder"),
+    Test("fcntl-safer", f"{LEFT_OUT}the path nonexist.ent/", sources=(*SAFER, "open-safer")),
     Test("fdatasync"),
     Test("fopen", f"{LEFT_OUT}fopen"),
     Test("fread", f"{LEFT_OUT}fopen"),
     Test("fstat"),
-    Test("fstatat", SLASH),
+    Test("fstatat", f"{LEFT_OUT}foo in a folder"),
     Test("fsync"),
     Test("ftruncate", words=("test-ftruncate.sh",)),
     Test("isatty"),
     Test("link", f"{LEFT_OUT}mkdir"),
-    Test("lstat", SLASH),
-    Test("mkfifo", f"{LEFT_OUT}symlink"),
-    Test("mkfifoat", f"{LEFT_OUT}symlink"),
-    Test("nonblocking", f"{LEFT_OUT}fcntl with F_SETFL", sources=("nonblocking",)),
-    Test("open", SLASH),
-    Test("openat", SLASH),
+    Test("lstat", f"{LEFT_OUT}the path ."),
+    Test("mkfifo", f"{LEFT_OUT}the path ."),
+    Test("mkfifoat", f"{LEFT_OUT}the path ."),
+    Test("nonblocking", f"{LEFT_OUT}the path .", sources=("nonblocking",)),
+    Test("open", f"{LEFT_OUT}the path nonexist.ent/"),
+    Test("openat", f"{LEFT_OUT}foo in a folder"),
     Test("pipe"),
     Test("pipe2", sources=("nonblocking",)),
     Test("pread"),
@@ -102,8 +100,8 @@ TESTS = [
     Test("read"),
     Test("remove", f"{LEFT_OUT}mkdir"),
     Test("rename", f"{LEFT_OUT}mkdir"),
-    Test("stat", SLASH),
-    Test("truncate", SLASH),
+    Test("stat", f"{LEFT_OUT}the path ."),
+    Test("truncate", f"{LEFT_OUT}the path /nonexistent"),
     Test("unlink", f"{LEFT_OUT}mkdir", sources=("unlinkdir",)),
     Test("write"),
 ]
@@ -165,23 +163,6 @@ class Bench(NamedTuple):
         return job
 
 
-# An assertion of gnulib that fails, and a name in quotes that has a slash.
-ASSERTION = re.compile(rb"^(/\S+):(\d+): assertion ", re.MULTILINE)
-SLASHED = re.compile(r'"[^"]*/[^"]*"')
-# What is asserted of errno stands so many lines below the call at most.
-BELOW = 1
-
-
-def is_by_slash(stderr: bytes) -> bool:
-    """Whether the assertion that failed is about a call with a name that has a slash."""
-    failed = ASSERTION.search(stderr)
-    if not failed:
-        return False
-    lines = Path(os.fsdecode(failed[1])).read_text(encoding="utf-8").splitlines()
-    last = int(failed[2])
-    return bool(SLASHED.search("\n".join(lines[last - 1 - BELOW : last])))
-
-
 def result_of(verdict: judge.Verdict) -> str:
     """What came of a test: that it passes, the first reason for which it differs, or where it differs without one."""
     require(verdict.both.system.status == 0, f"on this system it {judge.how(verdict.both.system, SECONDS)}")
@@ -191,7 +172,7 @@ def result_of(verdict: judge.Verdict) -> str:
     reasons = [finding.reason.name for finding in verdict.findings if finding.reason]
     if reasons and not verdict.unexplained:
         return reasons[0]
-    return SLASH if is_by_slash(verdict.both.fdref.stderr) else "\n" + judge.told(verdict, SECONDS, 3)
+    return "\n" + judge.told(verdict, SECONDS, 3)
 
 
 def result(bench: Bench, test: Test, *, is_strict: bool) -> str:

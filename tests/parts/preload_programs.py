@@ -57,7 +57,7 @@ NAMES = [
     "fopen", "freopen", "rename", "renameat", "symlink", "readlink", "mkdir", "rmdir", "unlinkat of a directory",
     "opendir", "mkstemp", "mknod", "chmod", "chown", "utimensat", "chdir", "open with other flags",
     "pipe2 with other flags", "execve", "execv", "execvp", "execl", "execle", "execlp", "system", "popen",
-    "posix_spawn", "posix_spawnp",
+    "posix_spawn", "posix_spawnp", "the path /dev/null", "none in a folder",
 ]  # fmt: skip
 DESCRIPTORS = [
     "fdopen", "mmap", "ioctl", "flock", "lockf", "sendfile", "copy_file_range", "splice", "preadv", "pwritev",
