@@ -4,10 +4,11 @@ use Rattle.std.proofs.lemmas.List.{length-take}
 use Rattle.std.proofs.KnownBytes.{Consumes-nil, Consumes-trans}
 use Rattle.std.specs.Io.KnownBytes.{Consumes}
 use Rattle.call_types.specs.declared.limits.Bounds.{Bounds}
-use Rattle.audit_core.specs.Audited.{Audits, MayRead, ReadBy, ReadsOn, HasRead}
+use Rattle.audit_core.specs.Audited.{Audits}
+use Rattle.audit_core.specs.Proved.Auditing.{MayRead, ReadBy, ReadsOn, HasRead}
 use Rattle.logged_streams.specs.Streams.{LogState, LoggedReaderState, fresh_log, ReadsOnce, noted, one_more}
 use Rattle.logged_streams.specs.declared.stream_log.Gave.TheVariants as gave
-use Rattle.audit_core.specs.Taking.{TraceState, fresh_trace, IsTaking, IsFound, TakesPiece}
+use Rattle.audit_core.specs.Proved.Taking.{TraceState, fresh_trace, IsTaking, IsFound, TakesPiece}
 use Rattle.audit_core.specs.declared.audit.AuditFault.{AuditFault}
 use Rattle.audit_core.specs.declared.audit.AuditFault.TheVariants as faults
 use Rattle.audit_core.specs.declared.audit.TheConstants.{READ_LENGTH, READS_MAX}

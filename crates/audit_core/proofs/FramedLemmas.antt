@@ -23,11 +23,11 @@ use Rattle.frame_codec.specs.Requests.{frame_parts, call_bytes, CallFits}
 use Rattle.posix_model.specs.declared.world.World.{World}
 use Rattle.posix_model.specs.Exit.{close_run}
 use Rattle.posix_model.specs.History.{after, empty_world, legal_from}
-use Rattle.posix_model.specs.Laws.{StepKeepsWhole, HistoryIsWhole}
-use Rattle.posix_model.specs.Lengths.{act_length, outcome_length, record_length, IsShort, StepIsShort}
+use Rattle.posix_model.specs.Proved.Laws.{StepKeepsWhole, HistoryIsWhole}
+use Rattle.posix_model.specs.Proved.Lengths.{act_length, outcome_length, record_length, IsShort, StepIsShort}
 use Rattle.posix_model.specs.Step.{Stepped, stepped, step}
-use Rattle.posix_model.specs.Whole.{IsWhole}
-use Rattle.audit_core.specs.Laws.{LegalHaveFrames}
+use Rattle.posix_model.specs.Proved.Whole.{IsWhole}
+use Rattle.audit_core.specs.Proved.Laws.{LegalHaveFrames}
 use Rattle.audit_core.specs.Trace.{HasFrame, HaveFrames, IsInRange, AllInRange}
 
 -- ---- a frame has as many bytes as the model counts

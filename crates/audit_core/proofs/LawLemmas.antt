@@ -6,15 +6,14 @@ use Rattle.call_types.specs.declared.limits.Bounds.{Bounds}
 use Rattle.call_types.specs.declared.limits.TheConstants.{RECORD_LENGTH_MAX}
 use Rattle.call_types.specs.declared.outcome.Outcome.{Outcome}
 use Rattle.frame_codec.specs.Frames.{frame, told_length, told_payload, IsMalformed, IsTooLong}
-use Rattle.frame_codec.specs.Laws.{OneForm, NoFrameThere}
+use Rattle.frame_codec.specs.Proved.Laws.{OneForm, NoFrameThere}
 use Rattle.frame_codec.specs.Records.{record_bytes, SpellsRecord}
 use Rattle.frame_codec.specs.Trace.{trace_header, frames_of, text}
 use Rattle.posix_model.specs.declared.world.World.{World}
 use Rattle.posix_model.specs.History.{after, world_from, legal_from, empty_world, legal}
-use Rattle.audit_core.specs.Judging.{outcome_of}
-use Rattle.audit_core.specs.Laws.{OneVerdict, TextIsLegal, FrontIsLegal, FaultStays}
+use Rattle.audit_core.specs.Verdict.{outcome_of, BreaksAt, IsLegal, IsIllegal, IsMalformedAt, IsVerdict}
+use Rattle.audit_core.specs.Proved.Laws.{OneVerdict, TextIsLegal, FrontIsLegal, FaultStays}
 use Rattle.audit_core.specs.Trace.{HaveFrames, Begins, IsUnfinished, IsAtFault, EndsInHeader, HasNoHeader}
-use Rattle.audit_core.specs.Verdict.{BreaksAt, IsLegal, IsIllegal, IsMalformedAt, IsVerdict}
 use Rattle.audit_core.specs.declared.verdict.Verdict.TheVariants.{Legal, Illegal, Malformed}
 use Rattle.audit_core.proofs.TraceLemmas.{has_frame, few_records, fault_long}
 

@@ -4,14 +4,14 @@ use Rattle.std.proofs.lemmas.List.{append-nil, length-take, length-drop, drop-ta
 use Rattle.call_types.specs.declared.limits.Bounds.{Bounds}
 use Rattle.call_types.specs.declared.limits.TheConstants.{RECORD_LENGTH_MAX}
 use Rattle.frame_codec.specs.Decoding.{told_place}
-use Rattle.frame_codec.specs.Laws.{HasGiven}
+use Rattle.frame_codec.specs.Proved.Laws.{HasGiven}
 use Rattle.frame_codec.specs.Records.{SpellsRecord}
 use Rattle.frame_codec.specs.Trace.{trace_header}
-use Rattle.audit_core.specs.Judging.{JudgeState, HasJudged}
+use Rattle.audit_core.specs.Proved.Judging.{JudgeState, HasJudged}
 use Rattle.audit_core.specs.Trace.{Begins}
 use Rattle.audit_core.specs.Verdict.{IsUnbegun, IsLegal, IsIllegal, IsUnheaded, IsMalformedAt}
-use Rattle.audit_core.specs.Laws.{HeaderGoesOn, HeaderLacks}
-use Rattle.audit_core.specs.Taking.{TraceState, fresh_trace, IsTaking, IsFound, BodyGoesOn, TakesPiece, TakesRecords, TakesHeader, LacksHeader}
+use Rattle.audit_core.specs.Proved.Laws.{HeaderGoesOn, HeaderLacks}
+use Rattle.audit_core.specs.Proved.Taking.{TraceState, fresh_trace, IsTaking, IsFound, BodyGoesOn, TakesPiece, TakesRecords, TakesHeader, LacksHeader}
 use Rattle.audit_core.specs.declared.verdict.Verdict.{Verdict}
 use Rattle.audit_core.specs.declared.verdict.Verdict.TheVariants.{Legal, Illegal, Malformed}
 use Rattle.audit_core.proofs.JudgeLemmas.{none_judged}

@@ -8,14 +8,14 @@ use Rattle.call_types.specs.declared.outcome.Outcome.{Outcome}
 use Rattle.frame_codec.specs.Decoding.{DecoderState, told_place, Feeds}
 use Rattle.frame_codec.specs.Fields.{number_bytes}
 use Rattle.frame_codec.specs.Frames.{frame, IsFrame, AreFrames}
-use Rattle.frame_codec.specs.Laws.{HasGiven, Gave, PiecesGoOn}
+use Rattle.frame_codec.specs.Proved.Laws.{HasGiven, Gave, PiecesGoOn}
 use Rattle.frame_codec.specs.Records.{record_bytes, SpellsRecord}
 use Rattle.frame_codec.specs.Trace.{trace_header, frames_of}
 use Rattle.frame_codec.specs.declared.decoder.Progress.{Progress}
 use Rattle.frame_codec.specs.declared.decoder.Progress.TheVariants as progress
-use Rattle.audit_core.specs.Judging.{JudgeState, HasJudged}
+use Rattle.audit_core.specs.Proved.Judging.{JudgeState, HasJudged, JudgesAll}
 use Rattle.audit_core.specs.Trace.{HasFrame, HaveFrames, Begins, IsAtFault}
-use Rattle.audit_core.specs.Verdict.{BreaksAt, IsIllegal, IsMalformedAt, JudgesAll}
+use Rattle.audit_core.specs.Verdict.{BreaksAt, IsIllegal, IsMalformedAt}
 use Rattle.audit_core.specs.declared.judge.Judged.TheVariants as judged
 
 -- one number is below another, or it is not

@@ -12,7 +12,7 @@ use Rattle.frame_codec.specs.Records.{record_bytes}
 use Rattle.frame_codec.specs.Trace.{trace_header, frames_of, text}
 use Rattle.posix_model.specs.declared.world.World.{World}
 use Rattle.posix_model.specs.History.{after, legal_from, empty_world, legal}
-use Rattle.audit_core.specs.Laws.{LegalFront, LegalHaveFrames, WrittenIsLegal}
+use Rattle.audit_core.specs.Proved.Laws.{LegalFront, LegalHaveFrames, WrittenIsLegal}
 use Rattle.audit_core.specs.Trace.{HasFrame, HaveFrames, IsUnfinished, whole_frames}
 use Rattle.audit_core.specs.Verdict.{IsVerdict}
 use Rattle.audit_core.specs.declared.verdict.Verdict.TheVariants.{Legal}

@@ -1,7 +1,4 @@
 pub mod Trace
-pub mod Judging
 pub mod Verdict
-pub mod Inside
-pub mod Taking
 pub mod Audited
-pub mod Laws
+pub mod Proved

@@ -3,15 +3,15 @@ use Rattle.std.specs.Prelude.{◌≡◌, ◌≢◌, ℕ, ◌⊎◌, List, ◌∷
 use Rattle.call_types.specs.declared.limits.Bounds.{Bounds}
 use Rattle.call_types.specs.declared.act.Record.{Record}
 use Rattle.call_types.specs.declared.outcome.Outcome.{Outcome}
-use Rattle.frame_codec.specs.Decoding.{told_place}
 use Rattle.posix_model.specs.History.{world_of, legal}
 use Rattle.frame_codec.specs.Trace.{text}
 use Rattle.audit_core.specs.Trace.{Begins, IsUnfinished, IsAtFault, EndsInHeader, HasNoHeader}
-use Rattle.audit_core.specs.Judging.{JudgeState, outcome_of, HasJudged}
-use Rattle.audit_core.specs.declared.judge.Judged.{Judged}
-use Rattle.audit_core.specs.declared.judge.Judged.TheVariants as judged
 use Rattle.audit_core.specs.declared.verdict.Verdict.{Verdict}
 use Rattle.audit_core.specs.declared.verdict.Verdict.TheVariants.{Legal, Illegal, Malformed}
+use Rattle.std.specs.Option.{option_map}
+use Rattle.call_types.specs.declared.act.Act.{Act}
+use Rattle.posix_model.specs.declared.world.World.{World}
+use Rattle.posix_model.specs.Step.{step}
 
 -- the records before this place are legal, and the one at it is not what the model gives: so it is the first that is not
 pub record BreaksAt (bounds : Bounds) (h : List Record) (place : ℕ) (expected : Option Outcome) : Type 0 where
@@ -67,17 +67,6 @@ IsVerdict bounds bytes (Legal records rest) = IsUnbegun bytes records rest ⊎ I
 IsVerdict bounds bytes (Illegal place expected) = IsIllegal bounds bytes place expected
 IsVerdict bounds bytes (Malformed at) = IsUnheaded bytes at ⊎ IsMalformedAt bounds bytes at
 
--- the first record that breaks stands where the judge stands, up to the greatest number that can be told
-pub record StandsAt (bounds : Bounds) (h : List Record) (told : ℕ) (expected : Option Outcome) : Type 0 where
-  pub place : ℕ
-  pub breaks : BreaksAt bounds h place expected
-  pub told_is : told ≡ told_place place
-
--- a judge of some records has judged these too, or stands before the first of all that is not what the model gives
-abbrev pub JudgesAll : JudgeState → JudgeState → List Record → Judged → Type 0
-JudgesAll old new records judged.Same = (bounds : Bounds) (h : List Record) → HasJudged bounds h old → HasJudged bounds (h ++ records) new
-JudgesAll old new records (judged.Differs expected) = (bounds : Bounds) (h : List Record) → HasJudged bounds h old → StandsAt bounds (h ++ records) new.place expected
-
--- whatever had been judged before, the ones of all records before those that are left are judged
-pub record IsAt (old now : JudgeState) (records left : List Record) : Type 0 where
-  pub judged : (bounds : Bounds) (h : List Record) → HasJudged bounds h old → (before : List Record) × (h ++ records ≡ before ++ left) × HasJudged bounds before now
+-- what the model gives of an act in a world, if it records any
+abbrev pub outcome_of : Bounds → World → ℕ → Act → Option Outcome
+outcome_of bounds w actor act = option_map (λ s. s.outcome) (step bounds w actor act)

@@ -2,9 +2,10 @@
 
 ghost use Rattle.std.specs.Prelude.{◌≡◌, ◌<◌, ◌≤◌, length};
 ghost use Rattle.call_types.specs.declared.limits.Bounds.{Bounds as Limits};
-ghost use Rattle.audit_core.specs.Audited.{version_1, Audits, ReadsOn};
+ghost use Rattle.audit_core.specs.Audited.{version_1, Audits};
+ghost use Rattle.audit_core.specs.Proved.Auditing.{ReadsOn};
 ghost use Rattle.logged_streams.specs.Streams.{fresh_log};
-ghost use Rattle.audit_core.specs.Taking.{fresh_trace};
+ghost use Rattle.audit_core.specs.Proved.Taking.{fresh_trace};
 
 use crate::trace::TraceAudit;
 use crate::verdict::Verdict;

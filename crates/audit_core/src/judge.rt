@@ -3,8 +3,7 @@
 ghost use Rattle.std.specs.Prelude.{◌≡◌, ◌≤◌, Some, IfOk, OnErr};
 ghost use Rattle.call_types.specs.declared.limits.TheConstants.{OFFSET_MAX};
 ghost use Rattle.posix_model.specs.Step.{given, comes_to, stepped};
-ghost use Rattle.audit_core.specs.Judging.{fresh_judge, one_more, Judges, CanMake};
-ghost use Rattle.audit_core.specs.Verdict.{JudgesAll};
+ghost use Rattle.audit_core.specs.Proved.Judging.{fresh_judge, one_more, Judges, CanMake, JudgesAll};
 
 use crate::state::Audited;
 use call_types::act::{Act, Record};
@@ -27,11 +26,11 @@ pub struct Judge {
 }
 
 impl Model for Judge {
-    ghost use Rattle.audit_core.specs.Judging.{JudgeState};
+    ghost use Rattle.audit_core.specs.Proved.Judging.{JudgeState};
 
     ghost Value = { JudgeState };
 
-    ghost use Rattle.audit_core.specs.Inside.{state_of, IsJudge};
+    ghost use Rattle.audit_core.specs.Proved.Inside.{state_of, IsJudge};
 
     ghost view = { state_of };
 

@@ -1,6 +1,6 @@
 //! What holds of verdicts, and of headers. Each function does nothing; its contract is the law.
 
-ghost use Rattle.audit_core.specs.Laws.{OneVerdict, TextIsLegal, FrontIsLegal, LegalFront, LegalHaveFrames, WrittenIsLegal, FaultStays, HeaderGoesOn, HeaderLacks, BrokenStays};
+ghost use Rattle.audit_core.specs.Proved.Laws.{OneVerdict, TextIsLegal, FrontIsLegal, LegalFront, LegalHaveFrames, WrittenIsLegal, FaultStays, HeaderGoesOn, HeaderLacks, BrokenStays};
 
 use frame_codec::laws::{no_frame_begins_another, stops_are_no_frames};
 use posix_model::laws::{numbers_rise, records_are_short};

@@ -3,7 +3,7 @@
 ghost use Rattle.std.specs.Prelude.{◌≡◌, ◌≤◌, IfOk, IfNone, IfSome, length};
 ghost use Rattle.call_types.specs.declared.limits.TheConstants.{OFFSET_MAX};
 ghost use Rattle.frame_codec.specs.Trace.{trace_header};
-ghost use Rattle.audit_core.specs.Taking.{fresh_trace, TakesPiece, TakesRecords, Ends, TakesHeader, LacksHeader};
+ghost use Rattle.audit_core.specs.Proved.Taking.{fresh_trace, TakesPiece, TakesRecords, Ends, TakesHeader, LacksHeader};
 
 use crate::judge::{Judge, Judged};
 use crate::verdict::Verdict;
@@ -25,7 +25,7 @@ pub struct TraceAudit {
 }
 
 impl Model for TraceAudit {
-    ghost use Rattle.audit_core.specs.Taking.{TraceState};
+    ghost use Rattle.audit_core.specs.Proved.Taking.{TraceState};
 
     ghost Value = { TraceState };
 

@@ -1,2 +1,2 @@
-pub mod Tally
 pub mod Counted
+pub mod Proved

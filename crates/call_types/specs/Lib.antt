@@ -3,6 +3,5 @@ pub mod Flags
 pub mod Names
 pub mod Descriptions
 pub mod CallTable
-pub mod Stored
 pub mod Ranges
-pub mod Writing
+pub mod Proved

@@ -4,10 +4,10 @@
 ghost use Rattle.std.specs.Prelude.{◌≡◌, ◌+◌, ◌<◌, ◌≤◌, ◌^◌, ◌∷◌, ◌++◌, [], Some, true, is_some, length, option_copied, OnOk, IsOk};
 ghost use Rattle.std.specs.Option.{option_map};
 ghost use Rattle.slots.specs.Slots.{slot, live, edited};
-ghost use Rattle.slots.specs.Uses.{uses_at, value_at, last_value, used_once, use_added, use_dropped, with_value};
+ghost use Rattle.slots.specs.Proved.Uses.{uses_at, value_at, last_value, used_once, use_added, use_dropped, with_value};
 ghost use Rattle.call_types.specs.Descriptions.{at_offset};
-ghost use Rattle.description_table.specs.Drops.{dropped};
-ghost use Rattle.description_table.specs.Flags.{flag_if, flags_of};
+ghost use Rattle.description_table.specs.Proved.Drops.{dropped};
+ghost use Rattle.description_table.specs.Proved.Flags.{flag_if, flags_of};
 
 use bitflags::Flags;
 use call_types::description::{Description, Mode, Target};
@@ -59,7 +59,7 @@ impl Model for DescriptionTable {
 
     ghost Value = { List (Option (Uses Descriptions)) × ℕ };
 
-    ghost use Rattle.description_table.specs.Drops.{Referred};
+    ghost use Rattle.description_table.specs.Proved.Drops.{Referred};
 
     ghost view = { λ table. table.descriptions };
 

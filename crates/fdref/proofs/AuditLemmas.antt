@@ -5,7 +5,7 @@ use Rattle.std.proofs.lemmas.List.{append-nil}
 use Rattle.std.specs.Io.KnownBytes.{Appends, Consumes, IsAtEnd}
 use Rattle.logged_streams.specs.Streams.{LoggedReaderState}
 use Rattle.audit_core.specs.Audited.{version_1, Audits}
-use Rattle.audit_core.specs.Laws.{FaultStays}
+use Rattle.audit_core.specs.Proved.Laws.{FaultStays}
 use Rattle.audit_core.specs.Verdict.{IsVerdict}
 use Rattle.audit_core.specs.declared.verdict.Verdict.{Verdict}
 use Rattle.audit_core.specs.declared.verdict.Verdict.TheVariants.{Legal, Illegal, Malformed}

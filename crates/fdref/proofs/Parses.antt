@@ -9,8 +9,7 @@ use Rattle.clap.specs.Kinds.{check_kinds}
 use Rattle.clap.specs.Simple.{App, Shape, argument_words, built, built_leaf, entered, filled, help_rule, inherited, label_of, marked_built, names_of, rows_at, version_rule, with_index, with_leaf_noted}
 use Rattle.clap.specs.Takes.{is_given}
 use Rattle.clap.specs.Walk.{Row, Rule, Text, answers_to, nothing_held, rows_after, rows_of, stop_after}
-use Rattle.clap.specs.Words.{AddsArg, AddsSubcommand, app_of, fault_of, first_of, first_value, found_of, kind_of, rule_of, with_rule, with_subcommand}
-use Rattle.clap.specs.Words.{subcommand_name_of, subcommand_of, subcommand_rows, subcommand_rows_of, HasKind, IsAmong}
+use Rattle.clap.specs.Words.{AddsArg, AddsSubcommand, app_of, fault_of, first_of, first_value, found_of, kind_of, rule_of, with_rule, with_subcommand, subcommand_name_of, subcommand_of, subcommand_rows, subcommand_rows_of, HasKind, IsAmong}
 use Rattle.clap.specs.declared.builder.arg.Arg.{Arg}
 use Rattle.clap.specs.declared.builder.command.Command.{Command}
 use Rattle.clap.specs.declared.builder.command.Command.TheViews.{out-Command as fields_of}

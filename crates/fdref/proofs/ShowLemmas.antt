@@ -10,16 +10,17 @@ use Rattle.call_types.specs.declared.limits.TheConstants.{RECORD_LENGTH_MAX}
 use Rattle.frame_codec.specs.Decoding.{DecoderState, Feeds, FeedsFrom, told_place}
 use Rattle.frame_codec.specs.Fields.{number_bytes}
 use Rattle.frame_codec.specs.Frames.{AreFrames, frame}
-use Rattle.frame_codec.specs.Laws.{Gave, HasEnded, HasGiven, PiecesGoOn}
+use Rattle.frame_codec.specs.Proved.Laws.{Gave, HasEnded, HasGiven, PiecesGoOn}
 use Rattle.frame_codec.specs.Records.{SpellsRecord}
 use Rattle.frame_codec.specs.Trace.{trace_header}
 use Rattle.frame_codec.specs.declared.decoder.Progress.{Progress}
 use Rattle.frame_codec.specs.declared.decoder.Progress.TheVariants as progress
-use Rattle.audit_core.specs.Laws.{BrokenStays, HeaderGoesOn, HeaderLacks}
-use Rattle.audit_core.specs.Taking.{IsHeaded, LacksHeader, TakesHeader}
+use Rattle.audit_core.specs.Proved.Laws.{BrokenStays, HeaderGoesOn, HeaderLacks}
+use Rattle.audit_core.specs.Proved.Taking.{IsHeaded, LacksHeader, TakesHeader}
 use Rattle.audit_core.specs.declared.audit.TheConstants.{READ_LENGTH, READS_MAX}
 use Rattle.fdref.specs.Output.{AppendsFront}
-use Rattle.fdref.specs.Show.{BeginsWith, BodyGives, GivesPiece, HasFault, HasShown, IsBroken, IsFound, IsLeft, IsRead, IsTaken, OfAll, OfFront, ShowEnds, ShownState, ShowsPiece, TakesBody, TakesPiece, Writes, WritesPiece, WritesPieceFront, WritesSome, end_with, fault_at, fresh_shown, left_over}
+use Rattle.fdref.specs.Show.{BeginsWith, HasFault, IsBroken, IsLeft, IsRead, OfAll, OfFront, ShowEnds, Writes, WritesSome}
+use Rattle.fdref.specs.Proved.Showing.{BodyGives, GivesPiece, HasShown, IsFound, IsTaken, ShownState, ShowsPiece, TakesBody, TakesPiece, WritesPiece, WritesPieceFront, end_with, fault_at, fresh_shown, left_over}
 use Rattle.fdref.specs.Shown.{LinesState, line_from, lines_after, lines_from, next_lines, shown_lines}
 use Rattle.fdref.specs.declared.job_end.JobEnd.{JobEnd}
 use Rattle.fdref.specs.declared.job_end.JobEnd.TheVariants as ended

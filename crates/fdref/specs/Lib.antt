@@ -7,3 +7,4 @@ pub mod Audit
 pub mod Shown
 pub mod Show
 pub mod Perform
+pub mod Proved

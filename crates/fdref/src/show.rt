@@ -4,7 +4,8 @@ ghost use Rattle.std.specs.Prelude.{◌≡◌, ◌+◌, ◌≤◌, ◌<◌, ◌^
 ghost use Rattle.std.specs.Io.KnownBytes.{Keeps};
 ghost use Rattle.audit_core.specs.declared.audit.TheConstants.{READ_LENGTH};
 ghost use Rattle.frame_codec.specs.Trace.{trace_header};
-ghost use Rattle.fdref.specs.Show.{GivesPiece, ShowEnds, ShowsPiece, TakesBody, TakesPiece, end_with, fault_at, fresh_shown, left_over};
+ghost use Rattle.fdref.specs.Show.{ShowEnds};
+ghost use Rattle.fdref.specs.Proved.Showing.{GivesPiece, ShowsPiece, TakesBody, TakesPiece, end_with, fault_at, fresh_shown, left_over};
 ghost use Rattle.fdref.specs.declared.job_end.JobEnd.TheVariants as ended;
 
 use crate::job_end::JobEnd;
@@ -52,7 +53,7 @@ struct ShownTrace {
 }
 
 impl Model for ShownTrace {
-    ghost use Rattle.fdref.specs.Show.{ShownState};
+    ghost use Rattle.fdref.specs.Proved.Showing.{ShownState};
 
     ghost Value = { ShownState };
 

@@ -4,7 +4,7 @@ ghost use Rattle.posix_model.specs.Descriptors.{opened, bytes_of};
 ghost use Rattle.posix_model.specs.Positions.{file_at};
 ghost use Rattle.posix_model.specs.Pages.{first_fault, on_open};
 ghost use Rattle.posix_model.specs.Read.{read_faults, gives, read};
-ghost use Rattle.pipe_calls.specs.Refusals.{is_refusal};
+ghost use Rattle.pipe_calls.specs.Proved.Refusals.{is_refusal};
 
 use crate::targets::file_at;
 use call_types::bounded::Content;

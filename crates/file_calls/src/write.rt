@@ -3,7 +3,7 @@ ghost use Rattle.posix_model.specs.Descriptors.{opened, bytes_of};
 ghost use Rattle.posix_model.specs.Positions.{file_at};
 ghost use Rattle.posix_model.specs.Pages.{first_fault, on_open};
 ghost use Rattle.posix_model.specs.Write.{write_start, write_faults, write_file, write};
-ghost use Rattle.pipe_calls.specs.Refusals.{is_refusal};
+ghost use Rattle.pipe_calls.specs.Proved.Refusals.{is_refusal};
 
 use crate::puts::{fitting, is_past_limit, puts};
 use crate::targets::{file_at, is_regular};

@@ -4,7 +4,7 @@ use Rattle.std.proofs.lemmas.Bool.{cases_lt, lt-ltb}
 use Rattle.std.proofs.lemmas.Bool.Decides.{nat_tests}
 use Rattle.std.proofs.lemmas.List.{get_or-take, get_or-drop, get_or_past, get_or_default, get_or_append_left, get_or-append_right, length-take-le, length-replicate}
 use Rattle.posix_model.specs.Bytes.{overwritten, splice}
-use Rattle.file_extents.specs.Contents.{over}
+use Rattle.file_extents.specs.Proved.Contents.{over}
 
 -- what `over` gives below its start, and from there on
 pub over_below : (f : ℕ → ℕ) (s : ℕ) (new : List ℕ) (p : ℕ) → p < s → over f s new p ≡ f p

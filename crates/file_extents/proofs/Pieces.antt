@@ -3,8 +3,8 @@ use Rattle.std.proofs.Common.{◌≡◌, ℕ, ◌+◌, ◌-◌, ◌≤◌, ◌<�
 use Rattle.std.proofs.lemmas.Bool.{cases_lt}
 use Rattle.std.proofs.lemmas.List.{ext_get_or, get_or-take, get_or-drop, get_or_append_left, get_or-append_right, length-replicate}
 use Rattle.posix_model.specs.Bytes.{splice, bytes_at}
-use Rattle.file_extents.specs.Chunks.{window}
-use Rattle.file_extents.specs.Contents.{over}
+use Rattle.file_extents.specs.Proved.Chunks.{window}
+use Rattle.file_extents.specs.Proved.Contents.{over}
 use Rattle.file_extents.proofs.Over.{over_below, over_from, zeros_place, padded_place, length_splice, splice_place}
 use Rattle.file_extents.proofs.Places.{length_window, window_place}
 

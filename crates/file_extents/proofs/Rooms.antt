@@ -1,8 +1,8 @@
 -- Room of a file, and of the chunks that it is in.
 use Rattle.std.proofs.Common.{◌≡◌, ℕ, ◌+◌, ◌-◌, ◌≤◌, ◌<◌, ◌/◌, ◌%◌, arith, inl, inr}
 use Rattle.std.proofs.lemmas.Bool.{cases_lt}
-use Rattle.file_extents.specs.Chunks.{TableState, HasPlaces, KeepsPlaces, chunk_at}
-use Rattle.file_extents.specs.Contents.{HasRoom}
+use Rattle.file_extents.specs.Proved.Chunks.{TableState, HasPlaces, KeepsPlaces, chunk_at}
+use Rattle.file_extents.specs.Proved.Contents.{HasRoom}
 
 pub room_there : (t : TableState) (s n : ℕ) → HasRoom t s n → 0 < n → s % 65536 + n ≤ 65536 → HasPlaces (chunk_at t (s / 65536)) (s % 65536) (s % 65536 + n)
 room_there t s n has some fits = record { low = has.low s (omega arith) (omega arith); high = omega (arith, less) }

@@ -1,7 +1,7 @@
 ghost use Rattle.std.specs.Prelude.{◌≡◌, ℕ, ◌+◌, ◌≤◌, ◌<◌, ◌^◌, [], ◌++◌, length, take, vec_len, vec_capacity, IfOk, IfSome, OnOk, IsOk};
-ghost use Rattle.call_types.specs.Stored.{span_bytes};
+ghost use Rattle.call_types.specs.Proved.Stored.{span_bytes};
 ghost use Rattle.posix_model.specs.Bytes.{splice, bytes_at, padded_to};
-ghost use Rattle.file_extents.specs.Contents.{HasRoom, KeepsRoom};
+ghost use Rattle.file_extents.specs.Proved.Contents.{HasRoom, KeepsRoom};
 
 use crate::chunk::CHUNK;
 use crate::spread::{append, put, reserve, stored};
@@ -21,8 +21,8 @@ pub struct Extents {
 
 impl Model for Extents {
     ghost use Rattle.std.specs.Prelude.{◌<◌, ◌^◌};
-    ghost use Rattle.file_extents.specs.Chunks.{chunk_at};
-    ghost use Rattle.file_extents.specs.Contents.{ExtentsState, contents, ZeroFrom};
+    ghost use Rattle.file_extents.specs.Proved.Chunks.{chunk_at};
+    ghost use Rattle.file_extents.specs.Proved.Contents.{ExtentsState, contents, ZeroFrom};
 
     ghost Value = { ExtentsState };
 

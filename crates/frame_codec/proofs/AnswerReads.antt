@@ -21,8 +21,8 @@ use Rattle.frame_codec.specs.declared.answer.Answer.{Answer}
 use Rattle.frame_codec.specs.declared.answer.Answer.TheVariants as answers
 use Rattle.frame_codec.specs.Fields.{number_bytes, counted_bytes}
 use Rattle.frame_codec.specs.Answers.{kind_byte, reply_bytes, outcome_bytes, refusal_bytes, answer_bytes, ReplyFits, OutcomeFits, RefusalFits, AnswerFits}
-use Rattle.frame_codec.specs.Reading.{◌>>=◌, two_at, number_at, byte_at, counted_at, tagged}
-use Rattle.frame_codec.specs.ReadingAnswers.{error_among, error_of, all_errors, kind_of, number_of, data_of, pair_of, stat_of, refused_by, foreign_of, recorded_of, outcome_rows, outcome_at, refusal_rows, refusal_at, answer_rows, answer_at}
+use Rattle.frame_codec.specs.Proved.Reading.{◌>>=◌, two_at, number_at, byte_at, counted_at, tagged}
+use Rattle.frame_codec.specs.Proved.ReadingAnswers.{error_among, error_of, all_errors, kind_of, number_of, data_of, pair_of, stat_of, refused_by, foreign_of, recorded_of, outcome_rows, outcome_at, refusal_rows, refusal_at, answer_rows, answer_at}
 use Rattle.frame_codec.proofs.Steps.{Taken, Reads, some_is, chosen, two, RowTakes, led, alone, tagged_takes}
 use Rattle.frame_codec.proofs.FieldReads.{Below32, Below64, reads32, reads64, counted, byted}
 

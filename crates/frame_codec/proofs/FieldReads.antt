@@ -13,8 +13,8 @@ use Rattle.call_types.specs.declared.limits.TheConstants.{GIVEN_BYTES_MAX}
 use Rattle.call_types.specs.declared.whence.Whence.{Whence}
 use Rattle.call_types.specs.declared.whence.Whence.TheVariants as whences
 use Rattle.frame_codec.specs.Fields.{number_bytes, counted_bytes, whence_byte, field_bytes}
-use Rattle.frame_codec.specs.Reading.{◌>>=◌, front_at, number_at, byte_at, counted_at}
-use Rattle.frame_codec.specs.ReadingRequests.{whence_of, flags_of, name_at, field_at}
+use Rattle.frame_codec.specs.Proved.Reading.{◌>>=◌, front_at, number_at, byte_at, counted_at}
+use Rattle.frame_codec.specs.Proved.ReadingRequests.{whence_of, flags_of, name_at, field_at}
 use Rattle.frame_codec.proofs.Steps.{Taken, Reads, some_is, bind_some, chosen, guard_off, by_index, front_again, front_takes, converted}
 
 -- ---- numbers

@@ -3,7 +3,7 @@ use Rattle.std.proofs.Common.{◌≡◌, ℕ, List, Option, Some, None, Result, 
 use Rattle.call_types.specs.Ranges.{AreBytes}
 use Rattle.frame_codec.specs.declared.fault.PayloadFault.{PayloadFault}
 use Rattle.frame_codec.specs.declared.fault.PayloadFault.TheVariants as faults
-use Rattle.frame_codec.specs.Reading.{Reading, Gives, payload_at}
+use Rattle.frame_codec.specs.Proved.Reading.{Reading, Gives, payload_at}
 use Rattle.frame_codec.specs.Frames.{GivesValue}
 use Rattle.frame_codec.proofs.Steps.{Reads, payload_again, payload_takes}
 

@@ -3,10 +3,10 @@ use Rattle.std.proofs.Common.{ℕ, ◌^◌, ◌<◌, List, sym, ap, ◌∙◌, a
 use Rattle.frame_codec.specs.Requests.{request_bytes, RequestFits, SpellsRequest}
 use Rattle.frame_codec.specs.Answers.{answer_bytes, AnswerFits, SpellsAnswer}
 use Rattle.frame_codec.specs.Records.{record_bytes, RecordFits, SpellsRecord}
-use Rattle.frame_codec.specs.Reading.{Reading, payload_at}
-use Rattle.frame_codec.specs.ReadingRequests.{request_at}
-use Rattle.frame_codec.specs.ReadingAnswers.{answer_at}
-use Rattle.frame_codec.specs.ReadingRecords.{record_at}
+use Rattle.frame_codec.specs.Proved.Reading.{Reading, payload_at}
+use Rattle.frame_codec.specs.Proved.ReadingRequests.{request_at}
+use Rattle.frame_codec.specs.Proved.ReadingAnswers.{answer_at}
+use Rattle.frame_codec.specs.Proved.ReadingRecords.{record_at}
 use Rattle.frame_codec.proofs.Steps.{Reads, some_is, payload_again}
 use Rattle.frame_codec.proofs.RequestReads.{request_reads}
 use Rattle.frame_codec.proofs.AnswerReads.{answer_reads}

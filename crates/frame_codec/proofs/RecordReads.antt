@@ -15,10 +15,10 @@ use Rattle.frame_codec.specs.Fields.{number_bytes}
 use Rattle.frame_codec.specs.Requests.{frame_parts, parts_bytes, call_bytes, CallFits}
 use Rattle.frame_codec.specs.Answers.{outcome_bytes, OutcomeFits}
 use Rattle.frame_codec.specs.Records.{act_bytes, record_bytes, ActFits, MayAct, RecordFits}
-use Rattle.frame_codec.specs.Reading.{◌>>=◌, as_at, two_at, number_at, tagged_or}
-use Rattle.frame_codec.specs.ReadingRequests.{call_at}
-use Rattle.frame_codec.specs.ReadingAnswers.{outcome_at}
-use Rattle.frame_codec.specs.ReadingRecords.{act_rows, act_at, may_act, acted_at, record_from, record_at}
+use Rattle.frame_codec.specs.Proved.Reading.{◌>>=◌, as_at, two_at, number_at, tagged_or}
+use Rattle.frame_codec.specs.Proved.ReadingRequests.{call_at}
+use Rattle.frame_codec.specs.Proved.ReadingAnswers.{outcome_at}
+use Rattle.frame_codec.specs.Proved.ReadingRecords.{act_rows, act_at, may_act, acted_at, record_from, record_at}
 use Rattle.frame_codec.proofs.Steps.{Taken, Reads, two, converted, passed, RowTakes, alone, remade, tagged_or_takes}
 use Rattle.frame_codec.proofs.FieldReads.{Below32, reads32}
 use Rattle.frame_codec.proofs.RequestReads.{call_reads}

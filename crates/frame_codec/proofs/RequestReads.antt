@@ -11,8 +11,8 @@ use Rattle.call_types.specs.declared.request.Request.{Request}
 use Rattle.call_types.specs.declared.request.Request.TheVariants as requests
 use Rattle.frame_codec.specs.Fields.{number_bytes, field_bytes, fields_bytes}
 use Rattle.frame_codec.specs.Requests.{frame_table, frame_parts, parts_bytes, call_bytes, CallFits, request_bytes, RequestFits}
-use Rattle.frame_codec.specs.Reading.{◌>>=◌, as_at, number_at, one_of}
-use Rattle.frame_codec.specs.ReadingRequests.{field_at, fields_at, entry_at, rows_of, call_at, request_rows, request_at}
+use Rattle.frame_codec.specs.Proved.Reading.{◌>>=◌, as_at, number_at, one_of}
+use Rattle.frame_codec.specs.Proved.ReadingRequests.{field_at, fields_at, entry_at, rows_of, call_at, request_rows, request_at}
 use Rattle.frame_codec.proofs.Steps.{Taken, Reads, some_is, bind_some, chosen, RowTakes, led, alone, remade, tagged_or_takes}
 use Rattle.frame_codec.proofs.FieldReads.{Below32, reads32, field_reads}
 

@@ -6,7 +6,7 @@ use Rattle.std.proofs.lemmas.Bool.{ltb-false, le-ltb, eqb-true}
 use Rattle.std.proofs.lemmas.Option.{cond_some}
 use Rattle.std.proofs.lemmas.List.{append-nil, take-append-drop, length-take, length-append, take_at, drop_at}
 use Rattle.call_types.specs.Ranges.{AreBytes}
-use Rattle.frame_codec.specs.Reading.{◌>>=◌, Reading, lone, as_at, two_at, tested, front_at, Row, one_of, tagged, one_or, tagged_or, whole, payload_at}
+use Rattle.frame_codec.specs.Proved.Reading.{◌>>=◌, Reading, lone, as_at, two_at, tested, front_at, Row, one_of, tagged, one_or, tagged_or, whole, payload_at}
 
 -- what a reading took is the text of what it gives, and this is in range
 pub record Taken {A : Type 0} (text : A → List ℕ) (Fits : A → Type 0) (bytes : List ℕ) (x : A × List ℕ) : Type 0 where

@@ -2,12 +2,7 @@ pub mod Fields
 pub mod Requests
 pub mod Answers
 pub mod Records
-pub mod Reading
-pub mod ReadingRequests
-pub mod ReadingAnswers
-pub mod ReadingRecords
 pub mod Frames
 pub mod Decoding
-pub mod Laws
 pub mod Trace
-pub mod FrameRows
+pub mod Proved

@@ -2,8 +2,8 @@
 
 ghost use Rattle.std.specs.Int.{w64};
 ghost use Rattle.frame_codec.specs.declared.answer.Answer.TheVariants as answers;
-ghost use Rattle.frame_codec.specs.Reading.{Gives, as_at, two_at, number_at, payload_at};
-ghost use Rattle.frame_codec.specs.ReadingAnswers.{outcome_at, refusal_at, recorded_of, answer_at};
+ghost use Rattle.frame_codec.specs.Proved.Reading.{Gives, as_at, two_at, number_at, payload_at};
+ghost use Rattle.frame_codec.specs.Proved.ReadingAnswers.{outcome_at, refusal_at, recorded_of, answer_at};
 
 use crate::answer::Answer;
 use crate::fault::PayloadFault;

@@ -1,8 +1,8 @@
 //! Each call, read from the payload of a request.
 
 ghost use Rattle.call_types.specs.CallTable.{close_entry, read_entry, write_entry, pread_entry, pwrite_entry, lseek_entry, ftruncate_entry, dup_entry, dup2_entry, pipe_entry, mkfifo_entry, link_entry, unlink_entry, fstat_entry, fork_entry, later_table, position_table};
-ghost use Rattle.frame_codec.specs.Reading.{Gives, one_of};
-ghost use Rattle.frame_codec.specs.ReadingRequests.{entry_at, rows_of, call_at};
+ghost use Rattle.frame_codec.specs.Proved.Reading.{Gives, one_of};
+ghost use Rattle.frame_codec.specs.Proved.ReadingRequests.{entry_at, rows_of, call_at};
 ghost use Rattle.frame_codec.specs.Requests.{open_frame};
 
 use crate::fault::PayloadFault;

@@ -1,7 +1,7 @@
 //! A decoder of a stream of frames, which comes in any pieces.
 
 ghost use Rattle.std.specs.Prelude.{◌≡◌, ◌≤◌, ◌++◌, List, length, drop, vec_capacity, IfOk, OnOk, OnErr};
-ghost use Rattle.call_types.specs.Writing.{KeepsFront};
+ghost use Rattle.call_types.specs.Proved.Writing.{KeepsFront};
 ghost use Rattle.frame_codec.specs.Frames.{IsShort, BeginsWith};
 ghost use Rattle.frame_codec.specs.Decoding.{fresh, Fills, FillsHead, Completes, HoldsRest, ReadsIn, told_progress, Feeds};
 ghost use Rattle.frame_codec.specs.declared.decoder.Progress.TheVariants as progress;

@@ -3,8 +3,8 @@
 ghost use Rattle.std.specs.Prelude.{◌≡◌, IfErr};
 ghost use Rattle.std.specs.Int.{w32, w64};
 ghost use Rattle.call_types.specs.CallTable.{a_descriptor, a_position, a_count, a_name, a_payload, some_flags, a_whence};
-ghost use Rattle.frame_codec.specs.Reading.{Gives, front_at, number_at, counted_at};
-ghost use Rattle.frame_codec.specs.ReadingRequests.{field_at};
+ghost use Rattle.frame_codec.specs.Proved.Reading.{Gives, front_at, number_at, counted_at};
+ghost use Rattle.frame_codec.specs.Proved.ReadingRequests.{field_at};
 
 use crate::fault::PayloadFault;
 use bitflags::Flags;

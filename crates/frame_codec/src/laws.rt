@@ -9,12 +9,12 @@ ghost use Rattle.frame_codec.specs.Requests.{request_bytes, RequestFits, SpellsR
 ghost use Rattle.frame_codec.specs.Answers.{answer_bytes, AnswerFits, SpellsAnswer};
 ghost use Rattle.frame_codec.specs.Records.{record_bytes, RecordFits, DataIsRead, SpellsRecord};
 ghost use Rattle.frame_codec.specs.Frames.{frame, IsFrame};
-ghost use Rattle.frame_codec.specs.Reading.{payload_at};
-ghost use Rattle.frame_codec.specs.ReadingRequests.{request_at};
-ghost use Rattle.frame_codec.specs.ReadingAnswers.{answer_at};
-ghost use Rattle.frame_codec.specs.ReadingRecords.{record_at};
-ghost use Rattle.frame_codec.specs.FrameRows.{FrameRows};
-ghost use Rattle.frame_codec.specs.Laws.{OneForm, CutsDoNotMatter, OneReading, LongestReading, FrontReads, NoFrameThere, PiecesGoOn};
+ghost use Rattle.frame_codec.specs.Proved.Reading.{payload_at};
+ghost use Rattle.frame_codec.specs.Proved.ReadingRequests.{request_at};
+ghost use Rattle.frame_codec.specs.Proved.ReadingAnswers.{answer_at};
+ghost use Rattle.frame_codec.specs.Proved.ReadingRecords.{record_at};
+ghost use Rattle.frame_codec.specs.Proved.FrameRows.{FrameRows};
+ghost use Rattle.frame_codec.specs.Proved.Laws.{OneForm, CutsDoNotMatter, OneReading, LongestReading, FrontReads, NoFrameThere, PiecesGoOn};
 
 use crate::frame_kind::FrameKind;
 

@@ -4,8 +4,8 @@ ghost use Rattle.std.specs.Prelude.{◌≡◌};
 ghost use Rattle.std.specs.Int.{w32, w64};
 ghost use Rattle.call_types.specs.declared.limits.TheConstants.{TRANSFER_MAX};
 ghost use Rattle.call_types.specs.declared.outcome.Outcome.TheVariants as outcomes;
-ghost use Rattle.frame_codec.specs.Reading.{Gives, as_at, two_at, number_at, byte_at, counted_at};
-ghost use Rattle.frame_codec.specs.ReadingAnswers.{error_of, kind_of, number_of, data_of, pair_of, stat_of, refused_by, foreign_of, outcome_at, refusal_at};
+ghost use Rattle.frame_codec.specs.Proved.Reading.{Gives, as_at, two_at, number_at, byte_at, counted_at};
+ghost use Rattle.frame_codec.specs.Proved.ReadingAnswers.{error_of, kind_of, number_of, data_of, pair_of, stat_of, refused_by, foreign_of, outcome_at, refusal_at};
 
 use crate::fault::PayloadFault;
 use crate::fields::{data, number32, number64};

@@ -2,9 +2,9 @@
 
 ghost use Rattle.std.specs.Prelude.{◌≡◌};
 ghost use Rattle.call_types.specs.declared.act.Act.TheVariants as acts;
-ghost use Rattle.frame_codec.specs.Reading.{Gives, as_at, payload_at};
-ghost use Rattle.frame_codec.specs.ReadingRequests.{call_at};
-ghost use Rattle.frame_codec.specs.ReadingRecords.{act_at, may_act, acted_at, record_at};
+ghost use Rattle.frame_codec.specs.Proved.Reading.{Gives, as_at, payload_at};
+ghost use Rattle.frame_codec.specs.Proved.ReadingRequests.{call_at};
+ghost use Rattle.frame_codec.specs.Proved.ReadingRecords.{act_at, may_act, acted_at, record_at};
 
 use crate::calls::call;
 use crate::fault::PayloadFault;

@@ -2,8 +2,8 @@
 
 ghost use Rattle.std.specs.Int.{w32};
 ghost use Rattle.call_types.specs.declared.request.Request.TheVariants as requests;
-ghost use Rattle.frame_codec.specs.Reading.{Gives, as_at, number_at, payload_at};
-ghost use Rattle.frame_codec.specs.ReadingRequests.{call_at, request_at};
+ghost use Rattle.frame_codec.specs.Proved.Reading.{Gives, as_at, number_at, payload_at};
+ghost use Rattle.frame_codec.specs.Proved.ReadingRequests.{call_at, request_at};
 
 use crate::calls::call;
 use crate::fault::PayloadFault;

@@ -4,18 +4,18 @@ use Rattle.std.proofs.Math.ListN.{get_or-eq_default}
 use Rattle.slots.specs.Slots.{slot}
 use Rattle.posix_model.specs.Pipes.{fifo_at, pipe_of_fifo, unopened}
 use Rattle.posix_model.specs.Change.{with_files, with_processes}
-use Rattle.posix_model.specs.Whole.{is_regular_file}
-use Rattle.posix_model.specs.Fits.{FilesFit, TableProper}
-use Rattle.machine_state.specs.Types.{World, File, Fifo, Mode, FileEdit, ProcessEdit, TableEdit}
+use Rattle.posix_model.specs.Proved.Whole.{is_regular_file}
+use Rattle.posix_model.specs.Proved.Fits.{FilesFit, TableProper}
+use Rattle.machine_state.specs.Proved.Types.{World, File, Fifo, Mode, FileEdit, ProcessEdit, TableEdit}
 use Rattle.posix_model.specs.declared.world.File.TheVariants as file
 use Rattle.call_types.specs.declared.description.Mode.TheVariants as mode
 use Rattle.posix_model.specs.declared.change.FileEdit.TheVariants as on_files
 use Rattle.posix_model.specs.declared.change.ProcessEdit.TheVariants as on_process
 use Rattle.posix_model.specs.declared.change.TableEdit.TheVariants as on_table
-use Rattle.file_table.specs.Files.{openings}
-use Rattle.machine_state.specs.Targets.{EndsAreTheirs}
-use Rattle.machine_state.specs.Held.{Held}
-use Rattle.machine_state.specs.Room.{HasTableRoom}
+use Rattle.file_table.specs.Proved.Files.{openings}
+use Rattle.machine_state.specs.Proved.Targets.{EndsAreTheirs}
+use Rattle.machine_state.specs.Proved.Held.{Held}
+use Rattle.machine_state.specs.Proved.Room.{HasTableRoom}
 use Rattle.machine_state.proofs.SlotLaws.{same_or_not, slot_set, slot_added}
 
 -- a FIFO on the same pipe, opened as often, or none

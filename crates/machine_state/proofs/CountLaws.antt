@@ -9,14 +9,13 @@ use Rattle.std.specs.declared.cmp.Ordering.TheVariants.{Less, Equal, Greater}
 use Rattle.call_types.specs.declared.limits.TheConstants.{OPEN_MAX}
 use Rattle.slots.specs.Slots.{slot, live, edited}
 use Rattle.call_types.specs.Names.{Entries, file_of, with_name, without_name}
-use Rattle.posix_model.specs.Counts.{links, refers, refs, refs_of, holds, holders}
+use Rattle.posix_model.specs.Counts.{links, refers, refs, refs_of, holds, holders, is_file}
 use Rattle.call_types.specs.Descriptions.{at_offset}
 use Rattle.process_table.specs.Processes.{with_entry, table_of}
-use Rattle.posix_model.specs.Whole.{EachThere}
-use Rattle.machine_state.specs.Types.{Process, Description, Target}
-use Rattle.machine_state.specs.Targets.{file_of_target}
+use Rattle.posix_model.specs.Proved.Whole.{EachThere}
+use Rattle.machine_state.specs.Proved.Types.{Process, Description, Target}
+use Rattle.machine_state.specs.Proved.Targets.{file_of_target}
 use Rattle.call_types.specs.declared.description.Target.TheVariants as target
-use Rattle.posix_model.specs.Counts.{is_file}
 use Rattle.machine_state.proofs.SlotLaws.{one, there_below}
 
 -- what one entry of a table adds to the references: new count + what stood there = old count + what stands there

@@ -11,23 +11,23 @@ use Rattle.posix_model.specs.Pipes.{pipe_at, pipe_of_fifo, fifo_at}
 use Rattle.posix_model.specs.declared.world.Fifo.{Fifo}
 use Rattle.process_table.specs.Processes.{with_entry, table_of}
 use Rattle.posix_model.specs.Descriptors.{with_descriptor}
-use Rattle.posix_model.specs.Fits.{CanSet}
-use Rattle.posix_model.specs.Released.{IsSettled, StaysBut, SettledStays, SweepReleases, NamesRelease, released, files_after, fifos_after, pipes_after}
-use Rattle.posix_model.specs.Laws.{Swept, SweepLeaves}
-use Rattle.machine_state.specs.Types.{World, Process, Description, Target, Mode, File, Used, FileBody, StoredFile, StoredPipe}
+use Rattle.posix_model.specs.Proved.Fits.{CanSet}
+use Rattle.posix_model.specs.Proved.Released.{IsSettled, StaysBut, SettledStays, SweepReleases, NamesRelease, released, files_after, fifos_after, pipes_after}
+use Rattle.posix_model.specs.Proved.Laws.{Swept, SweepLeaves}
+use Rattle.machine_state.specs.Proved.Types.{World, Process, Description, Target, Mode, File, Used, FileBody, StoredFile, StoredPipe}
 use Rattle.posix_model.specs.declared.world.File.TheVariants as file
 use Rattle.call_types.specs.declared.description.Target.TheVariants as target
-use Rattle.slots.specs.Uses.{value_at, values_in, use_dropped, with_value}
-use Rattle.description_table.specs.Drops.{dropped}
+use Rattle.slots.specs.Proved.Uses.{value_at, values_in, use_dropped, with_value}
+use Rattle.description_table.specs.Proved.Drops.{dropped}
 use Rattle.description_table.specs.declared.Dropped.TheVariants.{Gone}
 use Rattle.std.proofs.lemmas.List.{set-get_or}
-use Rattle.machine_state.specs.Uses.{with_use, without_use, lost}
+use Rattle.machine_state.specs.Proved.Uses.{with_use, without_use, lost}
 use Rattle.file_table.specs.declared.stored_file.FileBody.TheVariants as body
-use Rattle.machine_state.specs.Targets.{file_of_target, pipes_left, pipe_gone, files_left, forgot, CanLeave, EndsAreTheirs}
-use Rattle.machine_state.specs.Pipes.{open_ends, pipe_slots}
-use Rattle.file_table.specs.Files.{unnamed, file_in, file_slot, file_slots, forgetful, forgetful_body, other_pipe, links_at}
-use Rattle.machine_state.specs.Held.{Stored, world_in}
-use Rattle.machine_state.specs.Consistent.{IsConsistent}
+use Rattle.machine_state.specs.Proved.Targets.{file_of_target, pipes_left, pipe_gone, files_left, forgot, CanLeave, EndsAreTheirs}
+use Rattle.machine_state.specs.Proved.Pipes.{open_ends, pipe_slots}
+use Rattle.file_table.specs.Proved.Files.{unnamed, file_in, file_slot, file_slots, forgetful, forgetful_body, other_pipe, links_at}
+use Rattle.machine_state.specs.Proved.Held.{Stored, world_in}
+use Rattle.machine_state.specs.Proved.Consistent.{IsConsistent}
 use Rattle.machine_state.proofs.SlotLaws.{one, same_or_not, other_number, is_itself}
 use Rattle.machine_state.proofs.UseLaws.{Counted, slot_values, there_values, counted_more, values_more, counted_edited, values_edited, positive, StaysUsed, Goes, LosesUse, loses_use}
 use Rattle.machine_state.proofs.FileLaws.{Files, slot_files, file_slots_set, files_same, files_edited, known, open_stays}

@@ -4,21 +4,21 @@ use Rattle.std.specs.Prelude.{is_some}
 use Rattle.std.proofs.lemmas.List.Sums.{sum_by-cons}
 use Rattle.std.proofs.lemmas.Bool.{lt-ltb, ltb-true}
 use Rattle.slots.specs.Slots.{slot, edited}
-use Rattle.slots.specs.Uses.{value_at, values_in, used_once, with_value}
+use Rattle.slots.specs.Proved.Uses.{value_at, values_in, used_once, with_value}
 use Rattle.call_types.specs.Descriptions.{at_offset, can_read, can_write}
 use Rattle.posix_model.specs.Counts.{refers, is_pipe, reads, writes, readers, writers}
 use Rattle.posix_model.specs.Pipes.{pipe_at}
 use Rattle.posix_model.specs.Sweep.{is_open}
-use Rattle.posix_model.specs.Whole.{EachThere}
-use Rattle.posix_model.specs.Released.{pipes_after}
-use Rattle.machine_state.specs.Types.{Description, Target, Mode, Used, Ring, StoredPipe}
+use Rattle.posix_model.specs.Proved.Whole.{EachThere}
+use Rattle.posix_model.specs.Proved.Released.{pipes_after}
+use Rattle.machine_state.specs.Proved.Types.{Description, Target, Mode, Used, Ring, StoredPipe}
 use Rattle.call_types.specs.declared.description.Target.TheVariants as target
 use Rattle.call_types.specs.declared.description.Mode.TheVariants as mode
 use Rattle.description_table.specs.declared.Dropped.TheVariants.{Gone}
-use Rattle.machine_state.specs.Uses.{with_use, without_use}
-use Rattle.pipe_table.specs.Pipes.{readers_at, writers_at, edited_ring, endless, with_end, without_end, HasEnd, HasEndAt}
-use Rattle.machine_state.specs.Pipes.{is_end, open_ends, pipe_slots, with_end_at, counted_less}
-use Rattle.machine_state.specs.Targets.{pipes_left}
+use Rattle.machine_state.specs.Proved.Uses.{with_use, without_use}
+use Rattle.pipe_table.specs.Proved.Pipes.{readers_at, writers_at, edited_ring, endless, with_end, without_end, HasEnd, HasEndAt}
+use Rattle.machine_state.specs.Proved.Pipes.{is_end, open_ends, pipe_slots, with_end_at, counted_less}
+use Rattle.machine_state.specs.Proved.Targets.{pipes_left}
 use Rattle.machine_state.proofs.SlotLaws.{one, is_itself, each_set, each_added, each_edited}
 use Rattle.machine_state.proofs.UseLaws.{Counted, slot_values, there_values, there_edited, counted_as, counted_more, values_more, counted_added, values_added, length_values, counted_edited, values_edited, full, positive, StaysUsed, Goes, LosesUse, loses_use}
 use Rattle.machine_state.proofs.PipeLaws.{Pipes, pipe_slots_set, pipes_same, ring_with, ring_without}

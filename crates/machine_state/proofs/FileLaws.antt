@@ -8,12 +8,12 @@ use Rattle.slots.specs.Slots.{slot, edited}
 use Rattle.posix_model.specs.Descriptors.{file_bytes}
 use Rattle.posix_model.specs.Sweep.{is_open, open_pipe, without_gone_pipe}
 use Rattle.posix_model.specs.Pipes.{fifo_at, pipe_of_fifo}
-use Rattle.posix_model.specs.Whole.{is_regular_file}
-use Rattle.machine_state.specs.Types.{Description, File, Used, TableState, FileBody, StoredFile}
+use Rattle.posix_model.specs.Proved.Whole.{is_regular_file}
+use Rattle.machine_state.specs.Proved.Types.{Description, File, Used, TableState, FileBody, StoredFile}
 use Rattle.posix_model.specs.declared.world.File.TheVariants as file
-use Rattle.slots.specs.Uses.{values_in, with_value}
+use Rattle.slots.specs.Proved.Uses.{values_in, with_value}
 use Rattle.file_table.specs.declared.stored_file.FileBody.TheVariants as body
-use Rattle.file_table.specs.Files.{file_in, edited_body, edited_bytes, file_slot, file_slots}
+use Rattle.file_table.specs.Proved.Files.{file_in, edited_body, edited_bytes, file_slot, file_slots}
 use Rattle.machine_state.proofs.UseLaws.{there_values, values_edited}
 
 abbrev pub Files : Type 0

@@ -3,9 +3,9 @@ use Rattle.std.proofs.Common.{◌≡◌, ◌≢◌, ℕ, ◌+◌, ◌-◌, ◌�
 use Rattle.std.specs.Prelude.{is_some}
 use Rattle.std.proofs.Math.ListN.{get_or-eq_default}
 use Rattle.slots.specs.Slots.{slot, edited}
-use Rattle.slots.specs.Uses.{values_in}
-use Rattle.machine_state.specs.Types.{Used}
-use Rattle.machine_state.specs.Uses.{without_use}
+use Rattle.slots.specs.Proved.Uses.{values_in}
+use Rattle.machine_state.specs.Proved.Types.{Used}
+use Rattle.machine_state.specs.Proved.Uses.{without_use}
 use Rattle.machine_state.proofs.SlotLaws.{one, same_or_not, is_itself, slot_set, slot_added, set_none}
 use Rattle.machine_state.proofs.UseLaws.{StaysUsed, Goes}
 

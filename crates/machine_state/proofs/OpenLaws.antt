@@ -10,20 +10,20 @@ use Rattle.posix_model.specs.Sweep.{is_open}
 use Rattle.posix_model.specs.Pipes.{pipe_at, pipe_of_fifo, pipe_between, fifo_at, with_pipe, opened_file}
 use Rattle.process_table.specs.Processes.{with_entry, table_of}
 use Rattle.posix_model.specs.Change.{with_description, end_of}
-use Rattle.posix_model.specs.Whole.{is_fifo, IsThere, TargetIsThere}
-use Rattle.posix_model.specs.Fits.{IsFree, CanOpen, CanOpenPair, CanOpenEnd}
-use Rattle.machine_state.specs.Types.{World, Description, Target, Mode, File, Ring, FileBody, StoredPipe}
+use Rattle.posix_model.specs.Proved.Whole.{is_fifo, IsThere, TargetIsThere}
+use Rattle.posix_model.specs.Proved.Fits.{IsFree, CanOpen, CanOpenPair, CanOpenEnd}
+use Rattle.machine_state.specs.Proved.Types.{World, Description, Target, Mode, File, Ring, FileBody, StoredPipe}
 use Rattle.call_types.specs.declared.description.Target.TheVariants as target
 use Rattle.call_types.specs.declared.description.Mode.TheVariants as mode
-use Rattle.slots.specs.Uses.{value_at, values_in, used_once, with_value}
-use Rattle.machine_state.specs.Uses.{with_use}
+use Rattle.slots.specs.Proved.Uses.{value_at, values_in, used_once, with_value}
+use Rattle.machine_state.specs.Proved.Uses.{with_use}
 use Rattle.file_table.specs.declared.stored_file.FileBody.TheVariants as body
-use Rattle.machine_state.specs.Targets.{file_of_target}
-use Rattle.pipe_table.specs.Pipes.{endless, with_end}
-use Rattle.machine_state.specs.Pipes.{open_ends, with_end_at, pipe_slot, pipe_slots}
-use Rattle.file_table.specs.Files.{file_in, opened_stored, opened_body}
-use Rattle.machine_state.specs.Held.{Stored, world_in}
-use Rattle.machine_state.specs.Consistent.{IsConsistent}
+use Rattle.machine_state.specs.Proved.Targets.{file_of_target}
+use Rattle.pipe_table.specs.Proved.Pipes.{endless, with_end}
+use Rattle.machine_state.specs.Proved.Pipes.{open_ends, with_end_at, pipe_slot, pipe_slots}
+use Rattle.file_table.specs.Proved.Files.{file_in, opened_stored, opened_body}
+use Rattle.machine_state.specs.Proved.Held.{Stored, world_in}
+use Rattle.machine_state.specs.Proved.Consistent.{IsConsistent}
 use Rattle.machine_state.proofs.SlotLaws.{one, is_itself, slot_set, slot_added}
 use Rattle.machine_state.proofs.UseLaws.{counted_more, values_more, counted_added, values_added, length_values, positive}
 use Rattle.machine_state.proofs.FileLaws.{slot_files, regular_there, files_there, files_edited}

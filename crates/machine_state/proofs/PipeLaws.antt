@@ -7,11 +7,11 @@ use Rattle.std.proofs.Math.Seq.{map-set_same}
 use Rattle.std.proofs.Math.ListN.{get_or-map}
 use Rattle.slots.specs.Slots.{slot, edited}
 use Rattle.posix_model.specs.Descriptors.{pipe_bytes}
-use Rattle.machine_state.specs.Types.{Mode, Used, StoredPipe}
+use Rattle.machine_state.specs.Proved.Types.{Mode, Used, StoredPipe}
 use Rattle.call_types.specs.declared.description.Mode.TheVariants as mode
-use Rattle.slots.specs.Uses.{value_at, values_in, with_value}
-use Rattle.pipe_table.specs.Pipes.{held_at, with_end, without_end}
-use Rattle.machine_state.specs.Pipes.{pipe_slot, pipe_slots}
+use Rattle.slots.specs.Proved.Uses.{value_at, values_in, with_value}
+use Rattle.pipe_table.specs.Proved.Pipes.{held_at, with_end, without_end}
+use Rattle.machine_state.specs.Proved.Pipes.{pipe_slot, pipe_slots}
 use Rattle.machine_state.proofs.UseLaws.{slot_values, there_values, values_edited}
 
 abbrev pub Pipes : Type 0

@@ -6,17 +6,17 @@ use Rattle.slots.specs.Slots.{slot, live, edited}
 use Rattle.posix_model.specs.Counts.{refs, refs_of}
 use Rattle.process_table.specs.Processes.{with_entry, table_of, process_with}
 use Rattle.posix_model.specs.Change.{with_processes}
-use Rattle.posix_model.specs.Whole.{EachThere, IsThere}
-use Rattle.posix_model.specs.Fits.{CanAdd, CanSet}
+use Rattle.posix_model.specs.Proved.Whole.{EachThere, IsThere}
+use Rattle.posix_model.specs.Proved.Fits.{CanAdd, CanSet}
 use Rattle.posix_model.specs.Sweep.{sweep}
 use Rattle.posix_model.specs.Descriptors.{with_descriptor}
-use Rattle.posix_model.specs.Drops.{closed_below}
-use Rattle.machine_state.specs.Types.{World, Process, Description}
+use Rattle.posix_model.specs.Proved.Drops.{closed_below}
+use Rattle.machine_state.specs.Proved.Types.{World, Process, Description}
 use Rattle.posix_model.specs.declared.change.ProcessEdit.TheVariants as on_process
-use Rattle.slots.specs.Uses.{values_in}
-use Rattle.machine_state.specs.Uses.{with_uses}
-use Rattle.machine_state.specs.Held.{Stored, world_in}
-use Rattle.machine_state.specs.Consistent.{IsConsistent}
+use Rattle.slots.specs.Proved.Uses.{values_in}
+use Rattle.machine_state.specs.Proved.Uses.{with_uses}
+use Rattle.machine_state.specs.Proved.Held.{Stored, world_in}
+use Rattle.machine_state.specs.Proved.Consistent.{IsConsistent}
 use Rattle.machine_state.proofs.SlotLaws.{each_set, each_added, each_edited}
 use Rattle.machine_state.proofs.UseLaws.{there_values, counted_as, counted_uses, values_uses}
 use Rattle.machine_state.proofs.CountLaws.{refs_added, refs_same, refs_without, live_added, live_edited, live_without}

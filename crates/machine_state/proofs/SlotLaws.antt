@@ -7,7 +7,7 @@ use Rattle.std.proofs.Math.ListN.{get_or-append, get_or-eq_default}
 use Rattle.std.proofs.Math.Seq.{get_or-append_seam}
 use Rattle.slots.specs.Slots.{slot, edited}
 use Rattle.std.specs.Option.{option_map}
-use Rattle.posix_model.specs.Whole.{EachThere}
+use Rattle.posix_model.specs.Proved.Whole.{EachThere}
 
 -- one where a test passes, else nothing
 abbrev pub one : Bool → ℕ

@@ -10,16 +10,16 @@ use Rattle.posix_model.specs.Pipes.{pipe_of_fifo, fifo_at}
 use Rattle.call_types.specs.Descriptions.{at_offset}
 use Rattle.process_table.specs.Processes.{with_entry}
 use Rattle.posix_model.specs.Descriptors.{with_offset, held_in}
-use Rattle.posix_model.specs.Whole.{EachThere, IsThere}
-use Rattle.posix_model.specs.Released.{IsSettled}
-use Rattle.machine_state.specs.Types.{Process, Description, Used, Ring, TableState, FileBody, StoredFile, StoredPipe}
-use Rattle.slots.specs.Uses.{uses_at, value_at, values_in, used_once, use_added, with_value}
+use Rattle.posix_model.specs.Proved.Whole.{EachThere, IsThere}
+use Rattle.posix_model.specs.Proved.Released.{IsSettled}
+use Rattle.machine_state.specs.Proved.Types.{Process, Description, Used, Ring, TableState, FileBody, StoredFile, StoredPipe}
+use Rattle.slots.specs.Proved.Uses.{uses_at, value_at, values_in, used_once, use_added, with_value}
 use Rattle.file_table.specs.declared.stored_file.FileBody.TheVariants as body
-use Rattle.pipe_table.specs.Pipes.{readers_at, writers_at, edited_ring, room_left}
-use Rattle.machine_state.specs.Pipes.{is_end, open_ends}
-use Rattle.file_table.specs.Files.{named, file_in, edited_body, edited_bytes, links_at}
-use Rattle.machine_state.specs.Held.{Stored, world_in}
-use Rattle.machine_state.specs.Consistent.{IsConsistent}
+use Rattle.pipe_table.specs.Proved.Pipes.{readers_at, writers_at, edited_ring, room_left}
+use Rattle.machine_state.specs.Proved.Pipes.{is_end, open_ends}
+use Rattle.file_table.specs.Proved.Files.{named, file_in, edited_body, edited_bytes, links_at}
+use Rattle.machine_state.specs.Proved.Held.{Stored, world_in}
+use Rattle.machine_state.specs.Proved.Consistent.{IsConsistent}
 use Rattle.machine_state.proofs.SlotLaws.{one, same_or_not, slot_set, slot_added, set_none, each_edited}
 use Rattle.machine_state.proofs.UseLaws.{Counted, slot_values, there_edited, there_values, counted_as, counted_more, values_more, counted_added, values_added, length_values, counted_edited, values_edited}
 use Rattle.machine_state.proofs.FileLaws.{Files, slot_files, files_there, files_same, known, known_open, open_stays}

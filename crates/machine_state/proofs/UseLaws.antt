@@ -9,9 +9,9 @@ use Rattle.std.proofs.Math.ListN.{get_or-map, get_or-eq_default}
 use Rattle.std.proofs.lemmas.Bool.{lt-ltb, ltb-true}
 use Rattle.slots.specs.Slots.{slot, edited}
 use Rattle.posix_model.specs.Counts.{refers}
-use Rattle.machine_state.specs.Types.{Used}
-use Rattle.slots.specs.Uses.{uses_at, value_at, values_in, used_once, one_more, one_less, with_value}
-use Rattle.machine_state.specs.Uses.{with_use, with_uses, without_use, lost}
+use Rattle.machine_state.specs.Proved.Types.{Used}
+use Rattle.slots.specs.Proved.Uses.{uses_at, value_at, values_in, used_once, one_more, one_less, with_value}
+use Rattle.machine_state.specs.Proved.Uses.{with_use, with_uses, without_use, lost}
 use Rattle.machine_state.proofs.SlotLaws.{one, same_or_not, is_itself, slot_set, slot_added, set_none}
 
 -- a count is that of a total, and what is there is used

@@ -1,7 +1,1 @@
-pub mod Types
-pub mod Uses
-pub mod Pipes
-pub mod Targets
-pub mod Held
-pub mod Consistent
-pub mod Room
+pub mod Proved

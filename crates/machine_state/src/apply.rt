@@ -1,11 +1,11 @@
 ghost use Rattle.std.specs.Prelude.{◌≡◌, false};
-ghost use Rattle.call_types.specs.Stored.{span_bytes};
+ghost use Rattle.call_types.specs.Proved.Stored.{span_bytes};
 ghost use Rattle.posix_model.specs.Change.{with_files, with_processes, with_table, changed};
-ghost use Rattle.posix_model.specs.Fits.{FilesFit, ProcessFits, TableFits, removes, ends, Fits, FilesProper, ProcessProper, TableProper, IsProper, PutsWithin};
-ghost use Rattle.posix_model.specs.Whole.{EachThere, IsItsFifo};
+ghost use Rattle.posix_model.specs.Proved.Fits.{FilesFit, ProcessFits, TableFits, removes, ends, Fits, FilesProper, ProcessProper, TableProper, IsProper, PutsWithin};
+ghost use Rattle.posix_model.specs.Proved.Whole.{EachThere, IsItsFifo};
 ghost use Rattle.posix_model.specs.Sweep.{sweep};
-ghost use Rattle.machine_state.specs.Targets.{EndsAreTheirs};
-ghost use Rattle.machine_state.specs.Room.{HasFileRoom, HasProcessRoom, HasTableRoom, HasRoom, KeepsOpenRoom, KeepsTableRoom};
+ghost use Rattle.machine_state.specs.Proved.Targets.{EndsAreTheirs};
+ghost use Rattle.machine_state.specs.Proved.Room.{HasFileRoom, HasProcessRoom, HasTableRoom, HasRoom, KeepsOpenRoom, KeepsTableRoom};
 
 use crate::machine::Machine;
 use call_types::span::Span;

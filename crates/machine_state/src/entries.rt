@@ -2,10 +2,10 @@
 
 ghost use Rattle.std.specs.Prelude.{◌≡◌, ℕ, ◌+◌, ◌<◌, ◌^◌, Some, true, is_some, length};
 ghost use Rattle.slots.specs.Slots.{slot};
-ghost use Rattle.slots.specs.Uses.{uses_at};
-ghost use Rattle.posix_model.specs.Whole.{IsThere, EachThere};
-ghost use Rattle.description_table.specs.Drops.{dropped};
-ghost use Rattle.machine_state.specs.Uses.{with_use, with_uses, without_use, lost};
+ghost use Rattle.slots.specs.Proved.Uses.{uses_at};
+ghost use Rattle.posix_model.specs.Proved.Whole.{IsThere, EachThere};
+ghost use Rattle.description_table.specs.Proved.Drops.{dropped};
+ghost use Rattle.machine_state.specs.Proved.Uses.{with_use, with_uses, without_use, lost};
 
 use description_table::{DescriptionTable, Dropped};
 use slots::ticket::Ticket;

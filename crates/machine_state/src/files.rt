@@ -1,17 +1,17 @@
 ghost use Rattle.std.specs.Prelude.{◌≡◌, ◌+◌, ◌<◌, ◌≤◌, ◌^◌, None, true, is_some, length, OnOk};
 ghost use Rattle.call_types.specs.declared.limits.TheConstants.{NAMES_MAX, TRANSFER_MAX};
-ghost use Rattle.call_types.specs.Stored.{span_bytes};
+ghost use Rattle.call_types.specs.Proved.Stored.{span_bytes};
 ghost use Rattle.slots.specs.Slots.{slot};
 ghost use Rattle.posix_model.specs.Bytes.{splice, resized};
 ghost use Rattle.call_types.specs.Names.{file_of, with_name, without_name};
-ghost use Rattle.posix_model.specs.Whole.{IsThere, is_regular_file};
+ghost use Rattle.posix_model.specs.Proved.Whole.{IsThere, is_regular_file};
 ghost use Rattle.posix_model.specs.Sweep.{sweep};
 ghost use Rattle.posix_model.specs.Descriptors.{bytes_of};
 ghost use Rattle.posix_model.specs.Change.{with_bytes, created};
 ghost use Rattle.posix_model.specs.Pipes.{fifo_at, pipe_of_fifo};
-ghost use Rattle.file_extents.specs.Contents.{HasRoom};
-ghost use Rattle.file_table.specs.Files.{file_in, room_at};
-ghost use Rattle.machine_state.specs.Room.{KeepsRoom, KeepsTableRoom};
+ghost use Rattle.file_extents.specs.Proved.Contents.{HasRoom};
+ghost use Rattle.file_table.specs.Proved.Files.{file_in, room_at};
+ghost use Rattle.machine_state.specs.Proved.Room.{KeepsRoom, KeepsTableRoom};
 
 use crate::machine::Machine;
 use call_types::bounded::Name;

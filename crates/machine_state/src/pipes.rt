@@ -1,12 +1,12 @@
 ghost use Rattle.std.specs.Prelude.{◌≡◌, ◌-◌, ◌≤◌, [], length, take, drop, unwrap_or};
 ghost use Rattle.call_types.specs.CallTable.{payload_of};
-ghost use Rattle.call_types.specs.Stored.{span_bytes};
+ghost use Rattle.call_types.specs.Proved.Stored.{span_bytes};
 ghost use Rattle.slots.specs.Slots.{slot, edited};
 ghost use Rattle.process_table.specs.Processes.{parked_of};
-ghost use Rattle.posix_model.specs.Whole.{IsThere};
+ghost use Rattle.posix_model.specs.Proved.Whole.{IsThere};
 ghost use Rattle.posix_model.specs.Descriptors.{held_in};
 ghost use Rattle.posix_model.specs.Change.{bytes_from, after_those, rest_of};
-ghost use Rattle.machine_state.specs.Room.{KeepsTableRoom};
+ghost use Rattle.machine_state.specs.Proved.Room.{KeepsTableRoom};
 
 use crate::machine::Machine;
 use call_types::span::Span;

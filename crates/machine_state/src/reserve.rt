@@ -1,6 +1,6 @@
 ghost use Rattle.std.specs.Prelude.{◌≡◌, ℕ, ◌<◌, ◌≤◌, List, OnOk};
-ghost use Rattle.posix_model.specs.Fits.{FilesFit, FilesProper, IsProper};
-ghost use Rattle.machine_state.specs.Room.{HasEndRoom, HasFileRoom, HasProcessRoom, HasTableRoom, HasRoom, KeepsRoom, KeepsOpenRoom, KeepsTableRoom};
+ghost use Rattle.posix_model.specs.Proved.Fits.{FilesFit, FilesProper, IsProper};
+ghost use Rattle.machine_state.specs.Proved.Room.{HasEndRoom, HasFileRoom, HasProcessRoom, HasTableRoom, HasRoom, KeepsRoom, KeepsOpenRoom, KeepsTableRoom};
 
 use crate::descriptors::pipe_of_fifo;
 use crate::machine::Machine;

@@ -2,12 +2,12 @@
 
 ghost use Rattle.std.specs.Prelude.{◌≡◌, ◌<◌, ◌^◌, true, is_some, Some, ℕ};
 ghost use Rattle.slots.specs.Slots.{slot};
-ghost use Rattle.slots.specs.Uses.{uses_at, value_at};
+ghost use Rattle.slots.specs.Proved.Uses.{uses_at, value_at};
 ghost use Rattle.posix_model.specs.Pipes.{pipe_at};
-ghost use Rattle.pipe_table.specs.Pipes.{readers_at, writers_at, HasEndAt};
-ghost use Rattle.machine_state.specs.Uses.{with_use, without_use, lost};
-ghost use Rattle.machine_state.specs.Pipes.{with_end_at, counted_less};
-ghost use Rattle.machine_state.specs.Targets.{file_of_target, pipes_left, pipe_gone, forgotten, forgot, files_left, CanLeave};
+ghost use Rattle.pipe_table.specs.Proved.Pipes.{readers_at, writers_at, HasEndAt};
+ghost use Rattle.machine_state.specs.Proved.Uses.{with_use, without_use, lost};
+ghost use Rattle.machine_state.specs.Proved.Pipes.{with_end_at, counted_less};
+ghost use Rattle.machine_state.specs.Proved.Targets.{file_of_target, pipes_left, pipe_gone, forgotten, forgot, files_left, CanLeave};
 
 use call_types::description::{Mode, Target};
 use description_table::Dropped;

@@ -11,7 +11,7 @@ use Rattle.std.specs.declared.cmp.Ordering.{Ordering}
 use Rattle.std.specs.declared.cmp.Ordering.TheVariants.{Less, Equal, Greater}
 use Rattle.std.proofs.lemmas.Cmp.{nat_list_cmp_total}
 use Rattle.call_types.specs.Names.{Entries, file_of, with_name, without_name}
-use Rattle.name_table.specs.Places.{rank_of, IsNamed}
+use Rattle.name_table.specs.Proved.Places.{rank_of, IsNamed}
 
 -- how a name stands to another
 abbrev to : List ℕ → List ℕ → Ordering

@@ -5,7 +5,7 @@ ghost use Rattle.std.specs.Prelude.{◌≡◌, ◌+◌, ◌≤◌, ◌<◌, ◌=
 ghost use Rattle.std.specs.Ordering.{nat_cmp, is_eq, is_gt};
 ghost use Rattle.std.specs.Cmp.Lexicographic.{slice_cmp};
 ghost use Rattle.call_types.specs.Names.{file_of, with_name, without_name};
-ghost use Rattle.name_table.specs.Places.{rank_of, IsPlaceOf};
+ghost use Rattle.name_table.specs.Proved.Places.{rank_of, IsPlaceOf};
 
 use call_types::bounded::Name;
 use std::alloc::{AllocError, Global};
@@ -41,7 +41,7 @@ pub struct NameTable {
 impl Model for NameTable {
     ghost use Rattle.std.specs.Prelude.{◌-◌, ℕ, vec_len, vec_capacity};
     ghost use Rattle.call_types.specs.Names.{Entries};
-    ghost use Rattle.name_table.specs.Places.{IsNamed};
+    ghost use Rattle.name_table.specs.Proved.Places.{IsNamed};
 
     ghost Value = { Entries × ℕ };
 

@@ -1,9 +1,9 @@
 ghost use Rattle.std.specs.Prelude.{◌≡◌, ◌≤◌, ◌==◌, false, IfOk, OnErr};
-ghost use Rattle.process_table.specs.Waits.{AsksFew};
+ghost use Rattle.process_table.specs.Proved.Waits.{AsksFew};
 ghost use Rattle.posix_model.specs.Descriptors.{held_in};
 ghost use Rattle.posix_model.specs.Tries.{read_try};
 ghost use Rattle.posix_model.specs.Read.{read_end};
-ghost use Rattle.pipe_calls.specs.Refusals.{is_refusal};
+ghost use Rattle.pipe_calls.specs.Proved.Refusals.{is_refusal};
 
 use crate::tries::first_try;
 use call_types::bounded::Content;

@@ -1,7 +1,7 @@
 ghost use Rattle.std.specs.Prelude.{◌≡◌, ℕ, true, is_some, IfOk, OnErr};
 ghost use Rattle.call_types.specs.declared.limits.Bounds.{Bounds};
 ghost use Rattle.posix_model.specs.Resume.{read_ready, room_wanted, write_ready, fifo_of, open_ready, next_of, is_ready, resume};
-ghost use Rattle.pipe_calls.specs.Waits.{next_on};
+ghost use Rattle.pipe_calls.specs.Proved.Waits.{next_on};
 
 use crate::open_end::{has_opposite, opposite_openings};
 use crate::read::read_try;

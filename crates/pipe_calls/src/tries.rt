@@ -1,8 +1,8 @@
 ghost use Rattle.std.specs.Prelude.{◌≡◌, false, IfOk, OnErr};
-ghost use Rattle.process_table.specs.Waits.{AsksFew};
+ghost use Rattle.process_table.specs.Proved.Waits.{AsksFew};
 ghost use Rattle.posix_model.specs.Tries.{instead, waiting, parks, first_try, next_try};
 ghost use Rattle.posix_model.specs.Pages.{does};
-ghost use Rattle.pipe_calls.specs.Refusals.{is_refusal};
+ghost use Rattle.pipe_calls.specs.Proved.Refusals.{is_refusal};
 
 use call_types::call::Call;
 use call_types::errno::Errno;

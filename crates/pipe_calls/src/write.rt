@@ -1,9 +1,9 @@
 ghost use Rattle.std.specs.Prelude.{◌≡◌, ◌≤◌, false, IfOk, OnErr};
-ghost use Rattle.process_table.specs.Waits.{AsksFew};
+ghost use Rattle.process_table.specs.Proved.Waits.{AsksFew};
 ghost use Rattle.posix_model.specs.Pipes.{room_in};
 ghost use Rattle.posix_model.specs.Tries.{broken, write_try};
 ghost use Rattle.posix_model.specs.Write.{write_end};
-ghost use Rattle.pipe_calls.specs.Refusals.{is_refusal};
+ghost use Rattle.pipe_calls.specs.Proved.Refusals.{is_refusal};
 
 use crate::tries::first_try;
 use call_types::bounded::Payload;

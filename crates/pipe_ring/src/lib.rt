@@ -20,7 +20,7 @@ pub struct PipeRing {
 
 impl Model for PipeRing {
     ghost use Rattle.std.specs.Prelude.{length, ◌≤◌};
-    ghost use Rattle.pipe_ring.specs.Ring.{Ring};
+    ghost use Rattle.pipe_ring.specs.Proved.Ring.{Ring};
 
     ghost Value = { Ring };
 

@@ -1,1 +1,1 @@
-pub mod Pipes
+pub mod Proved

@@ -9,10 +9,10 @@
 
 ghost use Rattle.std.specs.Prelude.{◌≡◌, ◌+◌, ◌-◌, ◌<◌, ◌≤◌, ◌^◌, ◌∷◌, [], ◌++◌, Some, true, is_some, length, take, drop, IfOk, OnOk, IsOk};
 ghost use Rattle.call_types.specs.declared.limits.TheConstants.{TRANSFER_MAX};
-ghost use Rattle.call_types.specs.Stored.{span_bytes};
+ghost use Rattle.call_types.specs.Proved.Stored.{span_bytes};
 ghost use Rattle.slots.specs.Slots.{slot, edited};
-ghost use Rattle.slots.specs.Uses.{uses_at, value_at, values_in, last_value, used_once, use_added, use_dropped, with_value};
-ghost use Rattle.pipe_table.specs.Pipes.{held_at, readers_at, writers_at, room_left, edited_ring, endless, with_end, without_end, HasEnd, HasEndAt};
+ghost use Rattle.slots.specs.Proved.Uses.{uses_at, value_at, values_in, last_value, used_once, use_added, use_dropped, with_value};
+ghost use Rattle.pipe_table.specs.Proved.Pipes.{held_at, readers_at, writers_at, room_left, edited_ring, endless, with_end, without_end, HasEnd, HasEndAt};
 
 use call_types::bounded::Content;
 use call_types::description::Mode;

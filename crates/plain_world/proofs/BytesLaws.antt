@@ -2,7 +2,7 @@
 use Rattle.std.proofs.Common.{◌≡◌, ℕ, ◌+◌, ◌-◌, ◌<◌, ◌≤◌, max, min, List, ◌++◌, length, get_or, arith}
 use Rattle.std.proofs.lemmas.Grind.{common_steps}
 use Rattle.posix_model.specs.Bytes.{splice, resized, bytes_at}
-use Rattle.plain_world.specs.FileLaws.{WriteSplices, FtruncateResizes, IsRead}
+use Rattle.plain_world.specs.Proved.FileLaws.{WriteSplices, FtruncateResizes, IsRead}
 
 size : (bytes : List ℕ) (start : ℕ) (new : List ℕ) → length (splice bytes start new) ≡ max (length bytes) (start + length new)
 size bytes start new = grind (arith, common_steps)

@@ -16,7 +16,7 @@ use Rattle.posix_model.specs.Positions.{bytes_before, regular_file, is_regular, 
 use Rattle.call_types.specs.Descriptions.{at_offset, can_read, can_write}
 use Rattle.posix_model.specs.Descriptors.{opened, opened_number, opened_description, file_bytes, bytes_of}
 use Rattle.posix_model.specs.Change.{with_files, changed}
-use Rattle.posix_model.specs.Whole.{is_regular_file}
+use Rattle.posix_model.specs.Proved.Whole.{is_regular_file}
 use Rattle.posix_model.specs.Pages.{first_fault, tells, does, on_open}
 use Rattle.posix_model.specs.Read.{gives, read_from, read}
 use Rattle.posix_model.specs.Write.{is_past_limit, fitting, puts, write_start, write_to, write}
@@ -25,17 +25,17 @@ use Rattle.posix_model.specs.Pwrite.{pwrite}
 use Rattle.posix_model.specs.Lseek.{base_of, lseek_faults, lseek}
 use Rattle.posix_model.specs.Ftruncate.{ftruncate}
 use Rattle.posix_model.specs.Step.{given, decided}
-use Rattle.posix_model.specs.Sound.{opens_fifo, CallsAreSound, ActsAreSound}
+use Rattle.posix_model.specs.Proved.Sound.{opens_fifo, CallsAreSound, ActsAreSound}
 use Rattle.posix_model.specs.Pipes.{pipe_at}
 use Rattle.posix_model.specs.Types.{Data}
-use Rattle.plain_world.specs.Types.{Errno, Bounds, World, File, Target, OpenDescriptor, TableEdit, Decided, EBADF, EINVAL, EFBIG, Replied, Number, Done}
+use Rattle.plain_world.specs.Proved.Types.{Errno, Bounds, World, File, Target, OpenDescriptor, TableEdit, Decided, EBADF, EINVAL, EFBIG, Replied, Number, Done}
 use Rattle.posix_model.specs.declared.world.File.TheVariants as file
 use Rattle.call_types.specs.declared.description.Target.TheVariants as target
 use Rattle.posix_model.specs.declared.change.FileEdit.TheVariants as on_files
 use Rattle.posix_model.specs.declared.change.TableEdit.TheVariants as on_table
-use Rattle.plain_world.specs.FileLaws.{OpenOn, WritePuts, PwritePuts, WriteMoves, WriteTakesAll, WriteAppends, IsRead, ReadGives, PreadGives, ReadMoves, SeekTells, SeekMoves, PreadKeepsWorld, NothingRead, NothingWritten, NothingPwritten, PwriteKeepsOffsets, with_append, with_appending, PwriteSameUnderAppend, OwnFileAlone, FilesStay, PipesStay, ActsLeaveFiles, ActsLeavePipes, FtruncateLeavesResized, FtruncateKeepsOffsets}
-use Rattle.plain_world.specs.Calls.{IsNoError}
-use Rattle.plain_world.specs.DescriptorLaws.{AccessIsNeeded}
+use Rattle.plain_world.specs.Proved.FileLaws.{OpenOn, WritePuts, PwritePuts, WriteMoves, WriteTakesAll, WriteAppends, IsRead, ReadGives, PreadGives, ReadMoves, SeekTells, SeekMoves, PreadKeepsWorld, NothingRead, NothingWritten, NothingPwritten, PwriteKeepsOffsets, with_append, with_appending, PwriteSameUnderAppend, OwnFileAlone, FilesStay, PipesStay, ActsLeaveFiles, ActsLeavePipes, FtruncateLeavesResized, FtruncateKeepsOffsets}
+use Rattle.plain_world.specs.Proved.Calls.{IsNoError}
+use Rattle.plain_world.specs.Proved.DescriptorLaws.{AccessIsNeeded}
 use Rattle.plain_world.proofs.PageLemmas.{on_open_has, opened_has, if_has}
 use Rattle.plain_world.proofs.ChangeLemmas.{files_after_table, same_files, files_same, pipes_same}
 use Rattle.plain_world.proofs.BytesLaws.{added_at_end, is_read}

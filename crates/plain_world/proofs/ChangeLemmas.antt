@@ -6,14 +6,14 @@ use Rattle.call_types.specs.Descriptions.{at_offset}
 use Rattle.posix_model.specs.Descriptors.{file_bytes}
 use Rattle.posix_model.specs.Change.{with_files, with_processes, end_of, with_table, changed}
 use Rattle.posix_model.specs.Pipes.{unopened}
-use Rattle.posix_model.specs.Sound.{moved_offset, is_of_pipes, makes_pipe, opens_fifo, LeavesFiles, LeavesPipes}
-use Rattle.plain_world.specs.Types.{World, Description, FileEdit, ProcessEdit, TableEdit, Change}
+use Rattle.posix_model.specs.Proved.Sound.{moved_offset, is_of_pipes, makes_pipe, opens_fifo, LeavesFiles, LeavesPipes}
+use Rattle.plain_world.specs.Proved.Types.{World, Description, FileEdit, ProcessEdit, TableEdit, Change}
 use Rattle.posix_model.specs.declared.world.File.TheVariants as file
 use Rattle.call_types.specs.declared.description.Mode.TheVariants as mode
 use Rattle.posix_model.specs.declared.change.FileEdit.TheVariants as on_files
 use Rattle.posix_model.specs.declared.change.ProcessEdit.TheVariants as on_process
 use Rattle.posix_model.specs.declared.change.TableEdit.TheVariants as on_table
-use Rattle.plain_world.specs.FileLaws.{SameFiles}
+use Rattle.plain_world.specs.Proved.FileLaws.{SameFiles}
 use Rattle.plain_world.proofs.SlotLemmas.{slot_pushed, other_slot}
 
 -- an edit of files leaves descriptions and processes

@@ -25,11 +25,11 @@ use Rattle.posix_model.specs.declared.change.DataSource.TheVariants as source
 use Rattle.posix_model.specs.declared.change.Try.TheVariants.{Ends, Waits}
 use Rattle.posix_model.specs.Close.{close}
 use Rattle.posix_model.specs.Step.{given, decided}
-use Rattle.plain_world.specs.Types.{Call, Reply, Errno, OpenFlags, Bounds, World, Process, OpenDescriptor, Fifo, Parked, Try, FileEdit, ProcessEdit, TableEdit, Change, Decided, EAGAIN, EBADF, Replied, Number, Done, Error}
+use Rattle.plain_world.specs.Proved.Types.{Call, Reply, Errno, OpenFlags, Bounds, World, Process, OpenDescriptor, Fifo, Parked, Try, FileEdit, ProcessEdit, TableEdit, Change, Decided, EAGAIN, EBADF, Replied, Number, Done, Error}
 use Rattle.posix_model.specs.declared.change.FileEdit.TheVariants as on_files
 use Rattle.posix_model.specs.declared.change.ProcessEdit.TheVariants as on_process
 use Rattle.posix_model.specs.declared.change.TableEdit.TheVariants as on_table
-use Rattle.plain_world.specs.DescriptorLaws.{OpenGivesLowest, CloseCloses, NotOpenIsBad, ProcessesAreApart}
+use Rattle.plain_world.specs.Proved.DescriptorLaws.{OpenGivesLowest, CloseCloses, NotOpenIsBad, ProcessesAreApart}
 use Rattle.plain_world.proofs.PageLemmas.{page_has, on_open_has, if_has}
 use Rattle.plain_world.proofs.OpenedLemmas.{IsOpenAt, opened_stands}
 use Rattle.plain_world.proofs.ChangeLemmas.{files_leave}

@@ -4,7 +4,7 @@ use Rattle.std.specs.Option.{option_map, is_some, is_none, unwrap_or}
 use Rattle.std.proofs.lemmas.Bool.Decides.{nat_tests}
 use Rattle.std.proofs.lemmas.List.{get_or-set_same, get_or-set_other}
 use Rattle.slots.specs.Slots.{slot, lowest}
-use Rattle.posix_model.specs.Numbers.{IsLowest}
+use Rattle.posix_model.specs.Proved.Numbers.{IsLowest}
 use Rattle.process_table.specs.Processes.{table_of, with_entry}
 use Rattle.posix_model.specs.Descriptors.{opened, opened_number, opened_description, number_of, with_descriptor}
 use Rattle.posix_model.specs.Change.{changed}
@@ -14,8 +14,8 @@ use Rattle.posix_model.specs.Dup.{dup}
 use Rattle.posix_model.specs.Dup2.{is_no_descriptor, dup2}
 use Rattle.posix_model.specs.declared.change.FileEdit.TheVariants as on_files
 use Rattle.posix_model.specs.declared.change.TableEdit.TheVariants as on_table
-use Rattle.plain_world.specs.Types.{World, Process, OpenDescriptor, OPEN_MAX, EMFILE, Replied, Number}
-use Rattle.plain_world.specs.DescriptorLaws.{Leads, DupLeads, Dup2Leads, Dup2KeepsEqual}
+use Rattle.plain_world.specs.Proved.Types.{World, Process, OpenDescriptor, OPEN_MAX, EMFILE, Replied, Number}
+use Rattle.plain_world.specs.Proved.DescriptorLaws.{Leads, DupLeads, Dup2Leads, Dup2KeepsEqual}
 use Rattle.plain_world.proofs.PageLemmas.{open_free_has, if_has}
 use Rattle.plain_world.proofs.OpenedLemmas.{opened_stands}
 use Rattle.plain_world.proofs.StepLaws.{lowest_is_least}

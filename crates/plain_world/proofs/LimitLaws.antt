@@ -8,7 +8,7 @@ use Rattle.std.specs.Ordering.{nat_cmp, eq_by_cmp}
 use Rattle.std.specs.Cmp.Lexicographic.{slice_cmp}
 use Rattle.std.specs.FinMap.Entries.{by_order}
 use Rattle.std.specs.declared.cmp.Ordering.TheVariants.{Less, Equal, Greater}
-use Rattle.plain_world.specs.Types.{Act, Record, Bounds, World, Process, Description, Mode, File, FileEdit, ProcessEdit, TableEdit, Change, Decided, OPEN_MAX, NAMES_MAX, DESCRIPTIONS_MAX, OFFSET_MAX}
+use Rattle.plain_world.specs.Proved.Types.{Act, Record, Bounds, World, Process, Description, Mode, File, FileEdit, ProcessEdit, TableEdit, Change, Decided, OPEN_MAX, NAMES_MAX, DESCRIPTIONS_MAX, OFFSET_MAX}
 use Rattle.call_types.specs.declared.act.Act.TheVariants as act
 use Rattle.call_types.specs.declared.call.Call.TheVariants as call
 use Rattle.posix_model.specs.Bytes.{splice, resized}
@@ -19,21 +19,21 @@ use Rattle.process_table.specs.Processes.{free_table, copied_table, process_with
 use Rattle.posix_model.specs.Descriptors.{with_descriptor, with_offset, file_bytes, bytes_of, pipe_bytes, held_in}
 use Rattle.posix_model.specs.Change.{with_bytes, created, bytes_from, after_those, with_files, with_processes, with_description, end_of, with_table, changed}
 use Rattle.posix_model.specs.Pipes.{unopened, fifo_at, pipe_of_fifo, pipe_between, with_pipe_for, opened_file, with_opening, with_pipe}
-use Rattle.posix_model.specs.Fits.{FilesProper, PutsWithin, ProcessProper, TableProper, IsProper}
+use Rattle.posix_model.specs.Proved.Fits.{FilesProper, PutsWithin, ProcessProper, TableProper, IsProper}
 use Rattle.posix_model.specs.Sweep.{is_referred, is_open, is_wanted, without_gone_pipe, sweep}
 use Rattle.posix_model.specs.Step.{can_call, given, comes_to, step}
 use Rattle.posix_model.specs.Pages.{decided_by}
 use Rattle.posix_model.specs.Join.{join}
 use Rattle.posix_model.specs.Fork.{fork}
-use Rattle.posix_model.specs.Sound.{Sound, makes, ActsAreSound, WithinLimits, FilesWithin, TableWithin}
-use Rattle.posix_model.specs.Laws.{SweepLeaves}
+use Rattle.posix_model.specs.Proved.Sound.{Sound, makes, ActsAreSound, WithinLimits, FilesWithin, TableWithin}
+use Rattle.posix_model.specs.Proved.Laws.{SweepLeaves}
 use Rattle.posix_model.specs.History.{empty_world, after, world_from}
 use Rattle.posix_model.specs.declared.world.File.TheVariants as file
 use Rattle.call_types.specs.declared.description.Mode.TheVariants as mode
 use Rattle.posix_model.specs.declared.change.FileEdit.TheVariants as on_files
 use Rattle.posix_model.specs.declared.change.ProcessEdit.TheVariants as on_process
 use Rattle.posix_model.specs.declared.change.TableEdit.TheVariants as on_table
-use Rattle.plain_world.specs.Laws.{StepKeepsLimits, LimitsHold}
+use Rattle.plain_world.specs.Proved.Laws.{StepKeepsLimits, LimitsHold}
 use Rattle.plain_world.proofs.PageLemmas.{page_has, where_may, step_parts, stepped_or_not}
 use Rattle.plain_world.proofs.ChangeLemmas.{files_leave, same_descriptions}
 use Rattle.plain_world.proofs.SlotLemmas.{at_set, at_push, stood}

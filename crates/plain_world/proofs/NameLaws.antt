@@ -16,8 +16,8 @@ use Rattle.posix_model.specs.Link.{linked_faults, link}
 use Rattle.posix_model.specs.Unlink.{unlink}
 use Rattle.posix_model.specs.declared.change.FileEdit.TheVariants as on_files
 use Rattle.posix_model.specs.declared.change.TableEdit.TheVariants as on_table
-use Rattle.plain_world.specs.Types.{World, Replied, Done}
-use Rattle.plain_world.specs.NameLaws.{Linked, Unlinked, LinkNames, UnlinkNames}
+use Rattle.plain_world.specs.Proved.Types.{World, Replied, Done}
+use Rattle.plain_world.specs.Proved.NameLaws.{Linked, Unlinked, LinkNames, UnlinkNames}
 use Rattle.plain_world.proofs.PageLemmas.{page_has, no_fault_after}
 
 -- a value is equal to itself in a total order

@@ -6,7 +6,7 @@ use Rattle.std.specs.Option.{is_none, is_some, option_map, unwrap_or}
 use Rattle.call_types.specs.Flags.{has}
 use Rattle.call_types.specs.Flags as flag
 use Rattle.call_types.specs.Descriptions.{can_read, can_write}
-use Rattle.plain_world.specs.Types.{Errno, OpenFlags, World, Process, Parked, Description, Target, Mode, Fifo, File, Decided, EINVAL, EMFILE, Replied, Number}
+use Rattle.plain_world.specs.Proved.Types.{Errno, OpenFlags, World, Process, Parked, Description, Target, Mode, Fifo, File, Decided, EINVAL, EMFILE, Replied, Number}
 use Rattle.slots.specs.Slots.{slot, lowest, edited}
 use Rattle.call_types.specs.Names.{file_of}
 use Rattle.process_table.specs.Processes.{table_of, parked_of, with_parked, with_entry}
@@ -21,9 +21,9 @@ use Rattle.call_types.specs.declared.description.Mode.TheVariants as mode
 use Rattle.call_types.specs.declared.description.Target.TheVariants as target
 use Rattle.posix_model.specs.declared.world.File.TheVariants as file
 use Rattle.posix_model.specs.declared.change.FileEdit.TheVariants as on_files
-use Rattle.plain_world.specs.Calls.{IsNoError, WaitsWith, GivesDescriptor}
-use Rattle.plain_world.specs.FileLaws.{target_on, Opens, OpensLowest, OpenDescribes, IsForAsked, OpenIsForAsked, ExclOpensNew, EmptiesFile, TruncOpenEmpties, OpenKeepsFiles, OpenKeepsOthers, OpenMakesEmpty}
-use Rattle.plain_world.specs.PipeLaws.{FifoOpensOneWay}
+use Rattle.plain_world.specs.Proved.Calls.{IsNoError, WaitsWith, GivesDescriptor}
+use Rattle.plain_world.specs.Proved.FileLaws.{target_on, Opens, OpensLowest, OpenDescribes, IsForAsked, OpenIsForAsked, ExclOpensNew, EmptiesFile, TruncOpenEmpties, OpenKeepsFiles, OpenKeepsOthers, OpenMakesEmpty}
+use Rattle.plain_world.specs.Proved.PipeLaws.{FifoOpensOneWay}
 use Rattle.plain_world.proofs.NameLaws.{named_file}
 use Rattle.plain_world.proofs.PageLemmas.{page_has, if_has, no_fault_after}
 use Rattle.plain_world.proofs.ChangeLemmas.{files_leave}

@@ -1,6 +1,6 @@
 -- Where an open descriptor stands.
 use Rattle.std.proofs.Common.{◌≡◌, ℕ, ℤ, pos, negsuc, Option, None, Some, refl, subst}
-use Rattle.plain_world.specs.Types.{World, Description, OpenDescriptor}
+use Rattle.plain_world.specs.Proved.Types.{World, Description, OpenDescriptor}
 use Rattle.slots.specs.Slots.{slot}
 use Rattle.process_table.specs.Processes.{table_of}
 use Rattle.posix_model.specs.Descriptors.{opened, opened_number, opened_description}

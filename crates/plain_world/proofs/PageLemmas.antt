@@ -2,7 +2,7 @@
 -- holds of steps.
 use Rattle.std.proofs.Common.{◌≡◌, ℕ, Bool, true, false, cond, List, [], ◌∷◌, ◌++◌, Option, None, Some, refl, sym, subst}
 use Rattle.std.specs.Option.{option_map, option_map_or}
-use Rattle.plain_world.specs.Types.{Act, Errno, Bounds, World, OpenDescriptor, Decided, EBADF}
+use Rattle.plain_world.specs.Proved.Types.{Act, Errno, Bounds, World, OpenDescriptor, Decided, EBADF}
 use Rattle.posix_model.specs.Pages.{Page, first_fault, unless, refused, decided_by, on_open}
 use Rattle.posix_model.specs.Step.{given, comes_to, Stepped, stepped, step}
 

@@ -25,8 +25,8 @@ use Rattle.posix_model.specs.Write.{fitting, write_start, write_end, write_to, w
 use Rattle.posix_model.specs.Open.{mode_of, new_description, free_descriptor, opens_end, open_end, open_there, open_found, open_file}
 use Rattle.posix_model.specs.Resume.{write_ready, try_again, try_on, try_opened, try_parked, next_of, resume}
 use Rattle.posix_model.specs.Step.{Stepped, stepped}
-use Rattle.posix_model.specs.Sound.{makes_pipe, opens_fifo}
-use Rattle.posix_model.specs.Laws.{SweepLeaves}
+use Rattle.posix_model.specs.Proved.Sound.{makes_pipe, opens_fifo}
+use Rattle.posix_model.specs.Proved.Laws.{SweepLeaves}
 use Rattle.posix_model.specs.Types.{PIPE_BUF, EPIPE}
 use Rattle.posix_model.specs.declared.world.File.TheVariants as file
 use Rattle.call_types.specs.declared.description.Mode.TheVariants as mode
@@ -34,9 +34,9 @@ use Rattle.posix_model.specs.declared.change.DataSource.TheVariants as source
 use Rattle.posix_model.specs.declared.change.FileEdit.TheVariants as on_files
 use Rattle.posix_model.specs.declared.change.TableEdit.TheVariants as on_table
 use Rattle.posix_model.specs.declared.change.Try.TheVariants.{Ends, Waits}
-use Rattle.plain_world.specs.Types.{Call, Errno, OpenFlags, Bounds, World, Process, Parked, DataSource, Mode, File, Fifo, OpenDescriptor, FileEdit, Decided, Try, EAGAIN, Number, Error}
-use Rattle.plain_world.specs.Calls.{IsNoError}
-use Rattle.plain_world.specs.PipeLaws.{CountsOpening, FifoCountsOpenings, OpensEmpty, ReopenedIsEmpty, ExitTakesBackNothing, HoldsAfter, WriteLosesNothing, ResumedWriteLosesNothing, WholeOrNone, SmallWriteIsWhole, UnparkedIsNotReady, UnparkedIsNotResumed}
+use Rattle.plain_world.specs.Proved.Types.{Call, Errno, OpenFlags, Bounds, World, Process, Parked, DataSource, Mode, File, Fifo, OpenDescriptor, FileEdit, Decided, Try, EAGAIN, Number, Error}
+use Rattle.plain_world.specs.Proved.Calls.{IsNoError}
+use Rattle.plain_world.specs.Proved.PipeLaws.{CountsOpening, FifoCountsOpenings, OpensEmpty, ReopenedIsEmpty, ExitTakesBackNothing, HoldsAfter, WriteLosesNothing, ResumedWriteLosesNothing, WholeOrNone, SmallWriteIsWhole, UnparkedIsNotReady, UnparkedIsNotResumed}
 use Rattle.plain_world.proofs.PageLemmas.{page_has, on_open_has, opened_has, if_has, where_may, step_parts}
 use Rattle.plain_world.proofs.ChangeLemmas.{pipes_after}
 use Rattle.plain_world.proofs.OpenLaws.{has_free, fifo_opens_one_way, opened_leads, still_lowest}

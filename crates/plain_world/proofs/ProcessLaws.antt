@@ -8,17 +8,17 @@ use Rattle.call_types.specs.declared.call.Call.TheVariants as call
 use Rattle.slots.specs.Slots.{slot}
 use Rattle.call_types.specs.Descriptions.{at_offset}
 use Rattle.process_table.specs.Processes.{table_of, copied_table, process_with}
-use Rattle.posix_model.specs.Whole.{IsThere}
+use Rattle.posix_model.specs.Proved.Whole.{IsThere}
 use Rattle.posix_model.specs.Descriptors.{opened, opened_number, opened_description, with_offset}
 use Rattle.posix_model.specs.Change.{changed}
 use Rattle.posix_model.specs.Pages.{refused, decided_by}
 use Rattle.posix_model.specs.Fork.{fork}
 use Rattle.posix_model.specs.Exit.{exit}
 use Rattle.posix_model.specs.Step.{stepped}
-use Rattle.posix_model.specs.Laws.{SweepLeaves}
-use Rattle.plain_world.specs.Types.{World, Process, OpenDescriptor, Replied, Number, Done, EAGAIN}
-use Rattle.plain_world.specs.Calls.{before_sweep}
-use Rattle.plain_world.specs.ProcessLaws.{Forks, ForkCopies, ForkShares, FullForkRefused, description_at, SharedIsSeen, AfterExit, ExitFrees, ClosingCloses, ClosedOnce}
+use Rattle.posix_model.specs.Proved.Laws.{SweepLeaves}
+use Rattle.plain_world.specs.Proved.Types.{World, Process, OpenDescriptor, Replied, Number, Done, EAGAIN}
+use Rattle.plain_world.specs.Proved.Calls.{before_sweep}
+use Rattle.plain_world.specs.Proved.ProcessLaws.{Forks, ForkCopies, ForkShares, FullForkRefused, description_at, SharedIsSeen, AfterExit, ExitFrees, ClosingCloses, ClosedOnce}
 use Rattle.plain_world.proofs.PageLemmas.{page_has, where_may, step_parts}
 use Rattle.plain_world.proofs.OpenedLemmas.{IsOpenAt, opened_stands}
 use Rattle.plain_world.proofs.SlotLemmas.{slot_pushed, slot_at_end, slot_edited, slot_freed}

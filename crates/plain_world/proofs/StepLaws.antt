@@ -5,7 +5,7 @@ use Rattle.std.proofs.lemmas.Grind.{common_steps}
 use Rattle.std.proofs.lemmas.List.Quantifiers.{position-Some}
 use Rattle.std.proofs.lemmas.List.Sums.{fails_before_first}
 use Rattle.std.specs.List.{position_or_len}
-use Rattle.plain_world.specs.Types.{Record, Bounds, World, Decided, EAGAIN, Replied, Error}
+use Rattle.plain_world.specs.Proved.Types.{Record, Bounds, World, Decided, EAGAIN, Replied, Error}
 use Rattle.call_types.specs.declared.act.Act.TheVariants as act
 use Rattle.slots.specs.Slots.{slot}
 use Rattle.posix_model.specs.Change.{changed}
@@ -13,11 +13,11 @@ use Rattle.posix_model.specs.Pages.{decided_by}
 use Rattle.posix_model.specs.Join.{join}
 use Rattle.posix_model.specs.Sweep.{is_referred, sweep}
 use Rattle.posix_model.specs.Step.{given, Stepped, stepped, step}
-use Rattle.posix_model.specs.Sound.{data_of, ActsAreSound}
-use Rattle.posix_model.specs.Laws.{HistorySettles, SweepLeaves}
+use Rattle.posix_model.specs.Proved.Sound.{data_of, ActsAreSound}
+use Rattle.posix_model.specs.Proved.Laws.{HistorySettles, SweepLeaves}
 use Rattle.posix_model.specs.History.{empty_world, after, world_of, world_from, legal_from}
 use Rattle.posix_model.specs.Turns.{took}
-use Rattle.plain_world.specs.Laws.{RefusedStepKeepsWorld, RefusedNextKeepsWorld, Joins, JoinAdds, FullJoinRefused, LowestIsLeast, NoLowestIsFull, OffsetsAreApart, OffsetsStayApart, TakesFew, LegalIsAnswered, AnsweredIsLegal}
+use Rattle.plain_world.specs.Proved.Laws.{RefusedStepKeepsWorld, RefusedNextKeepsWorld, Joins, JoinAdds, FullJoinRefused, LowestIsLeast, NoLowestIsFull, OffsetsAreApart, OffsetsStayApart, TakesFew, LegalIsAnswered, AnsweredIsLegal}
 use Rattle.plain_world.proofs.PageLemmas.{where_may, step_parts}
 use Rattle.plain_world.proofs.ChangeLemmas.{offset_stays}
 use Rattle.plain_world.proofs.SlotLemmas.{stood}

@@ -1,9 +1,1 @@
-pub mod Types
-pub mod Rows
-pub mod Calls
-pub mod FileLaws
-pub mod DescriptorLaws
-pub mod NameLaws
-pub mod PipeLaws
-pub mod ProcessLaws
-pub mod Laws
+pub mod Proved

@@ -1,6 +1,6 @@
 //! Laws of the descriptors of processes. Each function does nothing; its contract is the law.
 
-ghost use Rattle.plain_world.specs.DescriptorLaws.{OpenGivesLowest, DupLeads, Dup2Leads, Dup2KeepsEqual, CloseCloses, NotOpenIsBad, AccessIsNeeded, ProcessesAreApart};
+ghost use Rattle.plain_world.specs.Proved.DescriptorLaws.{OpenGivesLowest, DupLeads, Dup2Leads, Dup2KeepsEqual, CloseCloses, NotOpenIsBad, AccessIsNeeded, ProcessesAreApart};
 
 /// An open that is not refused gives the least descriptor of its process that is free: it tells the number, or, where it waits, its
 /// process keeps the descriptor (page of open; of one that waits own). A resume tells what was kept: `posix_model::pipe_laws::ready_moves`.

@@ -1,6 +1,6 @@
 //! Laws of the calls on files. Each function does nothing; its contract is the law.
 
-ghost use Rattle.plain_world.specs.FileLaws.{WriteSplices, WritePuts, PwritePuts, WriteMoves, WriteTakesAll, WriteAppends, ReadGives, PreadGives, ReadMoves, SeekTells, SeekMoves, PreadKeepsWorld, NothingRead, NothingWritten, NothingPwritten, PwriteKeepsOffsets, PwriteSameUnderAppend, OwnFileAlone, FilesStay, PipesStay, ActsLeaveFiles, ActsLeavePipes, FtruncateResizes, FtruncateLeavesResized, FtruncateKeepsOffsets, OpenDescribes, OpenIsForAsked, ExclOpensNew, TruncOpenEmpties, OpenKeepsFiles, OpenKeepsOthers, OpenMakesEmpty};
+ghost use Rattle.plain_world.specs.Proved.FileLaws.{WriteSplices, WritePuts, PwritePuts, WriteMoves, WriteTakesAll, WriteAppends, ReadGives, PreadGives, ReadMoves, SeekTells, SeekMoves, PreadKeepsWorld, NothingRead, NothingWritten, NothingPwritten, PwriteKeepsOffsets, PwriteSameUnderAppend, OwnFileAlone, FilesStay, PipesStay, ActsLeaveFiles, ActsLeavePipes, FtruncateResizes, FtruncateLeavesResized, FtruncateKeepsOffsets, OpenDescribes, OpenIsForAsked, ExclOpensNew, TruncOpenEmpties, OpenKeepsFiles, OpenKeepsOthers, OpenMakesEmpty};
 
 use posix_model::laws::{acts_are_sound, calls_are_sound};
 

@@ -1,7 +1,7 @@
 //! Laws of steps and histories, and worked runs. None of these functions does anything; each contract is its law.
 
-ghost use Rattle.plain_world.specs.Laws.{RefusedStepKeepsWorld, RefusedNextKeepsWorld, JoinAdds, FullJoinRefused, LowestIsLeast, NoLowestIsFull, OffsetsAreApart, OffsetsStayApart, TakesFew, StepKeepsLimits, LimitsHold, HistoryKeepsExactly, LegalIsAnswered, AnsweredIsLegal};
-ghost use Rattle.plain_world.specs.Rows.{Runs, standard, small, path, hole, greatest_offset, size_limit, pwrite_under_append, opening, deferred_removal, duplicates, shared_offset, closing, nonblocking_fifo, exit_in_a_write_that_waits, last_reader_goes, fifo_rendezvous, parts_of_a_large_write};
+ghost use Rattle.plain_world.specs.Proved.Laws.{RefusedStepKeepsWorld, RefusedNextKeepsWorld, JoinAdds, FullJoinRefused, LowestIsLeast, NoLowestIsFull, OffsetsAreApart, OffsetsStayApart, TakesFew, StepKeepsLimits, LimitsHold, HistoryKeepsExactly, LegalIsAnswered, AnsweredIsLegal};
+ghost use Rattle.plain_world.specs.Proved.Rows.{Runs, standard, small, path, hole, greatest_offset, size_limit, pwrite_under_append, opening, deferred_removal, duplicates, shared_offset, closing, nonblocking_fifo, exit_in_a_write_that_waits, last_reader_goes, fifo_rendezvous, parts_of_a_large_write};
 
 use posix_model::laws::{
     acts_are_sound, numbers_rise, sweep_leaves_wanted, sweep_releases, sweep_settles,

@@ -6,13 +6,13 @@ ghost use Rattle.std.specs.Prelude.{◌≡◌, ◌+◌, ◌<◌, ◌≤◌, ◌^
 ghost use Rattle.posix_model.specs.Bytes.{splice, resized};
 ghost use Rattle.slots.specs.Slots.{slot, edited};
 ghost use Rattle.call_types.specs.Names.{file_of};
-ghost use Rattle.call_types.specs.Stored.{span_bytes};
+ghost use Rattle.call_types.specs.Proved.Stored.{span_bytes};
 ghost use Rattle.call_types.specs.Descriptions.{at_offset};
 ghost use Rattle.process_table.specs.Processes.{with_connection, with_parked, with_total, with_entry};
 ghost use Rattle.posix_model.specs.Descriptors.{file_bytes};
 ghost use Rattle.posix_model.specs.Change.{bytes_from, created, with_files, with_processes, with_description, with_table, changed};
 ghost use Rattle.posix_model.specs.Pipes.{with_opening};
-ghost use Rattle.posix_model.specs.Fits.{FilesProper, IsProper};
+ghost use Rattle.posix_model.specs.Proved.Fits.{FilesProper, IsProper};
 
 use crate::pipes::{
     end_of, open_once, parked_bytes, pipe_for, pipe_of_fifo, put_bytes, take_first,

@@ -1,6 +1,6 @@
 //! Laws of names. Each function does nothing; its contract is the law.
 
-ghost use Rattle.plain_world.specs.NameLaws.{LinkNames, UnlinkNames};
+ghost use Rattle.plain_world.specs.Proved.NameLaws.{LinkNames, UnlinkNames};
 
 /// A link makes both names lead to one file, and leaves every other name (page of link).
 pub fn link_names()

@@ -1,7 +1,7 @@
 //! Laws of pipes and FIFOs. Each function does nothing; its contract is the law.
 
-ghost use Rattle.plain_world.specs.PipeLaws.{FifoOpensOneWay, FifoCountsOpenings, ReopenedIsEmpty, ExitTakesBackNothing, WriteLosesNothing, ResumedWriteLosesNothing, SmallWriteIsWhole, UnparkedIsNotReady, UnparkedIsNotResumed};
-ghost use Rattle.posix_model.specs.WaitLaws.{NonblockNeverWaits};
+ghost use Rattle.plain_world.specs.Proved.PipeLaws.{FifoOpensOneWay, FifoCountsOpenings, ReopenedIsEmpty, ExitTakesBackNothing, WriteLosesNothing, ResumedWriteLosesNothing, SmallWriteIsWhole, UnparkedIsNotReady, UnparkedIsNotResumed};
+ghost use Rattle.posix_model.specs.Proved.WaitLaws.{NonblockNeverWaits};
 
 use posix_model::laws::sweep_leaves_wanted;
 use posix_model::pipe_laws::ready_moves;

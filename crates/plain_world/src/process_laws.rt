@@ -1,7 +1,7 @@
 //! Laws of processes that fork, are attached and end, and of a run that is closed. Each function does nothing; its contract is
 //! the law.
 
-ghost use Rattle.plain_world.specs.ProcessLaws.{ForkCopies, ForkShares, FullForkRefused, SharedIsSeen, AttachConnects, OtherAttachRefused, ExitFrees, ClosingCloses, ClosedOnce};
+ghost use Rattle.plain_world.specs.Proved.ProcessLaws.{ForkCopies, ForkShares, FullForkRefused, SharedIsSeen, AttachConnects, OtherAttachRefused, ExitFrees, ClosingCloses, ClosedOnce};
 
 use posix_model::laws::sweep_leaves_wanted;
 

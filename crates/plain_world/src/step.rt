@@ -1,5 +1,5 @@
 ghost use Rattle.std.specs.Prelude.{◌≡◌, ◌↔◌, true, is_some, Some, None, Err, IfOk, OnErr};
-ghost use Rattle.posix_model.specs.Fits.{IsProper};
+ghost use Rattle.posix_model.specs.Proved.Fits.{IsProper};
 ghost use Rattle.posix_model.specs.Step.{given, stepped, step};
 
 use crate::make::make;

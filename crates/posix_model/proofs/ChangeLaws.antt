@@ -7,7 +7,7 @@ use Rattle.std.specs.Ordering.{nat_cmp, eq_by_cmp}
 use Rattle.std.specs.Cmp.Lexicographic.{slice_cmp}
 use Rattle.std.specs.FinMap.Entries.{by_order}
 use Rattle.std.specs.declared.cmp.Ordering.TheVariants.{Less, Equal, Greater}
-use Rattle.posix_model.specs.Whole.{IsThere, TargetIsThere, is_fifo, is_regular_file}
+use Rattle.posix_model.specs.Proved.Whole.{IsThere, TargetIsThere, is_fifo, is_regular_file, EachThere, PipeIsThere, IsItsFifo, IsOnItsPipe, PipesApart, WaitsForFew, IsWhole}
 use Rattle.slots.specs.Slots.{slot}
 use Rattle.call_types.specs.Names.{Entries, with_name, without_name}
 use Rattle.call_types.specs.Descriptions.{at_offset}
@@ -15,12 +15,11 @@ use Rattle.process_table.specs.Processes.{with_entry, process_with, with_parked,
 use Rattle.posix_model.specs.Descriptors.{with_descriptor, with_offset}
 use Rattle.posix_model.specs.Pipes.{fifo_at, pipe_of_fifo}
 use Rattle.posix_model.specs.Change.{with_processes, with_bytes, created, with_description}
-use Rattle.posix_model.specs.Fits.{CanAdd}
+use Rattle.posix_model.specs.Proved.Fits.{CanAdd}
 use Rattle.posix_model.specs.Types.{World, Process, Parked, Description, Target, File, Fifo, OPEN_MAX}
 use Rattle.posix_model.specs.declared.change.ProcessEdit.TheVariants as on_process
-use Rattle.posix_model.specs.Numbers.{Rises, NumbersRise, StaysSame}
-use Rattle.posix_model.specs.Whole.{EachThere, PipeIsThere, IsItsFifo, IsOnItsPipe, PipesApart, WaitsForFew, IsWhole}
-use Rattle.process_table.specs.Waits.{AsksFew}
+use Rattle.posix_model.specs.Proved.Numbers.{Rises, NumbersRise, StaysSame}
+use Rattle.process_table.specs.Proved.Waits.{AsksFew}
 use Rattle.posix_model.specs.declared.world.File.TheVariants as file
 use Rattle.call_types.specs.declared.description.Target.TheVariants as target
 use Rattle.posix_model.proofs.SlotLaws.{test_set, slot_pushed, there_below, stays_as_is, stays_pushed, stays_set, stays_twice, Adds, adds_same, adds_set, adds_edited, adds_push, pushed_there, rises_twice, rises_emptied, each_set, each_push}

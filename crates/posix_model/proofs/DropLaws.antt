@@ -9,7 +9,7 @@ use Rattle.posix_model.specs.Counts.{refers, refs, refs_of}
 use Rattle.posix_model.specs.Sweep.{sweep}
 use Rattle.process_table.specs.Processes.{with_entry, table_of}
 use Rattle.posix_model.specs.Descriptors.{with_descriptor}
-use Rattle.posix_model.specs.Drops.{without_process, closed_below, ExitCloses, ClosedIsBare, CloseThenSet}
+use Rattle.posix_model.specs.Proved.Drops.{without_process, closed_below, ExitCloses, ClosedIsBare, CloseThenSet}
 use Rattle.posix_model.specs.Types.{World, Process}
 use Rattle.posix_model.proofs.ReleaseLaws.{same_or_not, other_number, swept_is_settled, settled_stays}
 use Rattle.posix_model.proofs.SweepLaws.{one, sweep_first, sweep_settles}

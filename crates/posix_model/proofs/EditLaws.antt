@@ -8,9 +8,9 @@ use Rattle.posix_model.specs.Types.{World, Fifo, FileEdit, ProcessEdit, TableEdi
 use Rattle.posix_model.specs.Bytes.{splice, resized}
 use Rattle.posix_model.specs.Descriptors.{bytes_of}
 use Rattle.posix_model.specs.Pipes.{unopened}
-use Rattle.posix_model.specs.Whole.{IsWhole}
+use Rattle.posix_model.specs.Proved.Whole.{IsWhole}
 use Rattle.posix_model.specs.Change.{bytes_from, after_those, with_files, with_processes, with_table, changed}
-use Rattle.posix_model.specs.Fits.{FilesFit, ProcessFits, TableFits, Fits}
+use Rattle.posix_model.specs.Proved.Fits.{FilesFit, ProcessFits, TableFits, Fits}
 use Rattle.posix_model.specs.declared.world.File.TheVariants as file
 use Rattle.posix_model.specs.declared.change.FileEdit.TheVariants as on_files
 use Rattle.posix_model.specs.declared.change.ProcessEdit.TheVariants as on_process

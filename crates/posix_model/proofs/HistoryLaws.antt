@@ -3,13 +3,13 @@ use Rattle.std.proofs.Common.{◌≡◌, ℕ, List, [], ◌∷◌, ◌++◌, Opt
 use Rattle.std.specs.Option.{option_map_or}
 use Rattle.std.proofs.lemmas.List.Elements.{All-nil}
 use Rattle.posix_model.specs.Types.{Act, Record, Bounds, World}
-use Rattle.posix_model.specs.Whole.{IsThere, IsWhole}
-use Rattle.posix_model.specs.Numbers.{NumbersRise}
+use Rattle.posix_model.specs.Proved.Whole.{IsThere, IsWhole}
+use Rattle.posix_model.specs.Proved.Numbers.{NumbersRise}
 use Rattle.posix_model.specs.Sweep.{sweep}
 use Rattle.posix_model.specs.Change.{changed}
 use Rattle.posix_model.specs.Step.{Stepped, given, step}
 use Rattle.posix_model.specs.History.{empty_world, after, world_from, world_of}
-use Rattle.posix_model.specs.Laws.{HistorySettles, StepRaisesNumbers, StepKeepsWhole, HistoryIsWhole, HistoryRaisesNumbers}
+use Rattle.posix_model.specs.Proved.Laws.{HistorySettles, StepRaisesNumbers, StepKeepsWhole, HistoryIsWhole, HistoryRaisesNumbers}
 use Rattle.posix_model.proofs.ChangeLaws.{Goes, goes_nowhere, goes_twice}
 use Rattle.posix_model.proofs.EditLaws.{change_goes}
 use Rattle.posix_model.proofs.SweepLaws.{step_parts, step_settles}

@@ -9,8 +9,8 @@ use Rattle.call_types.specs.declared.call.Call.TheVariants as calls
 use Rattle.call_types.specs.declared.outcome.Outcome.TheVariants as outcome
 use Rattle.call_types.specs.declared.outcome.Reply.TheVariants as reply
 use Rattle.posix_model.specs.Turns.{data_in}
-use Rattle.posix_model.specs.Sound.{data_most}
-use Rattle.posix_model.specs.Lengths.{outcome_length, record_length, IsShort, StepIsShort}
+use Rattle.posix_model.specs.Proved.Sound.{data_most}
+use Rattle.posix_model.specs.Proved.Lengths.{outcome_length, record_length, IsShort, StepIsShort}
 use Rattle.posix_model.proofs.SweepLaws.{step_parts}
 use Rattle.posix_model.proofs.SoundActs.{acts_are_sound}
 

@@ -31,7 +31,7 @@ use Rattle.posix_model.specs.Exit.{exit, close_run}
 use Rattle.posix_model.specs.Bytes.{bytes_at}
 use Rattle.posix_model.specs.Change.{rest_of}
 use Rattle.posix_model.specs.Step.{can_call, decided, comes_to, given}
-use Rattle.posix_model.specs.Waiting.{HasLeft, EachWaitsWell}
+use Rattle.posix_model.specs.Proved.Waiting.{HasLeft, EachWaitsWell}
 use Rattle.posix_model.specs.Turns.{Turn, new_turn, next_turn, total, took_in, data_in}
 use Rattle.posix_model.specs.Given.{data_given}
 use Rattle.posix_model.specs.PipeRecord.{TurnOn, opened_if, turn_with, parked_on, turn_on, is_on}

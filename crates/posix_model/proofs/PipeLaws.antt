@@ -15,11 +15,11 @@ use Rattle.posix_model.specs.Given.{data_given}
 use Rattle.posix_model.specs.PipeRecord.{TurnOn, turn_with, act_on, turn_on, is_on, put_in, got_in, put_by, got_by, joined_from, put, BytesOfPipe, IsUnbroken, SmallWritesUnbroken}
 use Rattle.posix_model.specs.declared.change.FileEdit.TheVariants as on_files
 use Rattle.posix_model.proofs.Flows.{Flows, PipeFits, edit_put, change_flows, keeps_flows, keeps_same, flows_twice, there_not_gone}
-use Rattle.posix_model.specs.Whole.{IsWhole}
-use Rattle.posix_model.specs.Sound.{ActsAreSound}
-use Rattle.posix_model.specs.Fits.{FilesFit}
-use Rattle.posix_model.specs.Laws.{StepKeepsWhole}
-use Rattle.posix_model.specs.Waiting.{EachWaitsWell, StepKeepsWaits}
+use Rattle.posix_model.specs.Proved.Whole.{IsWhole}
+use Rattle.posix_model.specs.Proved.Sound.{ActsAreSound}
+use Rattle.posix_model.specs.Proved.Fits.{FilesFit}
+use Rattle.posix_model.specs.Proved.Laws.{StepKeepsWhole}
+use Rattle.posix_model.specs.Proved.Waiting.{EachWaitsWell, StepKeepsWaits}
 use Rattle.posix_model.proofs.SlotLaws.{there_below}
 use Rattle.posix_model.proofs.HistoryLaws.{empty_whole}
 use Rattle.posix_model.proofs.Moving.{TakesAll}

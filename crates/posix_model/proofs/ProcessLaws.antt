@@ -4,7 +4,7 @@ use Rattle.std.specs.Option.{option_map, is_some}
 use Rattle.std.proofs.lemmas.List.Sums.{sum_by-cons, sum_by_push}
 use Rattle.posix_model.specs.Types.{Act, World, Process, Description, FileEdit, ProcessEdit, TableEdit, Change, Decided}
 use Rattle.slots.specs.Slots.{slot, live}
-use Rattle.posix_model.specs.Whole.{IsThere}
+use Rattle.posix_model.specs.Proved.Whole.{IsThere}
 use Rattle.process_table.specs.Processes.{with_entry, process_with, with_connection, with_parked, with_total}
 use Rattle.posix_model.specs.Descriptors.{with_descriptor}
 use Rattle.posix_model.specs.Change.{with_files, with_processes, with_table, with_description, end_of, changed}
@@ -12,8 +12,8 @@ use Rattle.posix_model.specs.Pipes.{with_pipe, with_opening}
 use Rattle.call_types.specs.declared.description.Mode.TheVariants as mode
 use Rattle.posix_model.specs.Step.{given, stepped}
 use Rattle.posix_model.specs.Sweep.{sweep}
-use Rattle.posix_model.specs.Sound.{makes, ended_by, closed_by, added, adds, ended, closes, IsTold}
-use Rattle.posix_model.specs.Laws.{Counts, StepTellsProcesses, StepPlansProcesses}
+use Rattle.posix_model.specs.Proved.Sound.{makes, ended_by, closed_by, added, adds, ended, closes, IsTold}
+use Rattle.posix_model.specs.Proved.Laws.{Counts, StepTellsProcesses, StepPlansProcesses}
 use Rattle.posix_model.specs.declared.change.FileEdit.TheVariants as on_files
 use Rattle.posix_model.specs.declared.change.ProcessEdit.TheVariants as on_process
 use Rattle.posix_model.specs.declared.change.TableEdit.TheVariants as on_table

@@ -7,8 +7,8 @@ use Rattle.call_types.specs.declared.call.Call.TheVariants as call
 use Rattle.posix_model.specs.Types.{Call, Bounds, World, Decided, Try, Replied, Number}
 use Rattle.posix_model.specs.Tries.{read_try, write_try, next_try}
 use Rattle.posix_model.specs.Resume.{read_ready, write_ready, open_ready, try_again, try_on, try_opened, try_parked, next_of, resume}
-use Rattle.posix_model.specs.WaitLaws.{WaitsOn}
-use Rattle.posix_model.specs.Waiting.{HasLeft, WaitingReadIsReady, WaitingWriteIsReady, ReadyOpenEnds}
+use Rattle.posix_model.specs.Proved.WaitLaws.{WaitsOn}
+use Rattle.posix_model.specs.Proved.Waiting.{HasLeft, WaitingReadIsReady, WaitingWriteIsReady, ReadyOpenEnds}
 use Rattle.posix_model.specs.declared.change.DataSource.TheVariants as source
 use Rattle.posix_model.specs.declared.change.FileEdit.TheVariants as on_files
 use Rattle.posix_model.specs.declared.change.Try.TheVariants.{Ends}

@@ -11,8 +11,8 @@ use Rattle.posix_model.specs.Types.{World, Description, Target, File, Fifo}
 use Rattle.call_types.specs.declared.description.Target.TheVariants as target
 use Rattle.posix_model.specs.declared.world.File.TheVariants as file
 use Rattle.posix_model.proofs.SweepLaws.{one, LeavesThere, sweep_leaves, sweep_leaves_there, slot_mapped, still_there}
-use Rattle.posix_model.specs.Released.{released_descriptions, pipes_after, fifos_after, files_after, SweptIsSettled, SweepReleases, SettledStays, NamesRelease, released_file}
-use Rattle.posix_model.specs.Whole.{IsItsFifo}
+use Rattle.posix_model.specs.Proved.Released.{released_descriptions, pipes_after, fifos_after, files_after, SweptIsSettled, SweepReleases, SettledStays, NamesRelease, released_file}
+use Rattle.posix_model.specs.Proved.Whole.{IsItsFifo}
 use Rattle.posix_model.proofs.SlotLaws.{kept_all, kept_at, map_all, map_at}
 
 -- equal or not

@@ -14,7 +14,7 @@ use Rattle.posix_model.specs.Pipes.{pipe_at, held_bytes, room_in, has_reader, ha
 use Rattle.posix_model.specs.Tries.{read_try, broken, write_try, next_try}
 use Rattle.posix_model.specs.Resume.{read_ready, write_ready, open_ready, try_again, try_on, try_opened, try_parked, resume}
 use Rattle.posix_model.specs.Step.{stepped}
-use Rattle.posix_model.specs.WaitLaws.{WaitsOn, BreaksAlone, ResumeBreaksAlone, unparked, BrokenStep, BrokenStepUnparks, BrokenNextUnparks}
+use Rattle.posix_model.specs.Proved.WaitLaws.{WaitsOn, BreaksAlone, ResumeBreaksAlone, unparked, BrokenStep, BrokenStepUnparks, BrokenNextUnparks}
 use Rattle.posix_model.specs.declared.change.DataSource.TheVariants as source
 use Rattle.posix_model.specs.declared.change.FileEdit.TheVariants as on_files
 use Rattle.posix_model.specs.declared.change.Try.TheVariants.{Ends, Waits}

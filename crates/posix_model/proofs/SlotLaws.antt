@@ -5,8 +5,8 @@ use Rattle.std.specs.List.{count_by}
 use Rattle.std.proofs.lemmas.List.Quantifiers.{position-Some}
 use Rattle.std.proofs.lemmas.List.Sums.{get_or-le-sum_by}
 use Rattle.slots.specs.Slots.{slot, lowest, kept, kept_from}
-use Rattle.posix_model.specs.Whole.{IsThere, EachThere}
-use Rattle.posix_model.specs.Numbers.{Rises, StaysSame, IsLowest}
+use Rattle.posix_model.specs.Proved.Whole.{IsThere, EachThere}
+use Rattle.posix_model.specs.Proved.Numbers.{Rises, StaysSame, IsLowest}
 
 -- what is not there is gone
 pub not_there : {T : Type 0} (x : Option T) → is_some x ≡ false → x ≡ None

@@ -10,11 +10,11 @@ use Rattle.slots.specs.Slots.{slot}
 use Rattle.process_table.specs.Processes.{free_table, copied_table, awaits}
 use Rattle.posix_model.specs.Types.{Act, Bounds, World, Process, ProcessEdit, Decided, TRANSFER_MAX, Replied, Data, Done, StatReply}
 use Rattle.posix_model.specs.Bytes.{bytes_at}
-use Rattle.posix_model.specs.Whole.{IsThere, IsWhole}
+use Rattle.posix_model.specs.Proved.Whole.{IsThere, IsWhole}
 use Rattle.posix_model.specs.Descriptors.{opened, bytes_of}
 use Rattle.posix_model.specs.Positions.{bytes_before, file_at}
 use Rattle.posix_model.specs.Pipes.{pipe_at}
-use Rattle.posix_model.specs.Fits.{ProcessFits, ProcessProper}
+use Rattle.posix_model.specs.Proved.Fits.{ProcessFits, ProcessProper}
 use Rattle.posix_model.specs.Pages.{acts, decided_by}
 use Rattle.posix_model.specs.Open.{open_file}
 use Rattle.posix_model.specs.Close.{close}
@@ -36,7 +36,7 @@ use Rattle.posix_model.specs.Attach.{attach}
 use Rattle.posix_model.specs.Exit.{exit, close_run}
 use Rattle.posix_model.specs.Step.{decided, can_call}
 use Rattle.posix_model.specs.Turns.{took}
-use Rattle.posix_model.specs.Sound.{data_of, IsTold, Sound, CallsAreSound, ActsAreSound}
+use Rattle.posix_model.specs.Proved.Sound.{data_of, IsTold, Sound, CallsAreSound, ActsAreSound}
 use Rattle.posix_model.specs.declared.change.ProcessEdit.TheVariants as on_process
 use Rattle.posix_model.proofs.PageLaws.{page_has, on_open_has, unmet}
 use Rattle.posix_model.proofs.Sound.{Answers, as_before, sound_tells, sound_refused, opened_stands, not_false, not_below, read_few, sound_close, sound_pwrite, sound_lseek, sound_ftruncate, sound_dup, sound_dup2, can_open, sound_open, sound_pipe, sound_mkfifo, sound_link, sound_unlink, sound_adds, free_can, copied_can}

@@ -9,13 +9,13 @@ use Rattle.call_types.specs.declared.description.Target.TheVariants as target
 use Rattle.slots.specs.Slots.{slot}
 use Rattle.process_table.specs.Processes.{is_here, parked_of}
 use Rattle.posix_model.specs.Types.{Call, Outcome, Bounds, World, Process, Parked, Target, OpenDescriptor, DataSource, FileEdit, Decided, Try, TRANSFER_MAX, PIPE_BUF, EAGAIN, EPIPE, Replied, ParkedAt, Part, Reply, Errno, Number, Data, Error}
-use Rattle.posix_model.specs.Whole.{IsThere, TargetIsThere, IsWhole}
-use Rattle.process_table.specs.Waits.{AsksFew}
+use Rattle.posix_model.specs.Proved.Whole.{IsThere, TargetIsThere, IsWhole}
+use Rattle.process_table.specs.Proved.Waits.{AsksFew}
 use Rattle.posix_model.specs.Descriptors.{opened, held_in}
 use Rattle.posix_model.specs.Positions.{regular_file}
 use Rattle.posix_model.specs.Pipes.{pipe_at, held_bytes, room_in, has_reader, has_writer}
 use Rattle.posix_model.specs.Change.{bytes_from, rest_of, with_files}
-use Rattle.posix_model.specs.Fits.{FilesFit, FilesProper, PutsWithin, removes}
+use Rattle.posix_model.specs.Proved.Fits.{FilesFit, FilesProper, PutsWithin, removes}
 use Rattle.posix_model.specs.Pages.{first_fault, refused, does, tells}
 use Rattle.posix_model.specs.Tries.{read_try, broken, write_try, waiting, parks, instead, first_try, next_try}
 use Rattle.posix_model.specs.Read.{read_faults, read_from}
@@ -24,7 +24,7 @@ use Rattle.posix_model.specs.Resume.{read_ready, write_ready, open_ready, try_ag
 use Rattle.posix_model.specs.Step.{given}
 use Rattle.posix_model.specs.Given.{data_given}
 use Rattle.posix_model.specs.Turns.{Turn, next_turn, total, took_in, took, data_in}
-use Rattle.posix_model.specs.Sound.{added, adds, data_of, data_most, is_of_pipes, may_change_pipes, FilesWithin, Sound}
+use Rattle.posix_model.specs.Proved.Sound.{added, adds, data_of, data_most, is_of_pipes, may_change_pipes, FilesWithin, Sound}
 use Rattle.posix_model.specs.declared.change.DataSource.TheVariants as source
 use Rattle.posix_model.specs.declared.change.FileEdit.TheVariants as on_files
 use Rattle.posix_model.specs.declared.change.TableEdit.TheVariants as on_table

@@ -5,7 +5,7 @@ use Rattle.std.specs.List.{count_by}
 use Rattle.std.proofs.lemmas.Bool.{lt-ltb, ltb-true}
 use Rattle.std.proofs.lemmas.List.Sums.{sum_by-cons}
 use Rattle.slots.specs.Slots.{slot, kept, kept_from}
-use Rattle.posix_model.specs.Laws.{SweepSettles, StepSettles, SweepLeaves}
+use Rattle.posix_model.specs.Proved.Laws.{SweepSettles, StepSettles, SweepLeaves}
 use Rattle.posix_model.specs.Types.{Act, Bounds, World, Process, Description, File, Decided}
 use Rattle.posix_model.specs.Step.{Stepped, stepped, comes_to, given, step}
 use Rattle.posix_model.specs.Change.{changed}

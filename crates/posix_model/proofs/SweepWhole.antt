@@ -8,8 +8,8 @@ use Rattle.slots.specs.Slots.{slot, kept}
 use Rattle.call_types.specs.Names.{Entries}
 use Rattle.posix_model.specs.Counts.{links, refs, refs_of, refers, holders, holds, readers, reads, writers, writes, is_file, is_pipe}
 use Rattle.posix_model.specs.Sweep.{is_referred, is_open, is_wanted, open_pipe, without_gone_pipe, sweep}
-use Rattle.posix_model.specs.Whole.{is_fifo, is_regular_file, TargetIsThere, PipeIsThere, IsOnItsPipe, IsWhole}
-use Rattle.posix_model.specs.Numbers.{StaysSame, Rises, NumbersRise}
+use Rattle.posix_model.specs.Proved.Whole.{is_fifo, is_regular_file, TargetIsThere, PipeIsThere, IsOnItsPipe, IsWhole}
+use Rattle.posix_model.specs.Proved.Numbers.{StaysSame, Rises, NumbersRise}
 use Rattle.posix_model.specs.Types.{World, Process, Description, Target, Mode, File, Fifo}
 use Rattle.posix_model.specs.declared.world.File.TheVariants as file
 use Rattle.call_types.specs.declared.description.Mode.TheVariants as mode

@@ -15,8 +15,8 @@ use Rattle.posix_model.specs.Open.{open_file, open_found, open_there, opens_end,
 use Rattle.posix_model.specs.Read.{read, read_from}
 use Rattle.posix_model.specs.Write.{write, write_to}
 use Rattle.posix_model.specs.Resume.{next_of}
-use Rattle.posix_model.specs.Step.{Stepped, decided, stepped, can_call}
-use Rattle.posix_model.specs.WaitLaws.{EndsOrWaits, EndsOrGoesOn, CallsEndOrWait, ResumesEndOrGoOn}
+use Rattle.posix_model.specs.Step.{Stepped, decided, stepped, can_call, EndsOrWaits, EndsOrGoesOn}
+use Rattle.posix_model.specs.Proved.WaitLaws.{CallsEndOrWait, ResumesEndOrGoOn}
 use Rattle.posix_model.specs.declared.change.TableEdit.TheVariants as on_table
 use Rattle.posix_model.specs.declared.change.Try.TheVariants.{Ends, Waits}
 use Rattle.posix_model.proofs.PageLaws.{page_has, on_open_has, if_has}

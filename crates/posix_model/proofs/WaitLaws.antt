@@ -16,7 +16,7 @@ use Rattle.posix_model.specs.Open.{open_file, open_found, open_there}
 use Rattle.posix_model.specs.Read.{read, read_from}
 use Rattle.posix_model.specs.Write.{write, write_to}
 use Rattle.posix_model.specs.Step.{decided}
-use Rattle.posix_model.specs.WaitLaws.{is_stuck, ReadyReads, ReadyWrites, is_nonblocking, NonblockNeverWaits}
+use Rattle.posix_model.specs.Proved.WaitLaws.{is_stuck, ReadyReads, ReadyWrites, is_nonblocking, NonblockNeverWaits}
 use Rattle.posix_model.specs.declared.change.FileEdit.TheVariants as on_files
 use Rattle.posix_model.specs.declared.change.Try.TheVariants.{Ends, Waits}
 use Rattle.posix_model.proofs.PageLaws.{page_has, on_open_has, if_has}

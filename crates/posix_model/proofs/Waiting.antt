@@ -13,7 +13,7 @@ use Rattle.call_types.specs.declared.act.Act.TheVariants as act
 use Rattle.call_types.specs.declared.call.Call.TheVariants as call
 use Rattle.call_types.specs.declared.description.Target.TheVariants as target
 use Rattle.posix_model.specs.Types.{Call, Act, Record, Errno, Reply, OpenFlags, Bounds, World, Process, Parked, Description, Target, Fifo, OpenDescriptor, DataSource, FileEdit, ProcessEdit, TableEdit, Decided, Try, PIPE_BUF, EAGAIN, Number, Data, Error}
-use Rattle.posix_model.specs.Whole.{EachThere}
+use Rattle.posix_model.specs.Proved.Whole.{EachThere}
 use Rattle.posix_model.specs.Positions.{file_at}
 use Rattle.posix_model.specs.Descriptors.{opened, opened_number, opened_description, bytes_of, held_in}
 use Rattle.posix_model.specs.Pipes.{pipe_at, fifo_at, is_met, opposite_openings, pipe_between, held_bytes, room_in, has_reader, has_writer}
@@ -30,7 +30,7 @@ use Rattle.posix_model.specs.Exit.{exit, close_run}
 use Rattle.posix_model.specs.Resume.{read_ready, write_ready, open_ready, try_again}
 use Rattle.posix_model.specs.Step.{can_call, decided, comes_to, given, step}
 use Rattle.posix_model.specs.History.{empty_world, after, world_from}
-use Rattle.posix_model.specs.Waiting.{may_wait, HasLeft, WaitsWell, EachWaitsWell, StepKeepsWaits, HistoryWaits}
+use Rattle.posix_model.specs.Proved.Waiting.{may_wait, HasLeft, WaitsWell, EachWaitsWell, StepKeepsWaits, HistoryWaits}
 use Rattle.posix_model.specs.declared.change.DataSource.TheVariants as source
 use Rattle.posix_model.specs.declared.change.FileEdit.TheVariants as on_files
 use Rattle.posix_model.specs.declared.change.ProcessEdit.TheVariants as on_process

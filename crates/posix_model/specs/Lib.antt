@@ -2,8 +2,6 @@ pub mod Types
 pub mod Bytes
 pub mod Counts
 pub mod Sweep
-pub mod Whole
-pub mod Numbers
 pub mod Descriptors
 pub mod Positions
 pub mod Pipes
@@ -34,12 +32,5 @@ pub mod Resume
 pub mod Step
 pub mod History
 pub mod Turns
-pub mod Fits
-pub mod Sound
-pub mod Lengths
-pub mod Released
-pub mod Drops
-pub mod Laws
 pub mod PipeRecord
-pub mod WaitLaws
-pub mod Waiting
+pub mod Proved

@@ -3,7 +3,7 @@ use Rattle.std.specs.Prelude.{ℕ, List, [], Bool, false, ◌&&◌, ◌==◌, Op
 use Rattle.std.specs.Option.{option_map}
 use Rattle.posix_model.specs.Given.{data_given}
 use Rattle.call_types.specs.declared.act.TheConstants.{HOUSE}
-use Rattle.posix_model.specs.Types.{Call, Act, Outcome, Bounds, World, Process, Decided}
+use Rattle.posix_model.specs.Types.{Call, Act, Outcome, Bounds, World, Process, Decided, Replied, ParkedAt, Part}
 use Rattle.call_types.specs.declared.call.Call.TheVariants as call
 use Rattle.call_types.specs.declared.act.Act.TheVariants as act
 use Rattle.slots.specs.Slots.{slot}
@@ -89,3 +89,15 @@ stepped w bytes d = record { world = sweep (changed w bytes d.change); outcome =
 -- one step, or nothing where the rules record none
 abbrev pub step : Bounds → World → ℕ → Act → Option Stepped
 step bounds w actor act = option_map (stepped w (given act)) (comes_to bounds w actor act)
+
+-- a call has ended, or it waits
+abbrev pub EndsOrWaits : Outcome → Type 0
+EndsOrWaits (Replied reply) = Unit {0}
+EndsOrWaits (ParkedAt moved) = Unit {0}
+EndsOrWaits (Part moved) = ⊥
+
+-- a call that waited has ended, or it goes on waiting
+abbrev pub EndsOrGoesOn : Outcome → Type 0
+EndsOrGoesOn (Replied reply) = Unit {0}
+EndsOrGoesOn (ParkedAt moved) = ⊥
+EndsOrGoesOn (Part moved) = Unit {0}

@@ -1,10 +1,10 @@
 //! Laws of every step and history, for the crates above. None of these functions does anything.
 
-ghost use Rattle.posix_model.specs.Sound.{CallsAreSound, ActsAreSound};
-ghost use Rattle.posix_model.specs.Lengths.{StepIsShort};
-ghost use Rattle.posix_model.specs.Released.{SweptIsSettled, SettledStays, SweepReleases, NamesRelease};
-ghost use Rattle.posix_model.specs.Drops.{ExitCloses, ClosedIsBare, CloseThenSet};
-ghost use Rattle.posix_model.specs.Laws.{StepRaisesNumbers, StepKeepsWhole, HistoryIsWhole, HistoryRaisesNumbers, SweepSettles, StepSettles, HistorySettles, SweepLeaves, StepTellsProcesses, StepPlansProcesses};
+ghost use Rattle.posix_model.specs.Proved.Sound.{CallsAreSound, ActsAreSound};
+ghost use Rattle.posix_model.specs.Proved.Lengths.{StepIsShort};
+ghost use Rattle.posix_model.specs.Proved.Released.{SweptIsSettled, SettledStays, SweepReleases, NamesRelease};
+ghost use Rattle.posix_model.specs.Proved.Drops.{ExitCloses, ClosedIsBare, CloseThenSet};
+ghost use Rattle.posix_model.specs.Proved.Laws.{StepRaisesNumbers, StepKeepsWhole, HistoryIsWhole, HistoryRaisesNumbers, SweepSettles, StepSettles, HistorySettles, SweepLeaves, StepTellsProcesses, StepPlansProcesses};
 
 /// What each act comes to can be made, within all limits; a refusal changes nothing (that of a resume ends its call:
 /// `resume_breaks_alone`), and no act moves an offset but that of its own descriptor, changes a file, a name or a pipe

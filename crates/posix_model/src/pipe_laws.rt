@@ -1,8 +1,8 @@
 //! Laws of pipes and of calls that wait. None of these functions does anything; each contract is its law.
 
 ghost use Rattle.posix_model.specs.PipeRecord.{BytesOfPipe, SmallWritesUnbroken};
-ghost use Rattle.posix_model.specs.Waiting.{HistoryWaits, ReadyOpenEnds, StepKeepsWaits, WaitingReadIsReady, WaitingWriteIsReady};
-ghost use Rattle.posix_model.specs.WaitLaws.{BrokenNextUnparks, BrokenStepUnparks, CallsEndOrWait, NonblockNeverWaits, ReadyReads, ReadyWrites, ResumeBreaksAlone, ResumesEndOrGoOn};
+ghost use Rattle.posix_model.specs.Proved.Waiting.{HistoryWaits, ReadyOpenEnds, StepKeepsWaits, WaitingReadIsReady, WaitingWriteIsReady};
+ghost use Rattle.posix_model.specs.Proved.WaitLaws.{BrokenNextUnparks, BrokenStepUnparks, CallsEndOrWait, NonblockNeverWaits, ReadyReads, ReadyWrites, ResumeBreaksAlone, ResumesEndOrGoOn};
 
 /// What was put into a pipe that is there is what was got from it, followed by what it holds; and the data of a write of at
 /// most PIPE_BUF bytes stands there unbroken.

@@ -1,3 +1,3 @@
-pub mod Waits
 pub mod Tables
 pub mod Processes
+pub mod Proved

@@ -1,5 +1,5 @@
 ghost use Rattle.std.specs.Prelude.{◌≡◌, IfOk};
-ghost use Rattle.process_table.specs.Waits.{AsksFew};
+ghost use Rattle.process_table.specs.Proved.Waits.{AsksFew};
 
 use call_types::call::Call;
 use std::alloc::{AllocError, Global};
@@ -14,7 +14,7 @@ pub struct KeptCall {
 
 impl Model for KeptCall {
     ghost use Rattle.call_types.specs.declared.call.Call.{Call as Calls};
-    ghost use Rattle.process_table.specs.Waits.{AsksFew};
+    ghost use Rattle.process_table.specs.Proved.Waits.{AsksFew};
 
     ghost Value = { Calls };
 

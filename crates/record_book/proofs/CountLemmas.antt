@@ -8,8 +8,8 @@ use Rattle.call_types.specs.declared.act.Act.{Act}
 use Rattle.call_types.specs.declared.act.Record.{Record}
 use Rattle.call_types.specs.declared.outcome.Outcome.{Outcome}
 use Rattle.posix_model.specs.Step.{Stepped, step}
-use Rattle.posix_model.specs.Sound.{closes}
-use Rattle.posix_model.specs.Laws.{StepPlansProcesses}
+use Rattle.posix_model.specs.Proved.Sound.{closes}
+use Rattle.posix_model.specs.Proved.Laws.{StepPlansProcesses}
 use Rattle.posix_model.specs.History.{empty_world, after_act, legal, world_of}
 use Rattle.posix_model.specs.PipeRecord.{BytesOfPipe, SmallWritesUnbroken}
 use Rattle.posix_model.specs.Turns.{took, gave}

@@ -9,7 +9,7 @@ use Rattle.process_table.specs.Processes.{process_with, with_connection, with_en
 use Rattle.posix_model.specs.Change.{with_files, with_processes, with_table, with_description, end_of, changed}
 use Rattle.posix_model.specs.Pipes.{with_pipe}
 use Rattle.call_types.specs.declared.description.Mode.TheVariants as mode
-use Rattle.posix_model.specs.Sound.{makes, ended_by}
+use Rattle.posix_model.specs.Proved.Sound.{makes, ended_by}
 use Rattle.posix_model.specs.declared.world.World.{World}
 use Rattle.posix_model.specs.declared.change.FileEdit.{FileEdit}
 use Rattle.posix_model.specs.declared.change.ProcessEdit.{ProcessEdit}
@@ -21,9 +21,9 @@ use Rattle.posix_model.specs.declared.change.TableEdit.TheVariants as on_table
 use Rattle.record_book.specs.Exits.{exit_record, closing_record, exits_from, orphans_from, orphans_exits, prepared_for, with_prepared, receipts_from}
 use Rattle.record_book.specs.Ends.{told_more, OrphansEnd, Ends}
 use Rattle.record_book.specs.Book.{BookState, world_now}
-use Rattle.record_book.specs.Inside.{prepared_closing}
+use Rattle.record_book.specs.Proved.Inside.{prepared_closing}
 use Rattle.record_book.specs.Seat.{Receipted, SeatState}
-use Rattle.record_book.specs.House.{HasRoom, SameHouse}
+use Rattle.record_book.specs.Proved.House.{HasRoom, SameHouse}
 use Rattle.record_book.specs.declared.house.House.{House}
 
 -- a process is added, edited, or gone

@@ -9,18 +9,18 @@ use Rattle.posix_model.specs.Step.{given, stepped}
 use Rattle.posix_model.specs.Exit.{exit, close_run}
 use Rattle.posix_model.specs.Change.{changed}
 use Rattle.posix_model.specs.Sweep.{sweep}
-use Rattle.posix_model.specs.Sound.{adds}
-use Rattle.posix_model.specs.Laws.{Counts}
+use Rattle.posix_model.specs.Proved.Sound.{adds}
+use Rattle.posix_model.specs.Proved.Laws.{Counts}
 use Rattle.posix_model.specs.declared.change.Decided.{Decided}
 use Rattle.posix_model.specs.declared.world.World.{World}
-use Rattle.trace_ring.specs.Trace.{Pushes}
+use Rattle.trace_ring.specs.Proved.Trace.{Pushes}
 use Rattle.record_book.specs.Book.{world_now, world_after, exits_left}
 use Rattle.slots.specs.Slots.{live}
 use Rattle.record_book.specs.Exits.{exit_record, closing_record, exits_from}
 use Rattle.record_book.proofs.ExitLemmas.{exits_emptied}
-use Rattle.record_book.specs.House.{closing_of, HasRoom, SameHouse}
-use Rattle.record_book.specs.Planned.{IsPlanned}
-use Rattle.record_book.specs.Inside.{records_in, state_of, prepared_closing, IsJournal}
+use Rattle.record_book.specs.Proved.House.{closing_of, HasRoom, SameHouse}
+use Rattle.record_book.specs.Proved.Planned.{IsPlanned}
+use Rattle.record_book.specs.Proved.Inside.{records_in, state_of, prepared_closing, IsJournal}
 use Rattle.record_book.specs.declared.journal.Journal.TheInside.{Inside}
 use Rattle.record_book.proofs.HistoryLemmas.{world_from-push, legal_from-push}
 

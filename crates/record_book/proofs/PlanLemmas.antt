@@ -14,15 +14,15 @@ use Rattle.posix_model.specs.Join.{is_full, join}
 use Rattle.posix_model.specs.Pages.{decided_by}
 use Rattle.process_table.specs.Processes.{is_here}
 use Rattle.posix_model.specs.Step.{is_parked, can_call, decided, Stepped, given, comes_to, stepped, step}
-use Rattle.posix_model.specs.Sound.{ActsAreSound, adds}
-use Rattle.posix_model.specs.Laws.{Counts, StepPlansProcesses, HistoryIsWhole}
-use Rattle.posix_model.specs.Lengths.{IsShort, StepIsShort}
+use Rattle.posix_model.specs.Proved.Sound.{ActsAreSound, adds}
+use Rattle.posix_model.specs.Proved.Laws.{Counts, StepPlansProcesses, HistoryIsWhole}
+use Rattle.posix_model.specs.Proved.Lengths.{IsShort, StepIsShort}
 use Rattle.posix_model.specs.declared.change.Decided.{Decided}
 use Rattle.posix_model.specs.declared.world.World.{World}
 use Rattle.record_book.specs.Book.{BookState, world_now, world_after, exits_left}
 use Rattle.record_book.specs.Seat.{SeatState}
 use Rattle.record_book.specs.Refusals.{first_refusal, start_refusal, is_too_full}
-use Rattle.record_book.specs.Planned.{IsPlanned}
+use Rattle.record_book.specs.Proved.Planned.{IsPlanned}
 
 -- what is left of exits after an act that ends no process and does not close the run
 pub exits_of : (w v : World) (more : ℕ) → Counts w v more 0 false → exits_left v ≡ cond w.closed (live w.processes + more) (live w.processes + more + 1)

@@ -2,14 +2,8 @@ pub mod Seat
 pub mod Book
 pub mod Exits
 pub mod Counting
-pub mod Closed
-pub mod House
-pub mod History
 pub mod Refusals
-pub mod Planned
-pub mod Appended
-pub mod Inside
 pub mod Openings
-pub mod Resumes
 pub mod Ends
 pub mod Runs
+pub mod Proved

@@ -1,9 +1,9 @@
 ghost use Rattle.std.specs.Prelude.{◌≡◌, false, IfOk, OnErr};
 ghost use Rattle.std.specs.Arc.{arc_value};
-ghost use Rattle.posix_model.specs.Lengths.{IsShortRecord};
-ghost use Rattle.posix_model.specs.Sound.{ended, closes};
+ghost use Rattle.posix_model.specs.Proved.Lengths.{IsShortRecord};
+ghost use Rattle.posix_model.specs.Proved.Sound.{ended, closes};
 ghost use Rattle.record_book.specs.Book.{Appends};
-ghost use Rattle.record_book.specs.Planned.{IsPlanned};
+ghost use Rattle.record_book.specs.Proved.Planned.{IsPlanned};
 
 use crate::exits::{keep_exit, prepare_exit};
 use crate::journal::Journal;
@@ -57,7 +57,7 @@ pub(crate) struct Appended {
 }
 
 impl Journal {
-    ghost use Rattle.record_book.specs.Appended.{TellsMoved};
+    ghost use Rattle.record_book.specs.Proved.Appended.{TellsMoved};
 
     /// Makes the change of a planned act, and appends its record. The act ends no process and does not close the run. If it adds
     /// a process, all that the exit of that process will need is made too. On an error nothing changes.

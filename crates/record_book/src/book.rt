@@ -1,5 +1,5 @@
 ghost use Rattle.std.specs.Prelude.{◌≡◌, IfOk};
-ghost use Rattle.posix_model.specs.Released.{IsSettled};
+ghost use Rattle.posix_model.specs.Proved.Released.{IsSettled};
 ghost use Rattle.record_book.specs.Book.{new_book, world_now};
 ghost use Rattle.record_book.specs.Counting.{CountsOf};
 

@@ -2,7 +2,7 @@
 
 ghost use Rattle.std.specs.Prelude.{◌≡◌, ◌+◌, ◌<◌, Some, true, is_some, OnOk, IfOk};
 ghost use Rattle.record_book.specs.Exits.{exit_record, prepared_for, with_prepared};
-ghost use Rattle.record_book.specs.House.{HasRoom, SameHouse};
+ghost use Rattle.record_book.specs.Proved.House.{HasRoom, SameHouse};
 
 use crate::house::House;
 use crate::prepared::Prepared;

@@ -4,7 +4,7 @@ ghost use Rattle.std.specs.Prelude.{◌≡◌, ◌<◌, ◌≤◌, false, true, 
 ghost use Rattle.std.specs.Arc.{arc_value};
 ghost use Rattle.rtrb.specs.Ring.{received};
 ghost use Rattle.call_types.specs.declared.limits.TheConstants.{RECORDS_MAX};
-ghost use Rattle.trace_ring.specs.Trace.{fresh_ring, Pushes};
+ghost use Rattle.trace_ring.specs.Proved.Trace.{fresh_ring, Pushes};
 
 use call_types::act::Record;
 use std::alloc::{AllocError, Global};
@@ -21,11 +21,11 @@ pub(crate) struct History {
 }
 
 impl Model for History {
-    ghost use Rattle.trace_ring.specs.RingState.{RingState};
+    ghost use Rattle.trace_ring.specs.Proved.RingState.{RingState};
 
     ghost Value = { RingState };
 
-    ghost use Rattle.record_book.specs.History.{IsHistory};
+    ghost use Rattle.record_book.specs.Proved.History.{IsHistory};
 
     ghost view = { λ h. h.ring };
 

@@ -4,7 +4,7 @@ ghost use Rattle.std.specs.Prelude.{◌≡◌, ◌≤◌, ◌+◌, false, true, 
 ghost use Rattle.slots.specs.Slots.{slot};
 ghost use Rattle.process_table.specs.Processes.{awaits};
 ghost use Rattle.posix_model.specs.History.{legal};
-ghost use Rattle.posix_model.specs.Released.{IsSettled};
+ghost use Rattle.posix_model.specs.Proved.Released.{IsSettled};
 ghost use Rattle.record_book.specs.Book.{new_book, world_now, exits_left};
 
 use crate::history::History;
@@ -33,7 +33,7 @@ impl Model for Journal {
 
     ghost Value = { BookState };
 
-    ghost use Rattle.record_book.specs.Inside.{state_of, IsJournal};
+    ghost use Rattle.record_book.specs.Proved.Inside.{state_of, IsJournal};
 
     ghost view = { state_of };
 

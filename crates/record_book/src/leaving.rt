@@ -3,13 +3,13 @@
 ghost use Rattle.std.specs.Prelude.{◌≡◌, ◌+◌, ◌<◌, ◌^◌, [], None, Some, true, false, is_some, length, slice_set};
 ghost use Rattle.slots.specs.Slots.{slot};
 ghost use Rattle.posix_model.specs.Exit.{exit};
-ghost use Rattle.posix_model.specs.Whole.{EachThere, IsItsFifo};
+ghost use Rattle.posix_model.specs.Proved.Whole.{EachThere, IsItsFifo};
 ghost use Rattle.posix_model.specs.Change.{changed};
 ghost use Rattle.posix_model.specs.Sweep.{sweep};
-ghost use Rattle.trace_ring.specs.Trace.{Pushes};
+ghost use Rattle.trace_ring.specs.Proved.Trace.{Pushes};
 ghost use Rattle.record_book.specs.Book.{world_now, Appends};
 ghost use Rattle.record_book.specs.Exits.{exit_record};
-ghost use Rattle.record_book.specs.Planned.{IsPlanned};
+ghost use Rattle.record_book.specs.Proved.Planned.{IsPlanned};
 ghost use Rattle.record_book.specs.Refusals.{is_too_full};
 ghost use Rattle.record_book.specs.Ends.{IsOrphansExit, IsShutBy};
 

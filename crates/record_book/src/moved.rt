@@ -1,6 +1,6 @@
 ghost use Rattle.std.specs.Prelude.{◌≡◌, ◌≤◌, [], length, unwrap_or};
 ghost use Rattle.call_types.specs.CallTable.{payload_of};
-ghost use Rattle.posix_model.specs.Sound.{data_of};
+ghost use Rattle.posix_model.specs.Proved.Sound.{data_of};
 ghost use Rattle.posix_model.specs.Turns.{total, took_in, new_turn, next_turn, took, gave};
 ghost use Rattle.posix_model.specs.declared.world.World.{World};
 

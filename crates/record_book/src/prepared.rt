@@ -1,6 +1,6 @@
 ghost use Rattle.std.specs.Prelude.{◌≡◌, IfOk};
 ghost use Rattle.std.specs.Arc.{arc_value};
-ghost use Rattle.posix_model.specs.Lengths.{IsShortRecord};
+ghost use Rattle.posix_model.specs.Proved.Lengths.{IsShortRecord};
 ghost use Rattle.call_types.specs.declared.outcome.Outcome.TheVariants.{Reply as Replied};
 ghost use Rattle.call_types.specs.declared.outcome.Reply.TheVariants.{Done};
 

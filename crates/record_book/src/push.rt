@@ -4,11 +4,11 @@ ghost use Rattle.std.specs.Prelude.{◌≡◌, ◌<◌};
 ghost use Rattle.std.specs.Arc.{arc_value};
 ghost use Rattle.posix_model.specs.Step.{given};
 ghost use Rattle.posix_model.specs.Change.{changed};
-ghost use Rattle.posix_model.specs.Fits.{Fits, IsProper, PutsWithin};
-ghost use Rattle.posix_model.specs.Whole.{EachThere, IsItsFifo};
+ghost use Rattle.posix_model.specs.Proved.Fits.{Fits, IsProper, PutsWithin};
+ghost use Rattle.posix_model.specs.Proved.Whole.{EachThere, IsItsFifo};
 ghost use Rattle.posix_model.specs.Sweep.{sweep};
-ghost use Rattle.machine_state.specs.Room.{HasRoom};
-ghost use Rattle.trace_ring.specs.Trace.{Pushes};
+ghost use Rattle.machine_state.specs.Proved.Room.{HasRoom};
+ghost use Rattle.trace_ring.specs.Proved.Trace.{Pushes};
 
 use crate::history::History;
 use crate::journal::Journal;

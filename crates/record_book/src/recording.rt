@@ -1,11 +1,11 @@
 //! Records of the process of a seat, counted by the seat's shares.
 
 ghost use Rattle.std.specs.Prelude.{◌≡◌, false, IfOk, OnErr};
-ghost use Rattle.posix_model.specs.Sound.{ended, closes};
+ghost use Rattle.posix_model.specs.Proved.Sound.{ended, closes};
 ghost use Rattle.record_book.specs.Book.{Records};
 ghost use Rattle.record_book.specs.Openings.{IsOpening};
 ghost use Rattle.record_book.specs.Counting.{seats_of};
-ghost use Rattle.record_book.specs.Planned.{IsPlanned};
+ghost use Rattle.record_book.specs.Proved.Planned.{IsPlanned};
 
 use crate::book::Book;
 use crate::seat::{Receipt, Seat};

@@ -8,8 +8,8 @@ ghost use Rattle.posix_model.specs.Step.{can_call, comes_to, decided};
 ghost use Rattle.record_book.specs.Book.{world_now};
 ghost use Rattle.record_book.specs.Openings.{next_pid};
 ghost use Rattle.record_book.specs.Refusals.{exit_refusal, start_refusal, is_too_full};
-ghost use Rattle.posix_model.specs.Lengths.{IsShort};
-ghost use Rattle.record_book.specs.Planned.{IsPlanned};
+ghost use Rattle.posix_model.specs.Proved.Lengths.{IsShort};
+ghost use Rattle.record_book.specs.Proved.Planned.{IsPlanned};
 
 use crate::journal::Journal;
 use crate::seat::Seat;

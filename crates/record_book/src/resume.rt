@@ -4,7 +4,7 @@ ghost use Rattle.std.specs.Prelude.{◌≡◌, None, true, false, IfOk, IfErr, O
 ghost use Rattle.posix_model.specs.Resume.{is_ready};
 ghost use Rattle.record_book.specs.Book.{world_now, Records};
 ghost use Rattle.record_book.specs.Refusals.{exit_refusal, resume_refusal, is_ready_for, is_too_full, ResumeRefused};
-ghost use Rattle.record_book.specs.Resumes.{Resumes};
+ghost use Rattle.record_book.specs.Proved.Resumes.{Resumes};
 
 use crate::book::Book;
 use crate::seat::{Receipt, Seat};

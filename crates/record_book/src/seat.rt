@@ -1,6 +1,6 @@
 ghost use Rattle.std.specs.Prelude.{◌≡◌, ◌+◌, ◌<◌, ◌++◌, ◌∷◌, [], ◌^◌, max, IfOk};
 ghost use Rattle.std.specs.Arc.{arc_value};
-ghost use Rattle.posix_model.specs.Lengths.{IsShortRecord};
+ghost use Rattle.posix_model.specs.Proved.Lengths.{IsShortRecord};
 ghost use Rattle.record_book.specs.Seat.{Receipted, SeatState};
 
 use byte_ledger::ledgers::Ledgers;
@@ -25,7 +25,7 @@ impl Model for Receipt {
 
     ghost view = { λ r. record { place = r.place; record_is = arc_value r.item } };
 
-    ghost use Rattle.posix_model.specs.Lengths.{IsShortRecord};
+    ghost use Rattle.posix_model.specs.Proved.Lengths.{IsShortRecord};
 
     ghost invariant = { λ r. IsShortRecord (arc_value r.item) };
 }

@@ -3,7 +3,7 @@ use Rattle.std.proofs.Common.{◌≡◌, ℕ, suc, ◌-◌, ◌<◌, ◌≤◌, 
 use Rattle.std.proofs.Math.Seq.{drop-cons}
 use Rattle.std.proofs.lemmas.List.{append_assoc, take-append-drop}
 use Rattle.call_types.specs.declared.request.Request.{Request}
-use Rattle.request_pump.specs.Pushing.{HandsBack, HandsOneBack}
+use Rattle.request_pump.specs.Proved.Pushing.{HandsBack, HandsOneBack}
 
 -- a producer that knows of no free slot has sent as many items as the ring has room for
 pub full_ring : (capacity limit past : ℕ) → limit - past ≡ 0 → capacity ≤ limit → capacity ≤ past

@@ -5,14 +5,14 @@ use Rattle.std.proofs.KnownBytes.{Consumes-nil, Consumes-trans}
 use Rattle.std.specs.Io.KnownBytes.{Consumes}
 use Rattle.call_types.specs.declared.request.Request.{Request}
 use Rattle.frame_codec.specs.Decoding.{DecoderState, fresh}
-use Rattle.frame_codec.specs.Laws.{CutsDoNotMatter}
+use Rattle.frame_codec.specs.Proved.Laws.{CutsDoNotMatter}
 use Rattle.frame_codec.specs.Requests.{SpellsRequest}
 use Rattle.logged_streams.specs.Streams.{LogState, LoggedReaderState, fresh_log, one_more, noted, ReadsOnce, IsReadNoMore}
 use Rattle.logged_streams.specs.declared.stream_log.Gave.{Gave}
 use Rattle.logged_streams.specs.declared.stream_log.Gave.TheVariants as gave
 use Rattle.logged_streams.specs.declared.stream_log.TheConstants.{INTERRUPTIONS_MAX}
-use Rattle.request_pump.specs.Pump.{HasPushedAll}
-use Rattle.request_pump.specs.Pumping.{IsPumping, PumpsPiece, IsPieceEnd, MayRead, PumpsOn, HasPumped, PumpsAll}
+use Rattle.request_pump.specs.Proved.Pump.{HasPushedAll}
+use Rattle.request_pump.specs.Proved.Pumping.{IsPumping, PumpsPiece, IsPieceEnd, MayRead, PumpsOn, HasPumped, PumpsAll}
 use Rattle.request_pump.specs.declared.pump.TheConstants.{READS_MAX}
 use Rattle.request_pump.specs.declared.pumped.PumpEnd.{PumpEnd}
 use Rattle.request_pump.specs.declared.pumped.PumpEnd.TheVariants as end

@@ -1,4 +1,2 @@
 pub mod Input
-pub mod Pushing
-pub mod Pump
-pub mod Pumping
+pub mod Proved

@@ -2,7 +2,7 @@
 
 ghost use Rattle.std.specs.Prelude.{◌≡◌, [], ◌∷◌, ◌++◌, OnOk, IfErr};
 ghost use Rattle.rtrb.specs.Ring.{sent, producer_capacity, SameProducer};
-ghost use Rattle.request_pump.specs.Pushing.{HandsBack, HandsOneBack};
+ghost use Rattle.request_pump.specs.Proved.Pushing.{HandsBack, HandsOneBack};
 
 use call_types::request::Request;
 use rtrb::{Producer, PushError};

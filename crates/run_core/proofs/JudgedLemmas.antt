@@ -16,9 +16,9 @@ use Rattle.posix_model.specs.declared.world.World.{World}
 use Rattle.record_book.specs.Book.{world_now}
 use Rattle.record_book.specs.Exits.{closing_record, closing_records, exit_record, orphans_from, receipts_from}
 use Rattle.record_book.specs.Seat.{Receipted, SeatState}
-use Rattle.session_core.specs.Laws.{ActsFit, SeatFits, ActsOfSeatsFit}
+use Rattle.session_core.specs.Proved.Laws.{ActsFit, SeatFits, ActsOfSeatsFit}
 use Rattle.trace_writer.specs.Traces.{whole_in}
-use Rattle.audit_core.specs.Laws.{WrittenIsLegal}
+use Rattle.audit_core.specs.Proved.Laws.{WrittenIsLegal}
 use Rattle.audit_core.specs.Trace.{FlagsFit, IsInRange, AllInRange, whole_frames}
 use Rattle.audit_core.specs.Verdict.{IsVerdict}
 use Rattle.audit_core.specs.declared.verdict.Verdict.TheVariants.{Legal}

@@ -6,7 +6,7 @@ use Rattle.std.proofs.lemmas.Bool.{cases_lt}
 use Rattle.std.proofs.lemmas.Fmt.{length-decimal-le}
 use Rattle.call_types.specs.declared.limits.TheConstants.{GIVEN_BYTES_MAX}
 use Rattle.script_text.specs.Lines.{hex_pair, one_byte, data_text, data_word, written_out_max}
-use Rattle.script_text.specs.Room.{data_room}
+use Rattle.script_text.specs.Proved.Room.{data_room}
 use Rattle.script_text.proofs.Repeated.{many_same, few_same}
 
 -- two digits for each byte

@@ -8,6 +8,5 @@ pub mod ReadingResults
 pub mod ReadingScripts
 pub mod Lines
 pub mod Spellings
-pub mod CallRows
-pub mod Room
 pub mod Expected
+pub mod Proved

@@ -8,7 +8,7 @@ ghost use Rattle.call_types.specs.CallTable.{open_entry, close_entry, read_entry
 ghost use Rattle.script_text.specs.Reading.{Gives, Word};
 ghost use Rattle.script_text.specs.ReadingCalls.{entry_at, one_of, named_call};
 ghost use Rattle.script_text.specs.Lines.{call_text};
-ghost use Rattle.script_text.specs.Room.{HasRoom, UsesRoom, name_room, data_room, call_room};
+ghost use Rattle.script_text.specs.Proved.Room.{HasRoom, UsesRoom, name_room, data_room, call_room};
 
 use crate::cutting::Unread;
 use crate::fault::{Expected, WordFault};

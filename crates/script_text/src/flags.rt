@@ -4,7 +4,7 @@ ghost use Rattle.std.specs.Prelude.{◌≡◌, ◌≤◌, ◌++◌, bit_or, leng
 ghost use Rattle.std.specs.Option.{option_map};
 ghost use Rattle.script_text.specs.Lines.{mode_word, suffix, flags_word};
 ghost use Rattle.script_text.specs.ReadingFlags.{flags_of, after_mode, with_suffix};
-ghost use Rattle.script_text.specs.Room.{HasRoom, UsesRoom};
+ghost use Rattle.script_text.specs.Proved.Room.{HasRoom, UsesRoom};
 
 use crate::put::put;
 use bitflags::Flags;

@@ -3,7 +3,7 @@
 ghost use Rattle.std.specs.Prelude.{◌≡◌, ◌<◌, ◌++◌};
 ghost use Rattle.script_text.specs.Lines.{hex_glyph, hex_pair};
 ghost use Rattle.script_text.specs.ReadingNumbers.{hex_digit, hex_byte};
-ghost use Rattle.script_text.specs.Room.{HasRoom, UsesRoom};
+ghost use Rattle.script_text.specs.Proved.Room.{HasRoom, UsesRoom};
 
 use crate::put::put;
 

@@ -2,7 +2,7 @@
 
 ghost use Rattle.std.specs.Prelude.{◌≡◌, ◌≤◌, ◌++◌, codes, decimal, length, ◌<◌, ◌^◌};
 ghost use Rattle.script_text.specs.Lines.{kind_word, error_word, stat_text, reply_text, outcome_text};
-ghost use Rattle.script_text.specs.Room.{HasRoom, UsesRoom, outcome_room};
+ghost use Rattle.script_text.specs.Proved.Room.{HasRoom, UsesRoom, outcome_room};
 
 use crate::payload::{put_data, room_of_data};
 use crate::put::{put, put_number};

@@ -3,7 +3,7 @@
 ghost use Rattle.std.specs.Prelude.{◌≡◌, ◌++◌, codes, length, decimal};
 ghost use Rattle.std.specs.Fmt.{signed_decimal};
 ghost use Rattle.script_text.specs.Lines.{process_word};
-ghost use Rattle.script_text.specs.Room.{HasRoom, UsesRoom};
+ghost use Rattle.script_text.specs.Proved.Room.{HasRoom, UsesRoom};
 
 use itoa::Buffer;
 

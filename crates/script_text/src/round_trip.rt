@@ -4,7 +4,7 @@ ghost use Rattle.std.specs.Prelude.{◌≡◌, ◌<◌, ◌^◌, ◌++◌, ℕ, 
 ghost use Rattle.call_types.specs.declared.call.Call.{Call};
 ghost use Rattle.call_types.specs.declared.act.ScriptAct.{ScriptAct};
 ghost use Rattle.call_types.specs.declared.act.ScriptAct.TheVariants as acts;
-ghost use Rattle.script_text.specs.CallRows.{CallRows};
+ghost use Rattle.script_text.specs.Proved.CallRows.{CallRows};
 ghost use Rattle.script_text.specs.Lines.{process_word, call_text, script_line};
 ghost use Rattle.script_text.specs.ReadingCalls.{reading};
 ghost use Rattle.script_text.specs.ReadingScripts.{script};

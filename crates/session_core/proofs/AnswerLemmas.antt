@@ -15,13 +15,14 @@ use Rattle.session_core.specs.declared.answer.AnsweredSeat.TheVariants as seat
 use Rattle.session_core.specs.declared.end.End.TheVariants as end
 use Rattle.session_core.specs.declared.stage.Stage.TheVariants as stage
 use Rattle.session_core.specs.declared.stage.Standing.TheVariants as standing
-use Rattle.session_core.specs.Answering.{AnswersRing, ComesToEnd, answered_of, seat_of, spent_of}
-use Rattle.session_core.specs.Closing.{with_last}
-use Rattle.session_core.specs.Desk.{HasLeft, IsAtRest, Stands, TakingEnd}
-use Rattle.session_core.specs.Output.{OutputState}
+use Rattle.session_core.specs.Answering.{AnswersRing, ComesToEnd, spent_of, TakingEnd}
+use Rattle.session_core.specs.Proved.Leaving.{answered_of, seat_of}
+use Rattle.session_core.specs.Proved.Closing.{with_last}
+use Rattle.session_core.specs.Proved.Desk.{HasLeft, IsAtRest, Stands}
+use Rattle.session_core.specs.Proved.Output.{OutputState}
 use Rattle.session_core.specs.Refusals.{RefusalSaid}
 use Rattle.session_core.specs.Served.{ComesTo}
-use Rattle.session_core.specs.Stages.{LeftSession, Standing}
+use Rattle.session_core.specs.Proved.Stages.{LeftSession, Standing}
 use Rattle.session_core.proofs.ClosingLemmas.{all_written, first_none}
 use Rattle.session_core.proofs.RefusalLemmas.{empty_said, kept_said, with_last_said}
 use Rattle.session_core.proofs.ServeLemmas.{early_of}

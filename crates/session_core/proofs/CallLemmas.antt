@@ -8,20 +8,20 @@ use Rattle.call_types.specs.declared.outcome.Outcome.TheVariants as outcome
 use Rattle.call_types.specs.declared.refusal.Refusal.{Refusal}
 use Rattle.call_types.specs.declared.request.Request.{Request}
 use Rattle.call_types.specs.declared.request.Request.TheVariants as request
-use Rattle.posix_model.specs.WaitLaws.{EndsOrWaits}
+use Rattle.posix_model.specs.Step.{EndsOrWaits}
 use Rattle.record_book.specs.Seat.{Receipted, SeatState}
 use Rattle.system_lock.specs.Kernel.{Adds}
 use Rattle.session_core.specs.declared.told.Told.{Told}
 use Rattle.session_core.specs.declared.told.Told.TheVariants as told
-use Rattle.session_core.specs.Stages.{Stage, Over, Turn}
+use Rattle.session_core.specs.Proved.Stages.{Stage, Over, Turn}
 use Rattle.session_core.specs.declared.stage.Stage.TheVariants as stage
 use Rattle.session_core.specs.declared.stage.Over.TheVariants as over
 use Rattle.session_core.specs.declared.stage.LeaveCause.TheVariants as why
 use Rattle.session_core.specs.declared.stage.Turn.TheVariants as turn
 use Rattle.session_core.specs.Answers.{receipts_of}
-use Rattle.session_core.specs.Output.{OutputState, Holds, Puts, Flushes, FailsToSend}
+use Rattle.session_core.specs.Proved.Output.{OutputState, Holds, Puts, Flushes, FailsToSend}
 use Rattle.session_core.specs.Talk.{goes_on, IsReply, IsParked, Talked, Converses}
-use Rattle.session_core.specs.Turns.{IsTalking, HasReceipts, IsWaitingAt, OverBy, TakesUp}
+use Rattle.session_core.specs.Proved.Turns.{IsTalking, HasReceipts, IsWaitingAt, OverBy, TakesUp}
 use Rattle.session_core.proofs.WaitLemmas.{talk_more, receipts_recorded, receipts_refused, cut_now, cut_converses, talked_converses}
 
 pub refused : (seat after : SeatState) (call : Call) (refusal : Refusal) (old new : OutputState) → after ≡ seat → Puts old new (told.Refused refusal) → TakesUp (stage.Ready seat) (request.Call call) old new (turn.GoesOn (stage.Ready after))

@@ -16,21 +16,21 @@ use Rattle.session_core.specs.declared.end.End.{End}
 use Rattle.session_core.specs.declared.end.End.TheVariants as end
 use Rattle.session_core.specs.declared.told.Told.{Told}
 use Rattle.session_core.specs.declared.told.Told.TheVariants as told
-use Rattle.session_core.specs.Stages.{Stage, Over, LeftSession}
+use Rattle.session_core.specs.Proved.Stages.{Stage, Over, LeftSession}
 use Rattle.session_core.specs.declared.stage.Stage.TheVariants as stage
 use Rattle.session_core.specs.declared.stage.LeaveCause.{LeaveCause}
 use Rattle.session_core.specs.declared.stage.LeaveCause.TheVariants as why
 use Rattle.session_core.specs.declared.stage.Over.TheVariants as over
 use Rattle.session_core.specs.Answers.{answers_text, told_bytes, receipts_of, IsFrontWritten}
-use Rattle.session_core.specs.Output.{OutputState, Holds, Broke, SendsAll, FailsToSend}
+use Rattle.session_core.specs.Proved.Output.{OutputState, Holds, Broke, SendsAll, FailsToSend}
 use Rattle.logged_streams.specs.Streams.{LoggedReaderState, LoggedWriterState}
 use Rattle.session_core.specs.Talk.{IsCut, IsUnopened, AreAnswered, Converses}
 use Rattle.session_core.specs.Served.{IsMisplaced, AnswersFirst, AnswersAll, AnswersToCut, HasExited, HasUntold, IsRefusedOpening, IsSeatOf, IsSeated, IsWritten, EndsFor, ComesTo}
-use Rattle.session_core.specs.Turns.{IsTalking, IsOutOfPlace, HasReceipts, LeavesBy, EndedBy, IsUntoldOpening}
+use Rattle.session_core.specs.Proved.Turns.{IsTalking, IsOutOfPlace, HasReceipts, LeavesBy, EndedBy, IsUntoldOpening}
 use Rattle.request_pump.specs.Input.{Begins, AreRequests}
 use Rattle.request_pump.proofs.InputLemmas.{begins_read}
-use Rattle.session_core.specs.Ends.{LeavesOff, IsAnswered, IsCutOff, IsMet}
-use Rattle.session_core.specs.Closing.{end_of, SendsLast, HangsUp, LeavesWith, session_of, LeavesAll}
+use Rattle.session_core.specs.Proved.Ends.{LeavesOff, IsAnswered, IsCutOff, IsMet}
+use Rattle.session_core.specs.Proved.Closing.{end_of, SendsLast, HangsUp, LeavesWith, session_of, LeavesAll}
 use Rattle.session_core.proofs.WaitLemmas.{cut_converses, talked_converses, receipts_more}
 use Rattle.session_core.proofs.CallLemmas.{converses, has_receipts, talk_converses}
 

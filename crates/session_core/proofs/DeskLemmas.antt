@@ -6,23 +6,25 @@ use Rattle.call_types.specs.declared.call.Call.{Call}
 use Rattle.call_types.specs.declared.refusal.Refusal.{Refusal}
 use Rattle.call_types.specs.declared.request.Request.{Request}
 use Rattle.call_types.specs.declared.request.Request.TheVariants as request
-use Rattle.request_pump.specs.Pump.{PushingEnd}
+use Rattle.request_pump.specs.Proved.Pump.{PushingEnd}
 use Rattle.record_book.specs.Seat.{SeatState}
 use Rattle.system_lock.specs.declared.kernel.Why.{Why}
 use Rattle.system_lock.specs.declared.kernel.Why.TheVariants as ended_why
 use Rattle.session_core.specs.declared.told.Told.{Told}
-use Rattle.session_core.specs.Stages.{Stage, Over, Turn, LeftSession}
+use Rattle.session_core.specs.Proved.Stages.{Stage, Over, Turn, LeftSession}
 use Rattle.session_core.specs.declared.stage.LeaveCause.{LeaveCause}
 use Rattle.session_core.specs.declared.stage.LeaveCause.TheVariants as why
 use Rattle.session_core.specs.declared.stage.Over.TheVariants as over
 use Rattle.session_core.specs.declared.stage.Stage.TheVariants as stage
 use Rattle.session_core.specs.declared.stage.Turn.TheVariants as turn
-use Rattle.session_core.specs.Output.{OutputState, FailsToSend, SendsAll, fresh_output}
-use Rattle.session_core.specs.Turns.{IsGivenUp, IsTalking, HasReceipts, TakesUp, TurnBy, WaitsOnce}
+use Rattle.session_core.specs.Proved.Output.{OutputState, FailsToSend, SendsAll, fresh_output}
+use Rattle.session_core.specs.Proved.Turns.{IsGivenUp, IsTalking, HasReceipts, TakesUp, TurnBy, WaitsOnce, TurnSays, WaitSays}
 use Rattle.session_core.specs.Talk.{Converses}
-use Rattle.session_core.specs.Refusals.{AreSaid, RefusalSaid, TurnSays, WaitSays}
-use Rattle.session_core.specs.Said.{IsReadingEnd, OverSaid, SaidEnded}
-use Rattle.session_core.specs.Desk.{HasLeft, IsEnding, IsLostIn, IsNamedPair, IsOverAfter, IsReady, IsRingOf, IsWaitingIn, LeftBy, SendsOn, TakingEnd, TurnStands}
+use Rattle.session_core.specs.Refusals.{AreSaid, RefusalSaid}
+use Rattle.session_core.specs.Said.{SaidEnded}
+use Rattle.session_core.specs.Proved.Saying.{IsReadingEnd, OverSaid}
+use Rattle.session_core.specs.Proved.Desk.{HasLeft, IsEnding, IsLostIn, IsNamedPair, IsOverAfter, IsReady, IsRingOf, IsWaitingIn, LeftBy, SendsOn, TurnStands}
+use Rattle.session_core.specs.Answering.{TakingEnd}
 use Rattle.session_core.proofs.CallLemmas.{converses, has_receipts}
 use Rattle.session_core.proofs.OutputLemmas.{holds_fresh}
 use Rattle.session_core.proofs.RefusalLemmas.{empty_said, kept_said, wider}

@@ -18,7 +18,7 @@ use Rattle.session_core.specs.declared.told.Told.TheVariants as told
 use Rattle.session_core.specs.Answers.{receipts_of}
 use Rattle.session_core.specs.Talk.{IsWaiting, AnswersCall, AreParts, AreCalls, Group, IsCallGroup, IsRecordOf, IsOpened, requests_of, told_of_all, Talked, Waits, told_last, IsCut, IsConversation}
 use Rattle.session_core.specs.Served.{AnswersFirst, HasExited, HasUntold, HasExitedUntold, IsRefusedOpening, IsSeatOf, IsSeated}
-use Rattle.session_core.specs.Laws.{ActsFit, SeatFits, ActsOfSeatsFit}
+use Rattle.session_core.specs.Proved.Laws.{ActsFit, SeatFits, ActsOfSeatsFit}
 
 -- ---- lists
 

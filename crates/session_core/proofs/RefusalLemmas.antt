@@ -12,15 +12,15 @@ use Rattle.system_lock.specs.declared.kernel.Why.{Why}
 use Rattle.system_lock.specs.declared.kernel.Why.TheVariants as ended_why
 use Rattle.session_core.specs.declared.told.Told.{Told}
 use Rattle.session_core.specs.declared.told.Told.TheVariants as told
-use Rattle.session_core.specs.Closing.{with_last}
-use Rattle.session_core.specs.Output.{OutputState, Puts}
-use Rattle.session_core.specs.Stages.{Stage, Turn}
+use Rattle.session_core.specs.Proved.Closing.{with_last}
+use Rattle.session_core.specs.Proved.Output.{OutputState, Puts}
+use Rattle.session_core.specs.Proved.Stages.{Stage, Turn}
 use Rattle.session_core.specs.declared.stage.Stage.TheVariants as stage
 use Rattle.session_core.specs.declared.stage.LeaveCause.{LeaveCause}
 use Rattle.session_core.specs.declared.stage.Over.TheVariants as over
 use Rattle.session_core.specs.declared.stage.Turn.TheVariants as turn
-use Rattle.session_core.specs.Turns.{IsTalking, IsWaitingAt, PutsFirst, PutsGivenUp, TellsWhy}
-use Rattle.session_core.specs.Refusals.{AreSaid, EndTold, NextRefused, OpeningRefused, RefusalSaid, TurnSays}
+use Rattle.session_core.specs.Proved.Turns.{IsTalking, IsWaitingAt, PutsFirst, PutsGivenUp, TellsWhy, TurnSays}
+use Rattle.session_core.specs.Refusals.{AreSaid, EndTold, NextRefused, OpeningRefused, RefusalSaid}
 use Rattle.session_core.proofs.ListLemmas.{same_head, same_tail}
 
 -- ---- one answer more

@@ -12,8 +12,7 @@ use Rattle.system_lock.specs.declared.kernel.Why.{Why}
 use Rattle.logged_streams.specs.declared.stream_log.TheConstants.{INTERRUPTIONS_MAX}
 use Rattle.logged_streams.specs.Streams.{LoggedReaderState, LoggedWriterState, fresh_log}
 use Rattle.request_pump.specs.Input.{AreRequests, Begins}
-use Rattle.request_pump.specs.Pump.{PumpState, Pumps, PushedBy, PushingEnd}
-use Rattle.request_pump.specs.Pump.{IsMet as PumpMet}
+use Rattle.request_pump.specs.Proved.Pump.{PumpState, Pumps, PushedBy, PushingEnd, IsMet as PumpMet}
 use Rattle.request_pump.proofs.InputLemmas.{begins_read}
 use Rattle.request_pump.specs.declared.pump.TheConstants.{READS_MAX}
 use Rattle.request_pump.specs.declared.pumped.PumpEnd.{PumpEnd}
@@ -24,13 +23,13 @@ use Rattle.session_core.specs.declared.serve.TheConstants.{REQUESTS_AHEAD}
 use Rattle.session_core.specs.declared.stage.LeaveCause.TheVariants as why
 use Rattle.session_core.specs.declared.stage.Over.TheVariants as over
 use Rattle.session_core.specs.declared.told.Told.{Told}
-use Rattle.session_core.specs.Stages.{Stage, Over}
-use Rattle.session_core.specs.Output.{OutputState, Holds}
-use Rattle.session_core.specs.Turns.{IsTalking, OverBy}
-use Rattle.session_core.specs.Ends.{IsCutOff, IsMet, IsOver}
-use Rattle.session_core.specs.Closing.{with_last}
-use Rattle.session_core.specs.Desk.{EndsAs, LeavesUnwritten, OverOf}
-use Rattle.session_core.specs.Settling.{Settles, unread, unserved_by, why_of}
+use Rattle.session_core.specs.Proved.Stages.{Stage, Over}
+use Rattle.session_core.specs.Proved.Output.{OutputState, Holds}
+use Rattle.session_core.specs.Proved.Turns.{IsTalking, OverBy}
+use Rattle.session_core.specs.Proved.Ends.{IsCutOff, IsMet, IsOver}
+use Rattle.session_core.specs.Proved.Closing.{with_last}
+use Rattle.session_core.specs.Proved.Desk.{EndsAs, LeavesUnwritten, OverOf}
+use Rattle.session_core.specs.Proved.Settling.{Settles, unread, unserved_by, why_of}
 use Rattle.session_core.specs.Said.{CutSaid, EndSaid}
 use Rattle.session_core.specs.Refusals.{ReadSaid, RefusalSaid, RefusalsSaid}
 use Rattle.session_core.specs.Served.{ComesTo, HasRead, KeepsReader, Serves, SessionState, reads_of}

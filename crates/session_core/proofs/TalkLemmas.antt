@@ -15,9 +15,9 @@ use Rattle.session_core.specs.declared.stage.LeaveCause.{LeaveCause}
 use Rattle.session_core.specs.declared.stage.Over.TheVariants as over
 use Rattle.session_core.specs.declared.stage.Turn.TheVariants as turn
 use Rattle.session_core.specs.Answers.{answers_text, receipts_of}
-use Rattle.session_core.specs.Output.{OutputState, Holds, Puts}
+use Rattle.session_core.specs.Proved.Output.{OutputState, Holds, Puts}
 use Rattle.session_core.specs.Talk.{IsRecordOf, Talked, IsUnopened, Converses}
-use Rattle.session_core.specs.Turns.{IsUntoldOpening, PutsFirst, WhyRefused, PutsGivenUp, TakesUp, LeavesBy}
+use Rattle.session_core.specs.Proved.Turns.{IsUntoldOpening, PutsFirst, WhyRefused, PutsGivenUp, TakesUp, LeavesBy}
 use Rattle.session_core.proofs.WaitLemmas.{talked_converses, wanting}
 
 -- ---- openings

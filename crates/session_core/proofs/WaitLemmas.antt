@@ -10,7 +10,7 @@ use Rattle.call_types.specs.declared.refusal.Refusal.{Refusal}
 use Rattle.call_types.specs.declared.refusal.Refusal.TheVariants as refusal
 use Rattle.call_types.specs.declared.request.Request.{Request}
 use Rattle.call_types.specs.declared.request.Request.TheVariants as request
-use Rattle.posix_model.specs.WaitLaws.{EndsOrGoesOn}
+use Rattle.posix_model.specs.Step.{EndsOrGoesOn}
 use Rattle.record_book.specs.Seat.{Receipted, SeatState}
 use Rattle.system_lock.specs.Kernel.{Adds, Exits, IsWanting}
 use Rattle.session_core.specs.declared.told.Told.{Told}
@@ -20,10 +20,10 @@ use Rattle.session_core.specs.declared.stage.LeaveCause.{LeaveCause}
 use Rattle.session_core.specs.declared.stage.Over.TheVariants as over
 use Rattle.session_core.specs.declared.stage.Turn.TheVariants as turn
 use Rattle.session_core.specs.Answers.{receipt_of, receipts_of}
-use Rattle.session_core.specs.Output.{OutputState, Holds, Puts, SendsAll, FailsToSend}
+use Rattle.session_core.specs.Proved.Output.{OutputState, Holds, Puts, SendsAll, FailsToSend}
 use Rattle.session_core.specs.Served.{HasExited}
 use Rattle.session_core.specs.Talk.{Group, told_of_all, told_last, goes_on, IsReply, IsPart, IsPartTold, AreParts, IsCallGroup, AreCalls, IsWaiting, Talked, Waits, IsWantingLast, IsCut, Converses}
-use Rattle.session_core.specs.Turns.{WhyRefused, PutsGivenUp, EndedBy, IsGivenUp, OverBy, TurnBy, IsWaitingAt}
+use Rattle.session_core.specs.Proved.Turns.{WhyRefused, PutsGivenUp, EndedBy, IsGivenUp, OverBy, TurnBy, IsWaitingAt}
 
 -- ---- receipts
 

@@ -1,30 +1,27 @@
 -- What the requests of a ring come to, answered in one thread while another sends them (own).
-use Rattle.std.specs.Prelude.{◌≡◌, ℕ, List, [], ◌++◌, Option, None, Some, Result, Ok, Err}
+use Rattle.std.specs.Prelude.{◌≡◌, ℕ, List, [], ◌++◌, Option, None, Some}
 use Rattle.std.specs.Io.KnownBytes.{Appends}
 use Rattle.rtrb.specs.Ring.{received}
 use Rattle.call_types.specs.declared.call.Call.{Call}
 use Rattle.call_types.specs.declared.refusal.Refusal.{Refusal}
 use Rattle.call_types.specs.declared.request.Request.{Request}
 use Rattle.logged_streams.specs.Streams.{LoggedReaderState, LoggedWriterState}
-use Rattle.record_book.specs.Seat.{Receipted, SeatState}
+use Rattle.record_book.specs.Seat.{SeatState}
 use Rattle.request_pump.specs.Input.{Begins}
 use Rattle.system_lock.specs.declared.kernel.Why.{Why}
 use Rattle.system_lock.specs.declared.kernel.Why.TheVariants as ended_why
 use Rattle.session_core.specs.Answers.{answers_text, receipts_of}
-use Rattle.session_core.specs.Closing.{with_last}
-use Rattle.session_core.specs.Desk.{TakingEnd}
-use Rattle.session_core.specs.Output.{OutputState}
 use Rattle.session_core.specs.Refusals.{AreSaid, RefusalSaid}
 use Rattle.session_core.specs.Said.{EndSaid, SaidEnded}
 use Rattle.session_core.specs.Served.{ComesTo, HasExited}
-use Rattle.session_core.specs.Stages.{Standing}
 use Rattle.session_core.specs.Talk.{IsCut, Talked}
 use Rattle.session_core.specs.declared.answer.AnsweredSeat.{AnsweredSeat as SeatOf}
 use Rattle.session_core.specs.declared.answer.AnsweredSeat.TheVariants as seat
 use Rattle.session_core.specs.declared.end.End.{End}
-use Rattle.session_core.specs.declared.stage.Stage.TheVariants as stage
-use Rattle.session_core.specs.declared.stage.Standing.TheVariants as standing
 use Rattle.session_core.specs.declared.told.Told.{Told}
+use Rattle.std.specs.declared.alloc.Global.{Global}
+use Rattle.rtrb.specs.declared.AnyItems.{AnyItems}
+use Rattle.rtrb.specs.declared.consumer.Consumer.{Consumer}
 
 -- what a session holds of its run, seen as what its seat holds
 abbrev pub AnsweredSeat : Type 0
@@ -37,31 +34,6 @@ pub record AnsweredState : Type 0 where
   pub end_is : Option End
   pub ring : TakingEnd
   pub writer : LoggedWriterState
-
--- what is held by a session that is left with this seat
-abbrev pub seat_of : Result SeatState (Unit {0}) → AnsweredSeat
-seat_of (Ok spent) = seat.Spent spent
-seat_of (Err admission) = seat.None admission
-
--- what is held by one that stands there, its end, and the receipt of a last answer that is not written
-abbrev pub seat_at : Standing → AnsweredSeat
-seat_at (standing.Ready (stage.Opening admission)) = seat.None admission
-seat_at (standing.Ready (stage.Ready live)) = seat.Live live
-seat_at (standing.Waits live) = seat.Live live
-seat_at (standing.Lost spent) = seat.Spent spent
-seat_at (standing.Left left) = seat_of left.seat
-
-abbrev pub end_at : Standing → Option End
-end_at (standing.Left left) = Some left.end
-end_at other = None
-
-abbrev pub last_at : Standing → Option Receipted
-last_at (standing.Left left) = left.last
-last_at other = None
-
--- what was answered of such a session
-abbrev pub answered_of : OutputState → TakingEnd → Standing → AnsweredState
-answered_of o ring standing = record { seat_is = seat_at standing; answers = with_last o.answers (last_at standing); end_is = end_at standing; ring = ring; writer = o.sink }
 
 -- the spent seat, if there is one
 abbrev pub spent_of : AnsweredSeat → Option SeatState
@@ -90,3 +62,7 @@ HasAnswered unopened ended base taken s (Some found) = ComesToEnd base taken s f
 pub record AnswersRing (unopened : Request → Refusal → Type 0) (refused : SeatState → Call → Refusal → Type 0) (ended : SeatState → Why → Type 0) (base : Option (List ℕ)) (s : AnsweredState) : Type 0 where
   pub answered : HasAnswered unopened ended base (received s.ring) s s.end_is
   pub said : AreSaid (RefusalSaid unopened refused ended (received s.ring)) s.answers
+
+-- the end of a ring that gives requests
+abbrev pub TakingEnd : Type 0
+TakingEnd = Consumer Request Global AnyItems

@@ -1,15 +1,7 @@
 pub mod Answering
 pub mod Answers
-pub mod Output
 pub mod Talk
 pub mod Served
-pub mod Stages
-pub mod Turns
-pub mod Ends
-pub mod Closing
-pub mod Memory
 pub mod Said
 pub mod Refusals
-pub mod Desk
-pub mod Settling
-pub mod Laws
+pub mod Proved

@@ -11,13 +11,10 @@ use Rattle.system_lock.specs.declared.kernel.Why.TheVariants as ended_why
 use Rattle.session_core.specs.declared.told.Told.{Told}
 use Rattle.session_core.specs.declared.told.Told.TheVariants as told
 use Rattle.session_core.specs.Answers.{receipts_of}
-use Rattle.session_core.specs.Output.{OutputState, Holds}
 use Rattle.logged_streams.specs.Streams.{LoggedReaderState}
 use Rattle.request_pump.specs.Input.{Begins}
 use Rattle.session_core.specs.Served.{HasRead, SessionState}
-use Rattle.session_core.specs.Stages.{Stage}
 use Rattle.session_core.specs.Talk.{Talked, Waits}
-use Rattle.session_core.specs.Turns.{IsTalking, IsWaitingAt}
 
 -- a process ended, in the call that it waited in, for what this refusal tells
 abbrev pub EndTold : (Why → Type 0) → Refusal → Type 0
@@ -80,14 +77,3 @@ abbrev pub RefusalsSaid : (Request → Refusal → Type 0) → (SeatState → Ca
 RefusalsSaid unopened refused ended from s = ReadSaid (RefusalSaid unopened refused ended) from s.reader s.answers
 
 -- ---- how a session comes to them
-
--- requests are taken up: each refusal is said still
-abbrev pub TurnSays : (List Request → List Told → Refusal → Type 0) → Stage → List Request → OutputState → OutputState → Type 0
-TurnSays Said at next old new =
-    (base : Option (List ℕ)) (handled : List Request) → Holds base old → IsTalking handled old.answers at → AreSaid (Said handled) old.answers → AreSaid (Said (handled ++ next)) new.answers
-
--- the same while a call waits
-abbrev pub WaitSays : (List Request → List Told → Refusal → Type 0) → SeatState → OutputState → OutputState → Type 0
-WaitSays Said seat old new =
-    (base : Option (List ℕ)) (handled : List Request) (call : Call) → IsWaitingAt base handled call seat old → AreSaid (Said (handled ++ request.Call call ∷ [])) old.answers
-    → AreSaid (Said (handled ++ request.Call call ∷ [])) new.answers

@@ -10,11 +10,6 @@ use Rattle.session_core.specs.declared.end.End.{End}
 use Rattle.session_core.specs.declared.end.End.TheVariants as end
 use Rattle.session_core.specs.declared.told.Told.{Told}
 use Rattle.session_core.specs.Talk.{IsCut}
-use Rattle.session_core.specs.Stages.{Over, Turn}
-use Rattle.session_core.specs.declared.stage.LeaveCause.{LeaveCause}
-use Rattle.session_core.specs.declared.stage.LeaveCause.TheVariants as why
-use Rattle.session_core.specs.declared.stage.Over.TheVariants as over
-use Rattle.session_core.specs.declared.stage.Turn.TheVariants as turn
 
 -- a kernel said that an opening is refused, since the run is full
 abbrev pub SaidUnopened : (Request → Refusal → Type 0) → Type 0
@@ -23,48 +18,6 @@ SaidUnopened unopened = (request : Request) × unopened request refusal.RunFull
 -- a kernel said that a process ended so
 abbrev pub SaidEnded : (SeatState → Why → Type 0) → Why → Type 0
 SaidEnded ended reason = (seat : SeatState) × ended seat reason
-
--- a session leaves off: for want of room in the run only if a kernel refused an opening for that
-abbrev pub CauseSaid : (Request → Refusal → Type 0) → LeaveCause → Type 0
-CauseSaid unopened why.Closed = Unit {0}
-CauseSaid unopened why.ReadFault = Unit {0}
-CauseSaid unopened why.Malformed = Unit {0}
-CauseSaid unopened why.RunFull = SaidUnopened unopened
-CauseSaid unopened why.NoMemory = Unit {0}
-CauseSaid unopened why.Ahead = Unit {0}
-
--- a process ended in the call that it waited in: a kernel said so. Memory may run out for the answer that the run is full
-abbrev pub CauseEndedSaid : (SeatState → Why → Type 0) → LeaveCause → Type 0
-CauseEndedSaid ended why.Closed = ⊥
-CauseEndedSaid ended why.ReadFault = ⊥
-CauseEndedSaid ended why.Malformed = ⊥
-CauseEndedSaid ended why.Ahead = ⊥
-CauseEndedSaid ended why.RunFull = SaidEnded ended ended_why.RunFull
-CauseEndedSaid ended why.NoMemory = SaidEnded ended ended_why.NoMemory ⊎ SaidEnded ended ended_why.RunFull
-
--- a session may leave off for this when no more is read
-abbrev pub IsReadingEnd : LeaveCause → Type 0
-IsReadingEnd why.RunFull = ⊥
-IsReadingEnd other = Unit {0}
-
--- where a session is over for a reason that only a kernel can give, the kernel gave it
-abbrev pub OverSaid : (Request → Refusal → Type 0) → (SeatState → Why → Type 0) → Over → Type 0
-OverSaid unopened ended (over.Leaves stage why) = CauseSaid unopened why
-OverSaid unopened ended (over.Unwritten stage) = Unit {0}
-OverSaid unopened ended (over.OpeningUntold seat) = Unit {0}
-OverSaid unopened ended (over.RefusalUntold seat) = Unit {0}
-OverSaid unopened ended (over.Untold seat receipt) = Unit {0}
-OverSaid unopened ended (over.Refused seat) = Unit {0}
-OverSaid unopened ended (over.Lost seat why) = SaidEnded ended ended_why.Lost × IsReadingEnd why
-OverSaid unopened ended (over.Ended seat why) = CauseEndedSaid ended why
-OverSaid unopened ended (over.Foreign seat) = SaidEnded ended ended_why.Foreign
-
--- the same of a turn that is the last
-abbrev pub TurnSaid : (Request → Refusal → Type 0) → (SeatState → Why → Type 0) → Turn → Type 0
-TurnSaid unopened ended (turn.GoesOn stage) = Unit {0}
-TurnSaid unopened ended (turn.Waits seat) = Unit {0}
-TurnSaid unopened ended (turn.Lost seat) = SaidEnded ended ended_why.Lost
-TurnSaid unopened ended (turn.Over over) = OverSaid unopened ended over
 
 -- a session ends with Foreign or RunFull only where its kernel said so
 abbrev pub EndSaid : (Request → Refusal → Type 0) → (SeatState → Why → Type 0) → End → Type 0

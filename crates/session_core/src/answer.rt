@@ -2,8 +2,9 @@
 
 ghost use Rattle.std.specs.Prelude.{◌≡◌, []};
 ghost use Rattle.rtrb.specs.Ring.{received, SameConsumer};
-ghost use Rattle.session_core.specs.Answering.{AnswersRing, answered_of, seat_of};
-ghost use Rattle.session_core.specs.Desk.{StandsOn, IsAtRest};
+ghost use Rattle.session_core.specs.Answering.{AnswersRing};
+ghost use Rattle.session_core.specs.Proved.Leaving.{answered_of, seat_of};
+ghost use Rattle.session_core.specs.Proved.Desk.{StandsOn, IsAtRest};
 
 use crate::connection::Connection;
 use crate::desk::{send_ready, take_ready, wait_on};

@@ -1,7 +1,8 @@
 //! How a session is closed: its last answers are written, and its process is hung up.
 
-ghost use Rattle.session_core.specs.Closing.{SendsLast, HangsUp, LeavesWith, LeavesAll, HangsUpSeat, KeepsSeat, ClosesBy, end_of};
-ghost use Rattle.session_core.specs.Said.{EndSaid, OverSaid};
+ghost use Rattle.session_core.specs.Proved.Closing.{SendsLast, HangsUp, LeavesWith, LeavesAll, HangsUpSeat, KeepsSeat, ClosesBy, end_of};
+ghost use Rattle.session_core.specs.Said.{EndSaid};
+ghost use Rattle.session_core.specs.Proved.Saying.{OverSaid};
 ghost use Rattle.std.specs.Prelude.{◌≡◌, Ok, None};
 ghost use Rattle.session_core.specs.declared.stage.Over.TheVariants as over;
 

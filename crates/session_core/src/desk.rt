@@ -3,9 +3,9 @@
 ghost use Rattle.std.specs.Prelude.{◌≡◌, ◌∷◌, ◌++◌, ℕ, List, Option, [], length};
 ghost use Rattle.rtrb.specs.Ring.{received, known_items, SameConsumer};
 ghost use Rattle.call_types.specs.declared.request.Request.{Request};
-ghost use Rattle.session_core.specs.Desk.{TurnStands, StandsBy, StandsOn, SendsOn, SentIfOn, SentIfReady, IsReady, LeftBy, EndsOn, comes_to};
+ghost use Rattle.session_core.specs.Proved.Desk.{TurnStands, StandsBy, StandsOn, SendsOn, SentIfOn, SentIfReady, IsReady, LeftBy, EndsOn, comes_to};
 ghost use Rattle.session_core.specs.Refusals.{AreSaid, RefusalSaid};
-ghost use Rattle.session_core.specs.Said.{IsReadingEnd, OverSaid, TurnSaid};
+ghost use Rattle.session_core.specs.Proved.Saying.{IsReadingEnd, OverSaid, TurnSaid};
 ghost use Rattle.session_core.specs.declared.stage.Standing.TheVariants as standings;
 
 use crate::closing::leave_all;
@@ -29,7 +29,7 @@ use system_lock::kernel::{AdmissionTo, Kernel};
 /// Which session it is: the end of its ring that gives requests, and what its writer held at the start.
 pub(crate) trait Naming {
     ghost use Rattle.std.specs.Prelude.{ℕ, List, Option};
-    ghost use Rattle.session_core.specs.Desk.{TakingEnd};
+    ghost use Rattle.session_core.specs.Answering.{TakingEnd};
 
     ghost ring: { Option TakingEnd };
 
@@ -59,7 +59,7 @@ pub(crate) struct Desk<D: Naming, W: Write, G: Gate, L: Ledgers, K: Kernel<Seat<
 impl<D: Naming, W: Write, G: Gate, L: Ledgers, K: Kernel<Seat<L>, SpentSeat<L>>> Model
     for Desk<D, W, G, L, K> {
     ghost use Rattle.rtrb.specs.Ring.{received};
-    ghost use Rattle.session_core.specs.Desk.{DeskState, IsRingOf, StandsThere};
+    ghost use Rattle.session_core.specs.Proved.Desk.{DeskState, IsRingOf, StandsThere};
 
     ghost Value = { DeskState };
 
@@ -331,7 +331,7 @@ impl<D: Naming, W: Write + Connection, G: Gate, L: Ledgers, K: Kernel<Seat<L>, S
 > {
     ghost use Rattle.std.specs.Prelude.{◌≡◌, [], Some};
     ghost use Rattle.rtrb.specs.Ring.{received};
-    ghost use Rattle.session_core.specs.Output.{fresh_output};
+    ghost use Rattle.session_core.specs.Proved.Output.{fresh_output};
 
     /// A desk at which nothing was taken up.
     pub(crate) fn new(

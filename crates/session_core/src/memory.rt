@@ -5,7 +5,7 @@ ghost use Rattle.std.specs.Io.{ReadsAtMost, WritesAtMost};
 ghost use Rattle.std.specs.Io.KnownBytes.{ReadConsumes, WriteAppends, Keeps};
 ghost use Rattle.std.specs.IoError.{error_kind};
 ghost use Rattle.logged_streams.specs.Streams.{one_more};
-ghost use Rattle.session_core.specs.Memory.{fault_of, fails_now, given_count, GivesFront};
+ghost use Rattle.session_core.specs.Proved.Memory.{fault_of, fails_now, given_count, GivesFront};
 
 use crate::connection::Connection;
 use std::alloc::Global;
@@ -53,7 +53,7 @@ pub struct MemoryReader {
 
 impl Model for MemoryReader {
     ghost use Rattle.std.specs.Prelude.{◌≤◌, drop, vec_len};
-    ghost use Rattle.session_core.specs.Memory.{ReaderState};
+    ghost use Rattle.session_core.specs.Proved.Memory.{ReaderState};
 
     ghost Value = { ReaderState };
 
@@ -127,7 +127,7 @@ pub struct MemoryWriter {
 }
 
 impl Model for MemoryWriter {
-    ghost use Rattle.session_core.specs.Memory.{WriterState};
+    ghost use Rattle.session_core.specs.Proved.Memory.{WriterState};
 
     ghost Value = { WriterState };
 

@@ -2,8 +2,8 @@
 
 ghost use Rattle.std.specs.Prelude.{◌≡◌, ◌<◌, ◌≤◌, ℕ, true, false, List, [], Option, length, OnOk, OnErr, IfOk, IfErr};
 ghost use Rattle.session_core.specs.declared.told.Told.TheVariants as told;
-ghost use Rattle.session_core.specs.Output.{fresh_output, Passes, Puts, Flushes, SendsAll, FailsToSend};
-ghost use Rattle.session_core.specs.Closing.{IsTaken};
+ghost use Rattle.session_core.specs.Proved.Output.{fresh_output, Passes, Puts, Flushes, SendsAll, FailsToSend};
+ghost use Rattle.session_core.specs.Proved.Closing.{IsTaken};
 
 use crate::asking::ask_often;
 use crate::connection::Connection;
@@ -36,7 +36,7 @@ pub(crate) struct Output<W: Write, G: Gate> {
 
 impl<W: Write, G: Gate> Model for Output<W, G> {
     ghost use Rattle.std.specs.Prelude.{◌≡◌, ◌<◌, ◌≤◌, true, vec_len, vec_capacity};
-    ghost use Rattle.session_core.specs.Output.{OutputState};
+    ghost use Rattle.session_core.specs.Proved.Output.{OutputState};
 
     ghost Value = { OutputState };
 

@@ -3,11 +3,12 @@
 ghost use Rattle.std.specs.Prelude.{◌≡◌, ℕ, List, Option, Some, []};
 ghost use Rattle.std.specs.Option.{option_map};
 ghost use Rattle.rtrb.specs.Ring.{sent, received, producer_capacity, IsPair};
-ghost use Rattle.session_core.specs.Desk.{IsNamedPair};
-ghost use Rattle.session_core.specs.Settling.{Settles, unserved_by, why_of};
-ghost use Rattle.session_core.specs.Output.{fresh_output};
+ghost use Rattle.session_core.specs.Proved.Desk.{IsNamedPair};
+ghost use Rattle.session_core.specs.Proved.Settling.{Settles, unserved_by, why_of};
+ghost use Rattle.session_core.specs.Proved.Output.{fresh_output};
 ghost use Rattle.session_core.specs.Served.{Serves};
-ghost use Rattle.session_core.specs.Said.{CutSaid, EndSaid, IsReadingEnd};
+ghost use Rattle.session_core.specs.Said.{CutSaid, EndSaid};
+ghost use Rattle.session_core.specs.Proved.Saying.{IsReadingEnd};
 ghost use Rattle.logged_streams.specs.Streams.{fresh_log};
 ghost use Rattle.session_core.specs.Refusals.{RefusalsSaid};
 

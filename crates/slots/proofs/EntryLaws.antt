@@ -1,5 +1,5 @@
 use Rattle.std.proofs.Common.{◌≡◌, ◌≢◌, ℕ, zero, suc, ◌+◌, ◌≤◌, ◌<◌, ◌∙◌, true, false, cond, List, [], ◌∷◌, ◌++◌, Option, None, Some, length, map, set, get_or, refl, ap, sym, arith, length-set, length-append, Result, Ok, Err, IfOk, IfErr, inl, inr}
-use Rattle.std.specs.Prelude.{◌==◌, is_some}
+use Rattle.std.specs.Prelude.{◌==◌}
 use Rattle.std.specs.List.{sum_by, range_with_len, remove}
 use Rattle.std.specs.List.Sorted.{IsSearchInRange, IsBinarySearchResult, IsNonDecreasingBy}
 use Rattle.std.specs.Ordering.{nat_cmp, ordering_index}
@@ -10,8 +10,8 @@ use Rattle.std.proofs.lemmas.List.Sums.{sum_by-set, sum_by-cons}
 use Rattle.std.proofs.lemmas.Bool.Decides.{nat_tests}
 use Rattle.std.proofs.lemmas.Grind.{common_steps}
 use Rattle.slots.specs.Slots.{slot, live}
-use Rattle.slots.specs.Entries.{found, slots_of, EntriesRise, IsAt, room_of}
-use Rattle.slots.proofs.SlotLaws.{one, same_or_not, other_number, is_itself, order, slot_past, slot_added}
+use Rattle.slots.specs.Proved.Entries.{found, slots_of, EntriesRise, IsAt, room_of}
+use Rattle.slots.proofs.SlotLaws.{same_or_not, other_number, is_itself, order, slot_past, slot_added}
 
 module _ {T : Type 0} where
   pub rises_from : (low lower : ℕ) (es : List (ℕ × T)) (high : ℕ) → lower ≤ low → EntriesRise low es high → EntriesRise lower es high
@@ -242,11 +242,3 @@ more_room old_capacity capacity old_live live next same less = (grind (arith, co
 pub less_room : (old_capacity capacity old_live live next : ℕ) → capacity ≡ old_capacity → live ≡ old_live + 1 → 0 < room_of old_capacity old_live next →
     room_of capacity live (next + 1) + 1 ≡ room_of old_capacity old_live next
 less_room old_capacity capacity old_live live next same more some = grind (arith, common_steps)
-
--- as many slots are live as there are entries
-pub live_slots : {T : Type 0} (next : ℕ) (es : List (ℕ × T)) → EntriesRise 0 es next → live (slots_of next es) ≡ length es
-live_slots next es up = sum_slots (λ x. one (is_some x)) refl 0 es next up ∙ ones es
-  where
-    ones : {T : Type 0} (es : List (ℕ × T)) → sum_by (λ (e : ℕ × T). one true) es ≡ length es
-    ones [] = refl
-    ones {T} (e ∷ es) = omega (arith, sum_by-cons (λ (e : ℕ × T). one true) e es, ones es)

@@ -1,7 +1,7 @@
 use Rattle.std.proofs.Common.{◌≡◌, ℕ, ◌-◌, ◌<◌, true, false, Option, None, Some, refl, ltb}
 use Rattle.std.proofs.lemmas.Bool.{lt-ltb, ltb-true}
 use Rattle.slots.specs.declared.used.Used.{Used}
-use Rattle.slots.specs.Uses.{one_less, last_value}
+use Rattle.slots.specs.Proved.Uses.{one_less, last_value}
 
 -- what one use less leaves at a slot, and what goes with it
 pub record IsLess {T : Type 0} (used : Used T) (left : Option (Used T)) (gone : Option T) : Type 0 where

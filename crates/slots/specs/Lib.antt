@@ -1,6 +1,2 @@
 pub mod Slots
-pub mod Entries
-pub mod Lends
-pub mod Uses
-pub mod Keys
-pub mod KeyedLends
+pub mod Proved

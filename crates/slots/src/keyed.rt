@@ -1,6 +1,6 @@
 ghost use Rattle.std.specs.Prelude.{◌≡◌, ℕ, ◌+◌, ◌<◌, ◌≤◌, ◌∷◌, [], ◌++◌, None, Some, true, is_some, length, slice_set, option_copied, IfSome, IfNone, OnOk, IsOk};
 ghost use Rattle.slots.specs.Slots.{slot, live};
-ghost use Rattle.slots.specs.Keys.{found, HasNumber};
+ghost use Rattle.slots.specs.Proved.Keys.{found, HasNumber};
 
 use crate::ticket::Ticket;
 use slab::Slab;
@@ -64,8 +64,8 @@ pub struct Keyed<T> {
 impl<T> Model for Keyed<T> {
     ghost use Rattle.std.specs.Prelude.{List, Option, ℕ};
     ghost use Rattle.slab.specs.Slab.{slab_len};
-    ghost use Rattle.slots.specs.Entries.{room_of};
-    ghost use Rattle.slots.specs.Keys.{slots_of, AreNumbered};
+    ghost use Rattle.slots.specs.Proved.Entries.{room_of};
+    ghost use Rattle.slots.specs.Proved.Keys.{slots_of, AreNumbered};
 
     ghost Value = { List (Option T) × ℕ };
 
@@ -118,7 +118,7 @@ impl<T> Keyed<T> {
     }
 
     ghost use Rattle.std.specs.Borrow.{sem};
-    ghost use Rattle.slots.specs.KeyedLends.{lends_value};
+    ghost use Rattle.slots.specs.Proved.KeyedLends.{lends_value};
 
     /// The value at a number, to be edited where it stands.
     #[inline(always)]

@@ -1,6 +1,6 @@
 ghost use Rattle.std.specs.Prelude.{◌≡◌, ℕ, ◌+◌, ◌<◌, ◌≤◌, ◌∷◌, [], ◌++◌, None, Some, true, is_some, length, slice_set, option_copied, IfOk, IfErr, OnOk, IsOk};
-ghost use Rattle.slots.specs.Slots.{slot, live};
-ghost use Rattle.slots.specs.Entries.{found, EntriesRise, IsAt};
+ghost use Rattle.slots.specs.Slots.{slot};
+ghost use Rattle.slots.specs.Proved.Entries.{found, EntriesRise, IsAt};
 
 use std::alloc::{AllocError, Global};
 use std::marker::Model;
@@ -30,7 +30,7 @@ pub struct Numbered<T> {
 
 impl<T> Model for Numbered<T> {
     ghost use Rattle.std.specs.Prelude.{List, Option, ℕ, vec_len, vec_capacity};
-    ghost use Rattle.slots.specs.Entries.{slots_of, room_of, EntriesRise};
+    ghost use Rattle.slots.specs.Proved.Entries.{slots_of, room_of, EntriesRise};
 
     ghost Value = { List (Option T) × ℕ };
 
@@ -57,13 +57,6 @@ impl<T> Numbered<T> {
         self.next
     }
 
-    /// How many slots are live.
-    pub fn live(&self) -> usize
-        ensures { result ≡ live self.now.0 }
-    {
-        self.entries.as_slice().len()
-    }
-
     /// What stands at a number.
     pub fn get(&self, number: usize) -> Option<&T>
         ensures { option_copied result ≡ slot self.now.0 number }
@@ -75,7 +68,7 @@ impl<T> Numbered<T> {
     }
 
     ghost use Rattle.std.specs.Borrow.{sem};
-    ghost use Rattle.slots.specs.Lends.{lends_value};
+    ghost use Rattle.slots.specs.Proved.Lends.{lends_value};
 
     /// The value at a number, to be edited where it stands.
     pub fn value_mut(&mut self, number: usize) -> &mut T
@@ -113,19 +106,6 @@ impl<T> Numbered<T> {
             return Err(AllocError);
         }
         self.entries.reserve(1)
-    }
-
-    /// Makes room for so many more entries; an error says that memory or numbers ran out.
-    pub fn reserve_more(&mut self, count: usize) -> Result<(), AllocError>
-        ensures slots { self.new.0 ≡ self.old.0 }
-        ensures room { OnOk result (count ≤ self.new.1) }
-        ensures kept { self.old.1 ≤ self.new.1 }
-        ensures succeeds { count ≤ self.old.1 → IsOk result }
-    {
-        if usize::MAX - self.next < count {
-            return Err(AllocError);
-        }
-        self.entries.reserve(count)
     }
 }
 

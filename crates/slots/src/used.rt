@@ -1,6 +1,6 @@
 ghost use Rattle.std.specs.Prelude.{◌≡◌, ◌+◌, ◌<◌, ◌≤◌, ◌^◌, true, is_some};
 ghost use Rattle.slots.specs.Slots.{slot};
-ghost use Rattle.slots.specs.Uses.{uses_at, last_value, use_added, use_dropped};
+ghost use Rattle.slots.specs.Proved.Uses.{uses_at, last_value, use_added, use_dropped};
 
 use crate::keyed::{Keyed, key_of};
 use crate::numbered::{Numbered, index_of};

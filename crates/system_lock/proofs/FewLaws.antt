@@ -19,11 +19,11 @@ use Rattle.posix_model.specs.declared.world.World.{World}
 use Rattle.posix_model.specs.Join.{is_full}
 use Rattle.posix_model.specs.Step.{Stepped, step}
 use Rattle.posix_model.specs.History.{empty_world, after, world_from}
-use Rattle.posix_model.specs.Sound.{adds, ended, closes}
-use Rattle.posix_model.specs.Laws.{Counts, StepPlansProcesses}
+use Rattle.posix_model.specs.Proved.Sound.{adds, ended, closes}
+use Rattle.posix_model.specs.Proved.Laws.{Counts, StepPlansProcesses}
 use Rattle.record_book.specs.Book.{world_now}
-use Rattle.system_lock.specs.System.{AreDistinct}
-use Rattle.system_lock.specs.Doors.{LiveAreFew}
+use Rattle.system_lock.specs.Proved.System.{AreDistinct}
+use Rattle.system_lock.specs.Proved.Doors.{LiveAreFew}
 use Rattle.system_lock.proofs.StirLaws.{neither}
 
 -- ---- of slots of which so many are full, different ones that are full are no more

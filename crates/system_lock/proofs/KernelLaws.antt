@@ -9,8 +9,8 @@ use Rattle.call_types.specs.declared.outcome.Outcome.{Outcome}
 use Rattle.call_types.specs.declared.refusal.Refusal.{Refusal}
 use Rattle.call_types.specs.declared.refusal.Refusal.TheVariants.{Foreign, Waiting, RunFull}
 use Rattle.slots.specs.Slots.{slot}
-use Rattle.posix_model.specs.Step.{Stepped, step, is_parked}
-use Rattle.posix_model.specs.WaitLaws.{CallsEndOrWait, EndsOrWaits}
+use Rattle.posix_model.specs.Step.{Stepped, step, is_parked, EndsOrWaits}
+use Rattle.posix_model.specs.Proved.WaitLaws.{CallsEndOrWait}
 use Rattle.record_book.specs.Seat.{Receipted, SeatState}
 use Rattle.record_book.specs.Book.{BookState, world_now, Appends, Receives, Records}
 use Rattle.record_book.specs.Refusals.{first_refusal, seat_refusals, start_refusal, is_too_full}

@@ -22,10 +22,10 @@ use Rattle.posix_model.specs.Descriptors.{opened, opened_number, opened_descript
 use Rattle.posix_model.specs.Pipes.{pipe_at}
 use Rattle.posix_model.specs.Change.{with_files, with_processes, with_table, changed}
 use Rattle.posix_model.specs.Sweep.{is_referred, sweep}
-use Rattle.posix_model.specs.Laws.{SweepLeaves}
-use Rattle.posix_model.specs.Whole.{IsWhole}
+use Rattle.posix_model.specs.Proved.Laws.{SweepLeaves}
+use Rattle.posix_model.specs.Proved.Whole.{IsWhole}
 use Rattle.posix_model.specs.Resume.{try_on, try_opened, try_parked, is_ready}
-use Rattle.system_lock.specs.Stirred.{pipe_of, pipe_for, pipe_waited}
+use Rattle.system_lock.specs.Proved.Stirred.{pipe_of, pipe_for, pipe_waited}
 use Rattle.system_lock.proofs.StirLaws.{set_other}
 
 -- what a process waits with: its call, and its descriptors

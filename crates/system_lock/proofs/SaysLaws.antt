@@ -10,7 +10,7 @@ use Rattle.record_book.specs.Seat.{Receipted, SeatState}
 use Rattle.record_book.specs.Book.{BookState}
 use Rattle.system_lock.specs.declared.kernel.Why.{Why}
 use Rattle.system_lock.specs.declared.kernel.Why.TheVariants as why
-use Rattle.system_lock.specs.Events.{CallsIn, ExitsIn, IsDueEnd, OpensIn}
+use Rattle.system_lock.specs.Proved.Events.{CallsIn, ExitsIn, IsDueEnd, OpensIn}
 use Rattle.system_lock.specs.Says.{IsEnded, IsNotOpened, IsRefused}
 
 pub ended_in : (old new : BookState) (s t : SeatState) (reason : Why) → ExitsIn old new s t reason → IsDueEnd old s reason → IsEnded s reason

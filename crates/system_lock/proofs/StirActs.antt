@@ -13,10 +13,10 @@ use Rattle.posix_model.specs.declared.change.Decided.{Decided}
 use Rattle.posix_model.specs.declared.change.Change.{Change}
 use Rattle.posix_model.specs.Sweep.{sweep}
 use Rattle.posix_model.specs.Change.{changed}
-use Rattle.posix_model.specs.Released.{SweptIsSettled, SettledStays}
-use Rattle.posix_model.specs.Sound.{ActsAreSound}
-use Rattle.posix_model.specs.Whole.{IsWhole}
-use Rattle.posix_model.specs.Laws.{SweepLeaves}
+use Rattle.posix_model.specs.Proved.Released.{SweptIsSettled, SettledStays}
+use Rattle.posix_model.specs.Proved.Sound.{ActsAreSound}
+use Rattle.posix_model.specs.Proved.Whole.{IsWhole}
+use Rattle.posix_model.specs.Proved.Laws.{SweepLeaves}
 use Rattle.posix_model.specs.Step.{Stepped, decided, can_call, given, comes_to, stepped, step}
 use Rattle.posix_model.specs.History.{after_act}
 use Rattle.posix_model.specs.Pages.{no_change, decided_by}
@@ -24,7 +24,7 @@ use Rattle.posix_model.specs.Join.{join}
 use Rattle.posix_model.specs.Attach.{attach}
 use Rattle.posix_model.specs.Exit.{exit}
 use Rattle.posix_model.specs.Resume.{resume}
-use Rattle.system_lock.specs.Stirred.{pipe_waited, is_on_its, stirred_at, stirred_by, stirred_with, Spares}
+use Rattle.system_lock.specs.Proved.Stirred.{pipe_waited, is_on_its, stirred_at, stirred_by, stirred_with, Spares}
 use Rattle.system_lock.specs.declared.stirred.Stirred.{Stirred}
 use Rattle.system_lock.specs.declared.stirred.Stirred.TheVariants as stirred
 use Rattle.system_lock.proofs.StirLaws.{IsSlight, neither, slight_spares}

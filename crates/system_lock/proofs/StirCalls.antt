@@ -31,7 +31,7 @@ use Rattle.posix_model.specs.Ftruncate.{ftruncate}
 use Rattle.posix_model.specs.Fstat.{fstat}
 use Rattle.posix_model.specs.Resume.{read_ready, write_ready, open_ready, try_again, try_on, try_opened, try_parked, resume}
 use Rattle.posix_model.specs.Step.{decided}
-use Rattle.system_lock.specs.Stirred.{pipe_of, pipe_for, pipe_waited, is_by, is_on, stirred_at, stirred_by}
+use Rattle.system_lock.specs.Proved.Stirred.{pipe_of, pipe_for, pipe_waited, is_by, is_on, stirred_at, stirred_by}
 use Rattle.system_lock.specs.declared.stirred.Stirred.{Stirred}
 use Rattle.system_lock.specs.declared.stirred.Stirred.TheVariants as stirred
 use Rattle.system_lock.proofs.StirLaws.{FilesSlight, IsSlight}

@@ -9,9 +9,9 @@ use Rattle.call_types.specs.declared.limits.Bounds.{Bounds}
 use Rattle.call_types.specs.declared.request.Request.TheVariants as request
 use Rattle.call_types.specs.declared.limits.Limits.{Limits}
 use Rattle.posix_model.specs.declared.world.World.{World}
-use Rattle.posix_model.specs.Released.{SweptIsSettled, SettledStays}
-use Rattle.posix_model.specs.Sound.{ActsAreSound}
-use Rattle.posix_model.specs.Laws.{HistoryIsWhole, HistorySettles, SweepLeaves}
+use Rattle.posix_model.specs.Proved.Released.{SweptIsSettled, SettledStays}
+use Rattle.posix_model.specs.Proved.Sound.{ActsAreSound}
+use Rattle.posix_model.specs.Proved.Laws.{HistoryIsWhole, HistorySettles, SweepLeaves}
 use Rattle.posix_model.specs.History.{empty_world, after_act, after, world_from, world_of}
 use Rattle.posix_model.specs.Resume.{is_ready}
 use Rattle.record_book.specs.Seat.{Receipted, SeatState}
@@ -19,8 +19,8 @@ use Rattle.record_book.specs.Book.{BookState, world_now, Appends}
 use Rattle.record_book.specs.Openings.{next_pid, IsOpening}
 use Rattle.record_book.specs.declared.opening.Opened.TheVariants as opened
 use Rattle.system_lock.specs.declared.kernel.Why.TheVariants as why
-use Rattle.system_lock.specs.Stirred.{pipe_waited, stirred_at, stirred_by, stirred_with, Spares}
-use Rattle.system_lock.specs.Sleepers.{pipe_in, SparesIn, CallsSpare, ResumesSpare, OpensSpare, ExitsSpare}
+use Rattle.system_lock.specs.Proved.Stirred.{pipe_waited, stirred_at, stirred_by, stirred_with, Spares}
+use Rattle.system_lock.specs.Proved.Sleepers.{pipe_in, SparesIn, CallsSpare, ResumesSpare, OpensSpare, ExitsSpare}
 use Rattle.system_lock.specs.declared.stirred.Stirred.{Stirred}
 use Rattle.system_lock.specs.declared.stirred.Stirred.TheVariants as stirred
 use Rattle.system_lock.proofs.StirActs.{Grounds, call_spares, resume_spares, join_spares, attach_spares, exit_spares}

@@ -29,12 +29,12 @@ use Rattle.posix_model.specs.Descriptors.{opened, opened_number, opened_descript
 use Rattle.posix_model.specs.Pipes.{fifo_at, pipe_at, has_opposite}
 use Rattle.posix_model.specs.Change.{with_files, with_processes, with_table, changed, with_bytes}
 use Rattle.posix_model.specs.Sweep.{open_pipe, without_gone_pipe, sweep}
-use Rattle.posix_model.specs.Released.{IsSettled, SweptIsSettled, SettledStays}
-use Rattle.posix_model.specs.Whole.{is_regular_file}
-use Rattle.posix_model.specs.Fits.{FilesFit, Fits}
+use Rattle.posix_model.specs.Proved.Released.{IsSettled, SweptIsSettled, SettledStays}
+use Rattle.posix_model.specs.Proved.Whole.{is_regular_file}
+use Rattle.posix_model.specs.Proved.Fits.{FilesFit, Fits}
 use Rattle.posix_model.specs.Tries.{write_try}
 use Rattle.posix_model.specs.Resume.{read_ready, write_ready, fifo_of, open_ready, try_again, try_on, try_opened, try_parked}
-use Rattle.system_lock.specs.Stirred.{pipe_of, pipe_for, pipe_waited, is_by, is_on, is_on_its, Spares}
+use Rattle.system_lock.specs.Proved.Stirred.{pipe_of, pipe_for, pipe_waited, is_by, is_on, is_on_its, Spares}
 use Rattle.system_lock.specs.declared.stirred.Stirred.{Stirred}
 
 -- a description, but for its offset

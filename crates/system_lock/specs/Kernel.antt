@@ -10,7 +10,7 @@ use Rattle.call_types.specs.declared.request.Request.{Request}
 use Rattle.call_types.specs.declared.request.Request.TheVariants as request
 use Rattle.call_types.specs.declared.refusal.Refusal.{Refusal}
 use Rattle.call_types.specs.declared.refusal.Refusal.TheVariants as refusal
-use Rattle.posix_model.specs.WaitLaws.{EndsOrWaits, EndsOrGoesOn}
+use Rattle.posix_model.specs.Step.{EndsOrWaits, EndsOrGoesOn}
 use Rattle.record_book.specs.Seat.{Receipted, SeatState}
 use Rattle.record_book.specs.Book.{Receives}
 use Rattle.record_book.specs.Openings.{Opened, first_seat}

@@ -1,8 +1,3 @@
 pub mod Kernel
-pub mod Acts
-pub mod System
-pub mod Events
 pub mod Says
-pub mod Stirred
-pub mod Sleepers
-pub mod Doors
+pub mod Proved

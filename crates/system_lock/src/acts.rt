@@ -1,8 +1,8 @@
 //! The acts of a kernel on a book that is at hand.
 
 ghost use Rattle.system_lock.specs.Kernel.{IsOpening, OpensBy, CallsBy, IsReason, EndsFor};
-ghost use Rattle.system_lock.specs.Acts.{TriesBy};
-ghost use Rattle.system_lock.specs.Events.{OpensIn, CallsIn, ExitsIn, TriesIn, StillIsDue, GivesNoneUp};
+ghost use Rattle.system_lock.specs.Proved.Acts.{TriesBy};
+ghost use Rattle.system_lock.specs.Proved.Events.{OpensIn, CallsIn, ExitsIn, TriesIn, StillIsDue, GivesNoneUp};
 
 use crate::kernel::{Ended, EndedIn, Why};
 use byte_ledger::ledgers::Ledgers;

@@ -1,10 +1,11 @@
 //! The processes that sleep, and those whose connections are lost: two doors at which a process waits or is turned away.
 
 ghost use Rattle.std.specs.Prelude.{◌≡◌, [], true, false, IfOk};
-ghost use Rattle.system_lock.specs.System.{is_ready_in, is_live_in, is_among, with_one};
-ghost use Rattle.system_lock.specs.Events.{still_asleep, still_lost};
-ghost use Rattle.system_lock.specs.Sleepers.{pipe_in};
-ghost use Rattle.system_lock.specs.Doors.{DoorsSound, AreLeft, LiveAreFew, lost_with, asleep_without};
+ghost use Rattle.system_lock.specs.Proved.System.{is_live_in, is_among, with_one};
+ghost use Rattle.system_lock.specs.Says.{is_ready_in};
+ghost use Rattle.system_lock.specs.Proved.Events.{still_asleep, still_lost};
+ghost use Rattle.system_lock.specs.Proved.Sleepers.{pipe_in};
+ghost use Rattle.system_lock.specs.Proved.Doors.{DoorsSound, AreLeft, LiveAreFew, lost_with, asleep_without};
 
 use crate::bells::Bells;
 use crate::lost::{Lost, is_live};

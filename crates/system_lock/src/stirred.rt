@@ -1,8 +1,8 @@
 //! Whom an event may have made ready, told by what it was an event of.
 
 ghost use Rattle.std.specs.Prelude.{◌≡◌};
-ghost use Rattle.system_lock.specs.Stirred.{pipe_of, pipe_waited, is_by, is_on, is_on_its, stirs, stirred_at, stirred_by, stirred_with, stirred_told};
-ghost use Rattle.system_lock.specs.Sleepers.{opener, CallsSpare, ResumesSpare, OpensSpare, ExitsSpare};
+ghost use Rattle.system_lock.specs.Proved.Stirred.{pipe_of, pipe_waited, is_by, is_on, is_on_its, stirs, stirred_at, stirred_by, stirred_with, stirred_told};
+ghost use Rattle.system_lock.specs.Proved.Sleepers.{opener, CallsSpare, ResumesSpare, OpensSpare, ExitsSpare};
 
 use byte_ledger::ledgers::Ledgers;
 use call_types::call::Call;

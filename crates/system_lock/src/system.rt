@@ -4,11 +4,12 @@ ghost use Rattle.std.specs.Prelude.{◌≡◌, [], None, Some, false, true, All,
 ghost use Rattle.rtrb.specs.Ring.{received};
 ghost use Rattle.record_book.specs.Refusals.{resume_refusal};
 ghost use Rattle.system_lock.specs.Kernel.{IsOpening, OpensBy, CallsBy, HangsUpBy, IsReason, EndsFor};
-ghost use Rattle.system_lock.specs.Acts.{TriesBy};
-ghost use Rattle.system_lock.specs.System.{is_ready_in, is_live_in, is_among, AreDistinct, AreLive, AreUnmarked};
-ghost use Rattle.system_lock.specs.Sleepers.{pipe_in};
-ghost use Rattle.system_lock.specs.Doors.{lost_with, asleep_without};
-ghost use Rattle.system_lock.specs.Events.{OpensIn, CallsIn, ExitsIn, TriesIn, IsGivenUp, IsLeftWaiting, still_asleep, still_lost, with_sleeper};
+ghost use Rattle.system_lock.specs.Proved.Acts.{TriesBy};
+ghost use Rattle.system_lock.specs.Proved.System.{is_live_in, is_among, AreDistinct, AreLive, AreUnmarked};
+ghost use Rattle.system_lock.specs.Says.{is_ready_in};
+ghost use Rattle.system_lock.specs.Proved.Sleepers.{pipe_in};
+ghost use Rattle.system_lock.specs.Proved.Doors.{lost_with, asleep_without};
+ghost use Rattle.system_lock.specs.Proved.Events.{OpensIn, CallsIn, ExitsIn, TriesIn, IsGivenUp, IsLeftWaiting, still_asleep, still_lost, with_sleeper};
 ghost use Rattle.record_book.specs.Book.{new_book};
 
 use crate::acts;
@@ -40,8 +41,8 @@ pub struct System<L: Ledgers> {
 
 impl<L: Ledgers> Model for System<L> {
     ghost use Rattle.std.specs.Prelude.{◌≡◌, [], Some, true};
-    ghost use Rattle.system_lock.specs.System.{SystemState};
-    ghost use Rattle.system_lock.specs.Doors.{DoorsSound};
+    ghost use Rattle.system_lock.specs.Proved.System.{SystemState};
+    ghost use Rattle.system_lock.specs.Proved.Doors.{DoorsSound};
 
     ghost Value = { SystemState };
 

@@ -1,10 +1,10 @@
 //! Who of those that sleep is woken after an event.
 
 ghost use Rattle.std.specs.Prelude.{◌≡◌, ℕ, ◌<◌, ◌&&◌, Option, map, vec_len};
-ghost use Rattle.system_lock.specs.System.{SleepsSound, wakes_in};
-ghost use Rattle.system_lock.specs.Events.{still_asleep};
-ghost use Rattle.system_lock.specs.Stirred.{stirs};
-ghost use Rattle.system_lock.specs.Sleepers.{pipe_in, pipe_then, SleepersSound, SparesIn, AreSpared, LooksAt};
+ghost use Rattle.system_lock.specs.Proved.System.{SleepsSound, wakes_in};
+ghost use Rattle.system_lock.specs.Proved.Events.{still_asleep};
+ghost use Rattle.system_lock.specs.Proved.Stirred.{stirs};
+ghost use Rattle.system_lock.specs.Proved.Sleepers.{pipe_in, pipe_then, SleepersSound, SparesIn, AreSpared, LooksAt};
 ghost use Rattle.record_book.specs.Book.{BookState};
 
 use crate::bells::Bells;

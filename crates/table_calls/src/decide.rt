@@ -1,7 +1,7 @@
 ghost use Rattle.std.specs.Prelude.{◌≡◌, ◌≤◌, IfOk};
 ghost use Rattle.slots.specs.Slots.{slot};
 ghost use Rattle.posix_model.specs.Step.{can_call, decided, comes_to};
-ghost use Rattle.posix_model.specs.Sound.{adds};
+ghost use Rattle.posix_model.specs.Proved.Sound.{adds};
 
 use crate::attach::decide_attach;
 use crate::dup::decide_dup;

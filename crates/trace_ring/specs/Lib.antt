@@ -1,3 +1,1 @@
-pub mod RingState
-pub mod RingInside
-pub mod Trace
+pub mod Proved

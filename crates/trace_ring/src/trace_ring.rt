@@ -2,7 +2,7 @@ ghost use Rattle.std.specs.Prelude.{◌≡◌, ◌<◌, [], true, false, map, le
 ghost use Rattle.std.specs.Arc.{arc_value};
 ghost use Rattle.rtrb.specs.Ring.{received, all_sent};
 ghost use Rattle.call_types.specs.declared.limits.TheConstants.{RECORDS_MAX};
-ghost use Rattle.trace_ring.specs.Trace.{fresh_ring, Pushes};
+ghost use Rattle.trace_ring.specs.Proved.Trace.{fresh_ring, Pushes};
 
 use call_types::act::Record;
 use rtrb::{Consumer, Finished, Producer, Protocol, RingBuffer};
@@ -33,11 +33,11 @@ pub struct TraceRing {
 }
 
 impl Model for TraceRing {
-    ghost use Rattle.trace_ring.specs.RingState.{RingState};
+    ghost use Rattle.trace_ring.specs.Proved.RingState.{RingState};
 
     ghost Value = { RingState };
 
-    ghost use Rattle.trace_ring.specs.RingInside.{ring_state, IsRing};
+    ghost use Rattle.trace_ring.specs.Proved.RingInside.{ring_state, IsRing};
 
     ghost view = { ring_state };
 

@@ -12,9 +12,9 @@ use Rattle.frame_codec.specs.Frames.{frame}
 use Rattle.frame_codec.specs.Records.{record_bytes}
 use Rattle.frame_codec.specs.Trace.{trace_header, frames_of, text}
 use Rattle.logged_streams.specs.Streams.{WritesFront}
-use Rattle.trace_writer.specs.TracerState.{Writes}
+use Rattle.trace_writer.specs.Proved.TracerState.{Writes}
 use Rattle.trace_writer.specs.Traces.{whole_in, Tells}
-use Rattle.trace_writer.specs.Tracing.{MakesFrame}
+use Rattle.trace_writer.specs.Proved.Tracing.{MakesFrame}
 use Rattle.trace_writer.specs.declared.traced.TraceFault.{TraceFault}
 use Rattle.trace_writer.specs.declared.traced.TraceFault.TheVariants as faults
 

@@ -1,4 +1,2 @@
 pub mod Traces
-pub mod TracerState
-pub mod Tracing
-pub mod Memory
+pub mod Proved

@@ -8,7 +8,7 @@ ghost use Rattle.frame_codec.specs.Records.{record_bytes};
 ghost use Rattle.frame_codec.specs.Trace.{trace_header, text};
 ghost use Rattle.trace_writer.specs.Traces.{whole_in};
 ghost use Rattle.trace_writer.specs.declared.traced.TraceFault.TheVariants as faults;
-ghost use Rattle.trace_writer.specs.Tracing.{Keeps, Stays, Flushes, IsTraceOf, MakesFrame, Syncs};
+ghost use Rattle.trace_writer.specs.Proved.Tracing.{Keeps, Stays, Flushes, IsTraceOf, MakesFrame, Syncs};
 
 use crate::sink::{Sink, write_all};
 use crate::traced::{TraceFault, Traced, whole_records};
@@ -41,7 +41,7 @@ pub(crate) struct Tracer<S: Sink> {
 impl<S: Sink> Model for Tracer<S> {
     ghost use Rattle.std.specs.Prelude.{map};
     ghost use Rattle.std.specs.Arc.{arc_value};
-    ghost use Rattle.trace_writer.specs.TracerState.{TracerState, Writes};
+    ghost use Rattle.trace_writer.specs.Proved.TracerState.{TracerState, Writes};
 
     ghost Value = { TracerState };
 

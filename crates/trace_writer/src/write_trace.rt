@@ -4,7 +4,7 @@ ghost use Rattle.std.specs.Prelude.{◌≡◌, ◌+◌, ◌<◌, ◌^◌, [], tr
 ghost use Rattle.std.specs.Arc.{arc_value};
 ghost use Rattle.rtrb.specs.Ring.{received, known_items};
 ghost use Rattle.trace_writer.specs.Traces.{Receives, IsTrace};
-ghost use Rattle.trace_writer.specs.Tracing.{Follows, GoesOn};
+ghost use Rattle.trace_writer.specs.Proved.Tracing.{Follows, GoesOn};
 
 use crate::sink::Sink;
 use crate::traced::Traced;

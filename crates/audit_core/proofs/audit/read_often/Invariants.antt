@@ -1,8 +1,8 @@
 -- All reads so far, one in each turn.
 use Rattle.std.proofs.Common.{◌≡◌, ◌<◌, length}
 use Rattle.call_types.specs.declared.limits.Bounds.{Bounds}
-use Rattle.audit_core.specs.Audited.{HasRead}
-use Rattle.audit_core.specs.Taking.{fresh_trace}
+use Rattle.audit_core.specs.Proved.Auditing.{HasRead}
+use Rattle.audit_core.specs.Proved.Taking.{fresh_trace}
 use Rattle.audit_core.specs.declared.audit.TheConstants.{READ_LENGTH}
 use Rattle.logged_streams.specs.declared.stream_log.TheConstants.{INTERRUPTIONS_MAX}
 use Rattle.audit_core.proofs.audit.read_often.Given as goal

@@ -1,7 +1,7 @@
 -- A piece in each turn so far.
 use Rattle.std.proofs.Common.{◌≡◌, length}
 use Rattle.audit_core.specs.declared.audit.TheConstants.{READ_LENGTH}
-use Rattle.fdref.specs.Show.{HasShown}
+use Rattle.fdref.specs.Proved.Showing.{HasShown}
 use Rattle.fdref.proofs.show.show_often.Given as goal
 
 abbrev pub invariant-loop-turn : goal.invariant-loop-turn

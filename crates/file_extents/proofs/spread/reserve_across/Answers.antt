@@ -1,6 +1,6 @@
 use Rattle.std.proofs.Common.{arith, ◌+◌, ◌-◌, ◌%◌}
 use Rattle.std.proofs.lemmas.Result.{on_ok_weaker}
-use Rattle.file_extents.specs.Contents.{HasRoom}
+use Rattle.file_extents.specs.Proved.Contents.{HasRoom}
 use Rattle.file_extents.proofs.Rooms.{room_joined, room_goes}
 use Rattle.file_extents.proofs.spread.reserve_across.Goals as goal
 

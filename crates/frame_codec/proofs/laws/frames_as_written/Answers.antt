@@ -3,10 +3,10 @@ use Rattle.frame_codec.specs.Fields.{number_bytes}
 use Rattle.frame_codec.specs.Requests.{call_bytes}
 use Rattle.frame_codec.specs.Answers.{answer_bytes}
 use Rattle.frame_codec.specs.Records.{record_bytes, RecordFits, SpellsRecord}
-use Rattle.frame_codec.specs.Reading.{number_at, payload_at}
-use Rattle.frame_codec.specs.ReadingRequests.{call_at}
-use Rattle.frame_codec.specs.ReadingAnswers.{outcome_at}
-use Rattle.frame_codec.specs.ReadingRecords.{act_at, record_at}
+use Rattle.frame_codec.specs.Proved.Reading.{number_at, payload_at}
+use Rattle.frame_codec.specs.Proved.ReadingRequests.{call_at}
+use Rattle.frame_codec.specs.Proved.ReadingAnswers.{outcome_at}
+use Rattle.frame_codec.specs.Proved.ReadingRecords.{act_at, record_at}
 use Rattle.frame_codec.specs.Frames.{told_length, told_payload, IsMalformed}
 use Rattle.frame_codec.proofs.KindLaws.{spells_none}
 use Rattle.frame_codec.proofs.RecordReads.{record_reads}

@@ -1,9 +1,9 @@
 use Rattle.frame_codec.specs.Requests.{request_bytes, RequestFits}
 use Rattle.frame_codec.specs.Answers.{answer_bytes, AnswerFits}
 use Rattle.frame_codec.specs.Records.{record_bytes, RecordFits}
-use Rattle.frame_codec.specs.ReadingRequests.{request_at}
-use Rattle.frame_codec.specs.ReadingAnswers.{answer_at}
-use Rattle.frame_codec.specs.ReadingRecords.{record_at}
+use Rattle.frame_codec.specs.Proved.ReadingRequests.{request_at}
+use Rattle.frame_codec.specs.Proved.ReadingAnswers.{answer_at}
+use Rattle.frame_codec.specs.Proved.ReadingRecords.{record_at}
 use Rattle.frame_codec.proofs.Steps.{payload_again}
 use Rattle.frame_codec.proofs.RequestReads.{request_reads}
 use Rattle.frame_codec.proofs.AnswerReads.{answer_reads}

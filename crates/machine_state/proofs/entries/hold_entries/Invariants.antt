@@ -1,5 +1,5 @@
 use Rattle.std.proofs.Common.{◌≡◌, take}
-use Rattle.machine_state.specs.Uses.{with_uses}
+use Rattle.machine_state.specs.Proved.Uses.{with_uses}
 use Rattle.machine_state.proofs.entries.hold_entries.Given as goal
 
 -- what the entries so far refer to is held

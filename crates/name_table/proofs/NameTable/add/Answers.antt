@@ -1,6 +1,6 @@
 use Rattle.std.proofs.Common.{◌≡◌, rules, sym, subst}
 use Rattle.std.specs.Prelude.{insert}
-use Rattle.name_table.specs.Places.{rank_of, IsNamed}
+use Rattle.name_table.specs.Proved.Places.{rank_of, IsNamed}
 use Rattle.name_table.proofs.NameLaws.{added_named}
 use Rattle.name_table.proofs.NameTable.add.Goals as goal
 

@@ -1,5 +1,5 @@
 use Rattle.std.proofs.Common.{◌∙◌, ap, sym, rules, Some}
-use Rattle.name_table.specs.Places.{HasName}
+use Rattle.name_table.specs.Proved.Places.{HasName}
 use Rattle.name_table.proofs.NameLaws.{place_found}
 use Rattle.name_table.proofs.NameTable.find.Goals as goal
 

@@ -1,7 +1,7 @@
 use Rattle.std.proofs.Common.{◌≡◌, ◌∙◌, List, ℕ, false, length, get_or, rules, arith, subst}
 use Rattle.std.specs.Ordering.{nat_cmp, is_eq}
 use Rattle.std.specs.Cmp.Lexicographic.{slice_cmp}
-use Rattle.name_table.specs.Places.{rank_of}
+use Rattle.name_table.specs.Proved.Places.{rank_of}
 use Rattle.name_table.proofs.NameLaws.{place_missing, one_default}
 use Rattle.name_table.proofs.NameTable.place_of.Goals as goal
 

@@ -2,7 +2,7 @@ use Rattle.std.proofs.Common.{List, ℕ, sym, rules, of_calls}
 use Rattle.std.proofs.lemmas.Fn.{always_returns_same}
 use Rattle.std.specs.Ordering.{nat_cmp, is_gt}
 use Rattle.std.specs.Cmp.Lexicographic.{slice_cmp}
-use Rattle.name_table.specs.Places.{IsNamed}
+use Rattle.name_table.specs.Proved.Places.{IsNamed}
 use Rattle.name_table.proofs.NameLaws.{partitioned, prefix_parted}
 use Rattle.name_table.proofs.NameTable.rank_of.Goals as goal
 

@@ -1,7 +1,7 @@
 use Rattle.std.proofs.Common.{◌≡◌, ◌∙◌, ap, sym, subst, rules, Some, [], List, ℕ, cond}
 use Rattle.std.specs.List.{remove}
 use Rattle.std.specs.Prelude.{count_by, ◌==◌, ◌+◌}
-use Rattle.name_table.specs.Places.{HasName, IsNamed}
+use Rattle.name_table.specs.Proved.Places.{HasName, IsNamed}
 use Rattle.name_table.proofs.NameLaws.{place_found, removed_named, links_removed}
 use Rattle.name_table.proofs.NameTable.remove.Goals as goal
 

@@ -1,6 +1,6 @@
 use Rattle.std.proofs.Common.{ap, sym, ◌∙◌, ◌+◌}
-use Rattle.slots.specs.Uses.{one_more, with_value}
-use Rattle.pipe_table.specs.Pipes.{with_end}
+use Rattle.slots.specs.Proved.Uses.{one_more, with_value}
+use Rattle.pipe_table.specs.Proved.Pipes.{with_end}
 use Rattle.pipe_table.proofs.UseLaws.{edited_as, edited_twice}
 use Rattle.pipe_table.proofs.PipeTable.add_end.Goals as goal
 

@@ -1,7 +1,7 @@
 -- All reads so far, one in each turn.
 use Rattle.std.proofs.Common.{◌≡◌, ◌<◌, length}
 use Rattle.rtrb.specs.Ring.{sent, SameProducer}
-use Rattle.request_pump.specs.Pumping.{HasPumped}
+use Rattle.request_pump.specs.Proved.Pumping.{HasPumped}
 use Rattle.request_pump.proofs.pump.pump_often.Given as goal
 
 abbrev pub invariant-loop-turn : goal.invariant-loop-turn

@@ -1,7 +1,6 @@
-use Rattle.std.proofs.Common.{List, subst}
+use Rattle.std.proofs.Common.{List, subst, map, ◌≡◌, Some, None, ℕ}
 use Rattle.record_book.specs.Seat.{SeatState}
 use Rattle.std.specs.Arc.{arc_value}
-use Rattle.std.proofs.Common.{map, ◌≡◌, Some, None, ℕ}
 use Rattle.run_core.specs.Run.{AreAll, IsLeast, held_in}
 use Rattle.run_core.proofs.closing.compare_and_part.Goals as goal
 

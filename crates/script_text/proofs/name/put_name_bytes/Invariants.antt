@@ -1,7 +1,7 @@
 use Rattle.std.proofs.Common.{◌≡◌, ◌*◌, ◌++◌, take}
 use Rattle.std.specs.List.{flat_map}
 use Rattle.script_text.specs.Lines.{name_byte}
-use Rattle.script_text.specs.Room.{UsesRoom}
+use Rattle.script_text.specs.Proved.Room.{UsesRoom}
 use Rattle.script_text.proofs.name.put_name_bytes.Given as goal
 
 abbrev pub invariant-loop-byte : goal.invariant-loop-byte

@@ -2,7 +2,7 @@ use Rattle.std.proofs.Common.{◌≡◌, ℕ, ◌+◌, ◌*◌, List, ◌++◌, 
 use Rattle.std.specs.List.{flat_map}
 use Rattle.std.proofs.lemmas.List.{take-replicate, length-replicate}
 use Rattle.script_text.specs.Lines.{hex_pair}
-use Rattle.script_text.specs.Room.{HasRoom, UsesRoom}
+use Rattle.script_text.specs.Proved.Room.{HasRoom, UsesRoom}
 use Rattle.script_text.proofs.Repeated.{many_same, few_same}
 use Rattle.script_text.proofs.Rooms.{few_room}
 use Rattle.script_text.proofs.payload.put_same.Goals as goal

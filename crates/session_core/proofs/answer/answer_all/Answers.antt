@@ -1,6 +1,6 @@
 use Rattle.std.proofs.Common.{subst}
 use Rattle.rtrb.specs.Ring.{received}
-use Rattle.session_core.specs.Desk.{Stands}
+use Rattle.session_core.specs.Proved.Desk.{Stands}
 use Rattle.session_core.proofs.DeskLemmas as laws
 use Rattle.session_core.proofs.answer.answer_all.Goals as goal
 

@@ -1,6 +1,6 @@
 -- All that was received so far is taken up.
 use Rattle.rtrb.specs.Ring.{received, SameConsumer}
-use Rattle.session_core.specs.Desk.{StandsOn}
+use Rattle.session_core.specs.Proved.Desk.{StandsOn}
 use Rattle.session_core.proofs.answer.answer_all.Given as goal
 
 abbrev pub invariant-loop : goal.invariant-loop

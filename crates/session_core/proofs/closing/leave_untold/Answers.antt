@@ -1,7 +1,7 @@
 use Rattle.std.proofs.Common.{ℕ, None, Some, refl, subst}
 use Rattle.session_core.specs.declared.end.End.TheVariants as end
 use Rattle.session_core.specs.declared.stage.Over.TheVariants as over
-use Rattle.session_core.specs.Closing.{HangsUp}
+use Rattle.session_core.specs.Proved.Closing.{HangsUp}
 use Rattle.session_core.proofs.CutLemmas.{hung_up_closes}
 use Rattle.session_core.proofs.ClosingLemmas as laws
 use Rattle.session_core.proofs.closing.leave_untold.Goals as goal

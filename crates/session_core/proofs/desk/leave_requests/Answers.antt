@@ -1,7 +1,7 @@
 use Rattle.std.proofs.Common.{List, ◌++◌, ◌∙◌, sym, subst}
 use Rattle.rtrb.specs.Ring.{received, known_items}
 use Rattle.call_types.specs.declared.request.Request.{Request}
-use Rattle.session_core.specs.Desk.{Stands}
+use Rattle.session_core.specs.Proved.Desk.{Stands}
 use Rattle.session_core.proofs.DeskLemmas as laws
 use Rattle.session_core.proofs.desk.leave_requests.Goals as goal
 

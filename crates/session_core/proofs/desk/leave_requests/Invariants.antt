@@ -1,7 +1,7 @@
 -- So many requests are left, and together with those that were received they stay the same.
 use Rattle.std.proofs.Common.{◌≡◌, ◌++◌, length}
 use Rattle.rtrb.specs.Ring.{received, known_items}
-use Rattle.session_core.specs.Desk.{StandsOn}
+use Rattle.session_core.specs.Proved.Desk.{StandsOn}
 use Rattle.session_core.proofs.desk.leave_requests.Given as goal
 
 abbrev pub invariant-loop : goal.invariant-loop

@@ -1,5 +1,5 @@
 use Rattle.std.proofs.Common.{subst}
-use Rattle.session_core.specs.Desk.{Stands}
+use Rattle.session_core.specs.Proved.Desk.{Stands}
 use Rattle.session_core.proofs.desk.send_ready.Goals as goal
 
 pub returns-in-Ready-clause-stands : goal.returns-in-Ready-clause-stands

@@ -1,7 +1,7 @@
 use Rattle.std.proofs.Common.{subst}
-use Rattle.session_core.specs.Desk.{TurnStands}
+use Rattle.session_core.specs.Proved.Desk.{TurnStands}
 use Rattle.session_core.specs.Refusals.{RefusalSaid}
-use Rattle.session_core.specs.Said.{TurnSaid}
+use Rattle.session_core.specs.Proved.Saying.{TurnSaid}
 use Rattle.session_core.proofs.DeskLemmas as laws
 use Rattle.session_core.proofs.desk.stand.Goals as goal
 

@@ -1,6 +1,6 @@
 use Rattle.std.proofs.Common.{subst}
 use Rattle.rtrb.specs.Ring.{received}
-use Rattle.session_core.specs.Desk.{Stands}
+use Rattle.session_core.specs.Proved.Desk.{Stands}
 use Rattle.session_core.proofs.desk.take_ready.Goals as goal
 
 pub returns-in-Ready-clause-stands : goal.returns-in-Ready-clause-stands

@@ -1,7 +1,7 @@
 use Rattle.std.proofs.Common.{List, sym, subst}
 use Rattle.rtrb.specs.Ring.{received}
 use Rattle.call_types.specs.declared.request.Request.{Request}
-use Rattle.session_core.specs.Desk.{IsReady}
+use Rattle.session_core.specs.Proved.Desk.{IsReady}
 use Rattle.session_core.specs.Refusals.{RefusalSaid}
 use Rattle.session_core.specs.declared.stage.Turn.TheVariants as turn
 use Rattle.session_core.proofs.DeskLemmas as laws

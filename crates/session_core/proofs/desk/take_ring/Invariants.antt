@@ -1,7 +1,7 @@
 -- All that was received so far is taken up, and the session goes on.
 use Rattle.std.proofs.Common.{ℕ, List, Option}
 use Rattle.rtrb.specs.Ring.{received, SameConsumer}
-use Rattle.session_core.specs.Desk.{IsReady}
+use Rattle.session_core.specs.Proved.Desk.{IsReady}
 use Rattle.session_core.specs.Refusals.{RefusalSaid}
 use Rattle.session_core.proofs.desk.take_ring.Given as goal
 

@@ -2,7 +2,7 @@ use Rattle.std.proofs.Common.{Some, sym, subst, ap, ◌∙◌}
 use Rattle.session_core.specs.declared.end.End.TheVariants as end
 use Rattle.session_core.specs.Refusals.{RefusalSaid, RefusalsSaid}
 use Rattle.session_core.specs.Served.{Serves}
-use Rattle.session_core.specs.Settling.{unserved_by}
+use Rattle.session_core.specs.Proved.Settling.{unserved_by}
 use Rattle.session_core.proofs.ServeLemmas as laws
 use Rattle.session_core.proofs.serve.serve.Goals as goal
 

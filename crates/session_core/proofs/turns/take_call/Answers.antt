@@ -1,7 +1,7 @@
 use Rattle.std.proofs.Common.{[], ◌∷◌, ◌++◌, refl, sym, ap, subst, ◌∙◌}
 use Rattle.call_types.specs.declared.act.Act.TheVariants as act
 use Rattle.call_types.specs.declared.act.Record.{Record}
-use Rattle.posix_model.specs.WaitLaws.{EndsOrWaits}
+use Rattle.posix_model.specs.Step.{EndsOrWaits}
 use Rattle.record_book.specs.Seat.{Receipted}
 use Rattle.system_lock.specs.Kernel.{Adds}
 use Rattle.session_core.specs.declared.told.Told.TheVariants as told

@@ -1,6 +1,6 @@
 use Rattle.session_core.proofs.CallLemmas as laws
 use Rattle.std.proofs.Common.{List, [], ◌∷◌, ◌++◌, sym, subst}
-use Rattle.session_core.specs.Turns.{IsTalking}
+use Rattle.session_core.specs.Proved.Turns.{IsTalking}
 use Rattle.session_core.specs.declared.told.Told.{Told}
 use Rattle.session_core.specs.Refusals.{RefusalSaid}
 use Rattle.session_core.proofs.RefusalLemmas.{kept_said, wider}

@@ -1,7 +1,7 @@
 use Rattle.std.proofs.Common.{◌≡◌, map}
 use Rattle.std.specs.Arc.{arc_value}
 use Rattle.rtrb.specs.Ring.{received}
-use Rattle.trace_writer.specs.Tracing.{Follows}
+use Rattle.trace_writer.specs.Proved.Tracing.{Follows}
 use Rattle.trace_writer.proofs.write_trace.write_trace.Given as goal
 
 -- the trace began with this sink, and follows what came out of the ring

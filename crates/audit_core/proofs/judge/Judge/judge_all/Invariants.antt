@@ -1,5 +1,5 @@
 use Rattle.std.proofs.Common.{length}
-use Rattle.audit_core.specs.Verdict.{IsAt}
+use Rattle.audit_core.specs.Proved.Judging.{IsAt}
 use Rattle.audit_core.proofs.judge.Judge.judge_all.Given as goal
 
 -- all records before those that are left are judged

@@ -1,5 +1,5 @@
 use Rattle.std.proofs.Common.{inl, refl}
-use Rattle.audit_core.specs.Taking.{TraceState}
+use Rattle.audit_core.specs.Proved.Taking.{TraceState}
 use Rattle.audit_core.proofs.TakingLemmas as laws
 use Rattle.audit_core.proofs.trace.TraceAudit.take.Goals as goal
 

@@ -1,5 +1,5 @@
 use Rattle.std.proofs.Common.{refl}
-use Rattle.fdref.specs.Show.{ShownState}
+use Rattle.fdref.specs.Proved.Showing.{ShownState}
 use Rattle.fdref.proofs.ShowLemmas.{header_wrong, piece_taken_in}
 use Rattle.fdref.proofs.show.ShownTrace.take.Goals as goal
 

@@ -1,5 +1,5 @@
 use Rattle.std.proofs.Common.{ap, length}
-use Rattle.fdref.specs.Show.{ShownState}
+use Rattle.fdref.specs.Proved.Showing.{ShownState}
 use Rattle.fdref.proofs.ShowLemmas.{body_taken, few_added, places_left}
 use Rattle.fdref.proofs.show.ShownTrace.take_body.Goals as goal
 

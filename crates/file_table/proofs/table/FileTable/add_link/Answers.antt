@@ -1,6 +1,6 @@
 use Rattle.std.proofs.Common.{refl, sym, ◌∙◌}
-use Rattle.slots.specs.Uses.{one_more, with_value}
-use Rattle.file_table.specs.Files.{named}
+use Rattle.slots.specs.Proved.Uses.{one_more, with_value}
+use Rattle.file_table.specs.Proved.Files.{named}
 use Rattle.file_table.proofs.UseLaws.{edited_as, edited_twice}
 use Rattle.file_table.proofs.table.FileTable.add_link.Goals as goal
 

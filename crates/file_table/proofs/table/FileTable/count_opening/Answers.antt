@@ -1,7 +1,7 @@
 use Rattle.std.proofs.Common.{subst, ◌<◌, ◌+◌, Option}
 use Rattle.posix_model.specs.Pipes.{fifo_at}
 use Rattle.posix_model.specs.declared.world.File.{File}
-use Rattle.file_table.specs.Files.{openings}
+use Rattle.file_table.specs.Proved.Files.{openings}
 use Rattle.file_table.proofs.FileLaws.{stands}
 use Rattle.file_table.proofs.table.FileTable.count_opening.Goals as goal
 

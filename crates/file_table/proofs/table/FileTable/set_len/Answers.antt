@@ -1,7 +1,7 @@
 use Rattle.std.proofs.Common.{ap}
 use Rattle.posix_model.specs.Bytes.{resized}
-use Rattle.slots.specs.Uses.{with_value}
-use Rattle.file_table.specs.Files.{edited_bytes}
+use Rattle.slots.specs.Proved.Uses.{with_value}
+use Rattle.file_table.specs.Proved.Files.{edited_bytes}
 use Rattle.file_table.proofs.UseLaws.{edited_as}
 use Rattle.file_table.proofs.table.FileTable.set_len.Goals as goal
 

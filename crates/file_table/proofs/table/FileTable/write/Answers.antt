@@ -1,8 +1,8 @@
 use Rattle.std.proofs.Common.{ap}
-use Rattle.call_types.specs.Stored.{span_bytes}
+use Rattle.call_types.specs.Proved.Stored.{span_bytes}
 use Rattle.posix_model.specs.Bytes.{splice}
-use Rattle.slots.specs.Uses.{with_value}
-use Rattle.file_table.specs.Files.{edited_bytes}
+use Rattle.slots.specs.Proved.Uses.{with_value}
+use Rattle.file_table.specs.Proved.Files.{edited_bytes}
 use Rattle.file_table.proofs.UseLaws.{edited_as}
 use Rattle.file_table.proofs.FileLaws.{room_there}
 use Rattle.file_table.proofs.table.FileTable.write.Goals as goal

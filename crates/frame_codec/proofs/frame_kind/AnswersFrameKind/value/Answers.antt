@@ -1,6 +1,6 @@
 use Rattle.std.proofs.Common.{arith}
 use Rattle.frame_codec.specs.Answers.{answer_bytes, AnswerFits}
-use Rattle.frame_codec.specs.ReadingAnswers.{answer_at}
+use Rattle.frame_codec.specs.Proved.ReadingAnswers.{answer_at}
 use Rattle.frame_codec.proofs.Steps.{are_bytes}
 use Rattle.frame_codec.proofs.AnswerReads.{answer_reads}
 use Rattle.frame_codec.proofs.KindLaws.{gives_value}

@@ -1,6 +1,6 @@
 use Rattle.std.proofs.Common.{arith}
 use Rattle.frame_codec.specs.Records.{record_bytes, RecordFits}
-use Rattle.frame_codec.specs.ReadingRecords.{record_at}
+use Rattle.frame_codec.specs.Proved.ReadingRecords.{record_at}
 use Rattle.frame_codec.proofs.Steps.{are_bytes}
 use Rattle.frame_codec.proofs.RecordReads.{record_reads}
 use Rattle.frame_codec.proofs.KindLaws.{gives_value}

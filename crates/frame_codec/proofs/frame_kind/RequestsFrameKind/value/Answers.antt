@@ -1,6 +1,6 @@
 use Rattle.std.proofs.Common.{arith}
 use Rattle.frame_codec.specs.Requests.{request_bytes, RequestFits}
-use Rattle.frame_codec.specs.ReadingRequests.{request_at}
+use Rattle.frame_codec.specs.Proved.ReadingRequests.{request_at}
 use Rattle.frame_codec.proofs.Steps.{are_bytes}
 use Rattle.frame_codec.proofs.RequestReads.{request_reads}
 use Rattle.frame_codec.proofs.KindLaws.{gives_value}

@@ -1,9 +1,9 @@
 use Rattle.std.proofs.Common.{◌≡◌, ◌∙◌, ℕ, List, Option, ap, sym, subst}
-use Rattle.call_types.specs.Stored.{span_bytes}
+use Rattle.call_types.specs.Proved.Stored.{span_bytes}
 use Rattle.slots.specs.Slots.{slot}
 use Rattle.posix_model.specs.Pipes.{fifo_at}
 use Rattle.posix_model.specs.Change.{with_files, with_processes}
-use Rattle.machine_state.specs.Types.{File}
+use Rattle.machine_state.specs.Proved.Types.{File}
 use Rattle.machine_state.proofs.ApplyLaws.{SameFifo, fifos_same, files_keep, processes_keep, processes_keep_files, proper_after, room_after, theirs_after}
 use Rattle.machine_state.proofs.machine.Machine.apply.Goals as goal
 

@@ -3,7 +3,7 @@ use Rattle.call_types.specs.declared.limits.TheConstants.{OPEN_MAX}
 use Rattle.slots.specs.Slots.{slot}
 use Rattle.process_table.specs.Processes.{table_of}
 use Rattle.posix_model.specs.Sweep.{sweep}
-use Rattle.posix_model.specs.Drops.{closed_below}
+use Rattle.posix_model.specs.Proved.Drops.{closed_below}
 use Rattle.posix_model.specs.Descriptors.{with_descriptor}
 use Rattle.machine_state.proofs.ProcessLaws.{still_there, closed_to}
 use Rattle.machine_state.proofs.DropLaws.{swept_theirs}

@@ -1,9 +1,9 @@
 use Rattle.std.proofs.Common.{◌≡◌, ℕ, ◌≤◌, ◌-◌}
 use Rattle.call_types.specs.declared.limits.TheConstants.{OPEN_MAX}
 use Rattle.posix_model.specs.Sweep.{sweep}
-use Rattle.posix_model.specs.Whole.{IsThere}
-use Rattle.posix_model.specs.Drops.{closed_below}
-use Rattle.machine_state.specs.Targets.{EndsAreTheirs}
+use Rattle.posix_model.specs.Proved.Whole.{IsThere}
+use Rattle.posix_model.specs.Proved.Drops.{closed_below}
+use Rattle.machine_state.specs.Proved.Targets.{EndsAreTheirs}
 use Rattle.machine_state.proofs.machine.Machine.close_all.Given as goal
 
 -- the descriptors so far are closed, the process is there, and nothing waits for a sweep

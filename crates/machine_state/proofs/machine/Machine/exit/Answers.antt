@@ -1,6 +1,6 @@
 use Rattle.std.proofs.Common.{sym, ◌∙◌, ap}
 use Rattle.call_types.specs.declared.limits.TheConstants.{OPEN_MAX}
-use Rattle.posix_model.specs.Drops.{without_process}
+use Rattle.posix_model.specs.Proved.Drops.{without_process}
 use Rattle.machine_state.proofs.ProcessLaws.{table_most}
 use Rattle.machine_state.proofs.machine.Machine.exit.Goals as goal
 

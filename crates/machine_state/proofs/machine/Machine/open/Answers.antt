@@ -1,6 +1,6 @@
 use Rattle.std.proofs.Common.{arith, ap}
-use Rattle.machine_state.specs.Held.{stored_in}
-use Rattle.pipe_table.specs.Pipes.{readers_at, writers_at}
+use Rattle.machine_state.specs.Proved.Held.{stored_in}
+use Rattle.pipe_table.specs.Proved.Pipes.{readers_at, writers_at}
 use Rattle.machine_state.proofs.UseLaws.{slot_values}
 use Rattle.machine_state.proofs.StoredLaws.{few_holders, few_ends}
 use Rattle.machine_state.proofs.OpenLaws.{target_there, pipe_there, after_open, opened_world}

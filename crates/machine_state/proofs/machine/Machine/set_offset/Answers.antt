@@ -1,5 +1,5 @@
 use Rattle.std.proofs.Common.{sym, ◌∙◌}
-use Rattle.machine_state.specs.Held.{stored_in}
+use Rattle.machine_state.specs.Proved.Held.{stored_in}
 use Rattle.machine_state.proofs.UseLaws.{there_values}
 use Rattle.machine_state.proofs.StoredLaws.{after_offset, offset_world}
 use Rattle.machine_state.proofs.machine.Machine.set_offset.Goals as goal

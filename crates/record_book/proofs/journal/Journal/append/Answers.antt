@@ -2,13 +2,13 @@ use Rattle.std.proofs.Common.{◌≡◌, ◌+◌, ◌∙◌, cond, None, Some, r
 use Rattle.std.specs.Arc.{arc_value}
 use Rattle.call_types.specs.declared.act.Record.{Record}
 use Rattle.slots.specs.Slots.{live}
-use Rattle.posix_model.specs.Whole.{EachThere, IsItsFifo}
+use Rattle.posix_model.specs.Proved.Whole.{EachThere, IsItsFifo}
 use Rattle.posix_model.specs.declared.world.World.{World}
 use Rattle.posix_model.specs.Step.{given, stepped}
-use Rattle.posix_model.specs.Sound.{ended_by, adds, ended, closes}
+use Rattle.posix_model.specs.Proved.Sound.{ended_by, adds, ended, closes}
 use Rattle.posix_model.specs.Turns.{took, gave}
 use Rattle.record_book.specs.Book.{world_now}
-use Rattle.record_book.specs.Inside.{state_of, prepared_closing}
+use Rattle.record_book.specs.Proved.Inside.{state_of, prepared_closing}
 use Rattle.record_book.specs.Exits.{closing_record, prepared_for}
 use Rattle.record_book.proofs.GrowLemmas.{journal_grows, journal_stays, closed_same}
 use Rattle.record_book.proofs.ExitLemmas.{exits_changed, prepared_count, house_grows}

@@ -1,6 +1,6 @@
 use Rattle.std.proofs.Common.{sym, subst}
 use Rattle.rtrb.specs.Ring.{received}
-use Rattle.session_core.specs.Desk.{StandsThere}
+use Rattle.session_core.specs.Proved.Desk.{StandsThere}
 use Rattle.session_core.proofs.DeskLemmas as laws
 use Rattle.session_core.proofs.desk.Desk.attend.Goals as goal
 

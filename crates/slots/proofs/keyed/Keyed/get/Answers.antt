@@ -1,5 +1,5 @@
 use Rattle.std.proofs.Common.{◌∙◌, sym}
-use Rattle.slots.specs.Keys.{HasNumber}
+use Rattle.slots.specs.Proved.Keys.{HasNumber}
 use Rattle.slots.proofs.KeyLaws.{slot_slots, stands_at}
 use Rattle.slots.proofs.keyed.Keyed.get.Goals as goal
 

@@ -1,5 +1,5 @@
 use Rattle.std.proofs.Common.{◌∙◌, ◌<◌, length, ℕ, List, get_or, refl, ap, arith, length-set}
-use Rattle.system_lock.specs.Sleepers.{pipe_then}
+use Rattle.system_lock.specs.Proved.Sleepers.{pipe_then}
 use Rattle.system_lock.proofs.SleeperLaws as laws
 use Rattle.system_lock.proofs.sleepers.Sleepers.renew_pipes.Goals as goal
 

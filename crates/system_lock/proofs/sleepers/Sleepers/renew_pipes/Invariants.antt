@@ -1,5 +1,5 @@
 use Rattle.std.proofs.Common.{◌≡◌, ℕ, ◌++◌, Option, length, map, take, drop}
-use Rattle.system_lock.specs.Sleepers.{pipe_then}
+use Rattle.system_lock.specs.Proved.Sleepers.{pipe_then}
 use Rattle.system_lock.proofs.sleepers.Sleepers.renew_pipes.Given as goal
 
 -- the pipes up to this place are asked for, whatever function told them before

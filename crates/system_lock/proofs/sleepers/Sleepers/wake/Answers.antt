@@ -1,5 +1,5 @@
 use Rattle.std.proofs.Common.{◌∙◌, ℕ, List, Option}
-use Rattle.system_lock.specs.Sleepers.{pipe_in, pipe_then}
+use Rattle.system_lock.specs.Proved.Sleepers.{pipe_in, pipe_then}
 use Rattle.system_lock.proofs.SleeperLaws as laws
 use Rattle.system_lock.proofs.sleepers.Sleepers.wake.Goals as goal
 

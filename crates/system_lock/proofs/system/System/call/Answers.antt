@@ -1,8 +1,8 @@
 use Rattle.std.proofs.Common.{◌≡◌, ◌∙◌, ℕ, ap, sym, subst}
 use Rattle.posix_model.specs.declared.world.World.{World}
 use Rattle.record_book.specs.Book.{world_now}
-use Rattle.system_lock.specs.Stirred.{stirred_by, stirred_told}
-use Rattle.system_lock.specs.Sleepers.{SparesIn}
+use Rattle.system_lock.specs.Proved.Stirred.{stirred_by, stirred_told}
+use Rattle.system_lock.specs.Proved.Sleepers.{SparesIn}
 use Rattle.system_lock.proofs.system.System.call.Goals as goal
 
 -- the call spares all whom it was said not to stir

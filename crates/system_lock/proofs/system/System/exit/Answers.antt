@@ -1,5 +1,5 @@
 use Rattle.std.proofs.Common.{ℕ, sym, subst}
-use Rattle.system_lock.specs.Sleepers.{SparesIn}
+use Rattle.system_lock.specs.Proved.Sleepers.{SparesIn}
 use Rattle.system_lock.specs.declared.stirred.Stirred.TheVariants as stirred
 use Rattle.system_lock.proofs.system.System.exit.Goals as goal
 

@@ -1,7 +1,7 @@
 use Rattle.std.proofs.Common.{◌≡◌, ◌∙◌, ℕ, ap, sym, subst}
 use Rattle.posix_model.specs.declared.world.World.{World}
-use Rattle.system_lock.specs.Stirred.{pipe_waited, stirred_at}
-use Rattle.system_lock.specs.Sleepers.{pipe_in, SparesIn}
+use Rattle.system_lock.specs.Proved.Stirred.{pipe_waited, stirred_at}
+use Rattle.system_lock.specs.Proved.Sleepers.{pipe_in, SparesIn}
 use Rattle.system_lock.specs.declared.stirred.Stirred.TheVariants as stirred
 use Rattle.system_lock.proofs.system.System.take_up.Goals as goal
 

@@ -1,0 +1,5 @@
+pub mod Judging
+pub mod Inside
+pub mod Taking
+pub mod Laws
+pub mod Auditing

@@ -1,0 +1,6 @@
+pub mod Reading
+pub mod ReadingRequests
+pub mod ReadingAnswers
+pub mod ReadingRecords
+pub mod Laws
+pub mod FrameRows

@@ -1,0 +1,74 @@
+-- What contracts see of a machine: its world, and the room reserved.
+use Rattle.std.specs.Prelude.{ℕ, Bool, List, Option}
+use Rattle.call_types.specs.Names.{Entries}
+use Rattle.machine_state.specs.Proved.Types.{World, Process, Description, Used, Ring, TableState, StoredFile, StoredPipe}
+use Rattle.slots.specs.Proved.Uses.{values_in}
+use Rattle.file_table.specs.Proved.Files.{file_slots, room_slots}
+use Rattle.machine_state.specs.Proved.Pipes.{pipe_slots, pipe_room}
+use Rattle.machine_state.specs.declared.machine.Machine.TheInside.{Inside}
+
+-- for how many more files, pipes, descriptions, processes and names there is room, for which bytes in each file, and
+-- how many bytes each pipe holds, which never changes
+pub record Room : Type 0 where
+  pub files : ℕ
+  pub pipes : ℕ
+  pub descriptions : ℕ
+  pub processes : ℕ
+  pub names : ℕ
+  pub bytes : List TableState
+  pub capacity : ℕ
+
+-- a machine, as contracts see it
+pub record Held : Type 0 where
+  pub world : World
+  pub room : Room
+
+-- what a machine stores: its files, pipes and descriptions have the counts of their uses; a ring stands by for the next pipe
+pub record Stored : Type 0 where
+  pub files : List (Option (Used StoredFile))
+  pub pipes : List (Option (Used StoredPipe))
+  pub descriptions : List (Option (Used Description))
+  pub processes : List (Option Process)
+  pub names : Entries
+  pub closed : Bool
+  pub spare : Option Ring
+  pub capacity : ℕ
+
+-- its world
+abbrev pub world_in : Stored → World
+world_in s = record {
+  files = file_slots (values_in s.files);
+  pipes = pipe_slots (values_in s.pipes);
+  descriptions = values_in s.descriptions;
+  processes = s.processes;
+  names = s.names;
+  closed = s.closed;
+}
+
+-- what is inside a machine
+abbrev pub stored_in : Inside → Stored
+stored_in m = record {
+  files = m.files.0;
+  pipes = m.pipes.0;
+  descriptions = m.descriptions.0;
+  processes = m.processes.0;
+  names = m.names.0;
+  closed = m.closed;
+  spare = m.spare;
+  capacity = m.capacity;
+}
+
+-- what contracts see of it
+abbrev pub held_by : Inside → Held
+held_by m = record {
+  world = world_in (stored_in m);
+  room = record {
+    files = m.files.1;
+    pipes = pipe_room m.pipes.1 m.spare;
+    descriptions = m.descriptions.1;
+    processes = m.processes.1;
+    names = m.names.1;
+    bytes = room_slots (values_in m.files.0);
+    capacity = m.capacity;
+  };
+}

@@ -1,0 +1,66 @@
+-- The room that changes take.
+use Rattle.std.specs.Prelude.{◌≡◌, ℕ, ◌+◌, ◌<◌, ◌≤◌, ◌^◌, None}
+use Rattle.slots.specs.Slots.{slot}
+use Rattle.posix_model.specs.Pipes.{fifo_at, pipe_of_fifo}
+use Rattle.machine_state.specs.Proved.Types.{Mode, FileEdit, ProcessEdit, TableEdit, Change}
+use Rattle.posix_model.specs.declared.change.FileEdit.TheVariants as on_files
+use Rattle.posix_model.specs.declared.change.ProcessEdit.TheVariants as on_process
+use Rattle.posix_model.specs.declared.change.TableEdit.TheVariants as on_table
+use Rattle.file_extents.specs.Proved.Contents.{HasRoom as HasBytes, KeepsRoom as KeepsBytes}
+use Rattle.file_table.specs.Proved.Files.{room_at, openings}
+use Rattle.machine_state.specs.Proved.Held.{Room, Held}
+
+-- the room of an edit of files stands reserved
+abbrev pub HasFileRoom : Room → FileEdit → Type 0
+HasFileRoom room (on_files.Bytes file start count) = HasBytes (room_at room.bytes file) start count
+HasFileRoom room (on_files.AddName name file) = 0 < room.names
+HasFileRoom room (on_files.MakeFile name) = (0 < room.files) × (0 < room.names)
+HasFileRoom room (on_files.MakeFifo name) = (0 < room.files) × (0 < room.names)
+HasFileRoom room other = Unit {0}
+
+-- the room of an edit of processes stands reserved, where there is room for so many more
+abbrev pub HasProcessRoom : ℕ → ProcessEdit → Type 0
+HasProcessRoom processes (on_process.Add table attached) = 0 < processes
+HasProcessRoom processes other = Unit {0}
+
+-- the room of a new end of a FIFO stands reserved: a description, a pipe where the FIFO has none, and a number for one opening more
+pub record HasEndRoom (m : Held) (file : ℕ) (mode : Mode) : Type 0 where
+  pub description : 0 < m.room.descriptions
+  pub pipe : pipe_of_fifo (fifo_at (slot m.world.files file)) ≡ None → 0 < m.room.pipes
+  pub opening : openings mode (fifo_at (slot m.world.files file)) + 1 < 2 ^ 64
+
+-- the room of an edit of descriptors stands reserved
+abbrev pub HasTableRoom : Held → TableEdit → Type 0
+HasTableRoom m (on_table.Open process fd description) = 0 < m.room.descriptions
+HasTableRoom m (on_table.OpenPair process reading writing) = (2 ≤ m.room.descriptions) × (0 < m.room.pipes)
+HasTableRoom m (on_table.OpenEnd process fd file description) = HasEndRoom m file description.mode
+HasTableRoom m other = Unit {0}
+
+-- the room of a change stands reserved
+pub record HasRoom (m : Held) (c : Change) : Type 0 where
+  pub files : HasFileRoom m.room c.files
+  pub process : HasProcessRoom m.room.processes c.process
+  pub table : HasTableRoom m c.table
+
+-- no room is less than it was, and a pipe holds as many bytes
+pub record KeepsRoom (old new : Room) : Type 0 where
+  pub files : old.files ≤ new.files
+  pub pipes : old.pipes ≤ new.pipes
+  pub descriptions : old.descriptions ≤ new.descriptions
+  pub processes : old.processes ≤ new.processes
+  pub names : old.names ≤ new.names
+  pub bytes : (file : ℕ) → KeepsBytes (room_at old.bytes file) (room_at new.bytes file)
+  pub capacity : new.capacity ≡ old.capacity
+
+-- descriptions and pipes have the room that they had, and a pipe holds as many bytes
+pub record KeepsOpenRoom (old new : Held) : Type 0 where
+  pub descriptions : new.room.descriptions ≡ old.room.descriptions
+  pub pipes : new.room.pipes ≡ old.room.pipes
+  pub capacity : new.room.capacity ≡ old.room.capacity
+
+-- and so have processes
+pub record KeepsTableRoom (old new : Held) : Type 0 where
+  pub descriptions : new.room.descriptions ≡ old.room.descriptions
+  pub processes : new.room.processes ≡ old.room.processes
+  pub pipes : new.room.pipes ≡ old.room.pipes
+  pub capacity : new.room.capacity ≡ old.room.capacity

@@ -1,0 +1,19 @@
+-- The types that definitions and proofs name, in one place.
+pub use Rattle.posix_model.specs.declared.world.World.{World}
+pub use Rattle.process_table.specs.declared.process.Process.{Process}
+pub use Rattle.call_types.specs.declared.description.Description.{Description}
+pub use Rattle.call_types.specs.declared.description.Target.{Target}
+pub use Rattle.call_types.specs.declared.description.Mode.{Mode}
+pub use Rattle.posix_model.specs.declared.world.File.{File}
+pub use Rattle.posix_model.specs.declared.world.Fifo.{Fifo}
+pub use Rattle.posix_model.specs.declared.change.FileEdit.{FileEdit}
+pub use Rattle.posix_model.specs.declared.change.ProcessEdit.{ProcessEdit}
+pub use Rattle.posix_model.specs.declared.change.TableEdit.{TableEdit}
+pub use Rattle.posix_model.specs.declared.change.Change.{Change}
+pub use Rattle.slots.specs.declared.used.Used.{Used}
+pub use Rattle.description_table.specs.declared.Dropped.{Dropped}
+pub use Rattle.pipe_ring.specs.Proved.Ring.{Ring}
+pub use Rattle.file_extents.specs.Proved.Chunks.{TableState}
+pub use Rattle.file_table.specs.declared.stored_file.FileBody.{FileBody}
+pub use Rattle.file_table.specs.declared.stored_file.StoredFile.{StoredFile}
+pub use Rattle.pipe_table.specs.declared.StoredPipe.{StoredPipe}

@@ -1,0 +1,10 @@
+pub mod Whole
+pub mod Numbers
+pub mod Fits
+pub mod Sound
+pub mod Lengths
+pub mod Released
+pub mod Drops
+pub mod Laws
+pub mod WaitLaws
+pub mod Waiting

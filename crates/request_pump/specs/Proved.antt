@@ -1,0 +1,3 @@
+pub mod Pushing
+pub mod Pump
+pub mod Pumping

@@ -1,0 +1,11 @@
+pub mod Output
+pub mod Stages
+pub mod Turns
+pub mod Ends
+pub mod Closing
+pub mod Memory
+pub mod Desk
+pub mod Settling
+pub mod Laws
+pub mod Saying
+pub mod Leaving

@@ -1,0 +1,3 @@
+pub mod RingState
+pub mod RingInside
+pub mod Trace

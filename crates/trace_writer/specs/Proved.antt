@@ -1,0 +1,3 @@
+pub mod TracerState
+pub mod Tracing
+pub mod Memory
