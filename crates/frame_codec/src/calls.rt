@@ -186,7 +186,7 @@ fn later_call(alloc: Global, byte: u8, bytes: &[u8]) -> Result<(Call, &[u8]), Pa
 }
 
 /// The call at the front.
-#[tactic(auto, unfolding(crate::specs::ReadingRequests::call_at))]
+#[tactic(auto, unfolding(crate::specs::Proved::ReadingRequests::call_at))]
 pub(crate) fn call(alloc: Global, bytes: &[u8]) -> Result<(Call, &[u8]), PayloadFault>
     ensures { Gives (λ x. (x.0, x.1.now)) result (call_at bytes.now) }
 {

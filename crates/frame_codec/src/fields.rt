@@ -14,7 +14,7 @@ use call_types::whence::Whence;
 use std::alloc::Global;
 
 /// The number of four bytes at the front.
-#[tactic(auto, unfolding(crate::specs::Reading::number_at))]
+#[tactic(auto, unfolding(crate::specs::Proved::Reading::number_at))]
 pub(crate) fn number32(bytes: &[u8]) -> Result<(u32, &[u8]), PayloadFault>
     ensures { Gives (λ x. (x.0, x.1.now)) result (number_at w32 bytes.now) }
 {
@@ -27,7 +27,7 @@ pub(crate) fn number32(bytes: &[u8]) -> Result<(u32, &[u8]), PayloadFault>
 }
 
 /// The number of eight bytes at the front.
-#[tactic(auto, unfolding(crate::specs::Reading::number_at))]
+#[tactic(auto, unfolding(crate::specs::Proved::Reading::number_at))]
 pub(crate) fn number64(bytes: &[u8]) -> Result<(u64, &[u8]), PayloadFault>
     ensures { Gives (λ x. (x.0, x.1.now)) result (number_at w64 bytes.now) }
 {

@@ -119,7 +119,7 @@ fn part(bytes: &[u8]) -> Result<(Outcome, &[u8]), PayloadFault>
 }
 
 /// The outcome at the front.
-#[tactic(auto, unfolding(crate::specs::ReadingAnswers::outcome_at))]
+#[tactic(auto, unfolding(crate::specs::Proved::ReadingAnswers::outcome_at))]
 pub(crate) fn outcome(alloc: Global, bytes: &[u8]) -> Result<(Outcome, &[u8]), PayloadFault>
     ensures { Gives (λ x. (x.0, x.1.now)) result (outcome_at bytes.now) }
 {
@@ -146,7 +146,7 @@ fn foreign(bytes: &[u8]) -> Result<(Refusal, &[u8]), PayloadFault>
 }
 
 /// The refusal at the front.
-#[tactic(auto, unfolding(crate::specs::ReadingAnswers::refusal_at))]
+#[tactic(auto, unfolding(crate::specs::Proved::ReadingAnswers::refusal_at))]
 pub(crate) fn refusal(bytes: &[u8]) -> Result<(Refusal, &[u8]), PayloadFault>
     ensures { Gives (λ x. (x.0, x.1.now)) result (refusal_at bytes.now) }
 {

@@ -22,7 +22,7 @@ fn called(alloc: Global, bytes: &[u8]) -> Result<(Act, &[u8]), PayloadFault>
 }
 
 /// The act at the front.
-#[tactic(auto, unfolding(crate::specs::ReadingRecords::act_at))]
+#[tactic(auto, unfolding(crate::specs::Proved::ReadingRecords::act_at))]
 fn act(alloc: Global, bytes: &[u8]) -> Result<(Act, &[u8]), PayloadFault>
     ensures { Gives (λ x. (x.0, x.1.now)) result (act_at bytes.now) }
 {
