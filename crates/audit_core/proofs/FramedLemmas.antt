@@ -27,8 +27,8 @@ use Rattle.posix_model.specs.Proved.Laws.{StepKeepsWhole, HistoryIsWhole}
 use Rattle.posix_model.specs.Proved.Lengths.{act_length, outcome_length, record_length, IsShort, StepIsShort}
 use Rattle.posix_model.specs.Step.{Stepped, stepped, step}
 use Rattle.posix_model.specs.Proved.Whole.{IsWhole}
-use Rattle.audit_core.specs.Proved.Laws.{LegalHaveFrames}
-use Rattle.audit_core.specs.Trace.{HasFrame, HaveFrames, IsInRange, AllInRange}
+use Rattle.audit_core.specs.Proved.Laws.{LegalHaveFrames, AllInRange}
+use Rattle.audit_core.specs.Trace.{HasFrame, HaveFrames, IsInRange}
 
 -- ---- a frame has as many bytes as the model counts
 

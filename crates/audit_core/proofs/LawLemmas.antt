@@ -11,7 +11,8 @@ use Rattle.frame_codec.specs.Records.{record_bytes, SpellsRecord}
 use Rattle.frame_codec.specs.Trace.{trace_header, frames_of, text}
 use Rattle.posix_model.specs.declared.world.World.{World}
 use Rattle.posix_model.specs.History.{after, world_from, legal_from, empty_world, legal}
-use Rattle.audit_core.specs.Verdict.{outcome_of, BreaksAt, IsLegal, IsIllegal, IsMalformedAt, IsVerdict}
+use Rattle.audit_core.specs.Verdict.{BreaksAt, IsLegal, IsIllegal, IsMalformedAt, IsVerdict}
+use Rattle.posix_model.specs.Step.{outcome_of}
 use Rattle.audit_core.specs.Proved.Laws.{OneVerdict, TextIsLegal, FrontIsLegal, FaultStays}
 use Rattle.audit_core.specs.Trace.{HaveFrames, Begins, IsUnfinished, IsAtFault, EndsInHeader, HasNoHeader}
 use Rattle.audit_core.specs.declared.verdict.Verdict.TheVariants.{Legal, Illegal, Malformed}

@@ -9,11 +9,11 @@ use Rattle.call_types.specs.declared.limits.Bounds.{Bounds}
 use Rattle.frame_codec.specs.Fields.{number_bytes}
 use Rattle.frame_codec.specs.Frames.{frame, told_length}
 use Rattle.frame_codec.specs.Records.{record_bytes}
-use Rattle.frame_codec.specs.Trace.{trace_header, frames_of, text}
+use Rattle.frame_codec.specs.Trace.{trace_header, frames_of, text, whole_in}
 use Rattle.posix_model.specs.declared.world.World.{World}
 use Rattle.posix_model.specs.History.{after, legal_from, empty_world, legal}
 use Rattle.audit_core.specs.Proved.Laws.{LegalFront, LegalHaveFrames, WrittenIsLegal}
-use Rattle.audit_core.specs.Trace.{HasFrame, HaveFrames, IsUnfinished, whole_frames}
+use Rattle.audit_core.specs.Trace.{HasFrame, HaveFrames, IsUnfinished}
 use Rattle.audit_core.specs.Verdict.{IsVerdict}
 use Rattle.audit_core.specs.declared.verdict.Verdict.TheVariants.{Legal}
 use Rattle.audit_core.proofs.TraceLemmas.{order, frame_long}
@@ -73,7 +73,7 @@ record Cut (h : List Record) (bytes : List ℕ) : Type 0 where
   is : h ≡ whole ++ more
   bytes_are : bytes ≡ frames_of whole ++ rest
   short : IsUnfinished rest
-  count : whole_frames h (length bytes) ≡ length whole
+  count : whole_in h (length bytes) ≡ length whole
 
 one_more : (b : Bool) (m n k : ℕ) → b ≡ true → m ≡ n → n ≡ k → cond b (m + 1) 0 ≡ k + 1
 one_more true m n k is e same = omega (arith, e, same)
@@ -88,7 +88,7 @@ cut_after : (r : Record) (h : List Record) (bytes left : List ℕ) → frame (re
 cut_after r h bytes left e is c =
     let first = frame (record_bytes r) in
     let parts = split first (frames_of h) bytes left (leb-true (length first) (length bytes) is) e in
-    let long : whole_frames h (length bytes - length first) ≡ whole_frames h (length (drop (length first) bytes)) = ap (λ (n : ℕ). whole_frames h n) (sym (length-drop (length first) bytes)) in
+    let long : whole_in h (length bytes - length first) ≡ whole_in h (length (drop (length first) bytes)) = ap (λ (n : ℕ). whole_in h n) (sym (length-drop (length first) bytes)) in
     record {
       whole = r ∷ c.whole;
       more = c.more;
@@ -96,7 +96,7 @@ cut_after r h bytes left e is c =
       is = ap (λ (l : List Record). r ∷ l) c.is;
       bytes_are = parts.0 ∙ ap (λ (x : List ℕ). first ++ x) c.bytes_are ∙ sym (append_assoc first (frames_of c.whole) c.rest);
       short = c.short;
-      count = omega (arith, one_more (leb (length first) (length bytes)) (whole_frames h (length bytes - length first)) (whole_frames h (length (drop (length first) bytes))) (length c.whole) is long c.count);
+      count = omega (arith, one_more (leb (length first) (length bytes)) (whole_in h (length bytes - length first)) (whole_in h (length (drop (length first) bytes))) (length c.whole) is long c.count);
     }
 
 cut_at : (b : Bool) (r : Record) (h : List Record) (bytes left : List ℕ) → HasFrame r → frame (record_bytes r) ++ frames_of h ≡ bytes ++ left
@@ -111,7 +111,7 @@ cut_at false r h bytes left f e cuts is = record {
   is = refl;
   bytes_are = refl;
   short = unfinished r (frames_of h) bytes left f e (leb-false (length (frame (record_bytes r))) (length bytes) is);
-  count = none_there (leb (length (frame (record_bytes r))) (length bytes)) (whole_frames h (length bytes - length (frame (record_bytes r))) + 1) is;
+  count = none_there (leb (length (frame (record_bytes r))) (length bytes)) (whole_in h (length bytes - length (frame (record_bytes r))) + 1) is;
 }
 
 cut : (h : List Record) (bytes left : List ℕ) → HaveFrames h → frames_of h ≡ bytes ++ left → Cut h bytes
@@ -121,27 +121,27 @@ cut (r ∷ h) bytes left f e =
 
 -- ---- the verdict
 
-none_fits : (b : Bool) (r : Record) (h : List Record) → leb (length (frame (record_bytes r))) 0 ≡ b → whole_frames (r ∷ h) 0 ≡ 0
+none_fits : (b : Bool) (r : Record) (h : List Record) → leb (length (frame (record_bytes r))) 0 ≡ b → whole_in (r ∷ h) 0 ≡ 0
 none_fits true r h is = absurd (omega (arith, leb-true (length (frame (record_bytes r))) 0 is, frame_long (record_bytes r)))
-none_fits false r h is = none_there (leb (length (frame (record_bytes r))) 0) (whole_frames h (0 - length (frame (record_bytes r))) + 1) is
+none_fits false r h is = none_there (leb (length (frame (record_bytes r))) 0) (whole_in h (0 - length (frame (record_bytes r))) + 1) is
 
-none_whole : (h : List Record) → whole_frames h 0 ≡ 0
+none_whole : (h : List Record) → whole_in h 0 ≡ 0
 none_whole [] = refl
 none_whole (r ∷ h) = none_fits (leb (length (frame (record_bytes r))) 0) r h refl
 
 unbegun : (bounds : Bounds) (h : List Record) (bytes left : List ℕ) → text h ≡ bytes ++ left → length bytes < length trace_header →
-    IsVerdict bounds bytes (Legal (whole_frames h (length bytes - length trace_header)) (length bytes))
+    IsVerdict bounds bytes (Legal (whole_in h (length bytes - length trace_header)) (length bytes))
 unbegun bounds h bytes left e below =
     let none : length bytes - length trace_header ≡ 0 = omega (arith, below) in
     let within : length bytes ≤ length trace_header = omega (arith, below) in
     inl (record {
       ends = (below, sym (take_at bytes left (length bytes) refl) ∙ ap (λ (x : List ℕ). take (length bytes) x) (sym e) ∙ take-append-le (length bytes) trace_header (frames_of h) within);
-      records_are = ap (λ (n : ℕ). whole_frames h n) none ∙ none_whole h;
+      records_are = ap (λ (n : ℕ). whole_in h n) none ∙ none_whole h;
       rest_is = refl;
     })
 
 begun : (bounds : Bounds) (h : List Record) (bytes left : List ℕ) → legal bounds h → HaveFrames h → text h ≡ bytes ++ left → length trace_header ≤ length bytes →
-    (rest : ℕ) × IsVerdict bounds bytes (Legal (whole_frames h (length bytes - length trace_header)) rest)
+    (rest : ℕ) × IsVerdict bounds bytes (Legal (whole_in h (length bytes - length trace_header)) rest)
 begun bounds h bytes left l framed e long =
     let parts = split trace_header (frames_of h) bytes left long e in
     let c = cut h (drop (length trace_header) bytes) left framed parts.1 in (
@@ -155,7 +155,7 @@ begun bounds h bytes left l framed e long =
         };
         unfinished = c.short;
         is_legal = legal_front bounds c.whole c.more (subst (λ (x : List Record). legal bounds x) c.is l);
-        records_are = ap (λ (n : ℕ). whole_frames h n) (sym (length-drop (length trace_header) bytes)) ∙ c.count;
+        records_are = ap (λ (n : ℕ). whole_in h n) (sym (length-drop (length trace_header) bytes)) ∙ c.count;
         rest_is = refl;
       }),
     )

@@ -1,5 +1,5 @@
 -- How bytes begin that are to be a trace (own).
-use Rattle.std.specs.Prelude.{◌≡◌, ◌≢◌, ℕ, ◌+◌, ◌-◌, ◌*◌, ◌^◌, ◌≤◌, ◌<◌, nat_le, ◌⊎◌, List, [], ◌∷◌, ◌++◌, length, take, if◌then◌else◌}
+use Rattle.std.specs.Prelude.{◌≡◌, ◌≢◌, ℕ, ◌+◌, ◌*◌, ◌^◌, ◌≤◌, ◌<◌, ◌⊎◌, List, [], ◌∷◌, ◌++◌, length, take}
 use Rattle.call_types.specs.Flags.{nonblocking}
 use Rattle.call_types.specs.declared.act.Act.{Act}
 use Rattle.call_types.specs.declared.act.Act.TheVariants as acts
@@ -7,7 +7,7 @@ use Rattle.call_types.specs.declared.act.Record.{Record}
 use Rattle.call_types.specs.declared.call.Call.TheVariants as calls
 use Rattle.call_types.specs.declared.limits.TheConstants.{RECORD_LENGTH_MAX}
 use Rattle.frame_codec.specs.Answers.{OutcomeFits}
-use Rattle.frame_codec.specs.Frames.{frame, IsShort, IsTooLong, IsMalformed}
+use Rattle.frame_codec.specs.Frames.{IsShort, IsTooLong, IsMalformed}
 use Rattle.frame_codec.specs.Records.{record_bytes, ActFits, RecordFits, SpellsRecord}
 use Rattle.frame_codec.specs.Trace.{trace_header, text}
 
@@ -28,16 +28,6 @@ FlagsFit other = Unit {0}
 -- a record with its fields in range, whether or not its actor may do its act
 abbrev pub IsInRange : Record → Type 0
 IsInRange r = (r.actor < 2 ^ 32) × ActFits r.act × OutcomeFits r.outcome
-
--- records with their fields in range
-abbrev pub AllInRange : List Record → Type 0
-AllInRange [] = Unit {0}
-AllInRange (r ∷ h) = IsInRange r × AllInRange h
-
--- how many records have their whole frames in so many bytes of the frames of all
-abbrev pub whole_frames : List Record → ℕ → ℕ
-whole_frames [] n = 0
-whole_frames (r ∷ h) n = if nat_le (length (frame (record_bytes r))) n then whole_frames h (n - length (frame (record_bytes r))) + 1 else 0
 
 -- bytes that begin with the text of these records, and after it have this rest
 pub record Begins (bytes : List ℕ) (h : List Record) (rest : List ℕ) : Type 0 where

@@ -8,10 +8,7 @@ use Rattle.frame_codec.specs.Trace.{text}
 use Rattle.audit_core.specs.Trace.{Begins, IsUnfinished, IsAtFault, EndsInHeader, HasNoHeader}
 use Rattle.audit_core.specs.declared.verdict.Verdict.{Verdict}
 use Rattle.audit_core.specs.declared.verdict.Verdict.TheVariants.{Legal, Illegal, Malformed}
-use Rattle.std.specs.Option.{option_map}
-use Rattle.call_types.specs.declared.act.Act.{Act}
-use Rattle.posix_model.specs.declared.world.World.{World}
-use Rattle.posix_model.specs.Step.{step}
+use Rattle.posix_model.specs.Step.{outcome_of}
 
 -- the records before this place are legal, and the one at it is not what the model gives: so it is the first that is not
 pub record BreaksAt (bounds : Bounds) (h : List Record) (place : ℕ) (expected : Option Outcome) : Type 0 where
@@ -66,7 +63,3 @@ abbrev pub IsVerdict : Bounds → List ℕ → Verdict → Type 0
 IsVerdict bounds bytes (Legal records rest) = IsUnbegun bytes records rest ⊎ IsLegal bounds bytes records rest
 IsVerdict bounds bytes (Illegal place expected) = IsIllegal bounds bytes place expected
 IsVerdict bounds bytes (Malformed at) = IsUnheaded bytes at ⊎ IsMalformedAt bounds bytes at
-
--- what the model gives of an act in a world, if it records any
-abbrev pub outcome_of : Bounds → World → ℕ → Act → Option Outcome
-outcome_of bounds w actor act = option_map (λ s. s.outcome) (step bounds w actor act)

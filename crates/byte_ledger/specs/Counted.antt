@@ -17,7 +17,7 @@ pub record Counted : Type 0 where
 abbrev pub counted_more : ℕ → ℕ → Counted → Counted
 counted_more bytes_in bytes_out c = record { records = c.records + 1; bytes_in = c.bytes_in + bytes_in; bytes_out = c.bytes_out + bytes_out }
 
--- how many holders have shares, and what was counted through all of them
+-- for how many holders shares were opened, and what was counted through all of them
 pub record TalliesState : Type 0 where
   pub opened : ℕ
   pub counted : Counted

@@ -1,7 +1,8 @@
 //! The shares of a tally, brought together one after another, which takes no memory.
 
 ghost use Rattle.std.specs.Prelude.{◌≡◌, ◌+◌, ◌<◌, IfOk, IfErr, OnOk};
-ghost use Rattle.byte_ledger.specs.Proved.Tally.{MergedState, Misses};
+ghost use Rattle.byte_ledger.specs.Tally.{Misses};
+ghost use Rattle.byte_ledger.specs.Proved.Merged.{MergedState};
 
 use crate::tally::{Share, Tally};
 use std::marker::Model;
@@ -30,7 +31,7 @@ pub(crate) struct Merged<L: Ledger> {
 
 impl<L: Ledger> Model for Merged<L> {
     ghost use Rattle.std.specs.Prelude.{◌≡◌, ◌+◌, ◌≤◌};
-    ghost use Rattle.byte_ledger.specs.Proved.Tally.{MergedState};
+    ghost use Rattle.byte_ledger.specs.Proved.Merged.{MergedState};
 
     ghost Value = { MergedState };
 

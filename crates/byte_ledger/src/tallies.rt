@@ -2,7 +2,7 @@
 
 ghost use Rattle.std.specs.Prelude.{◌≡◌, ◌<◌, ◌+◌, ◌^◌, map, sum, length, IfOk, IfErr, OnOk};
 ghost use Rattle.byte_ledger.specs.Counted.{counted_more};
-ghost use Rattle.byte_ledger.specs.Proved.Tally.{Misses};
+ghost use Rattle.byte_ledger.specs.Tally.{Misses};
 
 use crate::gather::{Merged, Missing};
 use crate::ledgers::{Blanks, BytesIn, BytesOut, Ledgers, Records};

@@ -1,5 +1,5 @@
 ghost use Rattle.std.specs.Prelude.{◌≡◌, ◌+◌, ◌^◌, ◌<◌, ◌≤◌};
-ghost use Rattle.byte_ledger.specs.Proved.Tally.{TallyState};
+ghost use Rattle.byte_ledger.specs.Tally.{TallyState};
 
 use std::marker::Model;
 use std::sync::ledger;
@@ -22,7 +22,7 @@ pub struct Tally<L: Ledger> {
 
 impl<L: Ledger> Model for Tally<L> {
     ghost use Rattle.std.specs.Prelude.{◌≡◌, ◌+◌};
-    ghost use Rattle.byte_ledger.specs.Proved.Tally.{TallyState};
+    ghost use Rattle.byte_ledger.specs.Tally.{TallyState};
 
     ghost Value = { TallyState };
 

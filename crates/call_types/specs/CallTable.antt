@@ -1,5 +1,6 @@
--- The calls: each has a word in lines, a byte in request frames, and its fields. One table for both (own).
-use Rattle.std.specs.Prelude.{◌≡◌, ℕ, ◌+◌, ◌≤◌, ℤ, List, [], ◌∷◌, Option, None, Some, length, codes}
+-- The calls: each has a word in lines, a byte in request frames, and its fields. One table for both, but for an open, whose
+-- flags stand before its name in a frame (own).
+use Rattle.std.specs.Prelude.{ℕ, ◌+◌, ◌≤◌, ℤ, List, [], ◌∷◌, Option, None, Some, length, codes}
 use Rattle.call_types.specs.declared.call.Call.{Call}
 use Rattle.call_types.specs.declared.call.Call.TheVariants as calls
 use Rattle.call_types.specs.declared.whence.Whence.{Whence}
@@ -34,11 +35,6 @@ Values (k ∷ ks) = Value k × Values ks
 abbrev pub Makes : List FieldKind → Type 0
 Makes [] = Call
 Makes (k ∷ ks) = Value k → Makes ks
-
--- the call that it makes
-abbrev pub made : (ks : List FieldKind) → Makes ks → Values ks → Call
-made [] make vs = make
-made (k ∷ ks) make vs = made ks (make vs.0) vs.1
 
 -- a call's word, its byte and its fields, in the order of a line
 pub record Entry : Type 0 where
@@ -133,10 +129,6 @@ parts (calls.Link old new) = of link_entry (old, (new, tt))
 parts (calls.Unlink name) = of unlink_entry (name, tt)
 parts (calls.Fstat fd) = of fstat_entry (fd, tt)
 parts calls.Fork = of fork_entry tt
-
--- an entry makes the calls that have it in their parts
-abbrev pub Parted : Entry → Type 0
-Parted e = (vs : Values e.fields) → parts (made e.fields e.make vs) ≡ of e vs
 
 -- a field that is a descriptor, or what the fields after it tell
 abbrev pub descriptor_or : (k : FieldKind) → Value k → Option ℤ → Option ℤ

@@ -4,4 +4,5 @@ pub mod Names
 pub mod Descriptions
 pub mod CallTable
 pub mod Ranges
+pub mod Writing
 pub mod Proved

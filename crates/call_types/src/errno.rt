@@ -34,7 +34,7 @@ pub enum Errno {
     EPIPE = 14,
     /// A FIFO without a reader.
     ENXIO = 15,
-    /// No such process.
+    /// No such process, or none that has no connection yet.
     ESRCH = 16,
 }
 

@@ -3,7 +3,7 @@ ghost use Rattle.call_types.specs.declared.limits.TheConstants.{OFFSET_MAX, RECO
 
 use crate::act::HOUSE;
 
-/// Descriptors of one process: the numbers 0 to 31 (XSH 2.14, OPEN_MAX).
+/// Descriptors of one process: the numbers 0 to 31 (XSH 2.14; XBD limits.h, OPEN_MAX).
 pub const OPEN_MAX: usize = 32;
 
 /// Bytes of a name in a world; a longer one is ENAMETOOLONG (NAME_MAX).
@@ -27,7 +27,7 @@ pub const TRANSFER_MAX: usize = 65_536;
 /// Bytes of a name as a call may give it; a longer one cannot be spelled.
 pub const GIVEN_NAME_MAX: usize = 255;
 
-/// Bytes that a call may give to write; more cannot be spelled, so that EINVAL has calls to be told of.
+/// Bytes that a call may give to write; more cannot be spelled. It is above `TRANSFER_MAX`, so that EINVAL can be told.
 pub const GIVEN_BYTES_MAX: usize = 65_700;
 
 /// The greatest offset of a description, in bytes; a call that leads past it is EOVERFLOW.
@@ -39,10 +39,10 @@ pub const FILE_SIZE_MAX: u64 = 1_048_576;
 /// Bytes of a write to a pipe that go in all at once or not at all (page of write, PIPE_BUF).
 pub const PIPE_BUF: usize = 512;
 
-/// Bytes that a pipe holds.
+/// Bytes that a pipe holds at most.
 pub const PIPE_CAPACITY: u64 = 1024;
 
-/// Bytes of a record where it is sent.
+/// Bytes of a record in a trace, at most.
 pub const RECORD_LENGTH_MAX: usize = 66_048;
 
 /// Records of one run, at most.

@@ -20,7 +20,8 @@ use Rattle.clap.specs.declared.parser.matches.ValueSource.TheVariants.{CommandLi
 use Rattle.clap.specs.declared.error.Error.{Error}
 use Rattle.clap.specs.declared.error.kind.ErrorKind.TheVariants as kind
 use Rattle.clap.proofs.WalkLemmas.{first_value-rows}
-use Rattle.fdref.specs.CommandLine.{Asks, Deserves, Given, GivesAll, GivesFile, IsFaultOf, IsJobOf, IsMistake, IsOutOfRange, IsParse, IsRequest, RefusesNumber, audit_app, fdref_app, file_rule, flag_rule, name_given, replay_app, required_rule, serve_app, show_app, text_given}
+use Rattle.fdref.specs.CommandLine.{Asks, Deserves, Given, IsJobOf, IsMistake, IsOutOfRange, IsRequest, audit_app, fdref_app, file_rule, flag_rule, name_given, replay_app, required_rule, serve_app, show_app, text_given}
+use Rattle.fdref.specs.Proved.Parsing.{GivesAll, GivesFile, IsFaultOf, IsParse, RefusesNumber}
 use Rattle.fdref.specs.declared.job.Job.{Job}
 use Rattle.fdref.specs.declared.job.JobFault.{JobFault}
 use Rattle.fdref.specs.declared.job.JobFault.TheVariants.{Usage, Shown, NoMemory}

@@ -15,7 +15,8 @@ use Rattle.script_text.specs.Spellings.{SpellsScript}
 use Rattle.script_text.specs.declared.fault.ScriptFault.TheVariants as faults
 use Rattle.posix_model.specs.History.{legal}
 use Rattle.fdref.specs.Output.{last_line, told_line, told_lines}
-use Rattle.fdref.specs.Replay.{RunsNext, RunsOn, Gathers, RunsScript, FailsAs, Refuses, Ends}
+use Rattle.fdref.specs.Replay.{Refuses, Ends}
+use Rattle.fdref.specs.Proved.Running.{RunsNext, RunsOn, Gathers, RunsScript, FailsAs}
 use Rattle.fdref.specs.declared.job_end.JobEnd.{JobEnd}
 
 -- nothing goes before

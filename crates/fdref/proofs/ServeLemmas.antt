@@ -7,7 +7,8 @@ use Rattle.run_core.specs.Run.{FailsIfFewer, IsRun, RunTold}
 use Rattle.run_core.specs.declared.report.RunFault.{RunFault}
 use Rattle.run_core.specs.declared.report.RunFault.TheVariants as fault
 use Rattle.trace_writer.specs.declared.traced.TraceFault.{TraceFault}
-use Rattle.fdref.specs.Serve.{IsOf, Reported, RunAsked, SinkState, Unreported, WritesLine, WritesReport, end_of, ended_by, lacks_a_thread, report_line, traced_end}
+use Rattle.fdref.specs.Serve.{IsOf, Reported, RunAsked, SinkState, Unreported, WritesReport, end_of, lacks_a_thread, report_line, traced_end}
+use Rattle.fdref.specs.Proved.Serving.{WritesLine, ended_by}
 use Rattle.fdref.specs.declared.job_end.JobEnd.{JobEnd}
 use Rattle.fdref.specs.declared.job_end.JobEnd.TheVariants as ended
 

@@ -20,8 +20,8 @@ use Rattle.audit_core.specs.Proved.Taking.{IsHeaded, LacksHeader, TakesHeader}
 use Rattle.audit_core.specs.declared.audit.TheConstants.{READ_LENGTH, READS_MAX}
 use Rattle.fdref.specs.Output.{AppendsFront}
 use Rattle.fdref.specs.Show.{BeginsWith, HasFault, IsBroken, IsLeft, IsRead, OfAll, OfFront, ShowEnds, Writes, WritesSome}
-use Rattle.fdref.specs.Proved.Showing.{BodyGives, GivesPiece, HasShown, IsFound, IsTaken, ShownState, ShowsPiece, TakesBody, TakesPiece, WritesPiece, WritesPieceFront, end_with, fault_at, fresh_shown, left_over}
-use Rattle.fdref.specs.Shown.{LinesState, line_from, lines_after, lines_from, next_lines, shown_lines}
+use Rattle.fdref.specs.Proved.Showing.{BodyGives, GivesPiece, HasShown, IsFound, IsTaken, ShownState, ShowsPiece, TakesBody, TakesPiece, WritesPiece, WritesPieceFront, end_with, fault_at, fresh_shown, left_over, lines_after}
+use Rattle.fdref.specs.Shown.{LinesState, line_from, lines_from, next_lines, shown_lines}
 use Rattle.fdref.specs.declared.job_end.JobEnd.{JobEnd}
 use Rattle.fdref.specs.declared.job_end.JobEnd.TheVariants as ended
 use Rattle.fdref.specs.declared.shown.Form.{Form}

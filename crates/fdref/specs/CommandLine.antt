@@ -1,12 +1,10 @@
 -- What the words of a command line ask of the program (own).
-use Rattle.std.specs.Prelude.{◌≡◌, ◌≢◌, ◌≤◌, ◌⊎◌, ◌∷◌, ℕ, List, [], Option, Some, None, true, codes, option_map, option_and_then, is_some, ⊤, if◌then◌else◌}
+use Rattle.std.specs.Prelude.{◌≡◌, ◌≤◌, ◌⊎◌, ◌∷◌, ℕ, List, [], Option, Some, None, true, codes, option_map, option_and_then, ⊤, if◌then◌else◌}
 use Rattle.std.specs.String.{string_bytes}
 use Rattle.std.specs.Str.{bytes_eq}
 use Rattle.std.specs.Str.Parse.{IsNumeral, digits_value, without_leading_plus}
-use Rattle.clap.specs.Words.{App, IsAmong, Rule, Text, fault_of, first_of, kind_of, new_app, new_rule, subcommand_of, subcommand_rows_of, with_rule, with_subcommand}
+use Rattle.clap.specs.Words.{App, IsAmong, Rule, Text, fault_of, first_of, kind_of, new_app, new_rule, subcommand_of, with_rule, with_subcommand}
 use Rattle.clap.specs.declared.builder.action.ArgAction.TheVariants.{SetTrue}
-use Rattle.clap.specs.declared.parser.matches.ArgMatches.{ArgMatches}
-use Rattle.clap.specs.declared.error.Error.{Error}
 use Rattle.clap.specs.declared.error.kind.ErrorKind.{ErrorKind}
 use Rattle.clap.specs.declared.error.kind.ErrorKind.TheVariants as kind
 use Rattle.call_types.specs.declared.limits.Bounds.{Bounds}
@@ -80,14 +78,6 @@ fdref_app = with_subcommand
 -- the words of a command line, with the program's name before them
 abbrev pub line : List Text → List Text
 line words = codes "fdref" ∷ words
-
--- words that ask for a server
-abbrev pub served : List Text
-served = codes "serve" ∷ codes "--socket" ∷ codes "s" ∷ codes "--sessions" ∷ codes "2" ∷ codes "--records=5" ∷ codes "--trace=t" ∷ []
-
--- words that ask for the acts of a trace
-abbrev pub shown : List Text
-shown = codes "show" ∷ codes "--acts" ∷ codes "t" ∷ []
 
 -- the name of the subcommand that the words give
 abbrev pub name_given : List Text → Option Text
@@ -163,22 +153,6 @@ IsOutOfRange name given = ((name ≡ Some (codes "replay")) × IsNoRecords (give
     ⊎ ((name ≡ Some (codes "serve")) × (IsNoNumber SESSIONS_MAX (given (codes "sessions"))
     ⊎ IsNoNumber RECORDS_MAX (given (codes "records"))))
 
--- each option of a server is given
-abbrev pub GivesAll : Given → Type 0
-GivesAll given = (is_some (given (codes "socket")) ≡ true) × (is_some (given (codes "sessions")) ≡ true)
-    × (is_some (given (codes "records")) ≡ true) × (is_some (given (codes "trace")) ≡ true)
-
--- the file of an audit, or of a trace to be shown, is given
-abbrev pub GivesFile : Given → Type 0
-GivesFile given = is_some (given (codes "file")) ≡ true
-
--- ---- what the program makes of them
-
--- the matches are those of the words, which have no fault
-pub record IsParse (words : List Text) (m : ArgMatches) : Type 0 where
-  pub parsed : fault_of fdref_app words ≡ []
-  pub rows : subcommand_rows_of m ≡ subcommand_of fdref_app words
-
 -- the words parse, and ask for the job
 pub record Asks (words : List Text) (job : Job) : Type 0 where
   pub parsed : fault_of fdref_app words ≡ []
@@ -196,18 +170,6 @@ IsMistake words k = IsAmong k (fault_of fdref_app words) × (IsRequest k → ⊥
 abbrev pub IsBadNumber : List Text → ErrorKind → Type 0
 IsBadNumber words k = (fault_of fdref_app words ≡ []) × IsOutOfRange (name_given words) (text_given words)
     × (k ≡ kind.ValueValidation)
-
--- the fault says that a number is out of its range, or that memory ran out
-abbrev pub RefusesNumber : Option Text → Given → JobFault → Type 0
-RefusesNumber name given (Usage e) = IsOutOfRange name given × (kind_of e ≡ kind.ValueValidation)
-RefusesNumber name given (Shown e) = ⊥
-RefusesNumber name given NoMemory = ⊤
-
--- the fault that an error of the parse is: its error, unless memory ran out
-abbrev pub IsFaultOf : Error → JobFault → Type 0
-IsFaultOf error (Usage e) = (e ≡ error) × (kind_of error ≢ kind.OutOfMemory) × (IsRequest (kind_of error) → ⊥)
-IsFaultOf error (Shown e) = (e ≡ error) × IsRequest (kind_of error)
-IsFaultOf error NoMemory = kind_of error ≡ kind.OutOfMemory
 
 -- the words deserve the fault, or memory ran out
 abbrev pub Deserves : List Text → JobFault → Type 0

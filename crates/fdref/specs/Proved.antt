@@ -1,1 +1,4 @@
 pub mod Showing
+pub mod Parsing
+pub mod Running
+pub mod Serving

@@ -1,10 +1,9 @@
 -- What a run of sessions writes, what its end says, and what its sink has (own).
-use Rattle.std.specs.Prelude.{◌≡◌, ◌≤◌, ◌⊎◌, ℕ, nat_lt, Bool, true, false, List, ◌++◌, Option, None, Some, if◌then◌else◌, codes, decimal, length}
+use Rattle.std.specs.Prelude.{◌≡◌, ◌≤◌, ℕ, nat_lt, Bool, true, false, List, ◌++◌, Option, None, Some, if◌then◌else◌, codes, decimal, length}
 use Rattle.std.specs.Io.KnownBytes.{Appends}
 use Rattle.std.specs.List.{list_any}
 use Rattle.call_types.specs.declared.limits.Limits.{Limits}
 use Rattle.run_core.specs.Run.{IsRun, ReportedSession, RunTold, Streams}
-use Rattle.run_core.specs.declared.report.RunFault.{RunFault}
 use Rattle.run_core.specs.declared.report.RunFault.TheVariants as fault
 use Rattle.session_core.specs.declared.end.End.{End}
 use Rattle.session_core.specs.declared.end.End.TheVariants as end
@@ -93,18 +92,6 @@ pub record WritesReportFront (asked : RunAsked) (sink : SinkState) (old new : Op
   pub end : JobEnd
   pub report : IsReport asked sink line end
   pub front : AppendsFront old new line
-
--- how a run ended that gave no report
-abbrev pub ended_by : RunFault → JobEnd
-ended_by fault.NoMemory = ended.NoMemory
-ended_by fault.NoThread = ended.NoThread
-ended_by fault.Missing = ended.MissingShare
-ended_by (fault.Disagree place) = ended.Disagree place
-
--- a line was written, and the job ends so; or a front of the line was written, or memory ran out before
-abbrev pub WritesLine : List ℕ → JobEnd → Option (List ℕ) → Option (List ℕ) → JobEnd → Type 0
-WritesLine line so old new end =
-    ((end ≡ so) × Appends old new line) ⊎ (((end ≡ ended.CannotWrite) × AppendsFront old new line) ⊎ ((end ≡ ended.NoMemory) × (new ≡ old)))
 
 -- what the end says of what was written, where the sink is given back
 abbrev pub Reported : RunAsked → SinkState → Option (List ℕ) → Option (List ℕ) → JobEnd → Type 0

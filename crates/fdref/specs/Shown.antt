@@ -103,11 +103,6 @@ abbrev pub lines_from : LinesState → List Record → List ℕ
 lines_from s [] = []
 lines_from s (r ∷ rs) = line_from s r ++ lines_from (next_lines s r) rs
 
--- after the next records
-abbrev pub lines_after : LinesState → List Record → LinesState
-lines_after s [] = s
-lines_after s (r ∷ rs) = lines_after (next_lines s r) rs
-
 -- the lines of all records of a trace
 abbrev pub shown_lines : Form → List Record → List ℕ
 shown_lines form records = lines_from (first_lines form) records

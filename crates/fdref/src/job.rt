@@ -3,7 +3,8 @@ ghost use Rattle.std.specs.Prelude.{◌≡◌, ◌∷◌, [], IfOk, IfErr, IfSom
 ghost use Rattle.fdref.specs.declared.shown.Form.TheVariants as form;
 ghost use Rattle.clap.specs.Words.{app_of, found_of, first_value, fault_of, kind_of, rule_of};
 ghost use Rattle.clap.specs.declared.builder.command.Command.TheViews.{out-Command as fields_of};
-ghost use Rattle.fdref.specs.CommandLine.{Asks, Deserves, GivesAll, GivesFile, IsFaultOf, IsJobOf, IsNoNumber, IsNoRecords, IsNumber, IsParse, IsRecords, RefusesNumber, SaysNotText, audit_app, fdref_app, file_rule, flag_rule, form_of, line, name_given, option_rule, replay_app, required_rule, serve_app, served, show_app, shown, standard, status_of, text_given};
+ghost use Rattle.fdref.specs.CommandLine.{Asks, Deserves, IsJobOf, IsNoNumber, IsNoRecords, IsNumber, IsRecords, SaysNotText, audit_app, fdref_app, file_rule, flag_rule, form_of, line, name_given, option_rule, replay_app, required_rule, serve_app, show_app, standard, status_of, text_given};
+ghost use Rattle.fdref.specs.Proved.Parsing.{GivesAll, GivesFile, IsFaultOf, IsParse, RefusesNumber, served, shown};
 
 use crate::shown::Form;
 use call_types::limits::{Limits, RECORDS_MAX};

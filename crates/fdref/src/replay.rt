@@ -3,7 +3,8 @@ ghost use Rattle.std.specs.Prelude.{◌≡◌, ◌≤◌, ◌⊎◌, [], Ok, len
 ghost use Rattle.script_text.specs.ReadingScripts.{script};
 ghost use Rattle.script_text.specs.ReadingResults.{ScriptFails};
 ghost use Rattle.script_text.specs.declared.script.TheConstants.{SCRIPT_MAX};
-ghost use Rattle.fdref.specs.Replay.{Ends, Gathers, RunsNext, RunsOn, RunsScript, FailsAs, FailsReading};
+ghost use Rattle.fdref.specs.Replay.{Ends};
+ghost use Rattle.fdref.specs.Proved.Running.{Gathers, RunsNext, RunsOn, RunsScript, FailsAs, FailsReading};
 
 use crate::job_end::JobEnd;
 use crate::output::{put_line, write_lines};

@@ -1,7 +1,8 @@
 //! A run of sessions, its trace, and the line that reports it.
 
 ghost use Rattle.std.specs.Prelude.{◌≡◌, ◌+◌, ◌<◌, ◌^◌, Some, true, IfOk, option_map};
-ghost use Rattle.fdref.specs.Serve.{Reports, WritesLine, end_of, ended_by, is_unstarted, lacks_a_thread, report_line};
+ghost use Rattle.fdref.specs.Serve.{Reports, end_of, is_unstarted, lacks_a_thread, report_line};
+ghost use Rattle.fdref.specs.Proved.Serving.{WritesLine, ended_by};
 ghost use Rattle.fdref.specs.declared.job_end.JobEnd.TheVariants as ended;
 
 use crate::job_end::JobEnd;

@@ -1,7 +1,8 @@
 //! The records of a trace as lines, in either of two forms.
 
 ghost use Rattle.std.specs.Prelude.{◌≡◌, ◌+◌, ◌<◌, ◌^◌, ◌++◌, length, OnOk};
-ghost use Rattle.fdref.specs.Shown.{asked_line, children_after, first_lines, forked, is_done, is_exit, is_left, is_other, line_from, lines_after, lines_from, next_lines, number_of, with_child, without};
+ghost use Rattle.fdref.specs.Shown.{asked_line, children_after, first_lines, forked, is_done, is_exit, is_left, is_other, line_from, lines_from, next_lines, number_of, with_child, without};
+ghost use Rattle.fdref.specs.Proved.Showing.{lines_after};
 
 use call_types::act::{Act, Record};
 use call_types::call::Call;

@@ -4,7 +4,7 @@ use Rattle.std.specs.Int.{w32, from_be_bytes}
 use Rattle.std.proofs.Math.Seq.{take-add}
 use Rattle.std.proofs.lemmas.List.{length-append, length-drop, take-append-le}
 use Rattle.frame_codec.specs.Frames.{told_length, IsShort}
-use Rattle.frame_codec.specs.Decoding.{FillsHead, Fills, Completes}
+use Rattle.frame_codec.specs.Proved.Filling.{FillsHead, Fills, Completes}
 
 -- the head is told, so what tells it is not yet a frame
 pub still_short : (most : ℕ) (old mid piece : List ℕ) (first : ℕ) → IsShort most old → FillsHead old mid piece first → 4 ≤ length mid → length mid ≤ 4 + told_length mid

@@ -7,7 +7,8 @@ use Rattle.std.proofs.lemmas.List.{length-take, length-drop, get_or-take, get_or
 use Rattle.std.proofs.lemmas.Nat.{be_bytes_4}
 use Rattle.frame_codec.specs.declared.begun.Begins.TheVariants as begins
 use Rattle.frame_codec.specs.Fields.{number_bytes}
-use Rattle.frame_codec.specs.Frames.{frame, told_length, told_payload, Begun}
+use Rattle.frame_codec.specs.Frames.{frame, told_length, told_payload}
+use Rattle.frame_codec.specs.Proved.Filling.{Begun}
 
 front_fits : (n : ℕ) (bytes : List ℕ) → ((i : ℕ) → get_or bytes i 0 < 256) → (i : ℕ) → get_or (take n bytes) i 0 < 256
 front_fits n bytes h i =

@@ -1,7 +1,7 @@
 -- The bytes before a failed write are still the front.
 use Rattle.std.proofs.Common.{◌≡◌, ℕ, List, [], ◌++◌, sym, ap, ◌∙◌, append_assoc}
 use Rattle.std.proofs.lemmas.List.{append-nil}
-use Rattle.call_types.specs.Proved.Writing.{KeepsFront}
+use Rattle.call_types.specs.Writing.{KeepsFront}
 
 -- nothing was written
 pub keeps : (old new : List ℕ) → new ≡ old → KeepsFront old new

@@ -3,7 +3,8 @@ use Rattle.std.proofs.Common.{◌≡◌, ℕ, ◌+◌, ◌≤◌, List, [], ◌�
 use Rattle.std.proofs.Math.Seq.{take-add}
 use Rattle.std.proofs.lemmas.List.{append-nil, length-drop}
 use Rattle.frame_codec.specs.declared.begun.Stop.{Stop}
-use Rattle.frame_codec.specs.Frames.{IsFrame, AreFrames, StopsWith, IsWhole, BeginsWith}
+use Rattle.frame_codec.specs.Frames.{IsFrame, AreFrames, StopsWith}
+use Rattle.frame_codec.specs.Proved.Filling.{IsWhole, BeginsWith}
 
 -- the values so far are those of the frames so far
 pub record ReadSoFar {A : Type 0} (Spells : A → List ℕ → Type 0) (most : ℕ) (bytes : List ℕ) (old values : List A) (used : ℕ) : Type 0 where

@@ -6,8 +6,9 @@ use Rattle.frame_codec.specs.declared.begun.Stop.{Stop}
 use Rattle.frame_codec.specs.declared.begun.Stop.TheVariants as stops
 use Rattle.frame_codec.specs.declared.decoder.Progress.{Progress}
 use Rattle.frame_codec.specs.declared.decoder.Progress.TheVariants as progress
-use Rattle.frame_codec.specs.Frames.{told_length, told_payload, IsFrame, IsShort, IsTooLong, IsMalformed, StopsWith, IsWhole, BeginsWith}
-use Rattle.frame_codec.specs.Decoding.{DecoderState, told_place, told_progress, Completes, HoldsRest, GoesFrom, ReadsIn, FeedsFrom, Feeds}
+use Rattle.frame_codec.specs.Frames.{told_length, told_payload, IsFrame, IsShort, IsTooLong, IsMalformed, StopsWith}
+use Rattle.frame_codec.specs.Proved.Filling.{IsWhole, BeginsWith, Completes, HoldsRest, ReadsIn}
+use Rattle.frame_codec.specs.Decoding.{DecoderState, told_place, told_progress, GoesFrom, FeedsFrom, Feeds}
 
 -- ---- where nothing is held
 

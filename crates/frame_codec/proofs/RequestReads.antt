@@ -3,14 +3,16 @@ use Rattle.std.proofs.Common.{◌≡◌, ℕ, eqb, List, [], ◌∷◌, ◌++◌
 use Rattle.std.specs.List.{AllByRecursion}
 use Rattle.std.specs.Int.{w32}
 use Rattle.std.proofs.lemmas.Bool.{eqb-true}
-use Rattle.call_types.specs.CallTable.{FieldKind, Value, Values, Makes, Entry, Parts, of, made}
+use Rattle.call_types.specs.CallTable.{FieldKind, Value, Values, Makes, Entry, Parts, of}
+use Rattle.call_types.specs.Proved.Made.{made}
 use Rattle.call_types.specs.Ranges.{AreBytes, FieldsFit}
 use Rattle.call_types.specs.declared.call.Call.{Call}
 use Rattle.call_types.specs.declared.call.Call.TheVariants as calls
 use Rattle.call_types.specs.declared.request.Request.{Request}
 use Rattle.call_types.specs.declared.request.Request.TheVariants as requests
 use Rattle.frame_codec.specs.Fields.{number_bytes, field_bytes, fields_bytes}
-use Rattle.frame_codec.specs.Requests.{frame_table, frame_parts, parts_bytes, call_bytes, CallFits, request_bytes, RequestFits}
+use Rattle.frame_codec.specs.Requests.{frame_parts, parts_bytes, call_bytes, CallFits, request_bytes, RequestFits}
+use Rattle.frame_codec.specs.Proved.FrameTable.{frame_table}
 use Rattle.frame_codec.specs.Proved.Reading.{◌>>=◌, as_at, number_at, one_of}
 use Rattle.frame_codec.specs.Proved.ReadingRequests.{field_at, fields_at, entry_at, rows_of, call_at, request_rows, request_at}
 use Rattle.frame_codec.proofs.Steps.{Taken, Reads, some_is, bind_some, chosen, RowTakes, led, alone, remade, tagged_or_takes}

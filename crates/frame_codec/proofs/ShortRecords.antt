@@ -12,7 +12,8 @@ use Rattle.call_types.specs.CallTable.{parts, fields_length}
 use Rattle.frame_codec.specs.Fields.{number_bytes}
 use Rattle.frame_codec.specs.Requests.{call_bytes, CallFits}
 use Rattle.frame_codec.specs.Answers.{outcome_bytes, OutcomeFits}
-use Rattle.frame_codec.specs.Records.{act_bytes, record_bytes, ActFits, RecordFits, MayRead, DataIsRead, SpellsRecord}
+use Rattle.frame_codec.specs.Records.{act_bytes, record_bytes, ActFits, RecordFits, SpellsRecord}
+use Rattle.frame_codec.specs.Proved.Laws.{MayRead, DataIsRead}
 use Rattle.frame_codec.specs.Frames.{frame, IsFrame}
 use Rattle.frame_codec.proofs.Lengths.{call_length, record_length}
 

@@ -5,8 +5,6 @@ use Rattle.frame_codec.specs.declared.fault.PayloadFault.{PayloadFault}
 use Rattle.frame_codec.specs.declared.fault.PayloadFault.TheVariants as faults
 use Rattle.frame_codec.specs.declared.begun.Stop.{Stop}
 use Rattle.frame_codec.specs.declared.begun.Stop.TheVariants as stops
-use Rattle.frame_codec.specs.declared.begun.Begins.{Begins}
-use Rattle.frame_codec.specs.declared.begun.Begins.TheVariants as begins
 use Rattle.frame_codec.specs.Fields.{counted_bytes}
 
 -- a payload's frame
@@ -52,24 +50,6 @@ abbrev pub StopsWith : {A : Type 0} → (A → List ℕ → Type 0) → ℕ → 
 StopsWith Spells most bytes stops.Short = IsShort most bytes
 StopsWith Spells most bytes stops.Malformed = IsMalformed Spells most bytes
 StopsWith Spells most bytes stops.TooLong = IsTooLong most bytes
-
--- bytes that begin with the frame of a value, so many bytes of them
-pub record IsWhole {A : Type 0} (Spells : A → List ℕ → Type 0) (most : ℕ) (value : A) (len : ℕ) (bytes : List ℕ) : Type 0 where
-  pub within : len ≤ length bytes
-  pub long : len ≡ 4 + told_length bytes
-  pub few : told_length bytes ≤ most
-  pub first : IsFrame Spells most value (take len bytes)
-
--- how bytes begin
-abbrev pub Begun : {A : Type 0} → (A → List ℕ → Type 0) → ℕ → List ℕ → Begins A → Type 0
-Begun Spells most bytes (begins.Whole value len) = IsWhole Spells most value len bytes
-Begun Spells most bytes (begins.Stopped stop) = StopsWith Spells most bytes stop
-
--- bytes that begin with the frames of these values, so many bytes of them, and after them stop so
-pub record BeginsWith {A : Type 0} (Spells : A → List ℕ → Type 0) (most : ℕ) (bytes : List ℕ) (values : List A) (used : ℕ) (stop : Stop) : Type 0 where
-  pub within : used ≤ length bytes
-  pub frames : AreFrames Spells most values (take used bytes)
-  pub stops : StopsWith Spells most (drop used bytes) stop
 
 -- the value that a payload spells, or that it spells none, unless memory ran out
 abbrev pub GivesValue : {A : Type 0} → (A → List ℕ → Type 0) → Result A PayloadFault → List ℕ → Type 0

@@ -4,3 +4,5 @@ pub mod ReadingAnswers
 pub mod ReadingRecords
 pub mod Laws
 pub mod FrameRows
+pub mod Filling
+pub mod FrameTable

@@ -5,10 +5,6 @@ use Rattle.call_types.specs.declared.act.TheConstants.{HOUSE}
 use Rattle.call_types.specs.declared.act.Act.{Act}
 use Rattle.call_types.specs.declared.act.Act.TheVariants as acts
 use Rattle.call_types.specs.declared.act.Record.{Record}
-use Rattle.call_types.specs.declared.call.Call.TheVariants as calls
-use Rattle.call_types.specs.declared.outcome.Reply.TheVariants as replies
-use Rattle.call_types.specs.declared.outcome.Outcome.{Outcome}
-use Rattle.call_types.specs.declared.outcome.Outcome.TheVariants as outcomes
 use Rattle.frame_codec.specs.Fields.{number_bytes}
 use Rattle.frame_codec.specs.Requests.{call_bytes, CallFits}
 use Rattle.frame_codec.specs.Answers.{outcome_bytes, OutcomeFits}
@@ -39,18 +35,6 @@ MayAct other actor = Unit {0}
 -- a record with its fields in range, and an actor that its act may have
 abbrev pub RecordFits : Record → Type 0
 RecordFits r = (r.actor < 2 ^ 32) × ActFits r.act × MayAct r.act r.actor × OutcomeFits r.outcome
-
--- an act that may be answered with data: a read, or a parked call that is taken up again
-abbrev pub MayRead : Act → Type 0
-MayRead (acts.Call (calls.Read fd count)) = Unit {0}
-MayRead (acts.Call (calls.Pread fd start count)) = Unit {0}
-MayRead acts.Resume = Unit {0}
-MayRead other = ⊥
-
--- an outcome that is no data, or that of an act that may be answered with data
-abbrev pub DataIsRead : Act → Outcome → Type 0
-DataIsRead act (outcomes.Reply (replies.Data bytes)) = MayRead act
-DataIsRead act other = Unit {0}
 
 -- what payload spells a record
 abbrev pub SpellsRecord : Record → List ℕ → Type 0

@@ -1,7 +1,7 @@
 -- Requests as the payloads of frames: a byte that says which, and its fields (own).
 use Rattle.std.specs.Prelude.{◌≡◌, ℕ, ◌<◌, ◌^◌, List, [], ◌∷◌}
 use Rattle.std.specs.Int.{w32}
-use Rattle.call_types.specs.CallTable.{some_flags, a_name, Entry, Parts, of, parts, close_entry, read_entry, write_entry, later_table, open_entry}
+use Rattle.call_types.specs.CallTable.{some_flags, a_name, Entry, Parts, of, parts, open_entry}
 use Rattle.call_types.specs.Ranges.{FieldsFit}
 use Rattle.call_types.specs.declared.call.Call.{Call}
 use Rattle.call_types.specs.declared.call.Call.TheVariants as calls
@@ -12,10 +12,6 @@ use Rattle.frame_codec.specs.Fields.{number_bytes, fields_bytes}
 -- in a frame the flags of an open stand before its name
 abbrev pub open_frame : Entry
 open_frame = record { word = open_entry.word; byte = open_entry.byte; fields = some_flags ∷ a_name ∷ []; make = λ bits name. calls.Open name (record { 0 = bits }) }
-
--- the calls, with their fields in the order of frames
-abbrev pub frame_table : List Entry
-frame_table = open_frame ∷ close_entry ∷ read_entry ∷ write_entry ∷ later_table
 
 -- the parts of a call, in the order of frames
 abbrev pub frame_parts : Call → Parts

@@ -1,7 +1,8 @@
 //! The first frame of bytes.
 
 ghost use Rattle.std.specs.Prelude.{◌≡◌, ◌≤◌, ◌<◌, ◌^◌, length, IfOk};
-ghost use Rattle.frame_codec.specs.Frames.{told_length, Begun};
+ghost use Rattle.frame_codec.specs.Frames.{told_length};
+ghost use Rattle.frame_codec.specs.Proved.Filling.{Begun};
 
 use crate::fault::PayloadFault;
 use crate::frame_kind::FrameKind;

@@ -1,9 +1,10 @@
 //! A decoder of a stream of frames, which comes in any pieces.
 
 ghost use Rattle.std.specs.Prelude.{◌≡◌, ◌≤◌, ◌++◌, List, length, drop, vec_capacity, IfOk, OnOk, OnErr};
-ghost use Rattle.call_types.specs.Proved.Writing.{KeepsFront};
-ghost use Rattle.frame_codec.specs.Frames.{IsShort, BeginsWith};
-ghost use Rattle.frame_codec.specs.Decoding.{fresh, Fills, FillsHead, Completes, HoldsRest, ReadsIn, told_progress, Feeds};
+ghost use Rattle.call_types.specs.Writing.{KeepsFront};
+ghost use Rattle.frame_codec.specs.Frames.{IsShort};
+ghost use Rattle.frame_codec.specs.Proved.Filling.{BeginsWith, Fills, FillsHead, Completes, HoldsRest, ReadsIn};
+ghost use Rattle.frame_codec.specs.Decoding.{fresh, told_progress, Feeds};
 ghost use Rattle.frame_codec.specs.declared.decoder.Progress.TheVariants as progress;
 
 use crate::begun::{Begins, HEAD, Stop, begun, length_told};
@@ -43,7 +44,8 @@ pub struct Decoder<K: FrameKind> {
 }
 
 impl<K: FrameKind> Model for Decoder<K> {
-    ghost use Rattle.frame_codec.specs.Decoding.{DecoderState, RestsOn};
+    ghost use Rattle.frame_codec.specs.Decoding.{DecoderState};
+    ghost use Rattle.frame_codec.specs.Proved.Filling.{RestsOn};
 
     ghost Value = { DecoderState };
 

@@ -4,7 +4,7 @@
 ghost use Rattle.std.specs.Prelude.{◌≡◌, ◌+◌, ◌≤◌, ◌++◌, ◌∷◌, length};
 ghost use Rattle.std.specs.Int.{w64};
 ghost use Rattle.call_types.specs.CallTable.{parts, fields_length};
-ghost use Rattle.call_types.specs.Proved.Writing.{Appends};
+ghost use Rattle.call_types.specs.Writing.{Appends};
 ghost use Rattle.call_types.specs.declared.request.Request.TheVariants as requests;
 ghost use Rattle.frame_codec.specs.declared.answer.Answer.TheVariants as answers;
 ghost use Rattle.frame_codec.specs.Fields.{number_bytes};

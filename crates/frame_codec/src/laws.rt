@@ -7,14 +7,14 @@ ghost use Rattle.call_types.specs.declared.request.Request.{Request};
 ghost use Rattle.frame_codec.specs.declared.answer.Answer.{Answer};
 ghost use Rattle.frame_codec.specs.Requests.{request_bytes, RequestFits, SpellsRequest};
 ghost use Rattle.frame_codec.specs.Answers.{answer_bytes, AnswerFits, SpellsAnswer};
-ghost use Rattle.frame_codec.specs.Records.{record_bytes, RecordFits, DataIsRead, SpellsRecord};
+ghost use Rattle.frame_codec.specs.Records.{record_bytes, RecordFits, SpellsRecord};
+ghost use Rattle.frame_codec.specs.Proved.Laws.{DataIsRead, OneForm, CutsDoNotMatter, OneReading, LongestReading, FrontReads, NoFrameThere, PiecesGoOn};
 ghost use Rattle.frame_codec.specs.Frames.{frame, IsFrame};
 ghost use Rattle.frame_codec.specs.Proved.Reading.{payload_at};
 ghost use Rattle.frame_codec.specs.Proved.ReadingRequests.{request_at};
 ghost use Rattle.frame_codec.specs.Proved.ReadingAnswers.{answer_at};
 ghost use Rattle.frame_codec.specs.Proved.ReadingRecords.{record_at};
 ghost use Rattle.frame_codec.specs.Proved.FrameRows.{FrameRows};
-ghost use Rattle.frame_codec.specs.Proved.Laws.{OneForm, CutsDoNotMatter, OneReading, LongestReading, FrontReads, NoFrameThere, PiecesGoOn};
 
 use crate::frame_kind::FrameKind;
 

@@ -3,7 +3,7 @@
 
 ghost use Rattle.std.specs.Prelude.{◌≡◌, ◌∷◌};
 ghost use Rattle.std.specs.Int.{w32, cast_unsigned};
-ghost use Rattle.call_types.specs.Proved.Writing.{Appends};
+ghost use Rattle.call_types.specs.Writing.{Appends};
 ghost use Rattle.call_types.specs.declared.call.Call.TheVariants as calls;
 ghost use Rattle.frame_codec.specs.Fields.{number_bytes, whence_byte};
 ghost use Rattle.frame_codec.specs.Requests.{call_bytes};

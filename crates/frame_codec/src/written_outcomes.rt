@@ -4,7 +4,7 @@
 ghost use Rattle.std.specs.Prelude.{◌≡◌, ◌++◌, ◌∷◌, []};
 ghost use Rattle.std.specs.Int.{w32, w64};
 ghost use Rattle.call_types.specs.Errors.{error_number};
-ghost use Rattle.call_types.specs.Proved.Writing.{Appends};
+ghost use Rattle.call_types.specs.Writing.{Appends};
 ghost use Rattle.frame_codec.specs.Fields.{number_bytes, counted_bytes};
 ghost use Rattle.frame_codec.specs.Answers.{kind_byte, stat_bytes, reply_bytes, outcome_bytes, refusal_bytes};
 

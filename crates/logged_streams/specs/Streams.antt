@@ -77,18 +77,6 @@ pub record SomeWritten (old new : Option (List ℕ)) (bytes : List ℕ) (count :
   pub within : count ≤ length bytes
   pub appends : Appends old new (take count bytes)
 
--- what one write takes; one that takes none has failed (own)
-abbrev pub TakesSome : Option (List ℕ) → Option (List ℕ) → List ℕ → Gave → Type 0
-TakesSome old new bytes (gave.Bytes count) = SomeWritten old new bytes count
-TakesSome old new bytes gave.Nothing = ⊥
-TakesSome old new bytes gave.Interrupted = Keeps old new
-TakesSome old new bytes gave.Failed = Keeps old new
-
--- one write (own)
-pub record WritesOnce (old new : LoggedWriterState) (bytes : List ℕ) (found : Gave) : Type 0 where
-  pub takes : TakesSome old.contents new.contents bytes found
-  pub log : new.log ≡ noted old.log found
-
 -- so many bytes were written (own)
 pub record WritesFront (old new : Option (List ℕ)) (bytes : List ℕ) (count : ℕ) : Type 0 where
   pub within : count ≤ length bytes

@@ -2,7 +2,8 @@
 
 ghost use Rattle.std.specs.Prelude.{◌≡◌, ◌<◌, ◌≤◌, length, IfOk, OnOk, OnErr};
 ghost use Rattle.std.specs.Io.KnownBytes.{Keeps};
-ghost use Rattle.logged_streams.specs.Streams.{fresh_log, asked, WritesOnce, WritesFront, WritesNone, SomeWritten, IsBroken};
+ghost use Rattle.logged_streams.specs.Streams.{fresh_log, asked, WritesFront, WritesNone, SomeWritten, IsBroken};
+ghost use Rattle.logged_streams.specs.Proved.Writes.{WritesOnce};
 
 use crate::stream_log::{Gave, INTERRUPTIONS_MAX, StreamLog, gave_of};
 use std::io::Write;

@@ -12,7 +12,8 @@ use Rattle.posix_model.specs.declared.world.Fifo.{Fifo}
 use Rattle.process_table.specs.Processes.{with_entry, table_of}
 use Rattle.posix_model.specs.Descriptors.{with_descriptor}
 use Rattle.posix_model.specs.Proved.Fits.{CanSet}
-use Rattle.posix_model.specs.Proved.Released.{IsSettled, StaysBut, SettledStays, SweepReleases, NamesRelease, released, files_after, fifos_after, pipes_after}
+use Rattle.posix_model.specs.Proved.Released.{StaysBut, SettledStays, SweepReleases, NamesRelease, released, files_after, fifos_after, pipes_after}
+use Rattle.posix_model.specs.Kept.{IsSettled}
 use Rattle.posix_model.specs.Proved.Laws.{Swept, SweepLeaves}
 use Rattle.machine_state.specs.Proved.Types.{World, Process, Description, Target, Mode, File, Used, FileBody, StoredFile, StoredPipe}
 use Rattle.posix_model.specs.declared.world.File.TheVariants as file

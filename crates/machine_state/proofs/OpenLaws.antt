@@ -10,7 +10,8 @@ use Rattle.posix_model.specs.Sweep.{is_open}
 use Rattle.posix_model.specs.Pipes.{pipe_at, pipe_of_fifo, pipe_between, fifo_at, with_pipe, opened_file}
 use Rattle.process_table.specs.Processes.{with_entry, table_of}
 use Rattle.posix_model.specs.Change.{with_description, end_of}
-use Rattle.posix_model.specs.Proved.Whole.{is_fifo, IsThere, TargetIsThere}
+use Rattle.posix_model.specs.Proved.Whole.{is_fifo, TargetIsThere}
+use Rattle.posix_model.specs.Kept.{IsThere}
 use Rattle.posix_model.specs.Proved.Fits.{IsFree, CanOpen, CanOpenPair, CanOpenEnd}
 use Rattle.machine_state.specs.Proved.Types.{World, Description, Target, Mode, File, Ring, FileBody, StoredPipe}
 use Rattle.call_types.specs.declared.description.Target.TheVariants as target

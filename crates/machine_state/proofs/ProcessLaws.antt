@@ -6,7 +6,8 @@ use Rattle.slots.specs.Slots.{slot, live, edited}
 use Rattle.posix_model.specs.Counts.{refs, refs_of}
 use Rattle.process_table.specs.Processes.{with_entry, table_of, process_with}
 use Rattle.posix_model.specs.Change.{with_processes}
-use Rattle.posix_model.specs.Proved.Whole.{EachThere, IsThere}
+use Rattle.posix_model.specs.Proved.Whole.{EachThere}
+use Rattle.posix_model.specs.Kept.{IsThere}
 use Rattle.posix_model.specs.Proved.Fits.{CanAdd, CanSet}
 use Rattle.posix_model.specs.Sweep.{sweep}
 use Rattle.posix_model.specs.Descriptors.{with_descriptor}

@@ -10,8 +10,8 @@ use Rattle.posix_model.specs.Pipes.{pipe_of_fifo, fifo_at}
 use Rattle.call_types.specs.Descriptions.{at_offset}
 use Rattle.process_table.specs.Processes.{with_entry}
 use Rattle.posix_model.specs.Descriptors.{with_offset, held_in}
-use Rattle.posix_model.specs.Proved.Whole.{EachThere, IsThere}
-use Rattle.posix_model.specs.Proved.Released.{IsSettled}
+use Rattle.posix_model.specs.Proved.Whole.{EachThere}
+use Rattle.posix_model.specs.Kept.{IsThere, IsSettled}
 use Rattle.machine_state.specs.Proved.Types.{Process, Description, Used, Ring, TableState, FileBody, StoredFile, StoredPipe}
 use Rattle.slots.specs.Proved.Uses.{uses_at, value_at, values_in, used_once, use_added, with_value}
 use Rattle.file_table.specs.declared.stored_file.FileBody.TheVariants as body

@@ -4,7 +4,7 @@ ghost use Rattle.slots.specs.Slots.{slot, live, edited};
 ghost use Rattle.posix_model.specs.Descriptors.{with_descriptor, with_offset};
 ghost use Rattle.posix_model.specs.Change.{with_description, with_table, end_of};
 ghost use Rattle.posix_model.specs.Pipes.{pipe_at, pipe_of_fifo, with_pipe, fifo_at, opened_file};
-ghost use Rattle.posix_model.specs.Proved.Whole.{IsThere};
+ghost use Rattle.posix_model.specs.Kept.{IsThere};
 ghost use Rattle.posix_model.specs.Proved.Fits.{IsFree, CanOpen, CanOpenPair, CanOpenEnd, CanSet};
 ghost use Rattle.posix_model.specs.Sweep.{sweep, is_open};
 ghost use Rattle.posix_model.specs.declared.change.TableEdit.TheVariants as on_table;

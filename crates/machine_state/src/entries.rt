@@ -3,7 +3,8 @@
 ghost use Rattle.std.specs.Prelude.{◌≡◌, ℕ, ◌+◌, ◌<◌, ◌^◌, Some, true, is_some, length};
 ghost use Rattle.slots.specs.Slots.{slot};
 ghost use Rattle.slots.specs.Proved.Uses.{uses_at};
-ghost use Rattle.posix_model.specs.Proved.Whole.{IsThere, EachThere};
+ghost use Rattle.posix_model.specs.Proved.Whole.{EachThere};
+ghost use Rattle.posix_model.specs.Kept.{IsThere};
 ghost use Rattle.description_table.specs.Proved.Drops.{dropped};
 ghost use Rattle.machine_state.specs.Proved.Uses.{with_use, with_uses, without_use, lost};
 

@@ -3,7 +3,7 @@ ghost use Rattle.call_types.specs.CallTable.{payload_of};
 ghost use Rattle.call_types.specs.Proved.Stored.{span_bytes};
 ghost use Rattle.slots.specs.Slots.{slot, edited};
 ghost use Rattle.process_table.specs.Processes.{parked_of};
-ghost use Rattle.posix_model.specs.Proved.Whole.{IsThere};
+ghost use Rattle.posix_model.specs.Kept.{IsThere};
 ghost use Rattle.posix_model.specs.Descriptors.{held_in};
 ghost use Rattle.posix_model.specs.Change.{bytes_from, after_those, rest_of};
 ghost use Rattle.machine_state.specs.Proved.Room.{KeepsTableRoom};

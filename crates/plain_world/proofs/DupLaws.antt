@@ -6,7 +6,8 @@ use Rattle.std.proofs.lemmas.List.{get_or-set_same, get_or-set_other}
 use Rattle.slots.specs.Slots.{slot, lowest}
 use Rattle.posix_model.specs.Proved.Numbers.{IsLowest}
 use Rattle.process_table.specs.Processes.{table_of, with_entry}
-use Rattle.posix_model.specs.Descriptors.{opened, opened_number, opened_description, number_of, with_descriptor}
+use Rattle.posix_model.specs.Descriptors.{opened, opened_number, opened_description, with_descriptor}
+use Rattle.posix_model.specs.Proved.Sound.{number_of}
 use Rattle.posix_model.specs.Change.{changed}
 use Rattle.posix_model.specs.Pages.{first_fault, tells, does}
 use Rattle.posix_model.specs.Open.{free_descriptor}

@@ -13,4 +13,3 @@ pub mod DescriptorLaws
 pub mod ProcessLaws
 pub mod StepLaws
 pub mod LimitLaws
-pub mod KeptLaws

@@ -8,7 +8,7 @@ use Rattle.call_types.specs.declared.call.Call.TheVariants as call
 use Rattle.slots.specs.Slots.{slot}
 use Rattle.call_types.specs.Descriptions.{at_offset}
 use Rattle.process_table.specs.Processes.{table_of, copied_table, process_with}
-use Rattle.posix_model.specs.Proved.Whole.{IsThere}
+use Rattle.posix_model.specs.Kept.{IsThere}
 use Rattle.posix_model.specs.Descriptors.{opened, opened_number, opened_description, with_offset}
 use Rattle.posix_model.specs.Change.{changed}
 use Rattle.posix_model.specs.Pages.{refused, decided_by}

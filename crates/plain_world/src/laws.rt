@@ -1,6 +1,6 @@
 //! Laws of steps and histories, and worked runs. None of these functions does anything; each contract is its law.
 
-ghost use Rattle.plain_world.specs.Proved.Laws.{RefusedStepKeepsWorld, RefusedNextKeepsWorld, JoinAdds, FullJoinRefused, LowestIsLeast, NoLowestIsFull, OffsetsAreApart, OffsetsStayApart, TakesFew, StepKeepsLimits, LimitsHold, HistoryKeepsExactly, LegalIsAnswered, AnsweredIsLegal};
+ghost use Rattle.plain_world.specs.Proved.Laws.{RefusedStepKeepsWorld, RefusedNextKeepsWorld, JoinAdds, FullJoinRefused, LowestIsLeast, NoLowestIsFull, OffsetsAreApart, OffsetsStayApart, TakesFew, StepKeepsLimits, LimitsHold, LegalIsAnswered, AnsweredIsLegal};
 ghost use Rattle.plain_world.specs.Proved.Rows.{Runs, standard, small, path, hole, greatest_offset, size_limit, pwrite_under_append, opening, deferred_removal, duplicates, shared_offset, closing, nonblocking_fifo, exit_in_a_write_that_waits, last_reader_goes, fifo_rendezvous, parts_of_a_large_write};
 
 use posix_model::laws::{
@@ -57,16 +57,6 @@ pub fn limits_hold()
 {
     acts_are_sound();
     sweep_leaves_wanted();
-}
-
-/// In a history a file is there exactly while it has a name or a live description holds it, a pipe while an end of it is
-/// open, and a description while a descriptor refers to it (page of close).
-pub fn file_kept_exactly()
-    ensures { HistoryKeepsExactly }
-{
-    numbers_rise();
-    sweep_settles();
-    sweep_releases();
 }
 
 /// A history is legal exactly where each of its records has the outcome that the step gives in the world of the records

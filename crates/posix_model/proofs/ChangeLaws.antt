@@ -7,7 +7,8 @@ use Rattle.std.specs.Ordering.{nat_cmp, eq_by_cmp}
 use Rattle.std.specs.Cmp.Lexicographic.{slice_cmp}
 use Rattle.std.specs.FinMap.Entries.{by_order}
 use Rattle.std.specs.declared.cmp.Ordering.TheVariants.{Less, Equal, Greater}
-use Rattle.posix_model.specs.Proved.Whole.{IsThere, TargetIsThere, is_fifo, is_regular_file, EachThere, PipeIsThere, IsItsFifo, IsOnItsPipe, PipesApart, WaitsForFew, IsWhole}
+use Rattle.posix_model.specs.Proved.Whole.{TargetIsThere, is_fifo, is_regular_file, EachThere, PipeIsThere, IsItsFifo, IsOnItsPipe, PipesApart, WaitsForFew, IsWhole}
+use Rattle.posix_model.specs.Kept.{IsThere}
 use Rattle.slots.specs.Slots.{slot}
 use Rattle.call_types.specs.Names.{Entries, with_name, without_name}
 use Rattle.call_types.specs.Descriptions.{at_offset}

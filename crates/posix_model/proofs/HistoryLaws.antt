@@ -3,7 +3,8 @@ use Rattle.std.proofs.Common.{◌≡◌, ℕ, List, [], ◌∷◌, ◌++◌, Opt
 use Rattle.std.specs.Option.{option_map_or}
 use Rattle.std.proofs.lemmas.List.Elements.{All-nil}
 use Rattle.posix_model.specs.Types.{Act, Record, Bounds, World}
-use Rattle.posix_model.specs.Proved.Whole.{IsThere, IsWhole}
+use Rattle.posix_model.specs.Proved.Whole.{IsWhole}
+use Rattle.posix_model.specs.Kept.{IsThere}
 use Rattle.posix_model.specs.Proved.Numbers.{NumbersRise}
 use Rattle.posix_model.specs.Sweep.{sweep}
 use Rattle.posix_model.specs.Change.{changed}

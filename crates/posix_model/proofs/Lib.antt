@@ -14,6 +14,7 @@ pub mod SoundActs
 pub mod ProcessLaws
 pub mod LengthLaws
 pub mod HistoryLaws
+pub mod KeptLaws
 pub mod Waiting
 pub mod ReadyLaws
 pub mod Flows

@@ -4,7 +4,8 @@ use Rattle.std.specs.Option.{option_map, is_some}
 use Rattle.slots.specs.Slots.{slot}
 use Rattle.posix_model.specs.Types.{World, Description, Mode, Target, File, Fifo}
 use Rattle.posix_model.specs.Counts.{is_pipe, is_file}
-use Rattle.posix_model.specs.Proved.Whole.{IsThere, EachThere, is_fifo, is_regular_file, TargetIsThere, PipeIsThere, IsItsFifo, IsOnItsPipe, PipesApart, IsWhole}
+use Rattle.posix_model.specs.Proved.Whole.{EachThere, is_fifo, is_regular_file, TargetIsThere, PipeIsThere, IsItsFifo, IsOnItsPipe, PipesApart, IsWhole}
+use Rattle.posix_model.specs.Kept.{IsThere}
 use Rattle.posix_model.specs.Pipes.{fifo_at, pipe_of_fifo, pipe_between, with_pipe_for, opened_once, opened_file, with_opening, with_pipe}
 use Rattle.posix_model.specs.Change.{end_of, with_description, with_table}
 use Rattle.posix_model.specs.Proved.Fits.{CanOpenEnd}

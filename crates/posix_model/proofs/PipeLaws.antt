@@ -12,7 +12,8 @@ use Rattle.posix_model.specs.Step.{Stepped, stepped, step, comes_to, given}
 use Rattle.posix_model.specs.History.{empty_world, after, world_from, world_of, legal_from, legal}
 use Rattle.posix_model.specs.Turns.{Turn, turn, took, took_in, total}
 use Rattle.posix_model.specs.Given.{data_given}
-use Rattle.posix_model.specs.PipeRecord.{TurnOn, turn_with, act_on, turn_on, is_on, put_in, got_in, put_by, got_by, joined_from, put, BytesOfPipe, IsUnbroken, SmallWritesUnbroken}
+use Rattle.posix_model.specs.PipeRecord.{TurnOn, turn_with, act_on, turn_on, is_on, put_in, got_in, put_by, got_by, joined_from, put, IsUnbroken}
+use Rattle.posix_model.specs.Proved.PipeLaws.{BytesOfPipe, SmallWritesUnbroken}
 use Rattle.posix_model.specs.declared.change.FileEdit.TheVariants as on_files
 use Rattle.posix_model.proofs.Flows.{Flows, PipeFits, edit_put, change_flows, keeps_flows, keeps_same, flows_twice, there_not_gone}
 use Rattle.posix_model.specs.Proved.Whole.{IsWhole}
@@ -138,20 +139,19 @@ small_put sound bounds w r t q kept is here on small some =
 
 small_from : ActsAreSound → StepKeepsWhole → StepKeepsWaits → (bounds : Bounds) (w : World) (before rest : List Record) (r : Record) (t : TurnOn) (q : ℕ) → Kept w → legal_from bounds w (before ++ r ∷ rest) →
     turn_on (world_from bounds w before) r.actor r.act ≡ Some t → is_on q t.on ≡ true → length (data_given t.turn.call) ≤ PIPE_BUF → 0 < took (world_from bounds w before) r →
-    IsUnbroken (data_given t.turn.call) (put_by q (world_from bounds w before) r) (joined_from (put_by q) bounds w (before ++ r ∷ rest))
+    IsUnbroken (data_given t.turn.call) (put_by q (world_from bounds w before) r) (joined_from (put_by q) bounds w before) (joined_from (put_by q) bounds w (before ++ r ∷ rest))
 small_from sound keeps waits bounds w [] rest r t q kept is_legal here on small some =
     let one = small_put sound bounds w r t q kept is_legal.0 here on small some in
     record {
       is_one = one;
-      before = [];
       rest = joined_from (put_by q) bounds (after bounds w r) rest;
       whole = ap (λ l. l ++ joined_from (put_by q) bounds (after bounds w r) rest) one;
     }
 small_from sound keeps waits bounds w (x ∷ before) rest r t q kept is_legal here on small some =
     let s = small_from sound keeps waits bounds (after bounds w x) before rest r t q (record_keeps keeps waits bounds w x kept is_legal.0) is_legal.1 here on small some in
-    record { is_one = s.is_one; before = put_by q w x ++ s.before; rest = s.rest; whole = ap (λ l. put_by q w x ++ l) s.whole ∙ sym (append_assoc (put_by q w x) s.before (data_given t.turn.call ++ s.rest)) }
+    record { is_one = s.is_one; rest = s.rest; whole = ap (λ l. put_by q w x ++ l) s.whole ∙ sym (append_assoc (put_by q w x) (joined_from (put_by q) bounds (after bounds w x) before) (data_given t.turn.call ++ s.rest)) }
 
 pub small_writes_unbroken : ActsAreSound → StepKeepsWhole → StepKeepsWaits → SmallWritesUnbroken
 small_writes_unbroken sound keeps waits bounds h is_legal before rest r t q same here on small some =
-    let P : List Record → Type 0 = λ h. IsUnbroken (data_given t.turn.call) (put_by q (world_of bounds before) r) (put bounds h q) in
+    let P : List Record → Type 0 = λ h. IsUnbroken (data_given t.turn.call) (put_by q (world_of bounds before) r) (put bounds before q) (put bounds h q) in
     subst P same (small_from sound keeps waits bounds empty_world before rest r t q empty_kept (subst (legal bounds) (sym same) is_legal) here on small some)

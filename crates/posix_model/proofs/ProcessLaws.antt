@@ -4,7 +4,7 @@ use Rattle.std.specs.Option.{option_map, is_some}
 use Rattle.std.proofs.lemmas.List.Sums.{sum_by-cons, sum_by_push}
 use Rattle.posix_model.specs.Types.{Act, World, Process, Description, FileEdit, ProcessEdit, TableEdit, Change, Decided}
 use Rattle.slots.specs.Slots.{slot, live}
-use Rattle.posix_model.specs.Proved.Whole.{IsThere}
+use Rattle.posix_model.specs.Kept.{IsThere}
 use Rattle.process_table.specs.Processes.{with_entry, process_with, with_connection, with_parked, with_total}
 use Rattle.posix_model.specs.Descriptors.{with_descriptor}
 use Rattle.posix_model.specs.Change.{with_files, with_processes, with_table, with_description, end_of, changed}

@@ -5,7 +5,8 @@ use Rattle.std.specs.List.{count_by}
 use Rattle.std.proofs.lemmas.List.Quantifiers.{position-Some}
 use Rattle.std.proofs.lemmas.List.Sums.{get_or-le-sum_by}
 use Rattle.slots.specs.Slots.{slot, lowest, kept, kept_from}
-use Rattle.posix_model.specs.Proved.Whole.{IsThere, EachThere}
+use Rattle.posix_model.specs.Proved.Whole.{EachThere}
+use Rattle.posix_model.specs.Kept.{IsThere}
 use Rattle.posix_model.specs.Proved.Numbers.{Rises, StaysSame, IsLowest}
 
 -- what is not there is gone

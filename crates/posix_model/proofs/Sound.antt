@@ -16,9 +16,11 @@ use Rattle.call_types.specs.declared.call.Call.TheVariants as call
 use Rattle.posix_model.specs.Bytes.{bytes_at}
 use Rattle.slots.specs.Slots.{slot, lowest, live}
 use Rattle.call_types.specs.Names.{Entries, file_of}
-use Rattle.posix_model.specs.Proved.Whole.{IsThere, EachThere, TargetIsThere, is_fifo, is_regular_file, IsWhole}
+use Rattle.posix_model.specs.Proved.Whole.{EachThere, TargetIsThere, is_fifo, is_regular_file, IsWhole}
+use Rattle.posix_model.specs.Kept.{IsThere}
 use Rattle.process_table.specs.Processes.{table_of, free_table, copied_table, with_parked}
-use Rattle.posix_model.specs.Descriptors.{opened, opened_number, opened_description, number_of, bytes_of}
+use Rattle.posix_model.specs.Descriptors.{opened, opened_number, opened_description, bytes_of}
+use Rattle.posix_model.specs.Proved.Sound.{number_of, added, ended, closes, adds, data_of, IsTold, Sound, data_most, FilesWithin}
 use Rattle.posix_model.specs.Positions.{bytes_before, regular_file, is_regular, file_at}
 use Rattle.posix_model.specs.Change.{with_bytes, created, with_processes}
 use Rattle.posix_model.specs.Proved.Fits.{IsFree, CanAdd, CanOpenPair, PutsWithin, Fits, IsProper}
@@ -41,7 +43,6 @@ use Rattle.posix_model.specs.Mkfifo.{mkfifo}
 use Rattle.process_table.specs.Tables.{two_lowest, and_next}
 use Rattle.posix_model.specs.Join.{is_full}
 use Rattle.posix_model.specs.Turns.{total, took_in, new_turn, took, data_in}
-use Rattle.posix_model.specs.Proved.Sound.{added, ended, closes, adds, data_of, IsTold, Sound, data_most, FilesWithin}
 use Rattle.call_types.specs.declared.description.Target.TheVariants as target
 use Rattle.posix_model.specs.declared.world.File.TheVariants as file
 use Rattle.posix_model.specs.declared.change.FileEdit.TheVariants as on_files

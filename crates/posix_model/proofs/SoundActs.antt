@@ -10,7 +10,8 @@ use Rattle.slots.specs.Slots.{slot}
 use Rattle.process_table.specs.Processes.{free_table, copied_table, awaits}
 use Rattle.posix_model.specs.Types.{Act, Bounds, World, Process, ProcessEdit, Decided, TRANSFER_MAX, Replied, Data, Done, StatReply}
 use Rattle.posix_model.specs.Bytes.{bytes_at}
-use Rattle.posix_model.specs.Proved.Whole.{IsThere, IsWhole}
+use Rattle.posix_model.specs.Proved.Whole.{IsWhole}
+use Rattle.posix_model.specs.Kept.{IsThere}
 use Rattle.posix_model.specs.Descriptors.{opened, bytes_of}
 use Rattle.posix_model.specs.Positions.{bytes_before, file_at}
 use Rattle.posix_model.specs.Pipes.{pipe_at}

@@ -9,7 +9,8 @@ use Rattle.call_types.specs.declared.description.Target.TheVariants as target
 use Rattle.slots.specs.Slots.{slot}
 use Rattle.process_table.specs.Processes.{is_here, parked_of}
 use Rattle.posix_model.specs.Types.{Call, Outcome, Bounds, World, Process, Parked, Target, OpenDescriptor, DataSource, FileEdit, Decided, Try, TRANSFER_MAX, PIPE_BUF, EAGAIN, EPIPE, Replied, ParkedAt, Part, Reply, Errno, Number, Data, Error}
-use Rattle.posix_model.specs.Proved.Whole.{IsThere, TargetIsThere, IsWhole}
+use Rattle.posix_model.specs.Proved.Whole.{TargetIsThere, IsWhole}
+use Rattle.posix_model.specs.Kept.{IsThere}
 use Rattle.process_table.specs.Proved.Waits.{AsksFew}
 use Rattle.posix_model.specs.Descriptors.{opened, held_in}
 use Rattle.posix_model.specs.Positions.{regular_file}

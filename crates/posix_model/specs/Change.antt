@@ -1,5 +1,5 @@
--- What an act changes in a world, as data: one edit at most of files and pipes, of processes, and of descriptors and
--- open file descriptions.
+-- What a change makes of a world: one edit at most of names, files and pipes, one of processes, and one of descriptors and open file
+-- descriptions.
 use Rattle.std.specs.Prelude.{ℕ, true, false, List, [], ◌∷◌, ◌++◌, Option, None, Some, length, take, drop, slice_set}
 use Rattle.posix_model.specs.Bytes.{splice, resized}
 use Rattle.call_types.specs.Names.{with_name, without_name}

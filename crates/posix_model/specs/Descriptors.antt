@@ -1,6 +1,5 @@
--- Descriptors of a process, and the open file descriptions that they lead to.
+-- Descriptors of a process, the open file descriptions that they lead to, and what files and pipes hold.
 use Rattle.std.specs.Prelude.{ℕ, ℤ, pos, negsuc, List, [], Option, None, Some, length}
-use Rattle.std.specs.Option.{option_map}
 use Rattle.call_types.specs.Descriptions.{at_offset}
 use Rattle.slots.specs.Slots.{slot, edited}
 use Rattle.process_table.specs.Processes.{table_of, with_entry}
@@ -21,10 +20,6 @@ opened_number w fd (Some number) = opened_description fd number (slot w.descript
 abbrev pub opened : World → ℕ → ℤ → Option OpenDescriptor
 opened w process (pos fd) = opened_number w fd (slot (table_of (slot w.processes process)) fd)
 opened w process (negsuc n) = None
-
--- the number of the open file description that a descriptor leads to, if it is open (XBD 3, File Descriptor)
-abbrev pub number_of : World → ℕ → ℤ → Option ℕ
-number_of w process fd = option_map (λ o. o.number) (opened w process fd)
 
 -- the world in which a descriptor of a process refers to this, or is free
 abbrev pub with_descriptor : World → ℕ → ℕ → Option ℕ → World

@@ -7,11 +7,11 @@ use Rattle.posix_model.specs.Pages.{Page, tells}
 use Rattle.posix_model.specs.Descriptors.{bytes_of, held_in}
 use Rattle.call_types.specs.declared.description.Target.TheVariants as target
 
--- the greatest number of links that a reply tells, in 32 bits (own)
+-- the greatest number of links that a reply can tell, since it tells them in 32 bits (own)
 abbrev pub LINKS_TOLD_MAX : ℕ
 LINKS_TOLD_MAX = 4294967295
 
--- the links of a file as a reply tells them (own: a greater number, which no run reaches, is told as the greatest)
+-- the links of a file as a reply tells them: all, in every world of a run, in which a file has few names (LINK_MAX)
 abbrev pub links_told : World → ℕ → ℕ
 links_told w file = min (links w.names file) LINKS_TOLD_MAX
 

@@ -7,7 +7,8 @@ use Rattle.posix_model.specs.Pages.{Page, does}
 use Rattle.posix_model.specs.declared.change.FileEdit.TheVariants as on_files
 use Rattle.posix_model.specs.declared.change.TableEdit.TheVariants as on_table
 
--- the refusals of an open descriptor (own: EINVAL of a pipe or FIFO, EFBIG over the size limit)
+-- the refusals of an open descriptor (own: EINVAL of a pipe or FIFO, and not EBADF where it is not open for writing; EFBIG over the size
+-- limit)
 abbrev pub ftruncate_faults : Bounds → ℤ → OpenDescriptor → List (Bool × Errno)
 ftruncate_faults bounds len o =
     (is_before len, EINVAL)

@@ -1,8 +1,8 @@
 -- Histories: lists of records, from the empty world on.
 use Rattle.std.specs.Prelude.{◌≡◌, ℕ, false, List, [], ◌∷◌, Some}
-use Rattle.std.specs.Option.{option_map, option_map_or}
+use Rattle.std.specs.Option.{option_map_or}
 use Rattle.posix_model.specs.Types.{Act, Record, Bounds, World}
-use Rattle.posix_model.specs.Step.{step}
+use Rattle.posix_model.specs.Step.{outcome_of, step}
 
 -- the world in which a run begins: there is nothing
 abbrev pub empty_world : World
@@ -24,7 +24,7 @@ world_from bounds w (r ∷ rs) = world_from bounds (after bounds w r) rs
 -- each record has the outcome that the step gives in the world of the records before it
 abbrev pub legal_from : Bounds → World → List Record → Type 0
 legal_from bounds w [] = Unit {0}
-legal_from bounds w (r ∷ rs) = (option_map (λ s. s.outcome) (step bounds w r.actor r.act) ≡ Some r.outcome) × legal_from bounds (after bounds w r) rs
+legal_from bounds w (r ∷ rs) = (outcome_of bounds w r.actor r.act ≡ Some r.outcome) × legal_from bounds (after bounds w r) rs
 
 -- the world after a history
 abbrev pub world_of : Bounds → List Record → World

@@ -34,3 +34,4 @@ pub mod History
 pub mod Turns
 pub mod PipeRecord
 pub mod Proved
+pub mod Kept

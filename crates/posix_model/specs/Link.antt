@@ -8,7 +8,7 @@ use Rattle.posix_model.specs.Pages.{Page, does}
 use Rattle.posix_model.specs.declared.change.FileEdit.TheVariants as on_files
 use Rattle.posix_model.specs.declared.change.TableEdit.TheVariants as on_table
 
--- the refusals of the old name's file, and of the new name (own: 8 names of a file are the most)
+-- the refusals of the old name's file, and of the new name (XBD limits.h: LINK_MAX is 8 here, the least that it may be; own: ENOSPC)
 abbrev pub linked_faults : World → List ℕ → Option ℕ → List (Bool × Errno)
 linked_faults w new found =
     (is_none found, ENOENT)

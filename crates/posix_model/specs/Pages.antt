@@ -25,13 +25,14 @@ acts reply process = record { outcome = Replied reply; change = record no_change
 abbrev pub refused : Errno → Decided
 refused error = tells (Error error)
 
--- the refusals of a call, each with its condition, in the order in which they are looked at; and its effect
+-- the refusals of a call, each with its condition, in the order in which they are looked at; and its effect, which of a call that may
+-- wait has refusals too (EAGAIN and EPIPE: Tries). That a descriptor is not open is looked at before (`on_open`)
 pub record Page : Type 0 where
   pub faults : List (Bool × Errno)
   pub effect : Decided
 
--- the error of the first condition that holds
-abbrev pub first_fault : List (Bool × Errno) → Option Errno
+-- what stands beside the first condition that holds: of a page the error
+abbrev pub first_fault : {E : Type 0} → List (Bool × E) → Option E
 first_fault [] = None
 first_fault (fault ∷ faults) = if fault.0 then Some fault.1 else first_fault faults
 

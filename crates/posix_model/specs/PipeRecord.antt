@@ -1,4 +1,4 @@
--- What a history puts into a pipe, and what it gets from it; and the law of the bytes.
+-- What a history puts into a pipe, and what it gets from it.
 use Rattle.std.specs.Prelude.{◌≡◌, ℕ, pos, ℤ, ◌<◌, ◌≤◌, Bool, true, false, List, [], ◌∷◌, ◌++◌, Option, None, Some, length, take, drop, is_some, if◌then◌else◌}
 use Rattle.std.specs.Option.{option_map, option_map_or}
 use Rattle.call_types.specs.CallTable.{descriptor_of}
@@ -9,7 +9,7 @@ use Rattle.process_table.specs.Processes.{parked_of}
 use Rattle.posix_model.specs.Counts.{is_pipe}
 use Rattle.posix_model.specs.Descriptors.{opened}
 use Rattle.posix_model.specs.Pipes.{held_bytes}
-use Rattle.posix_model.specs.History.{empty_world, after, world_of, legal}
+use Rattle.posix_model.specs.History.{empty_world, after, world_of}
 use Rattle.posix_model.specs.Given.{data_given}
 use Rattle.posix_model.specs.Turns.{Turn, turn, total, took_in, took, data_in}
 
@@ -84,14 +84,9 @@ got bounds h pipe = joined_from (got_by pipe) bounds empty_world h
 abbrev pub KeepsBytes : Bounds → List Record → Type 0
 KeepsBytes bounds h = (pipe : ℕ) → is_some (slot (world_of bounds h).pipes pipe) ≡ true → put bounds h pipe ≡ got bounds h pipe ++ held_bytes (world_of bounds h) pipe
 
--- the law of the bytes: so does each legal history
-abbrev pub BytesOfPipe : Type 0
-BytesOfPipe = (bounds : Bounds) (h : List Record) → legal bounds h → KeepsBytes bounds h
-
--- one record put the part, and it stands in the list in one piece
-pub record IsUnbroken (part by_one bytes : List ℕ) : Type 0 where
+-- one record put the part, and it stands in the list in one piece, after the bytes that were put before
+pub record IsUnbroken (part by_one before bytes : List ℕ) : Type 0 where
   pub is_one : by_one ≡ part
-  pub before : List ℕ
   pub rest : List ℕ
   pub whole : bytes ≡ before ++ (part ++ rest)
 
@@ -99,8 +94,4 @@ pub record IsUnbroken (part by_one bytes : List ℕ) : Type 0 where
 abbrev pub KeepsSmallWhole : Bounds → List Record → Type 0
 KeepsSmallWhole bounds h = (before rest : List Record) (r : Record) (t : TurnOn) (pipe : ℕ) → before ++ r ∷ rest ≡ h →
     turn_on (world_of bounds before) r.actor r.act ≡ Some t → is_on pipe t.on ≡ true → length (data_given t.turn.call) ≤ PIPE_BUF → 0 < took (world_of bounds before) r →
-    IsUnbroken (data_given t.turn.call) (put_by pipe (world_of bounds before) r) (put bounds h pipe)
-
--- so it does in each legal history
-abbrev pub SmallWritesUnbroken : Type 0
-SmallWritesUnbroken = (bounds : Bounds) (h : List Record) → legal bounds h → KeepsSmallWhole bounds h
+    IsUnbroken (data_given t.turn.call) (put_by pipe (world_of bounds before) r) (put bounds before pipe) (put bounds h pipe)

@@ -8,3 +8,4 @@ pub mod Drops
 pub mod Laws
 pub mod WaitLaws
 pub mod Waiting
+pub mod PipeLaws

@@ -11,7 +11,7 @@ use Rattle.posix_model.specs.Descriptors.{bytes_of}
 use Rattle.posix_model.specs.declared.change.FileEdit.TheVariants as on_files
 use Rattle.posix_model.specs.declared.change.TableEdit.TheVariants as on_table
 
--- the refusals of an open descriptor (own: EINVAL of more than 65,536 bytes)
+-- the refusals of an open descriptor (own: EINVAL of more than 65,536 bytes); EAGAIN of a pipe or FIFO is of a try
 abbrev pub read_faults : ℕ → OpenDescriptor → List (Bool × Errno)
 read_faults count o =
     (not (can_read o.description.mode), EBADF)

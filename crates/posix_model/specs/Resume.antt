@@ -1,4 +1,4 @@
--- The page of resume: the call that a process waits in is tried again, once it is ready (own).
+-- Resume: the call that a process waits in is tried again, once it is ready (own; the standard has no such call).
 use Rattle.std.specs.Prelude.{ℕ, pos, ◌==◌, ◌||◌, Bool, not, nat_le, Option, None, Some, length, is_some, if◌then◌else◌}
 use Rattle.std.specs.Option.{option_map}
 use Rattle.slots.specs.Slots.{slot}

@@ -90,6 +90,10 @@ stepped w bytes d = record { world = sweep (changed w bytes d.change); outcome =
 abbrev pub step : Bounds → World → ℕ → Act → Option Stepped
 step bounds w actor act = option_map (stepped w (given act)) (comes_to bounds w actor act)
 
+-- what the model gives of an act in a world, if it records any
+abbrev pub outcome_of : Bounds → World → ℕ → Act → Option Outcome
+outcome_of bounds w actor act = option_map (λ s. s.outcome) (step bounds w actor act)
+
 -- a call has ended, or it waits
 abbrev pub EndsOrWaits : Outcome → Type 0
 EndsOrWaits (Replied reply) = Unit {0}

@@ -4,8 +4,9 @@
 --   a read                     bytes are there, or no writer is (page of read)    the bytes, at most as many as it asks; or none
 --   a write of at most         there is room for all of them, or no reader        its length; or EPIPE
 --     PIPE_BUF bytes           (page of write)
---   a longer write             there is room for one byte, or no reader           its length once the last byte is in, Part before;
---                              (page of write)                                    or what it moved in all, EPIPE where it moved none
+--   a longer write             there is room for one byte, or no reader           its length once the last byte is in, Part before
+--                              (page of write)                                    (own); or what it moved in all (own), EPIPE where it
+--                                                                                 moved none
 --   an open of a FIFO          an opposite end is open, or was opened since it    its descriptor
 --                              waits (page of open; own: or was opened since)
 use Rattle.std.specs.Prelude.{ℕ, ◌+◌, ◌-◌, ◌==◌, not, nat_le, [], take, if◌then◌else◌}
@@ -25,7 +26,7 @@ read_try w pipe count =
     else if has_writer w pipe then Waits 0 on_files.Nothing
     else Ends (Data []) on_files.Nothing
 
--- a write without a reader: what it moved so far, or EPIPE where it moved nothing (page of write; own: there is no signal)
+-- a write without a reader: what it moved so far (own), or EPIPE where it moved nothing (page of write; own: there is no signal)
 abbrev pub broken : ℕ → Reply
 broken moved = if moved == 0 then Error EPIPE else Number moved
 
@@ -40,11 +41,12 @@ write_try bounds w pipe source len moved =
     else if nat_le len PIPE_BUF then Waits moved on_files.Nothing
     else Waits (moved + room) (on_files.Put pipe source room)
 
--- a call that waits, on this descriptor
+-- a call that waits, on this descriptor: it moved so many bytes, and the other end of its FIFO was opened so often before, if it is an
+-- open (0 of any other)
 abbrev pub waiting : Call → ℕ → ℕ → ℕ → Parked
 waiting c fd moved openings = record { call = c; fd = fd; moved = moved; openings = openings }
 
--- what was decided, but that the process waits in the call, which moved so many bytes
+-- what was decided, but for its reply: the process waits in the call, which moved so many bytes
 abbrev pub parks : ℕ → Parked → Decided → Decided
 parks process parked d = record { outcome = ParkedAt parked.moved; change = record d.change { process = on_process.Park process parked } }
 

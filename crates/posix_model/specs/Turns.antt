@@ -21,12 +21,13 @@ new_turn c = record { call = c; moved = 0 }
 abbrev pub next_turn : Parked → Turn
 next_turn parked = record { call = parked.call; moved = parked.moved }
 
+-- the turn of an act: of a call or a resume, and of no other
 abbrev pub turn : World → ℕ → Act → Option Turn
 turn w actor (act.Call c) = Some (new_turn c)
 turn w actor act.Resume = option_map next_turn (parked_of (slot w.processes actor))
 turn w actor other = None
 
--- the bytes that a call has moved in all, as an outcome tells them
+-- the bytes that a call has moved in all, as an outcome tells them, where it is a write
 abbrev pub total : Outcome → ℕ
 total (outcome.Reply (reply.Number n)) = n
 total (outcome.Parked moved) = moved

@@ -1,4 +1,4 @@
--- The types that definitions and proofs name, with errors, replies and limits, in one place.
+-- The types that most definitions and proofs name, with errors, replies and limits.
 pub use Rattle.call_types.specs.declared.call.Call.{Call}
 pub use Rattle.call_types.specs.declared.act.Act.{Act}
 pub use Rattle.call_types.specs.declared.act.Record.{Record}

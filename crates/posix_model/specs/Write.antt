@@ -19,7 +19,8 @@ write_start description len = if description.append then len else description.of
 abbrev pub is_past_limit : Bounds → ℕ → List ℕ → Bool
 is_past_limit bounds start bytes = not (length bytes == 0) && nat_le bounds.file_size start
 
--- the refusals of an open descriptor (own: EINVAL of more than 65,536 bytes); a pipe or FIFO has no position
+-- the refusals of an open descriptor (own: EINVAL of more than 65,536 bytes); a pipe or FIFO has no position, and its EAGAIN and EPIPE are
+-- of a try
 abbrev pub write_faults : Bounds → ℕ → List ℕ → OpenDescriptor → List (Bool × Errno)
 write_faults bounds start bytes o =
     (not (can_write o.description.mode), EBADF)

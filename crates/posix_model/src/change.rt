@@ -18,7 +18,7 @@ pub enum DataSource {
     Parked { process: usize },
 }
 
-/// What an act changes in files and pipes that are there. All numbers are found already; positions and lengths are in bytes.
+/// What an act changes in names, files and pipes; new pipes come with their ends, in a `TableEdit`. All numbers are found already; positions and lengths are in bytes.
 #[derive(Drop)]
 pub enum FileEdit {
     /// Nothing.
@@ -100,7 +100,8 @@ pub enum ProcessEdit {
     Close,
 }
 
-/// What an act changes in descriptors, in open file descriptions, and in pipes that come with their ends. All numbers are found already.
+/// What an act changes in descriptors and open file descriptions, with the pipes and openings that come with an end. All numbers are
+/// found already.
 #[derive(Drop)]
 pub enum TableEdit {
     /// Nothing.

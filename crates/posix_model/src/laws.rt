@@ -4,7 +4,7 @@ ghost use Rattle.posix_model.specs.Proved.Sound.{CallsAreSound, ActsAreSound};
 ghost use Rattle.posix_model.specs.Proved.Lengths.{StepIsShort};
 ghost use Rattle.posix_model.specs.Proved.Released.{SweptIsSettled, SettledStays, SweepReleases, NamesRelease};
 ghost use Rattle.posix_model.specs.Proved.Drops.{ExitCloses, ClosedIsBare, CloseThenSet};
-ghost use Rattle.posix_model.specs.Proved.Laws.{StepRaisesNumbers, StepKeepsWhole, HistoryIsWhole, HistoryRaisesNumbers, SweepSettles, StepSettles, HistorySettles, SweepLeaves, StepTellsProcesses, StepPlansProcesses};
+ghost use Rattle.posix_model.specs.Proved.Laws.{StepRaisesNumbers, StepKeepsWhole, HistoryIsWhole, HistoryRaisesNumbers, SweepSettles, StepSettles, HistorySettles, HistoryKeepsExactly, SweepLeaves, StepTellsProcesses, StepPlansProcesses};
 
 /// What each act comes to can be made, within all limits; a refusal changes nothing (that of a resume ends its call:
 /// `resume_breaks_alone`), and no act moves an offset but that of its own descriptor, changes a file, a name or a pipe
@@ -46,6 +46,16 @@ pub fn sweep_releases()
     ensures releases { SweepReleases }
     ensures names { NamesRelease }
 {}
+
+/// In a history a file is there exactly while it has a name or a live description holds it, a pipe while an end of it is
+/// open, and a description while a descriptor refers to it (page of close).
+pub fn file_kept_exactly()
+    ensures { HistoryKeepsExactly }
+{
+    numbers_rise();
+    sweep_settles();
+    sweep_releases();
+}
 
 /// A process that goes closes its descriptors in turn; and a descriptor that is set over an open one closes that first.
 pub fn exits_close()

@@ -1,6 +1,6 @@
 //! Laws of pipes and of calls that wait. None of these functions does anything; each contract is its law.
 
-ghost use Rattle.posix_model.specs.PipeRecord.{BytesOfPipe, SmallWritesUnbroken};
+ghost use Rattle.posix_model.specs.Proved.PipeLaws.{BytesOfPipe, SmallWritesUnbroken};
 ghost use Rattle.posix_model.specs.Proved.Waiting.{HistoryWaits, ReadyOpenEnds, StepKeepsWaits, WaitingReadIsReady, WaitingWriteIsReady};
 ghost use Rattle.posix_model.specs.Proved.WaitLaws.{BrokenNextUnparks, BrokenStepUnparks, CallsEndOrWait, NonblockNeverWaits, ReadyReads, ReadyWrites, ResumeBreaksAlone, ResumesEndOrGoOn};
 

@@ -5,7 +5,7 @@ use Rattle.call_types.specs.declared.limits.TheConstants.{OPEN_MAX}
 use Rattle.process_table.specs.declared.process.Process.{Process}
 use Rattle.process_table.specs.declared.process.Parked.{Parked}
 
--- the descriptors of a process, with what each refers to
+-- the descriptors of a process, with what each refers to; of a live one there are 32 (OPEN_MAX), open or free
 abbrev pub table_of : Option Process → List (Option ℕ)
 table_of None = []
 table_of (Some process) = process.table
@@ -37,10 +37,6 @@ copied_table (Some parent) = parent.table
 -- a process with this table, that waits in no call, with or without a connection
 abbrev pub process_with : List (Option ℕ) → Bool → Process
 process_with table attached = record { table = table; parked = None; attached = attached }
-
--- a process without open descriptors, with its connection
-abbrev pub new_process : Process
-new_process = process_with free_table true
 
 -- a process that has its connection
 abbrev pub with_connection : Process → Process

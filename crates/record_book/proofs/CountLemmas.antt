@@ -11,16 +11,18 @@ use Rattle.posix_model.specs.Step.{Stepped, step}
 use Rattle.posix_model.specs.Proved.Sound.{closes}
 use Rattle.posix_model.specs.Proved.Laws.{StepPlansProcesses}
 use Rattle.posix_model.specs.History.{empty_world, after_act, legal, world_of}
-use Rattle.posix_model.specs.PipeRecord.{BytesOfPipe, SmallWritesUnbroken}
+use Rattle.posix_model.specs.Proved.PipeLaws.{BytesOfPipe, SmallWritesUnbroken}
 use Rattle.posix_model.specs.Turns.{took, gave}
 use Rattle.posix_model.specs.declared.world.World.{World}
 use Rattle.byte_ledger.specs.Counted.{Counted, TalliesState, counted_more}
 use Rattle.byte_ledger.specs.declared.tallies.Sums.{Sums}
 use Rattle.record_book.specs.Seat.{Receipted}
 use Rattle.record_book.specs.Book.{BookState, world_now, exits_left, Appends}
-use Rattle.record_book.specs.Counting.{seats_of, seats_in, seats_given, counted_in, only_records, IsCounted, CountsOf}
+use Rattle.record_book.specs.Counting.{seats_of, seats_in, seats_given, only_records, CountsOf}
+use Rattle.record_book.specs.Proved.Counted.{counted_in, IsCounted}
 use Rattle.record_book.specs.Exits.{exit_record, closing_record, receipts_from}
-use Rattle.record_book.specs.Ends.{told_more, IsOrphansExit, IsShutBy}
+use Rattle.record_book.specs.Ends.{told_more}
+use Rattle.record_book.specs.Proved.Leaving.{IsOrphansExit, IsShutBy}
 use Rattle.record_book.proofs.HistoryLemmas.{world_from-push, bytes_in-push, bytes_out-push}
 
 seats_in-push : (h : List Record) (r : Record) → seats_in (h ++ r ∷ []) ≡ seats_in h + seats_of r.act

@@ -18,8 +18,10 @@ use Rattle.posix_model.specs.declared.change.Change.{Change}
 use Rattle.posix_model.specs.declared.change.FileEdit.TheVariants as on_files
 use Rattle.posix_model.specs.declared.change.ProcessEdit.TheVariants as on_process
 use Rattle.posix_model.specs.declared.change.TableEdit.TheVariants as on_table
-use Rattle.record_book.specs.Exits.{exit_record, closing_record, exits_from, orphans_from, orphans_exits, prepared_for, with_prepared, receipts_from}
-use Rattle.record_book.specs.Ends.{told_more, OrphansEnd, Ends}
+use Rattle.record_book.specs.Exits.{exit_record, closing_record, orphans_from, orphans_exits, receipts_from}
+use Rattle.record_book.specs.Proved.Prepared.{exits_from, prepared_for, with_prepared}
+use Rattle.record_book.specs.Ends.{told_more, Ends}
+use Rattle.record_book.specs.Proved.Leaving.{OrphansEnd}
 use Rattle.record_book.specs.Book.{BookState, world_now}
 use Rattle.record_book.specs.Proved.Inside.{prepared_closing}
 use Rattle.record_book.specs.Seat.{Receipted, SeatState}

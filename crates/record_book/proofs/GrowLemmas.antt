@@ -16,7 +16,8 @@ use Rattle.posix_model.specs.declared.world.World.{World}
 use Rattle.trace_ring.specs.Proved.Trace.{Pushes}
 use Rattle.record_book.specs.Book.{world_now, world_after, exits_left}
 use Rattle.slots.specs.Slots.{live}
-use Rattle.record_book.specs.Exits.{exit_record, closing_record, exits_from}
+use Rattle.record_book.specs.Exits.{exit_record, closing_record}
+use Rattle.record_book.specs.Proved.Prepared.{exits_from}
 use Rattle.record_book.proofs.ExitLemmas.{exits_emptied}
 use Rattle.record_book.specs.Proved.House.{closing_of, HasRoom, SameHouse}
 use Rattle.record_book.specs.Proved.Planned.{IsPlanned}

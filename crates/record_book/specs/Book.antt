@@ -1,11 +1,10 @@
 -- What contracts see of a book, and what acts do to it.
-use Rattle.std.specs.Prelude.{◌≡◌, ℕ, ◌+◌, Bool, false, nat_le, List, ◌∷◌, [], ◌++◌, Option, Some, length, if◌then◌else◌}
-use Rattle.std.specs.Option.{option_map}
+use Rattle.std.specs.Prelude.{◌≡◌, ℕ, ◌+◌, Bool, false, nat_le, List, ◌∷◌, [], ◌++◌, Option, Some, length, if◌then◌else◌, None}
 use Rattle.call_types.specs.declared.limits.Limits.{Limits}
 use Rattle.call_types.specs.declared.act.Act.{Act}
 use Rattle.call_types.specs.declared.act.Record.{Record}
 use Rattle.slots.specs.Slots.{live}
-use Rattle.posix_model.specs.Step.{step}
+use Rattle.posix_model.specs.Step.{outcome_of}
 use Rattle.posix_model.specs.History.{after_act, world_of}
 use Rattle.posix_model.specs.Turns.{took, gave}
 use Rattle.posix_model.specs.declared.world.World.{World}
@@ -42,7 +41,7 @@ world_after b actor act = after_act b.limits.bounds (world_now b) actor act
 
 -- one record of this act is appended, with the model's outcome, and its receipt tells its place
 pub record Appends (old new : BookState) (actor : ℕ) (act : Act) (receipt : Receipted) : Type 0 where
-  pub outcome : option_map (λ s. s.outcome) (step old.limits.bounds (world_now old) actor act) ≡ Some receipt.record_is.outcome
+  pub outcome : outcome_of old.limits.bounds (world_now old) actor act ≡ Some receipt.record_is.outcome
   pub actor_is : receipt.record_is.actor ≡ actor
   pub act_is : receipt.record_is.act ≡ act
   pub place : receipt.place ≡ length old.history
@@ -66,3 +65,7 @@ pub record Records (old new : BookState) (s t : SeatState) (act : Act) (receipt 
   pub appends : Appends old new s.pid act receipt
   pub receives : Receives s t receipt
   pub counts : CountsMore old s t receipt.record_is
+
+-- what contracts see of a closed book: its house has given its receipts away (own)
+abbrev pub closed_book : Limits → List Record → Bool → BookState
+closed_book limits records is_traced = record { limits = limits; history = records; house = None; is_traced = is_traced }

@@ -1,5 +1,5 @@
 -- What an exit and the closing give (own).
-use Rattle.std.specs.Prelude.{◌≡◌, ℕ, true, false, ◌∷◌, [], ◌++◌, List, Option, None, Some, length, slice_set}
+use Rattle.std.specs.Prelude.{◌≡◌, ℕ, true, false, ◌++◌, List, Option, None, Some, length}
 use Rattle.std.specs.Option.{option_map}
 use Rattle.call_types.specs.declared.act.TheConstants.{HOUSE}
 use Rattle.call_types.specs.declared.act.Act.TheVariants as act
@@ -7,7 +7,7 @@ use Rattle.call_types.specs.declared.act.Record.{Record}
 use Rattle.record_book.specs.Seat.{Receipted, SeatState}
 use Rattle.record_book.specs.Book.{BookState, world_now, Records}
 use Rattle.record_book.specs.Counting.{only_records}
-use Rattle.record_book.specs.Exits.{exit_record, closing_record, orphans_exits, closing_records, receipts_from}
+use Rattle.record_book.specs.Exits.{closing_records, receipts_from}
 
 -- the exit of a seat's process is recorded, and its receipt is the last of the seat
 abbrev pub ExitsBy : BookState → BookState → SeatState → SeatState → Receipted → Type 0
@@ -21,23 +21,6 @@ Exits old new s spent = (receipt : Receipted) × ExitsBy old new s spent receipt
 abbrev pub told_more : ℕ → List Record → Option (List Receipted) → Option (List Receipted)
 told_more place rs house = option_map (λ receipts. receipts ++ receipts_from place rs) house
 
--- the exit of a process is recorded, and the house has its receipt
-pub record IsOrphansExit (old new : BookState) (process : ℕ) : Type 0 where
-  pub limits : new.limits ≡ old.limits
-  pub is_traced : new.is_traced ≡ old.is_traced
-  pub history : new.history ≡ old.history ++ exit_record process ∷ []
-  pub house : new.house ≡ told_more (length old.history) (exit_record process ∷ []) old.house
-  pub processes : (world_now new).processes ≡ slice_set (world_now old).processes process None
-  pub closed : (world_now new).closed ≡ (world_now old).closed
-
--- the closing is recorded, and the house gives its receipts away, with that of the closing
-pub record IsShutBy (old new : BookState) (receipts : List Receipted) : Type 0 where
-  pub limits : new.limits ≡ old.limits
-  pub is_traced : new.is_traced ≡ old.is_traced
-  pub history : new.history ≡ old.history ++ closing_record ∷ []
-  pub receipts_are : Some receipts ≡ told_more (length old.history) (closing_record ∷ []) old.house
-  pub given_away : new.house ≡ None
-
 -- these records are appended; the seat of the house has its receipts and theirs, has seen all records, and counts one for each
 -- receipt; and the book holds no receipts of the house any more
 pub record Ends (old new : BookState) (rs : List Record) (house : SeatState) : Type 0 where
@@ -49,14 +32,6 @@ pub record Ends (old new : BookState) (rs : List Record) (house : SeatState) : T
   pub receipts : Some house.receipts ≡ told_more (length old.history) rs old.house
   pub counts : house.counted ≡ only_records (length house.receipts)
   pub given_away : new.house ≡ None
-
--- the exits of all processes without a connection are recorded, and the house has their receipts
-pub record OrphansEnd (old new : BookState) : Type 0 where
-  pub limits : new.limits ≡ old.limits
-  pub is_traced : new.is_traced ≡ old.is_traced
-  pub history : new.history ≡ old.history ++ orphans_exits (world_now old)
-  pub house : new.house ≡ told_more (length old.history) (orphans_exits (world_now old)) old.house
-  pub closed : (world_now new).closed ≡ (world_now old).closed
 
 -- a run that is open is closed by the exits of the processes without a connection and the closing; one that is closed stays as it is
 abbrev pub Closes : BookState → BookState → Option SeatState → Type 0

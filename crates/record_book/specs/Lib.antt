@@ -6,4 +6,5 @@ pub mod Refusals
 pub mod Openings
 pub mod Ends
 pub mod Runs
+pub mod Resumes
 pub mod Proved

@@ -4,4 +4,7 @@ pub mod History
 pub mod Planned
 pub mod Appended
 pub mod Inside
-pub mod Resumes
+pub mod Counted
+pub mod Leaving
+pub mod Prepared
+pub mod Running

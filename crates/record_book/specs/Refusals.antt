@@ -1,5 +1,5 @@
 -- The refusals that are not recorded, in their order (own).
-use Rattle.std.specs.Prelude.{◌≡◌, ℕ, ◌+◌, Bool, true, not, ◌&&◌, nat_lt, List, [], ◌∷◌, ◌++◌, Option, None, Some, length, if◌then◌else◌}
+use Rattle.std.specs.Prelude.{◌≡◌, ℕ, ◌+◌, Bool, true, not, ◌&&◌, nat_lt, List, [], ◌∷◌, ◌++◌, Option, None, Some, length}
 use Rattle.call_types.specs.declared.act.Act.{Act}
 use Rattle.call_types.specs.declared.act.Act.TheVariants as act
 use Rattle.call_types.specs.declared.call.Call.{Call}
@@ -7,6 +7,7 @@ use Rattle.call_types.specs.declared.refusal.Refusal.{Refusal}
 use Rattle.call_types.specs.declared.refusal.Refusal.TheVariants.{NoMemory, RunFull, Waiting, NotHere, Foreign}
 use Rattle.slots.specs.Slots.{slot}
 use Rattle.process_table.specs.Processes.{is_here}
+use Rattle.posix_model.specs.Pages.{first_fault}
 use Rattle.posix_model.specs.Step.{is_parked}
 use Rattle.posix_model.specs.Resume.{is_ready}
 use Rattle.record_book.specs.Seat.{SeatState}
@@ -14,8 +15,7 @@ use Rattle.record_book.specs.Book.{BookState, world_now, world_after, has_reserv
 
 -- the refusal of the first condition that holds
 abbrev pub first_refusal : List (Bool × Refusal) → Option Refusal
-first_refusal [] = None
-first_refusal (r ∷ rs) = if r.0 then Some r.1 else first_refusal rs
+first_refusal refusals = first_fault refusals
 
 -- whether too few records would be left after the record of this act
 abbrev pub is_too_full : BookState → ℕ → Act → Bool
@@ -54,12 +54,12 @@ abbrev pub exit_refusal : BookState → SeatState → Option Refusal
 exit_refusal b s = first_refusal (seat_refusals b s)
 
 -- whether a seat's process waits in a call that is ready
-abbrev pub is_ready_for : BookState → SeatState → Bool
-is_ready_for b s = is_ready b.limits.bounds (world_now b) s.pid
+abbrev pub is_ready_in : BookState → ℕ → Bool
+is_ready_in b process = is_ready b.limits.bounds (world_now b) process
 
 -- the first refusal of a resume: those two; then, if its process waits in a call that is ready, that the run is full
 abbrev pub resume_refusal : BookState → SeatState → Option Refusal
-resume_refusal b s = first_refusal (seat_refusals b s ++ (is_ready_for b s && is_too_full b s.pid act.Resume, RunFull) ∷ [])
+resume_refusal b s = first_refusal (seat_refusals b s ++ (is_ready_in b s.pid && is_too_full b s.pid act.Resume, RunFull) ∷ [])
 
 -- a refusal is the first that is due; if none is due, memory ran out
 abbrev pub IsDue : Option Refusal → Refusal → Type 0
@@ -69,4 +69,4 @@ IsDue None refusal = refusal ≡ NoMemory
 -- the refusal of a resume is due; and if its process waits in no call that is ready, it is one of an exit
 pub record ResumeRefused (b : BookState) (s : SeatState) (refusal : Refusal) : Type 0 where
   pub due : IsDue (resume_refusal b s) refusal
-  pub ready : exit_refusal b s ≡ None → is_ready_for b s ≡ true
+  pub ready : exit_refusal b s ≡ None → is_ready_in b s.pid ≡ true

@@ -13,11 +13,9 @@ use Rattle.posix_model.specs.Join.{is_full}
 use Rattle.record_book.specs.Seat.{Receipted, SeatState}
 use Rattle.record_book.specs.Book.{BookState, world_now, Appends, Records}
 use Rattle.record_book.specs.Counting.{only_records}
-use Rattle.record_book.specs.Refusals.{start_refusal, join_refusal, attach_refusal, exit_refusal, resume_refusal, is_ready_for, IsDue, ResumeRefused}
+use Rattle.record_book.specs.Refusals.{start_refusal, join_refusal, attach_refusal, exit_refusal, resume_refusal, is_ready_in, IsDue, ResumeRefused}
 use Rattle.record_book.specs.Openings.{next_pid, first_seat}
 use Rattle.record_book.specs.Ends.{Closes}
-use Rattle.record_book.specs.declared.resume.Resumed.{Resumed}
-use Rattle.record_book.specs.declared.resume.Resumed.TheVariants as resumed
 use Rattle.record_book.specs.declared.run.ScriptAnswer.{ScriptAnswer}
 use Rattle.record_book.specs.declared.run.ScriptAnswer.TheVariants.{Recorded, Closed, Still, Refused}
 
@@ -80,7 +78,7 @@ CallRuns old new seats after process c (Err refusal) None = (refusal ≡ NotHere
 -- a resume of a seat's process is recorded, and the seat has its receipt
 pub record ResumeRecorded (old new : BookState) (seats after : Seats) (process : ℕ) (s : SeatState) (receipt : Receipted) : Type 0 where
   pub free : resume_refusal old s ≡ None
-  pub ready : is_ready_for old s ≡ true
+  pub ready : is_ready_in old s.pid ≡ true
   pub seat : SeatState
   pub records : Records old new s seat act.Resume receipt
   pub seats_are : after ≡ slice_set seats process (Some seat)
@@ -93,20 +91,14 @@ ResumeRuns old new seats after process (Ok receipt) None = ⊥
 ResumeRuns old new seats after process (Err refusal) None = (refusal ≡ NotHere) × Unchanged old new seats after
 
 -- the process with this seat would not be refused an exit, it waits in no call that is ready, and nothing changes
-abbrev pub StaysParked : BookState → BookState → Seats → Seats → Option SeatState → Type 0
-StaysParked old new seats after None = ⊥
-StaysParked old new seats after (Some s) = (exit_refusal old s ≡ None) × (is_ready_for old s ≡ false) × Unchanged old new seats after
-
--- how a resume goes: it is told as still, recorded or refused
-abbrev pub ResumeGoes : BookState → BookState → Seats → Seats → ℕ → Result Resumed Refusal → Option SeatState → Type 0
-ResumeGoes old new seats after process (Ok resumed.Still) s = StaysParked old new seats after s
-ResumeGoes old new seats after process (Ok (resumed.Recorded receipt)) s = ResumeRuns old new seats after process (Ok receipt) s
-ResumeGoes old new seats after process (Err refusal) s = ResumeRuns old new seats after process (Err refusal) s
+abbrev pub StaysStill : BookState → BookState → Seats → Seats → Option SeatState → Type 0
+StaysStill old new seats after None = ⊥
+StaysStill old new seats after (Some s) = (exit_refusal old s ≡ None) × (is_ready_in old s.pid ≡ false) × Unchanged old new seats after
 
 -- what is told as still: a closing of a run that is closed, and a resume of a process that waits in no call that is ready
 abbrev pub IsStill : BookState → BookState → Seats → Seats → ScriptAct → Type 0
 IsStill old new seats after script.CloseRun = Closes old new None × (after ≡ seats)
-IsStill old new seats after (script.Resume process) = StaysParked old new seats after (slot seats process)
+IsStill old new seats after (script.Resume process) = StaysStill old new seats after (slot seats process)
 IsStill old new seats after other = ⊥
 
 -- the exit of a seat's process is recorded, and the seat is spent

@@ -1,5 +1,5 @@
 ghost use Rattle.std.specs.Prelude.{◌≡◌, IfOk};
-ghost use Rattle.posix_model.specs.Proved.Released.{IsSettled};
+ghost use Rattle.posix_model.specs.Kept.{IsSettled, KeptExactly};
 ghost use Rattle.record_book.specs.Book.{new_book, world_now};
 ghost use Rattle.record_book.specs.Counting.{CountsOf};
 
@@ -8,6 +8,7 @@ use byte_ledger::ledgers::{Blanks, Ledgers};
 use byte_ledger::tallies::{Shares, Sums, Tallies};
 use call_types::limits::Limits;
 use machine_state::machine::Machine;
+use posix_model::laws::file_kept_exactly;
 use posix_model::pipe_laws::bytes_of_pipe;
 use std::alloc::{AllocError, Global};
 use std::marker::Model;
@@ -29,7 +30,7 @@ impl<L: Ledgers> Model for Book<L> {
 
     ghost Value = { BookState };
 
-    ghost use Rattle.record_book.specs.Counting.{IsCounted};
+    ghost use Rattle.record_book.specs.Proved.Counted.{IsCounted};
 
     ghost view = { λ b. b.journal };
 
@@ -63,12 +64,14 @@ impl<L: Ledgers> Book<L> {
 
     /// How many records the book holds, and how many bytes they took and gave. The records are a run of the model. In this run each
     /// pipe holds the bytes that were put into it and not yet taken out, the data of a write of at most 512 bytes (PIPE_BUF) went in
-    /// unbroken (page of write), and each description, pipe and file that is live is referred to (page of close).
+    /// unbroken (page of write), and just the descriptions, pipes and files are there that something refers to (page of close).
     pub fn counts(&self) -> Sums
         ensures sums { CountsOf self.now result }
         ensures settled { IsSettled (world_now self.now) }
+        ensures kept { KeptExactly (world_now self.now) }
     {
         bytes_of_pipe();
+        file_kept_exactly();
         self.journal.is_run();
         self.journal.is_settled();
         self.tallies.sums()

@@ -4,7 +4,7 @@ ghost use Rattle.std.specs.Prelude.{◌≡◌, map, sum, length, IfOk, IfErr, On
 ghost use Rattle.std.specs.List.{slice_get};
 ghost use Rattle.std.specs.Option.{option_copied};
 ghost use Rattle.posix_model.specs.Turns.{bytes_in, bytes_out};
-ghost use Rattle.byte_ledger.specs.Proved.Tally.{Misses};
+ghost use Rattle.byte_ledger.specs.Tally.{Misses};
 ghost use Rattle.record_book.specs.Counting.{CountsOf, seats_given};
 
 use byte_ledger::gather::Missing;
@@ -32,7 +32,8 @@ impl<L: Ledgers> Model for ClosedBook<L> {
 
     ghost Value = { BookState };
 
-    ghost use Rattle.record_book.specs.Proved.Closed.{closed_book, IsClosed};
+    ghost use Rattle.record_book.specs.Proved.Closed.{IsClosed};
+    ghost use Rattle.record_book.specs.Book.{closed_book};
 
     ghost view = { λ b. closed_book b.limits (map arc_value b.records.items) b.is_traced };
 

@@ -4,7 +4,8 @@ ghost use Rattle.std.specs.Prelude.{◌≡◌, ◌∷◌, [], false, true, is_so
 ghost use Rattle.slots.specs.Slots.{slot};
 ghost use Rattle.record_book.specs.Book.{world_now};
 ghost use Rattle.record_book.specs.Exits.{closing_record};
-ghost use Rattle.record_book.specs.Ends.{Ends, IsOrphansExit, OrphansEnd, Closes};
+ghost use Rattle.record_book.specs.Ends.{Ends, Closes};
+ghost use Rattle.record_book.specs.Proved.Leaving.{IsOrphansExit, OrphansEnd};
 
 use crate::book::Book;
 use crate::seat::SpentSeat;

@@ -1,7 +1,8 @@
 //! What the exits of processes need, made before they are due.
 
 ghost use Rattle.std.specs.Prelude.{◌≡◌, ◌+◌, ◌<◌, Some, true, is_some, OnOk, IfOk};
-ghost use Rattle.record_book.specs.Exits.{exit_record, prepared_for, with_prepared};
+ghost use Rattle.record_book.specs.Exits.{exit_record};
+ghost use Rattle.record_book.specs.Proved.Prepared.{prepared_for, with_prepared};
 ghost use Rattle.record_book.specs.Proved.House.{HasRoom, SameHouse};
 
 use crate::house::House;

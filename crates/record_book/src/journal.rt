@@ -4,7 +4,7 @@ ghost use Rattle.std.specs.Prelude.{◌≡◌, ◌≤◌, ◌+◌, false, true, 
 ghost use Rattle.slots.specs.Slots.{slot};
 ghost use Rattle.process_table.specs.Processes.{awaits};
 ghost use Rattle.posix_model.specs.History.{legal};
-ghost use Rattle.posix_model.specs.Proved.Released.{IsSettled};
+ghost use Rattle.posix_model.specs.Kept.{IsSettled};
 ghost use Rattle.record_book.specs.Book.{new_book, world_now, exits_left};
 
 use crate::history::History;

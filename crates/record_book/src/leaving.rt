@@ -11,7 +11,7 @@ ghost use Rattle.record_book.specs.Book.{world_now, Appends};
 ghost use Rattle.record_book.specs.Exits.{exit_record};
 ghost use Rattle.record_book.specs.Proved.Planned.{IsPlanned};
 ghost use Rattle.record_book.specs.Refusals.{is_too_full};
-ghost use Rattle.record_book.specs.Ends.{IsOrphansExit, IsShutBy};
+ghost use Rattle.record_book.specs.Proved.Leaving.{IsOrphansExit, IsShutBy};
 
 use crate::history::History;
 use crate::journal::Journal;

@@ -3,8 +3,8 @@
 ghost use Rattle.std.specs.Prelude.{◌≡◌, None, true, false, IfOk, IfErr, OnOk, OnErr};
 ghost use Rattle.posix_model.specs.Resume.{is_ready};
 ghost use Rattle.record_book.specs.Book.{world_now, Records};
-ghost use Rattle.record_book.specs.Refusals.{exit_refusal, resume_refusal, is_ready_for, is_too_full, ResumeRefused};
-ghost use Rattle.record_book.specs.Proved.Resumes.{Resumes};
+ghost use Rattle.record_book.specs.Refusals.{exit_refusal, resume_refusal, is_ready_in, is_too_full, ResumeRefused};
+ghost use Rattle.record_book.specs.Resumes.{Resumes};
 
 use crate::book::Book;
 use crate::seat::{Receipt, Seat};
@@ -32,7 +32,7 @@ impl<L: Ledgers> Book<L> {
 
     /// Records a resume of a call that is ready. On an error nothing changes.
     fn record_resume(&mut self, alloc: Global, seat: &mut Seat<L>) -> Result<Receipt, AllocError>
-        requires ready { is_ready_for self.old seat.old ≡ true }
+        requires ready { is_ready_in self.old seat.old.pid ≡ true }
         requires roomy { is_too_full self.old seat.old.pid Act.Resume ≡ false }
         ensures recorded { IfOk result (λ receipt. Records self.old self.new seat.old seat.new Act.Resume receipt) }
         ensures unchanged { OnErr result ((self.new ≡ self.old) × (seat.new ≡ seat.old)) }

@@ -63,7 +63,8 @@ impl<L: Ledgers> Book<L> {
     }
 
     ghost use Rattle.slots.specs.Slots.{slot};
-    ghost use Rattle.record_book.specs.Runs.{Seats as ScriptSeats, JoinRuns, AttachRuns, CallRuns, ResumeGoes, ExitRuns, Tells, GoesOn, RunTells};
+    ghost use Rattle.record_book.specs.Runs.{Seats as ScriptSeats, JoinRuns, AttachRuns, CallRuns, ExitRuns, Tells, GoesOn, RunTells};
+    ghost use Rattle.record_book.specs.Proved.Running.{ResumeGoes};
 
     /// Runs a join of a script. If it makes a process, its seat is put among the others.
     fn run_join(&mut self, alloc: Global, seats: &mut Seats<L>) -> Result<Receipt, Refusal>

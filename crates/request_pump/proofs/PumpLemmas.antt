@@ -4,14 +4,15 @@ use Rattle.std.proofs.lemmas.List.{append-nil, append_assoc}
 use Rattle.std.proofs.lemmas.List.Folds.{concat-append}
 use Rattle.std.specs.List.{concat}
 use Rattle.call_types.specs.declared.request.Request.{Request}
-use Rattle.frame_codec.specs.Decoding.{DecoderState, fresh, FeedsFrom, Feeds, FeedsAll}
+use Rattle.frame_codec.specs.Decoding.{DecoderState, fresh, FeedsFrom, Feeds}
+use Rattle.frame_codec.specs.Proved.Filling.{FeedsAll}
 use Rattle.frame_codec.specs.Proved.Laws.{CutsDoNotMatter}
 use Rattle.frame_codec.specs.Requests.{SpellsRequest}
 use Rattle.frame_codec.specs.declared.decoder.Progress.{Progress}
 use Rattle.frame_codec.specs.declared.decoder.Progress.TheVariants as progress
 use Rattle.request_pump.specs.Input.{Begins, AreRequests, IsFault}
 use Rattle.request_pump.specs.Proved.Pushing.{HandsBack}
-use Rattle.request_pump.specs.Proved.Pump.{HasPushedAll}
+use Rattle.request_pump.specs.Pump.{HasPushedAll}
 use Rattle.request_pump.specs.Proved.Pumping.{HasFed, IsPumping, PumpsPiece}
 use Rattle.request_pump.specs.declared.pumped.PumpEnd.TheVariants as end
 use Rattle.request_pump.proofs.InputLemmas.{begins_read}

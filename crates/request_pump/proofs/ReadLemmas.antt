@@ -11,7 +11,7 @@ use Rattle.logged_streams.specs.Streams.{LogState, LoggedReaderState, fresh_log,
 use Rattle.logged_streams.specs.declared.stream_log.Gave.{Gave}
 use Rattle.logged_streams.specs.declared.stream_log.Gave.TheVariants as gave
 use Rattle.logged_streams.specs.declared.stream_log.TheConstants.{INTERRUPTIONS_MAX}
-use Rattle.request_pump.specs.Proved.Pump.{HasPushedAll}
+use Rattle.request_pump.specs.Pump.{HasPushedAll}
 use Rattle.request_pump.specs.Proved.Pumping.{IsPumping, PumpsPiece, IsPieceEnd, MayRead, PumpsOn, HasPumped, PumpsAll}
 use Rattle.request_pump.specs.declared.pump.TheConstants.{READS_MAX}
 use Rattle.request_pump.specs.declared.pumped.PumpEnd.{PumpEnd}

@@ -1,3 +1,2 @@
 pub mod Pushing
-pub mod Pump
 pub mod Pumping

@@ -4,7 +4,7 @@ ghost use Rattle.std.specs.Prelude.{◌≡◌, ◌<◌, ◌≤◌, length};
 ghost use Rattle.rtrb.specs.Ring.{sent, producer_capacity, SameProducer};
 ghost use Rattle.frame_codec.specs.Decoding.{fresh};
 ghost use Rattle.logged_streams.specs.Streams.{fresh_log};
-ghost use Rattle.request_pump.specs.Proved.Pump.{Pumps};
+ghost use Rattle.request_pump.specs.Pump.{Pumps};
 ghost use Rattle.request_pump.specs.Proved.Pumping.{PumpsPiece, IsPieceEnd, PumpsOn, PumpsAll};
 ghost use Rattle.request_pump.specs.declared.pump.TheConstants.{READS_MAX};
 

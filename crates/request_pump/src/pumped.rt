@@ -30,7 +30,7 @@ pub struct Pumped<R: Read, B: Bell> {
 }
 
 impl<R: Read, B: Bell> Model for Pumped<R, B> {
-    ghost use Rattle.request_pump.specs.Proved.Pump.{PumpState};
+    ghost use Rattle.request_pump.specs.Pump.{PumpState};
 
     ghost Value = { PumpState };
 

@@ -12,7 +12,8 @@ use Rattle.run_core.specs.Receipts.{held_by}
 use Rattle.run_core.specs.Traced.{TraceTold, IsTold}
 use Rattle.record_book.specs.Book.{BookState}
 use Rattle.call_types.specs.declared.act.Record.{Record}
-use Rattle.run_core.specs.Run.{Connection, Gives, HasEnded, IsBlank, IsJoined, IsOf, IsRun, IsRunOf, ReportedSession, RunTold, ServesConnection, ServesEach, ServesInRun, Streams, at_start, counted_by, streams, with_seat}
+use Rattle.run_core.specs.Run.{Connection, Gives, IsBlank, IsOf, IsRun, IsRunOf, ReportedSession, RunTold, ServesConnection, ServesEach, ServesInRun, Streams, at_start, counted_by, streams, with_seat}
+use Rattle.run_core.specs.Proved.Joining.{HasEnded, IsJoined}
 
 -- ---- what a source gives
 

@@ -1,5 +1,5 @@
 -- What was written of a run is legal.
-use Rattle.std.proofs.Common.{◌≡◌, ℕ, ◌+◌, ◌-◌, ◌<◌, ◌≤◌, suc, nat_le, Bool, List, [], ◌∷◌, ◌++◌, map, Option, None, Some, IfSome, length, if◌then◌else◌, refl, sym, ap, subst, ◌∙◌, arith, inl, inr}
+use Rattle.std.proofs.Common.{◌≡◌, ℕ, ◌+◌, ◌-◌, ◌<◌, ◌≤◌, suc, Bool, List, [], ◌∷◌, ◌++◌, map, Option, None, Some, IfSome, length, sym, ap, subst, ◌∙◌, arith, inl, inr}
 use Rattle.std.specs.List.{AllByRecursion, AllZip, slice_get}
 use Rattle.std.specs.Option.{option_map}
 use Rattle.std.proofs.lemmas.Bool.{cases_lt}
@@ -9,22 +9,21 @@ use Rattle.call_types.specs.declared.act.Act.TheVariants as acts
 use Rattle.call_types.specs.declared.act.Record.{Record}
 use Rattle.call_types.specs.declared.call.Call.TheVariants as calls
 use Rattle.call_types.specs.declared.limits.Limits.{Limits}
-use Rattle.frame_codec.specs.Frames.{frame}
-use Rattle.frame_codec.specs.Records.{ActFits, record_bytes}
-use Rattle.frame_codec.specs.Trace.{trace_header}
+use Rattle.frame_codec.specs.Records.{ActFits}
+use Rattle.frame_codec.specs.Trace.{trace_header, whole_in}
 use Rattle.posix_model.specs.declared.world.World.{World}
 use Rattle.record_book.specs.Book.{world_now}
 use Rattle.record_book.specs.Exits.{closing_record, closing_records, exit_record, orphans_from, receipts_from}
 use Rattle.record_book.specs.Seat.{Receipted, SeatState}
 use Rattle.session_core.specs.Proved.Laws.{ActsFit, SeatFits, ActsOfSeatsFit}
-use Rattle.trace_writer.specs.Traces.{whole_in}
-use Rattle.audit_core.specs.Proved.Laws.{WrittenIsLegal}
-use Rattle.audit_core.specs.Trace.{FlagsFit, IsInRange, AllInRange, whole_frames}
+use Rattle.audit_core.specs.Proved.Laws.{WrittenIsLegal, AllInRange}
+use Rattle.audit_core.specs.Trace.{FlagsFit, IsInRange}
 use Rattle.audit_core.specs.Verdict.{IsVerdict}
 use Rattle.audit_core.specs.declared.verdict.Verdict.TheVariants.{Legal}
 use Rattle.run_core.specs.Receipts.{Held, GoodAt, GoodFrom, names, named, wanted, held_by}
 use Rattle.run_core.specs.Run.{Connection, ReportedSession, ServesConnection, RunTold, IsRun, held_in, with_seat}
-use Rattle.run_core.specs.Judged.{FlagsDecide, FlagsDecideAll, RunsAreJudged}
+use Rattle.run_core.specs.Judged.{FlagsDecide}
+use Rattle.run_core.specs.Proved.Laws.{FlagsDecideAll, RunsAreJudged}
 
 -- ---- the records of receipts
 
@@ -131,23 +130,18 @@ history_in_range acts_fit told h decide =
 
 -- ---- the verdict
 
--- the records that are whole are counted in one way
-whole_same : (h : List Record) (n : ℕ) → whole_frames h n ≡ whole_in h n
-whole_same [] n = refl
-whole_same (r ∷ h) n = ap (λ (m : ℕ). if nat_le (length (frame (record_bytes r))) n then m + 1 else 0) (whole_same h (n - length (frame (record_bytes r))))
-
 pub runs_judged : ActsOfSeatsFit → WrittenIsLegal → RunsAreJudged
 runs_judged acts_fit written_legal told h decide =
     let records = h.book.history in
     let t = h.trace in
     let v = written_legal h.book.limits.bounds records t.front t.rest h.run.is_legal (history_in_range acts_fit told h decide) (sym t.is) in
-    let whole : whole_frames records (length t.front - length trace_header) ≡ told.trace.whole =
-    whole_same records (length t.front - length trace_header) ∙ ap (λ (n : ℕ). whole_in records (n - length trace_header)) (sym t.bytes_is) ∙ sym t.whole_is in
+    let whole : whole_in records (length t.front - length trace_header) ≡ told.trace.whole =
+    ap (λ (n : ℕ). whole_in records (n - length trace_header)) (sym t.bytes_is) ∙ sym t.whole_is in
     record {
       written = t.front;
       rest = v.0;
       appends = t.appends;
       bytes_is = t.bytes_is;
       verdict = subst (λ (n : ℕ). IsVerdict told.limits_are.bounds t.front (Legal n v.0)) whole
-          (subst (λ (limits : Limits). IsVerdict limits.bounds t.front (Legal (whole_frames records (length t.front - length trace_header)) v.0)) h.run.limits_are v.1);
+          (subst (λ (limits : Limits). IsVerdict limits.bounds t.front (Legal (whole_in records (length t.front - length trace_header)) v.0)) h.run.limits_are v.1);
     }

@@ -7,7 +7,6 @@ use Rattle.call_types.specs.declared.limits.Bounds.{Bounds}
 use Rattle.audit_core.specs.Trace.{FlagsFit, IsInRange}
 use Rattle.audit_core.specs.Verdict.{IsVerdict}
 use Rattle.audit_core.specs.declared.verdict.Verdict.TheVariants.{Legal}
-use Rattle.run_core.specs.Run.{RunTold, IsRun}
 
 -- all fields of a record are in range if the flags of an open are: that much the types of its parts say
 abbrev pub FlagsDecide : Record → Type 0
@@ -17,10 +16,6 @@ FlagsDecide r = FlagsFit r.act → IsInRange r
 abbrev pub FlagsDecideAt : List Record → ℕ → Type 0
 FlagsDecideAt records p = IfSome (slice_get records p) FlagsDecide
 
--- that is so of each record
-abbrev pub FlagsDecideAll : List Record → Type 0
-FlagsDecideAll records = (p : ℕ) → FlagsDecideAt records p
-
 -- the verdict on what was added to a sink, so many bytes, under these limits of files and pipes: they are legal, with so many whole
 -- records
 pub record IsJudged (bounds : Bounds) (base now : Option (List ℕ)) (whole bytes : ℕ) : Type 0 where
@@ -29,7 +24,3 @@ pub record IsJudged (bounds : Bounds) (base now : Option (List ℕ)) (whole byte
   pub appends : Appends base now written
   pub bytes_is : bytes ≡ length written
   pub verdict : IsVerdict bounds written (Legal whole rest)
-
--- what was written of each run is legal: its acts came in frames or have no fields, so that each record has a frame
-abbrev pub RunsAreJudged : Type 0
-RunsAreJudged = (told : RunTold) → IsRun told → FlagsDecideAll told.received → IsJudged told.limits_are.bounds told.trace.base told.trace.now told.trace.whole told.trace.bytes

@@ -103,13 +103,6 @@ ServesEach always connections sessions = AllZip (ServesConnection always) connec
 abbrev pub counted_by : List Connection → List Counted
 counted_by connections = filter_map (λ c. option_map (λ (s : SeatState). s.counted) c.seat) connections
 
--- the sessions that connections of these streams were served by, in order, and the shares of all their seats
-pub record IsJoined (always : Bool) (told : List Streams) (sessions : List ReportedSession) (shares : List Counted) : Type 0 where
-  pub connections : List Connection
-  pub told_are : map at_start connections ≡ told
-  pub each : ServesEach always connections sessions
-  pub shares_are : shares ≡ counted_by connections
-
 -- so many sessions are as many as there were to be, and the source did not fail; or they are fewer, and it failed once
 abbrev pub FailsIfFewer : ℕ → ℕ → ℕ → ℕ → Type 0
 FailsIfFewer count sessions before after = ((count ≡ sessions) × (after ≡ before)) ⊎ ((count < sessions) × (after ≡ before + 1))
@@ -154,15 +147,6 @@ pub record IsRunOf (limits : Limits) (records taken given : ℕ) (book : BookSta
   pub received_are : received ≡ book.history
 
 -- ---- the run
-
--- sessions that have ended served the connections that were given, and the run is closed
-pub record HasEnded (always : Bool) (limits : Option Limits) (coming later : Option (List Streams)) (book : BookState) (house : SeatState) (ends : List ReportedSession) (shares : List Counted) : Type 0 where
-  pub before : BookState
-  pub limits_are : limits ≡ Some before.limits
-  pub closing : IsClosing before book house
-  pub told : List Streams
-  pub joined : IsJoined always told ends shares
-  pub gives : Gives coming later told
 
 -- what is told of a run of sessions: whether its gate says yes always, its limits, what its source had to give before and has after it,
 -- the number of its records, how many bytes its calls wrote and how many they read, its sessions, the records that the trace thread

@@ -6,7 +6,7 @@ ghost use Rattle.posix_model.specs.History.{legal};
 ghost use Rattle.posix_model.specs.Turns.{bytes_in, bytes_out};
 ghost use Rattle.record_book.specs.Book.{world_now};
 ghost use Rattle.run_core.specs.declared.report.RunFault.TheVariants as run_fault;
-ghost use Rattle.run_core.specs.Judged.{FlagsDecideAll};
+ghost use Rattle.run_core.specs.Proved.Laws.{FlagsDecideAll};
 ghost use Rattle.run_core.specs.Run.{AreAll, ClosesFor, IsClosing, IsGathered, IsLeast, IsRunOf, held_in};
 
 use crate::comparison::{HasReceipts, compare};

@@ -1,6 +1,6 @@
 //! What holds of each run. No function does anything; its contract is the law.
 
-ghost use Rattle.run_core.specs.Judged.{RunsAreJudged};
+ghost use Rattle.run_core.specs.Proved.Laws.{RunsAreJudged};
 
 use audit_core::laws::written_fronts_are_legal;
 use session_core::laws::acts_of_seats_are_in_range;

@@ -4,9 +4,11 @@ ghost use Rattle.std.specs.Prelude.{◌≡◌, ◌≤◌, ◌<◌, ◌+◌, ◌^
 ghost use Rattle.std.specs.Option.{option_map};
 ghost use Rattle.std.specs.Arc.{arc_value};
 ghost use Rattle.rtrb.specs.Ring.{received};
-ghost use Rattle.run_core.specs.Judged.{FlagsDecideAll, IsJudged};
+ghost use Rattle.run_core.specs.Judged.{IsJudged};
+ghost use Rattle.run_core.specs.Proved.Laws.{FlagsDecideAll};
 ghost use Rattle.run_core.specs.Receipts.{held_by};
-ghost use Rattle.run_core.specs.Run.{HasEnded, IsRun, IsRunOf, IsBlank, IsJoined, IsOf, FailsIfFewer, Gives, ServesInRun, streams, with_seat};
+ghost use Rattle.run_core.specs.Run.{IsRun, IsRunOf, IsBlank, IsOf, FailsIfFewer, Gives, ServesInRun, streams, with_seat};
+ghost use Rattle.run_core.specs.Proved.Joining.{HasEnded, IsJoined};
 ghost use Rattle.run_core.specs.declared.report.RunFault.TheVariants as run_fault;
 ghost use Rattle.run_core.specs.declared.sessions.Shortage.TheVariants as shortage;
 

@@ -13,7 +13,8 @@ use Rattle.script_text.specs.declared.fault.Expected.{Expected}
 use Rattle.script_text.specs.declared.fault.Expected.TheVariants as expect
 use Rattle.script_text.specs.Reading.{◌>>=◌, BadWord, Unread, Word, cut, word_at, ended}
 use Rattle.script_text.specs.ReadingNumbers.{process_of}
-use Rattle.call_types.specs.CallTable.{Entry, Parts, Parted, parts, made, call_table}
+use Rattle.call_types.specs.CallTable.{Entry, Parts, parts, call_table}
+use Rattle.call_types.specs.Proved.Made.{Parted, made}
 use Rattle.script_text.proofs.CallParts.{all_parted, made_again}
 use Rattle.script_text.specs.ReadingCalls.{entry_at, one_of, named_call, last_word, process_act, run_act, act_of, act_at, with_column, reading}
 use Rattle.script_text.specs.Lines.{process_word}

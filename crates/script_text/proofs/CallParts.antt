@@ -3,7 +3,8 @@ use Rattle.std.proofs.Common.{◌≡◌, refl, rules}
 use Rattle.std.specs.List.{AllByRecursion}
 use Rattle.call_types.specs.declared.call.Call.{Call}
 use Rattle.call_types.specs.declared.call.Call.TheVariants as calls
-use Rattle.call_types.specs.CallTable.{made, parts, call_table, Parted}
+use Rattle.call_types.specs.CallTable.{parts, call_table}
+use Rattle.call_types.specs.Proved.Made.{made, Parted}
 
 -- each entry makes the calls that have it in their parts
 pub all_parted : AllByRecursion Parted call_table

@@ -1,6 +1,7 @@
 -- The fields after a call's word are read from their spellings alone, whatever the fields are.
 use Rattle.std.proofs.Common.{◌≡◌, ℕ, List, [], ◌∷◌, ◌++◌, Some, None, Result, Ok, refl, ap, subst, ◌∙◌}
-use Rattle.call_types.specs.CallTable.{FieldKind, Value, Values, Makes, made}
+use Rattle.call_types.specs.CallTable.{FieldKind, Value, Values, Makes}
+use Rattle.call_types.specs.Proved.Made.{made}
 use Rattle.call_types.specs.declared.call.Call.{Call}
 use Rattle.script_text.specs.Reading.{◌>>=◌, BadWord, Unread, field, ended}
 use Rattle.script_text.specs.ReadingCalls.{value_of, expected_of, fields_at}

@@ -1,8 +1,9 @@
 -- Decoding names and digits from left to right.
 use Rattle.std.proofs.Common.{◌≡◌, ℕ, ◌<◌, ◌+◌, Bool, true, false, cond, eqb, List, [], ◌∷◌, ◌++◌, length, Option, Some, None, refl, ap, sym, ◌∙◌, append_assoc, arith}
 use Rattle.script_text.specs.ReadingNumbers.{hex_byte}
-use Rattle.script_text.specs.ReadingNames.{before, decoded, first_decoded, with_rest, itself}
-use Rattle.script_text.specs.ReadingData.{hex_bytes, first_paired}
+use Rattle.script_text.specs.ReadingNames.{before, decoded, itself}
+use Rattle.script_text.specs.Proved.Decoded.{first_decoded, with_rest, first_paired}
+use Rattle.script_text.specs.ReadingData.{hex_bytes}
 
 -- the bytes so far, and those that follow, where there are some
 abbrev pub joined : List ℕ → Option (List ℕ) → Option (List ℕ)

@@ -9,7 +9,8 @@ use Rattle.call_types.specs.declared.act.ScriptAct.TheVariants as acts
 use Rattle.call_types.specs.Ranges.{FieldsFit}
 use Rattle.script_text.specs.ReadingCalls.{reading}
 use Rattle.script_text.specs.Lines.{field_word, fields_text, call_text, process_word, script_line}
-use Rattle.script_text.specs.Spellings.{SpellsFields, SpellsCall, IsScriptCall, IsScriptAct}
+use Rattle.script_text.specs.Spellings.{SpellsFields, SpellsCall}
+use Rattle.script_text.specs.Proved.Scripts.{IsScriptCall, IsScriptAct}
 use Rattle.script_text.proofs.FieldKinds.{value_written}
 use Rattle.script_text.proofs.CallLaws.{reading_again}
 

@@ -198,12 +198,6 @@ script_act actor acts.Resume = scripts.Resume actor
 script_act actor acts.Exit = scripts.Exit actor
 script_act actor acts.CloseRun = scripts.CloseRun
 
--- of whom a script asks an act: a join and the closing are asked of nobody
-abbrev pub asked_of : ℕ → Act → List ℕ
-asked_of actor acts.Join = []
-asked_of actor acts.CloseRun = []
-asked_of actor other = process_word actor ++ codes " "
-
 -- the line of a script that asks for an act
 abbrev pub act_line : ℕ → Act → List ℕ
 act_line actor act = script_line (script_act actor act) ++ codes "\n"

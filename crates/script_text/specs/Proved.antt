@@ -1,2 +1,5 @@
 pub mod CallRows
 pub mod Room
+pub mod Asked
+pub mod Decoded
+pub mod Scripts

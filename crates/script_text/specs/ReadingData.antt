@@ -3,13 +3,7 @@ use Rattle.std.specs.Prelude.{ℕ, ◌*◌, ◌==◌, nat_le, List, [], ◌∷�
 use Rattle.call_types.specs.declared.limits.TheConstants.{GIVEN_BYTES_MAX}
 use Rattle.script_text.specs.Reading.{byte_of, both}
 use Rattle.script_text.specs.ReadingNumbers.{hex_byte, number_of}
-use Rattle.script_text.specs.ReadingNames.{before, with_rest}
-
--- the byte of the first pair of digits, and what is left after it
-abbrev pub first_paired : List ℕ → Option (ℕ × List ℕ)
-first_paired [] = None
-first_paired (c ∷ []) = None
-first_paired (c ∷ d ∷ cs) = with_rest (hex_byte c d) cs
+use Rattle.script_text.specs.ReadingNames.{before}
 
 -- the bytes that pairs of digits stand for
 abbrev pub hex_bytes : List ℕ → Option (List ℕ)

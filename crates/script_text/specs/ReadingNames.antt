@@ -1,6 +1,5 @@
 -- Words of a script line that are names (own).
 use Rattle.std.specs.Prelude.{ℕ, ◌==◌, nat_le, Bool, ◌&&◌, not, List, [], ◌∷◌, length, codes, Option, Some, None, if◌then◌else◌}
-use Rattle.std.specs.Option.{option_map}
 use Rattle.std.specs.Char.{is_ascii_graphic}
 use Rattle.call_types.specs.declared.limits.TheConstants.{GIVEN_NAME_MAX}
 use Rattle.script_text.specs.Reading.{byte_of, both}
@@ -17,17 +16,6 @@ before byte bytes = both (λ b bs. b ∷ bs) byte bytes
 -- the byte that a plain one stands for
 abbrev pub itself : ℕ → Option ℕ
 itself c = if is_plain c then Some c else None
-
--- a byte and what is left after it, where there is a byte
-abbrev pub with_rest : Option ℕ → List ℕ → Option (ℕ × List ℕ)
-with_rest byte cs = option_map (λ b. (b, cs)) byte
-
--- the first byte that a word stands for, and what is left after it
-abbrev pub first_decoded : List ℕ → Option (ℕ × List ℕ)
-first_decoded [] = None
-first_decoded (c ∷ []) = with_rest (itself c) []
-first_decoded (c ∷ d ∷ []) = with_rest (itself c) (d ∷ [])
-first_decoded (c ∷ d ∷ e ∷ cs) = if c == byte_of (codes "%") then with_rest (hex_byte d e) cs else with_rest (itself c) (d ∷ e ∷ cs)
 
 -- the bytes that a word stands for: a % and two digits for any byte, a plain byte for itself
 abbrev pub decoded : List ℕ → Option (List ℕ)

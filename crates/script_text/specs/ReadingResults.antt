@@ -21,11 +21,6 @@ ScriptFails scripts.NoMemory read = Unit {0}
 ScriptFails (scripts.BadLine line column expected) read = read ≡ Err (scripts.BadLine line column expected)
 ScriptFails scripts.TooLong read = read ≡ Err scripts.TooLong
 
--- a script gives what reading gives, seen by view, unless memory ran out
-abbrev pub ScriptGives : {X : Type 0} → (X → List ScriptAct) → Result X ScriptFault → Result (List ScriptAct) ScriptFault → Type 0
-ScriptGives view (Ok acts) read = read ≡ Ok (view acts)
-ScriptGives view (Err fault) read = ScriptFails fault read
-
 -- a script is opened as what reading its text gives, which then is not too long; one that is too long is not opened, and that is the only fault
 abbrev pub Opens : Result Rest ScriptFault → List ℕ → Type 0
 Opens (Ok rest) text = (length text ≤ SCRIPT_MAX) × (rest.read ≡ script text)

@@ -7,7 +7,6 @@ use Rattle.std.specs.List.{slice_split}
 use Rattle.call_types.specs.declared.call.Call.{Call}
 use Rattle.call_types.specs.CallTable.{FieldKind, a_descriptor, a_position, a_count, a_name, a_payload, some_flags, a_whence, Value, Values, Parts, parts}
 use Rattle.call_types.specs.Flags.{nonblocking}
-use Rattle.call_types.specs.Ranges.{FieldsFit}
 use Rattle.call_types.specs.declared.limits.TheConstants.{GIVEN_NAME_MAX, GIVEN_BYTES_MAX}
 use Rattle.call_types.specs.declared.act.ScriptAct.{ScriptAct}
 use Rattle.call_types.specs.declared.act.ScriptAct.TheVariants as acts
@@ -76,19 +75,6 @@ SpellsAct (acts.Call process call) line = (text : List ℕ) × (process < 2 ^ 32
 SpellsAct (acts.Resume process) line = (process < 2 ^ 32) × (line ≡ process_word process ++ codes " resume")
 SpellsAct (acts.Exit process) line = (process < 2 ^ 32) × (line ≡ process_word process ++ codes " exit")
 SpellsAct acts.CloseRun line = line ≡ codes "close-run"
-
--- a call that a script may have, with its fields in range
-abbrev pub IsScriptCall : Call → Type 0
-IsScriptCall call = FieldsFit (parts call).entry.fields (parts call).values
-
--- an act that a script may have, with its process and its call's fields in range
-abbrev pub IsScriptAct : ScriptAct → Type 0
-IsScriptAct acts.Join = Unit {0}
-IsScriptAct (acts.Attach process) = process < 2 ^ 32
-IsScriptAct (acts.Call process call) = (process < 2 ^ 32) × IsScriptCall call
-IsScriptAct (acts.Resume process) = process < 2 ^ 32
-IsScriptAct (acts.Exit process) = process < 2 ^ 32
-IsScriptAct acts.CloseRun = Unit {0}
 
 -- a line of a script: it has no act, where it is empty, or the next one
 abbrev pub SpellsLine : List ScriptAct → List ScriptAct → List ℕ → Type 0

@@ -1,8 +1,9 @@
 //! The lines of a run, written. Room for a whole line is made first; then nothing can fail.
 
 ghost use Rattle.std.specs.Prelude.{◌≡◌, ◌≤◌, ◌+◌, ◌-◌, ◌++◌, length, ◌<◌, ◌^◌};
-ghost use Rattle.call_types.specs.Proved.Writing.{Appends};
-ghost use Rattle.script_text.specs.Lines.{actor_word, act_line, act_text, asked_of, outcome_text, record_line, script_act_text, script_actor_word, refused_line, still_line, refusal_word, totals_line};
+ghost use Rattle.call_types.specs.Writing.{Appends};
+ghost use Rattle.script_text.specs.Lines.{actor_word, act_line, act_text, outcome_text, record_line, script_act_text, script_actor_word, refused_line, still_line, refusal_word, totals_line};
+ghost use Rattle.script_text.specs.Proved.Asked.{asked_of};
 ghost use Rattle.script_text.specs.Proved.Room.{HasRoom, UsesRoom, act_room, script_act_room, outcome_room};
 
 use crate::calls::{CALL_ROOM, put_call, room_of_call};

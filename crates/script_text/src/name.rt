@@ -5,7 +5,8 @@ ghost use Rattle.std.specs.Option.{option_map};
 ghost use Rattle.std.specs.List.{flat_map};
 ghost use Rattle.call_types.specs.declared.limits.TheConstants.{GIVEN_NAME_MAX};
 ghost use Rattle.script_text.specs.Lines.{name_byte, name_word};
-ghost use Rattle.script_text.specs.ReadingNames.{decoded, first_decoded, name_of, is_plain, at_most};
+ghost use Rattle.script_text.specs.ReadingNames.{decoded, name_of, is_plain, at_most};
+ghost use Rattle.script_text.specs.Proved.Decoded.{first_decoded};
 ghost use Rattle.script_text.specs.Proved.Room.{HasRoom, UsesRoom, name_room};
 
 use crate::hexadecimal::{byte_value, put_hex};

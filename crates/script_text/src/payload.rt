@@ -6,7 +6,8 @@ ghost use Rattle.std.specs.List.{flat_map, list_all};
 ghost use Rattle.call_types.specs.declared.limits.TheConstants.{GIVEN_BYTES_MAX};
 ghost use Rattle.call_types.specs.Proved.Stored.{span_bytes};
 ghost use Rattle.script_text.specs.Lines.{hex_pair, one_byte, data_word};
-ghost use Rattle.script_text.specs.ReadingData.{first_paired, hex_bytes, hex_data, repeated_data, data_of};
+ghost use Rattle.script_text.specs.ReadingData.{hex_bytes, hex_data, repeated_data, data_of};
+ghost use Rattle.script_text.specs.Proved.Decoded.{first_paired};
 ghost use Rattle.script_text.specs.Proved.Room.{HasRoom, UsesRoom, data_room};
 
 use crate::hexadecimal::{byte_value, hex_digits, put_hex};

@@ -8,7 +8,8 @@ ghost use Rattle.script_text.specs.Proved.CallRows.{CallRows};
 ghost use Rattle.script_text.specs.Lines.{process_word, call_text, script_line};
 ghost use Rattle.script_text.specs.ReadingCalls.{reading};
 ghost use Rattle.script_text.specs.ReadingScripts.{script};
-ghost use Rattle.script_text.specs.Spellings.{IsScriptCall, IsScriptAct, SpellsScript};
+ghost use Rattle.script_text.specs.Spellings.{SpellsScript};
+ghost use Rattle.script_text.specs.Proved.Scripts.{IsScriptCall, IsScriptAct};
 
 use crate::script::SCRIPT_MAX;
 

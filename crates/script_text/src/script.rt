@@ -4,7 +4,8 @@ ghost use Rattle.std.specs.Prelude.{◌≡◌, ◌<◌, ◌∷◌, [], List, tru
 ghost use Rattle.script_text.specs.ReadingCalls.{reading};
 ghost use Rattle.script_text.specs.ReadingScripts.{numbered};
 ghost use Rattle.call_types.specs.declared.act.ScriptAct.{ScriptAct};
-ghost use Rattle.script_text.specs.ReadingResults.{ScriptGives, Opens, NextGives};
+ghost use Rattle.script_text.specs.ReadingResults.{Opens, NextGives};
+ghost use Rattle.script_text.specs.Proved.Scripts.{ScriptGives};
 
 use crate::cutting::{Unread, cut_at};
 use crate::fault::{ReadFault, ScriptFault};

@@ -20,8 +20,8 @@ use Rattle.session_core.specs.declared.stage.LeaveCause.TheVariants as why
 use Rattle.session_core.specs.declared.stage.Turn.TheVariants as turn
 use Rattle.session_core.specs.Answers.{receipts_of}
 use Rattle.session_core.specs.Proved.Output.{OutputState, Holds, Puts, Flushes, FailsToSend}
-use Rattle.session_core.specs.Talk.{goes_on, IsReply, IsParked, Talked, Converses}
-use Rattle.session_core.specs.Proved.Turns.{IsTalking, HasReceipts, IsWaitingAt, OverBy, TakesUp}
+use Rattle.session_core.specs.Talk.{IsReply, IsParked, Talked, Converses}
+use Rattle.session_core.specs.Proved.Turns.{goes_on, IsTalking, HasReceipts, IsWaitingAt, OverBy, TakesUp}
 use Rattle.session_core.proofs.WaitLemmas.{talk_more, receipts_recorded, receipts_refused, cut_now, cut_converses, talked_converses}
 
 pub refused : (seat after : SeatState) (call : Call) (refusal : Refusal) (old new : OutputState) → after ≡ seat → Puts old new (told.Refused refusal) → TakesUp (stage.Ready seat) (request.Call call) old new (turn.GoesOn (stage.Ready after))

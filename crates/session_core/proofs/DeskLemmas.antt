@@ -6,7 +6,7 @@ use Rattle.call_types.specs.declared.call.Call.{Call}
 use Rattle.call_types.specs.declared.refusal.Refusal.{Refusal}
 use Rattle.call_types.specs.declared.request.Request.{Request}
 use Rattle.call_types.specs.declared.request.Request.TheVariants as request
-use Rattle.request_pump.specs.Proved.Pump.{PushingEnd}
+use Rattle.request_pump.specs.Pump.{PushingEnd}
 use Rattle.record_book.specs.Seat.{SeatState}
 use Rattle.system_lock.specs.declared.kernel.Why.{Why}
 use Rattle.system_lock.specs.declared.kernel.Why.TheVariants as ended_why

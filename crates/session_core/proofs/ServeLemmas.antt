@@ -12,7 +12,7 @@ use Rattle.system_lock.specs.declared.kernel.Why.{Why}
 use Rattle.logged_streams.specs.declared.stream_log.TheConstants.{INTERRUPTIONS_MAX}
 use Rattle.logged_streams.specs.Streams.{LoggedReaderState, LoggedWriterState, fresh_log}
 use Rattle.request_pump.specs.Input.{AreRequests, Begins}
-use Rattle.request_pump.specs.Proved.Pump.{PumpState, Pumps, PushedBy, PushingEnd, IsMet as PumpMet}
+use Rattle.request_pump.specs.Pump.{PumpState, Pumps, PushedBy, PushingEnd, IsMet as PumpMet}
 use Rattle.request_pump.proofs.InputLemmas.{begins_read}
 use Rattle.request_pump.specs.declared.pump.TheConstants.{READS_MAX}
 use Rattle.request_pump.specs.declared.pumped.PumpEnd.{PumpEnd}

@@ -7,7 +7,8 @@ use Rattle.call_types.specs.declared.request.Request.{Request}
 use Rattle.call_types.specs.declared.request.Request.TheVariants as request
 use Rattle.record_book.specs.Seat.{Receipted, SeatState}
 use Rattle.record_book.specs.declared.opening.Opened.TheVariants as opened
-use Rattle.system_lock.specs.Kernel.{IsOpening, IsWanting, IsError, OpensFor, OpensBy}
+use Rattle.system_lock.specs.Kernel.{IsOpening, IsWanting, IsError, OpensFor}
+use Rattle.system_lock.specs.Proved.Reasons.{OpensBy}
 use Rattle.session_core.specs.declared.told.Told.{Told}
 use Rattle.session_core.specs.declared.told.Told.TheVariants as told
 use Rattle.session_core.specs.declared.stage.Stage.TheVariants as stage

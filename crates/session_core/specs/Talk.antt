@@ -1,5 +1,5 @@
 -- A conversation: requests, and what is answered to each (own).
-use Rattle.std.specs.Prelude.{◌≡◌, Bool, true, false, ◌⊎◌, List, [], ◌∷◌, ◌++◌, Option, None, Some, map}
+use Rattle.std.specs.Prelude.{◌≡◌, ◌⊎◌, List, [], ◌∷◌, ◌++◌, Option, None, Some, map}
 use Rattle.std.specs.List.{flat_map}
 use Rattle.call_types.specs.declared.act.Act.TheVariants as act
 use Rattle.call_types.specs.declared.call.Call.{Call}
@@ -169,9 +169,3 @@ pub record Converses (requests : List Request) (answers : List Told) : Type 0 wh
   pub later : List Request
   pub requests_are : requests ≡ handled ++ later
   pub is : IsConversation handled answers
-
--- whether a call goes on waiting after an outcome
-abbrev pub goes_on : Outcome → Bool
-goes_on (outcome.Reply reply) = false
-goes_on (outcome.Parked moved) = true
-goes_on (outcome.Part moved) = true

@@ -2,7 +2,7 @@
 
 ghost use Rattle.std.specs.Prelude.{◌≡◌, IfSome};
 ghost use Rattle.rtrb.specs.Ring.{SameProducer};
-ghost use Rattle.request_pump.specs.Proved.Pump.{Pumps};
+ghost use Rattle.request_pump.specs.Pump.{Pumps};
 
 use crate::connection::Connection;
 use crate::desk::{Attended, Desk, Naming};
@@ -183,7 +183,7 @@ pub(crate) struct Pushed<R: Read> {
 }
 
 impl<R: Read> Model for Pushed<R> {
-    ghost use Rattle.request_pump.specs.Proved.Pump.{PumpState};
+    ghost use Rattle.request_pump.specs.Pump.{PumpState};
 
     ghost Value = { PumpState };
 
@@ -199,7 +199,7 @@ pub(crate) struct Pushing<R: Read> {
 
 impl<R: Read> Promise<Pushed<R>> for Pushing<R> {
     ghost use Rattle.rtrb.specs.Ring.{SameProducer};
-    ghost use Rattle.request_pump.specs.Proved.Pump.{Pumps};
+    ghost use Rattle.request_pump.specs.Pump.{Pumps};
 
     ghost kept_by = { λ p pushed. SameProducer p.producer.value pushed.producer × Pumps (R.remaining p.reader.value) p.producer.value pushed };
 }

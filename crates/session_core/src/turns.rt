@@ -3,11 +3,10 @@
 ghost use Rattle.std.specs.Prelude.{◌≡◌, ◌∷◌, [], OnOk, OnErr};
 ghost use Rattle.call_types.specs.declared.request.Request.TheVariants as request;
 ghost use Rattle.session_core.specs.declared.stage.Stage.TheVariants as stage;
-ghost use Rattle.session_core.specs.Proved.Turns.{TakesUp, PutsFirst, PutsGivenUp, IsOne, WaitsOnce, GivesUp, TellsWhy, TurnSays, WaitSays};
+ghost use Rattle.session_core.specs.Proved.Turns.{TakesUp, PutsFirst, PutsGivenUp, IsOne, WaitsOnce, GivesUp, TellsWhy, TurnSays, WaitSays, goes_on};
 ghost use Rattle.system_lock.specs.Kernel.{IsOpening, IsWanting, IsWhyFinished, FinishesBy, SaysEnded};
 ghost use Rattle.session_core.specs.Proved.Saying.{TurnSaid};
 ghost use Rattle.session_core.specs.Refusals.{RefusalSaid};
-ghost use Rattle.session_core.specs.Talk.{goes_on};
 
 use crate::gate::Gate;
 use crate::note::Note;

@@ -8,8 +8,9 @@ use Rattle.std.proofs.lemmas.List.Folds.{list_any-append}
 use Rattle.std.proofs.lemmas.List.Kept.{AllPairs-filter}
 use Rattle.std.proofs.lemmas.List.Quantifiers.{all_pairs_push, position-Some}
 use Rattle.record_book.specs.Book.{BookState}
-use Rattle.system_lock.specs.Proved.System.{is_among, is_live_in, wakes_in, without, AreDistinct, AreLive, AreUnmarked, SleepsSound}
-use Rattle.system_lock.specs.Says.{is_ready_in}
+use Rattle.system_lock.specs.System.{is_among, is_live_in, AreDistinct, AreLive, AreUnmarked}
+use Rattle.system_lock.specs.Proved.Sleeping.{wakes_in, without, SleepsSound}
+use Rattle.record_book.specs.Refusals.{is_ready_in}
 use Rattle.system_lock.specs.Proved.Events.{still_asleep, still_lost}
 use Rattle.system_lock.specs.Proved.Sleepers.{SparesIn, pipe_in}
 use Rattle.system_lock.specs.Proved.Doors.{DoorsSound, LiveAreFew}

@@ -23,7 +23,8 @@ use Rattle.record_book.specs.Book.{BookState, world_now}
 use Rattle.record_book.specs.Openings.{Opened, IsOpening, next_pid, Joins, Attaches}
 use Rattle.record_book.specs.Refusals.{first_refusal, join_refusal, attach_refusal, is_too_full, IsDue}
 use Rattle.record_book.specs.declared.opening.Opened.TheVariants as opened
-use Rattle.system_lock.specs.Kernel.{IsError, IsWanting, Opens, OpensBy}
+use Rattle.system_lock.specs.Kernel.{IsError, IsWanting, Opens}
+use Rattle.system_lock.specs.Proved.Reasons.{OpensBy}
 
 -- a page with one fault, whose condition holds
 refused_page : (condition : Bool) (error : Errno) (effect : Decided) → condition ≡ true → IsError (decided_by (record { faults = (condition, error) ∷ []; effect = effect })).outcome

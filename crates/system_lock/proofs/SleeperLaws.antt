@@ -4,8 +4,9 @@ use Rattle.std.specs.List.{All, filter, remove}
 use Rattle.std.proofs.lemmas.List.Edits.{length-remove}
 use Rattle.std.proofs.lemmas.List.Elements.{All-nil, All-head, All-tail, All-append, All-take, All-drop, All-more, All-push, All-get_or, All-weaker}
 use Rattle.record_book.specs.Book.{BookState}
-use Rattle.system_lock.specs.Proved.System.{is_live_in, wakes_in}
-use Rattle.system_lock.specs.Says.{is_ready_in}
+use Rattle.system_lock.specs.System.{is_live_in}
+use Rattle.system_lock.specs.Proved.Sleeping.{wakes_in}
+use Rattle.record_book.specs.Refusals.{is_ready_in}
 use Rattle.system_lock.specs.Proved.Stirred.{is_by, is_on_its, stirs}
 use Rattle.system_lock.specs.Proved.Sleepers.{pipe_in, SleepersSound, SparesIn, without_if, next_if, pipe_then}
 use Rattle.system_lock.specs.declared.stirred.Stirred.{Stirred}

@@ -29,7 +29,8 @@ use Rattle.posix_model.specs.Descriptors.{opened, opened_number, opened_descript
 use Rattle.posix_model.specs.Pipes.{fifo_at, pipe_at, has_opposite}
 use Rattle.posix_model.specs.Change.{with_files, with_processes, with_table, changed, with_bytes}
 use Rattle.posix_model.specs.Sweep.{open_pipe, without_gone_pipe, sweep}
-use Rattle.posix_model.specs.Proved.Released.{IsSettled, SweptIsSettled, SettledStays}
+use Rattle.posix_model.specs.Proved.Released.{SweptIsSettled, SettledStays}
+use Rattle.posix_model.specs.Kept.{IsSettled}
 use Rattle.posix_model.specs.Proved.Whole.{is_regular_file}
 use Rattle.posix_model.specs.Proved.Fits.{FilesFit, Fits}
 use Rattle.posix_model.specs.Tries.{write_try}

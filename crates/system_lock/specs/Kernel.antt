@@ -1,5 +1,5 @@
 -- What the calls of a kernel give (own).
-use Rattle.std.specs.Prelude.{◌≡◌, ℕ, ◌≤◌, ◌⊎◌, Result, Ok, Err}
+use Rattle.std.specs.Prelude.{◌≡◌, ℕ, ◌≤◌, Result, Ok, Err}
 use Rattle.call_types.specs.declared.act.Act.{Act}
 use Rattle.call_types.specs.declared.act.Act.TheVariants as act
 use Rattle.call_types.specs.declared.call.Call.{Call}
@@ -13,7 +13,7 @@ use Rattle.call_types.specs.declared.refusal.Refusal.TheVariants as refusal
 use Rattle.posix_model.specs.Step.{EndsOrWaits, EndsOrGoesOn}
 use Rattle.record_book.specs.Seat.{Receipted, SeatState}
 use Rattle.record_book.specs.Book.{Receives}
-use Rattle.record_book.specs.Openings.{Opened, first_seat}
+use Rattle.record_book.specs.Openings.{first_seat}
 use Rattle.record_book.specs.declared.opening.Opened.{Opened as OpenedOf}
 use Rattle.record_book.specs.declared.opening.Opened.TheVariants as opened
 use Rattle.system_lock.specs.declared.kernel.Why.{Why}
@@ -80,11 +80,6 @@ abbrev pub OpensAs : {S P A : Type 0} → (S → SeatState) → (P → SeatState
 OpensAs as_seat as_spent request (Ok opened) = IsOpenedAs as_seat as_spent request opened
 OpensAs as_seat as_spent request (Err back) = IsWanting back.refusal
 
--- the same of an opening for which no admission is asked, of what seats hold
-abbrev pub OpensBy : Request → Result Opened Refusal → Type 0
-OpensBy request (Ok opened) = IsOpenedAs itself itself request opened
-OpensBy request (Err refusal) = IsWanting refusal
-
 -- a call is recorded, with its reply or as one that waits; or it is refused, and the seat stays as it is
 abbrev pub CallsBy : SeatState → SeatState → Call → Result Receipted Refusal → Type 0
 CallsBy old new call (Ok receipt) = Adds old new (act.Call call) receipt × EndsOrWaits receipt.record_is.outcome
@@ -134,12 +129,3 @@ HangsUpAs as_spent old ended = EndsBy old (as_spent ended.seat) ended.why × IsW
 -- the same, of what seats hold
 abbrev pub HangsUpBy : SeatState → Ended → Type 0
 HangsUpBy old ended = HangsUpAs itself old ended
-
--- a reason for which an exit is recorded
-abbrev pub IsReason : Why → Type 0
-IsReason why.Foreign = ⊥
-IsReason other = Unit {0}
-
--- the exit of the seat's process is tried for a reason: that is told, or Foreign where the book knows no such seat
-abbrev pub EndsFor : SeatState → Why → Ended → Type 0
-EndsFor old reason ended = EndsBy old ended.seat ended.why × ((ended.why ≡ reason) ⊎ (ended.why ≡ why.Foreign))

@@ -1,3 +1,4 @@
 pub mod Kernel
 pub mod Says
+pub mod System
 pub mod Proved

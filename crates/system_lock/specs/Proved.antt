@@ -1,6 +1,7 @@
 pub mod Acts
-pub mod System
 pub mod Events
 pub mod Stirred
 pub mod Sleepers
 pub mod Doors
+pub mod Reasons
+pub mod Sleeping

@@ -1,16 +1,15 @@
 -- What the lock of a run says of ends and of refusals (own).
-use Rattle.std.specs.Prelude.{◌≡◌, true, false, is_some, None, Some, ℕ, Bool}
+use Rattle.std.specs.Prelude.{◌≡◌, true, false, is_some, None, Some}
 use Rattle.call_types.specs.declared.call.Call.{Call}
 use Rattle.call_types.specs.declared.refusal.Refusal.{Refusal}
 use Rattle.call_types.specs.declared.refusal.Refusal.TheVariants as refusal
 use Rattle.call_types.specs.declared.request.Request.{Request}
 use Rattle.call_types.specs.declared.request.Request.TheVariants as request
 use Rattle.record_book.specs.Seat.{SeatState}
-use Rattle.record_book.specs.Book.{BookState, world_now}
-use Rattle.record_book.specs.Refusals.{IsDue, join_refusal, attach_refusal, start_refusal, exit_refusal, resume_refusal}
+use Rattle.record_book.specs.Book.{BookState}
+use Rattle.record_book.specs.Refusals.{is_ready_in, IsDue, join_refusal, attach_refusal, start_refusal, exit_refusal, resume_refusal}
 use Rattle.system_lock.specs.declared.kernel.Why.{Why}
 use Rattle.system_lock.specs.declared.kernel.Why.TheVariants as why
-use Rattle.posix_model.specs.Resume.{is_ready}
 
 -- a refusal of an opening that is due in this book
 abbrev pub IsNotOpenedIn : BookState → Request → Refusal → Type 0
@@ -38,7 +37,3 @@ IsRefused s call told = (b : BookState) × IsDue (start_refusal b s call) told
 -- a process ends: for a reason that it may have in some book
 abbrev pub IsEnded : SeatState → Why → Type 0
 IsEnded s reason = (b : BookState) × IsEndIn b s reason
-
--- whether a process waits in a call that is ready
-abbrev pub is_ready_in : BookState → ℕ → Bool
-is_ready_in b process = is_ready b.limits.bounds (world_now b) process

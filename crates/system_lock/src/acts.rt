@@ -1,6 +1,7 @@
 //! The acts of a kernel on a book that is at hand.
 
-ghost use Rattle.system_lock.specs.Kernel.{IsOpening, OpensBy, CallsBy, IsReason, EndsFor};
+ghost use Rattle.system_lock.specs.Kernel.{IsOpening, CallsBy};
+ghost use Rattle.system_lock.specs.Proved.Reasons.{OpensBy, IsReason, EndsFor};
 ghost use Rattle.system_lock.specs.Proved.Acts.{TriesBy};
 ghost use Rattle.system_lock.specs.Proved.Events.{OpensIn, CallsIn, ExitsIn, TriesIn, StillIsDue, GivesNoneUp};
 

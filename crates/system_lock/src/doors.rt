@@ -1,8 +1,9 @@
 //! The processes that sleep, and those whose connections are lost: two doors at which a process waits or is turned away.
 
 ghost use Rattle.std.specs.Prelude.{◌≡◌, [], true, false, IfOk};
-ghost use Rattle.system_lock.specs.Proved.System.{is_live_in, is_among, with_one};
-ghost use Rattle.system_lock.specs.Says.{is_ready_in};
+ghost use Rattle.system_lock.specs.System.{is_live_in, is_among};
+ghost use Rattle.system_lock.specs.Proved.Sleeping.{with_one};
+ghost use Rattle.record_book.specs.Refusals.{is_ready_in};
 ghost use Rattle.system_lock.specs.Proved.Events.{still_asleep, still_lost};
 ghost use Rattle.system_lock.specs.Proved.Sleepers.{pipe_in};
 ghost use Rattle.system_lock.specs.Proved.Doors.{DoorsSound, AreLeft, LiveAreFew, lost_with, asleep_without};

@@ -2,7 +2,7 @@
 
 ghost use Rattle.std.specs.Prelude.{◌≡◌, ◌<◌, ◌≤◌, ◌∷◌, ◌++◌, [], IfOk, vec_capacity, vec_len};
 ghost use Rattle.call_types.specs.declared.limits.TheConstants.{PROCESSES_MAX};
-ghost use Rattle.system_lock.specs.Proved.System.{is_live_in, is_among};
+ghost use Rattle.system_lock.specs.System.{is_live_in, is_among};
 ghost use Rattle.system_lock.specs.Proved.Events.{still_lost};
 
 use byte_ledger::ledgers::Ledgers;

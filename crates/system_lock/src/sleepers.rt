@@ -2,7 +2,8 @@
 
 ghost use Rattle.std.specs.Prelude.{◌≡◌, ℕ, ◌==◌, ◌<◌, ◌≤◌, ◌∷◌, ◌++◌, [], Option, map, position, vec_len, vec_capacity, IfOk};
 ghost use Rattle.call_types.specs.declared.limits.TheConstants.{PROCESSES_MAX};
-ghost use Rattle.system_lock.specs.Proved.System.{AreDistinct, is_among, without};
+ghost use Rattle.system_lock.specs.System.{AreDistinct, is_among};
+ghost use Rattle.system_lock.specs.Proved.Sleeping.{without};
 
 use crate::bells::Bells;
 use call_types::limits::PROCESSES_MAX;

@@ -1,7 +1,7 @@
 //! Who of those that sleep is woken after an event.
 
 ghost use Rattle.std.specs.Prelude.{◌≡◌, ℕ, ◌<◌, ◌&&◌, Option, map, vec_len};
-ghost use Rattle.system_lock.specs.Proved.System.{SleepsSound, wakes_in};
+ghost use Rattle.system_lock.specs.Proved.Sleeping.{SleepsSound, wakes_in};
 ghost use Rattle.system_lock.specs.Proved.Events.{still_asleep};
 ghost use Rattle.system_lock.specs.Proved.Stirred.{stirs};
 ghost use Rattle.system_lock.specs.Proved.Sleepers.{pipe_in, pipe_then, SleepersSound, SparesIn, AreSpared, LooksAt};

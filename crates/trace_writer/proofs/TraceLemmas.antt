@@ -10,10 +10,10 @@ use Rattle.call_types.specs.declared.limits.TheConstants.{RECORDS_MAX}
 use Rattle.frame_codec.specs.declared.encode.TheConstants.{RECORD_FRAME_MAX}
 use Rattle.frame_codec.specs.Frames.{frame}
 use Rattle.frame_codec.specs.Records.{record_bytes}
-use Rattle.frame_codec.specs.Trace.{trace_header, frames_of, text}
+use Rattle.frame_codec.specs.Trace.{trace_header, frames_of, text, whole_in}
 use Rattle.logged_streams.specs.Streams.{WritesFront}
 use Rattle.trace_writer.specs.Proved.TracerState.{Writes}
-use Rattle.trace_writer.specs.Traces.{whole_in, Tells}
+use Rattle.trace_writer.specs.Traces.{Tells}
 use Rattle.trace_writer.specs.Proved.Tracing.{MakesFrame}
 use Rattle.trace_writer.specs.declared.traced.TraceFault.{TraceFault}
 use Rattle.trace_writer.specs.declared.traced.TraceFault.TheVariants as faults

@@ -1,17 +1,10 @@
 -- What became of a trace (own).
-use Rattle.std.specs.Prelude.{◌≡◌, ℕ, ◌+◌, ◌-◌, ◌≤◌, nat_le, Bool, true, List, [], ◌∷◌, ◌++◌, Option, None, Some, length, if◌then◌else◌}
+use Rattle.std.specs.Prelude.{◌≡◌, ℕ, ◌+◌, ◌-◌, ◌≤◌, Bool, true, List, [], ◌++◌, Option, None, Some, length}
 use Rattle.std.specs.Io.KnownBytes.{Appends}
 use Rattle.call_types.specs.declared.act.Record.{Record}
-use Rattle.frame_codec.specs.Frames.{frame}
-use Rattle.frame_codec.specs.Records.{record_bytes}
-use Rattle.frame_codec.specs.Trace.{trace_header, text}
+use Rattle.frame_codec.specs.Trace.{trace_header, text, whole_in}
 use Rattle.trace_writer.specs.declared.traced.TraceFault.{TraceFault}
 use Rattle.trace_writer.specs.declared.traced.TraceFault.TheVariants as faults
-
--- how many records are whole in so many bytes of their frames (own)
-abbrev pub whole_in : List Record → ℕ → ℕ
-whole_in [] n = 0
-whole_in (r ∷ rs) n = if nat_le (length (frame (record_bytes r))) n then whole_in rs (n - length (frame (record_bytes r))) + 1 else 0
 
 -- how many failures a sink counts, where this went wrong and so many were counted before (own)
 abbrev pub Tells : Option TraceFault → ℕ → ℕ → Type 0

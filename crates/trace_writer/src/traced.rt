@@ -2,7 +2,7 @@
 
 ghost use Rattle.std.specs.Prelude.{◌≡◌, map};
 ghost use Rattle.std.specs.Arc.{arc_value};
-ghost use Rattle.trace_writer.specs.Traces.{whole_in};
+ghost use Rattle.frame_codec.specs.Trace.{whole_in};
 
 use call_types::act::Record;
 use frame_codec::encode::record_frame_length;

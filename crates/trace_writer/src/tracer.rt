@@ -5,8 +5,7 @@ ghost use Rattle.std.specs.Arc.{arc_value};
 ghost use Rattle.call_types.specs.declared.limits.TheConstants.{RECORDS_MAX};
 ghost use Rattle.frame_codec.specs.Frames.{frame};
 ghost use Rattle.frame_codec.specs.Records.{record_bytes};
-ghost use Rattle.frame_codec.specs.Trace.{trace_header, text};
-ghost use Rattle.trace_writer.specs.Traces.{whole_in};
+ghost use Rattle.frame_codec.specs.Trace.{trace_header, text, whole_in};
 ghost use Rattle.trace_writer.specs.declared.traced.TraceFault.TheVariants as faults;
 ghost use Rattle.trace_writer.specs.Proved.Tracing.{Keeps, Stays, Flushes, IsTraceOf, MakesFrame, Syncs};
 

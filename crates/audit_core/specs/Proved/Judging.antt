@@ -13,7 +13,8 @@ use Rattle.posix_model.specs.Step.{given, stepped}
 use Rattle.posix_model.specs.History.{empty_world, after, world_of, legal}
 use Rattle.audit_core.specs.declared.judge.Judged.{Judged}
 use Rattle.audit_core.specs.declared.judge.Judged.TheVariants as judged
-use Rattle.audit_core.specs.Verdict.{outcome_of, BreaksAt}
+use Rattle.audit_core.specs.Verdict.{BreaksAt}
+use Rattle.posix_model.specs.Step.{outcome_of}
 
 -- the limits of the run, the world after the records so far, and how many they were
 pub record JudgeState : Type 0 where

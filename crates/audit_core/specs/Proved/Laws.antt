@@ -1,10 +1,10 @@
 -- What holds of verdicts, and of headers (own).
-use Rattle.std.specs.Prelude.{◌≡◌, ℕ, ◌-◌, List, [], ◌++◌, length}
+use Rattle.std.specs.Prelude.{◌≡◌, ℕ, ◌-◌, List, [], ◌++◌, length, ◌∷◌}
 use Rattle.call_types.specs.declared.act.Record.{Record}
 use Rattle.call_types.specs.declared.limits.Bounds.{Bounds}
 use Rattle.posix_model.specs.History.{legal}
-use Rattle.frame_codec.specs.Trace.{trace_header, text}
-use Rattle.audit_core.specs.Trace.{HaveFrames, AllInRange, whole_frames, HasNoHeader, IsAtFault}
+use Rattle.frame_codec.specs.Trace.{trace_header, text, whole_in}
+use Rattle.audit_core.specs.Trace.{HaveFrames, HasNoHeader, IsAtFault, IsInRange}
 use Rattle.audit_core.specs.Proved.Taking.{IsHeaded, TakesHeader, LacksHeader}
 use Rattle.audit_core.specs.Verdict.{IsVerdict}
 use Rattle.audit_core.specs.declared.verdict.Verdict.{Verdict}
@@ -42,7 +42,7 @@ LegalHaveFrames = (bounds : Bounds) (h : List Record) → legal bounds h → All
 -- whose frames are whole in the bytes after the header
 abbrev pub WrittenIsLegal : Type 0
 WrittenIsLegal = (bounds : Bounds) (h : List Record) (bytes left : List ℕ) → legal bounds h → AllInRange h → text h ≡ bytes ++ left →
-    (rest : ℕ) × IsVerdict bounds bytes (Legal (whole_frames h (length bytes - length trace_header)) rest)
+    (rest : ℕ) × IsVerdict bounds bytes (Legal (whole_in h (length bytes - length trace_header)) rest)
 
 -- a verdict that tells a fault
 abbrev pub TellsFault : Verdict → Type 0
@@ -65,3 +65,8 @@ HeaderLacks = (met : ℕ) (input body piece : List ℕ) → IsHeaded met input b
 pub record BrokenStays : Type 0 where
   pub frame : (rest more : List ℕ) → IsAtFault rest → IsAtFault (rest ++ more)
   pub header : (bytes more : List ℕ) → HasNoHeader bytes → HasNoHeader (bytes ++ more)
+
+-- records with their fields in range
+abbrev pub AllInRange : List Record → Type 0
+AllInRange [] = Unit {0}
+AllInRange (r ∷ h) = IsInRange r × AllInRange h

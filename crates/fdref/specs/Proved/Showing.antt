@@ -1,5 +1,5 @@
 -- How a trace is shown, piece by piece (own).
-use Rattle.std.specs.Prelude.{◌≡◌, ℕ, ◌+◌, ◌*◌, ◌≤◌, nat_lt, List, ◌++◌, Option, None, Some, length, take, if◌then◌else◌}
+use Rattle.std.specs.Prelude.{◌≡◌, ℕ, ◌+◌, ◌*◌, ◌≤◌, nat_lt, List, ◌++◌, Option, None, Some, length, take, if◌then◌else◌, [], ◌∷◌}
 use Rattle.std.specs.Io.KnownBytes.{Appends, Consumes, IsAtEnd}
 use Rattle.call_types.specs.declared.act.Record.{Record}
 use Rattle.call_types.specs.declared.limits.TheConstants.{RECORD_LENGTH_MAX}
@@ -12,7 +12,7 @@ use Rattle.frame_codec.specs.declared.decoder.Progress.TheVariants as progress
 use Rattle.audit_core.specs.Proved.Taking.{IsHeaded}
 use Rattle.audit_core.specs.declared.audit.TheConstants.{READ_LENGTH}
 use Rattle.fdref.specs.Output.{AppendsFront}
-use Rattle.fdref.specs.Shown.{LinesState, first_lines, lines_after, lines_from}
+use Rattle.fdref.specs.Shown.{LinesState, first_lines, lines_from, next_lines}
 use Rattle.fdref.specs.declared.job_end.JobEnd.{JobEnd}
 use Rattle.fdref.specs.declared.job_end.JobEnd.TheVariants as ended
 use Rattle.fdref.specs.declared.shown.Form.{Form}
@@ -108,3 +108,8 @@ pub record HasShown (from to was is : Option (List ℕ)) (first t : ShownState) 
   pub lines_are : t.lines ≡ lines_after first.lines records
   pub appends : Appends was is (lines_from first.lines records)
   pub long : length bytes ≤ turns * READ_LENGTH
+
+-- after the next records
+abbrev pub lines_after : LinesState → List Record → LinesState
+lines_after s [] = s
+lines_after s (r ∷ rs) = lines_after (next_lines s r) rs

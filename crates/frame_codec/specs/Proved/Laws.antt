@@ -4,7 +4,14 @@ use Rattle.std.specs.List.{concat}
 use Rattle.frame_codec.specs.declared.decoder.Progress.{Progress}
 use Rattle.frame_codec.specs.declared.decoder.Progress.TheVariants as progress
 use Rattle.frame_codec.specs.Frames.{IsFrame, IsShort, IsTooLong, IsMalformed, AreFrames}
-use Rattle.frame_codec.specs.Decoding.{DecoderState, fresh, told_place, AreValues, Feeds, FeedsAll}
+use Rattle.frame_codec.specs.Decoding.{DecoderState, fresh, told_place, AreValues, Feeds}
+use Rattle.frame_codec.specs.Proved.Filling.{FeedsAll}
+use Rattle.call_types.specs.declared.act.Act.{Act}
+use Rattle.call_types.specs.declared.act.Act.TheVariants as acts
+use Rattle.call_types.specs.declared.call.Call.TheVariants as calls
+use Rattle.call_types.specs.declared.outcome.Reply.TheVariants as replies
+use Rattle.call_types.specs.declared.outcome.Outcome.{Outcome}
+use Rattle.call_types.specs.declared.outcome.Outcome.TheVariants as outcomes
 
 -- no value's frame begins that of another, so what was written is read again, whatever follows it
 abbrev pub OneForm : {A : Type 0} → (A → List ℕ → Type 0) → ℕ → Type 0
@@ -69,3 +76,15 @@ abbrev pub PiecesGoOn : {A : Type 0} → (A → List ℕ → Type 0) → ℕ →
 PiecesGoOn {A} Spells most =
     (stream piece : List ℕ) (values more : List A) (old new : DecoderState) (told : Progress) → HasGiven Spells most stream values old → Feeds Spells most old new piece more told
     → Gave Spells most (stream ++ piece) (values ++ more) new told
+
+-- an act that may be answered with data: a read, or a parked call that is taken up again
+abbrev pub MayRead : Act → Type 0
+MayRead (acts.Call (calls.Read fd count)) = Unit {0}
+MayRead (acts.Call (calls.Pread fd start count)) = Unit {0}
+MayRead acts.Resume = Unit {0}
+MayRead other = ⊥
+
+-- an outcome that is no data, or that of an act that may be answered with data
+abbrev pub DataIsRead : Act → Outcome → Type 0
+DataIsRead act (outcomes.Reply (replies.Data bytes)) = MayRead act
+DataIsRead act other = Unit {0}

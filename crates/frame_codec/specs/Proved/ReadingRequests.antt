@@ -10,7 +10,7 @@ use Rattle.call_types.specs.declared.whence.Whence.TheVariants as whences
 use Rattle.call_types.specs.declared.request.Request.{Request}
 use Rattle.call_types.specs.declared.request.Request.TheVariants as requests
 use Rattle.frame_codec.specs.Proved.Reading.{◌>>=◌, Reading, lone, as_at, front_at, number_at, byte_at, counted_at, Row, tagged, tagged_or}
-use Rattle.frame_codec.specs.Requests.{frame_table}
+use Rattle.frame_codec.specs.Proved.FrameTable.{frame_table}
 
 -- the base of an offset
 abbrev pub whence_of : ℕ → Option Whence

@@ -4,7 +4,7 @@ use Rattle.call_types.specs.declared.limits.TheConstants.{OPEN_MAX, NAMES_MAX, D
 use Rattle.slots.specs.Slots.{slot, live}
 use Rattle.posix_model.specs.Counts.{links, refs, holders, readers, writers}
 use Rattle.posix_model.specs.Proved.Whole.{EachThere}
-use Rattle.posix_model.specs.Proved.Released.{IsSettled}
+use Rattle.posix_model.specs.Kept.{IsSettled}
 use Rattle.slots.specs.Proved.Uses.{values_in}
 use Rattle.machine_state.specs.Proved.Types.{Ring}
 use Rattle.machine_state.specs.Proved.Uses.{Counts}

@@ -8,7 +8,8 @@ use Rattle.slots.specs.Slots.{slot}
 use Rattle.posix_model.specs.Proved.Whole.{EachThere}
 use Rattle.posix_model.specs.Proved.Numbers.{IsLowest}
 use Rattle.process_table.specs.Processes.{table_of}
-use Rattle.posix_model.specs.Descriptors.{opened, number_of}
+use Rattle.posix_model.specs.Descriptors.{opened}
+use Rattle.posix_model.specs.Proved.Sound.{number_of}
 use Rattle.plain_world.specs.Proved.Calls.{outcome_of, before_sweep, IsNoError, GivesDescriptor}
 
 -- a call that leads from one world to another gives the least descriptor that was free in the first (page of open)

@@ -1,17 +1,14 @@
 -- What holds of steps, and so of histories.
-use Rattle.std.specs.Prelude.{◌≡◌, ◌≢◌, ℕ, ◌+◌, ◌≤◌, ◌<◌, ◌↔◌, true, false, List, [], ◌∷◌, ◌++◌, Option, None, Some, length, is_some}
-use Rattle.std.specs.Option.{option_map}
+use Rattle.std.specs.Prelude.{◌≡◌, ◌≢◌, ℕ, ◌+◌, ◌≤◌, ◌<◌, true, false, List, [], ◌∷◌, ◌++◌, Option, None, Some, length, is_some}
 use Rattle.plain_world.specs.Proved.Types.{Act, Record, Errno, Bounds, World, Description, Decided, OFFSET_MAX, EAGAIN, Replied, Number, Error}
 use Rattle.call_types.specs.declared.act.Act.TheVariants as act
 use Rattle.slots.specs.Slots.{slot, lowest}
-use Rattle.posix_model.specs.Proved.Whole.{IsThere}
 use Rattle.posix_model.specs.Proved.Numbers.{IsLowest}
-use Rattle.posix_model.specs.Counts.{links, refs, holders, readers, writers}
-use Rattle.process_table.specs.Processes.{new_process}
+use Rattle.process_table.specs.Proved.Waits.{new_process}
 use Rattle.posix_model.specs.Change.{changed}
 use Rattle.posix_model.specs.Join.{is_full}
 use Rattle.posix_model.specs.Sweep.{sweep}
-use Rattle.posix_model.specs.Step.{given, comes_to, Stepped, step}
+use Rattle.posix_model.specs.Step.{given, comes_to, Stepped, outcome_of, step}
 use Rattle.posix_model.specs.Proved.Sound.{is_resume, number_at, data_of, WithinLimits}
 use Rattle.posix_model.specs.Turns.{took}
 use Rattle.posix_model.specs.History.{world_of, legal}
@@ -72,19 +69,9 @@ StepKeepsLimits = (bounds : Bounds) (w : World) (actor : ℕ) (act : Act) (s : S
 abbrev pub LimitsHold : Type 0
 LimitsHold = (bounds : Bounds) (h : List Record) → bounds.file_size ≤ OFFSET_MAX → WithinLimits bounds (world_of bounds h)
 
--- what is there: the files with a name or a live description, the pipes with an open end, the descriptions with a descriptor (page of close)
-pub record KeptExactly (w : World) : Type 0 where
-  pub files : (number : ℕ) → IsThere w.files number ↔ 0 < links w.names number + holders w.descriptions number
-  pub pipes : (number : ℕ) → IsThere w.pipes number ↔ 0 < readers w.descriptions number + writers w.descriptions number
-  pub descriptions : (number : ℕ) → IsThere w.descriptions number ↔ 0 < refs w.processes number
-
--- and nothing else is there, at any time of a history (page of close)
-abbrev pub HistoryKeepsExactly : Type 0
-HistoryKeepsExactly = (bounds : Bounds) (h : List Record) → KeptExactly (world_of bounds h)
-
 -- a record has the outcome that the step gives in the world of the records before it
 abbrev pub IsAnswered : Bounds → List Record → Record → Type 0
-IsAnswered bounds before r = option_map (λ s. s.outcome) (step bounds (world_of bounds before) r.actor r.act) ≡ Some r.outcome
+IsAnswered bounds before r = outcome_of bounds (world_of bounds before) r.actor r.act ≡ Some r.outcome
 
 -- in a legal history every record is answered so, wherever it stands (own)
 abbrev pub LegalIsAnswered : Type 0

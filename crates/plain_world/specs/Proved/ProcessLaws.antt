@@ -8,8 +8,9 @@ use Rattle.call_types.specs.declared.call.Call.TheVariants as call
 use Rattle.slots.specs.Slots.{slot, edited}
 use Rattle.call_types.specs.Descriptions.{at_offset}
 use Rattle.process_table.specs.Processes.{table_of, awaits, process_with, with_connection}
-use Rattle.posix_model.specs.Proved.Whole.{IsThere}
-use Rattle.posix_model.specs.Descriptors.{opened, number_of, with_offset}
+use Rattle.posix_model.specs.Kept.{IsThere}
+use Rattle.posix_model.specs.Descriptors.{opened, with_offset}
+use Rattle.posix_model.specs.Proved.Sound.{number_of}
 use Rattle.posix_model.specs.Join.{is_full}
 use Rattle.posix_model.specs.Sweep.{is_referred, is_wanted, without_gone_pipe, sweep}
 use Rattle.posix_model.specs.Step.{Stepped, step}

@@ -2,7 +2,8 @@
 use Rattle.std.specs.Prelude.{◌≡◌, ◌≢◌, ℕ, ◌+◌, ◌-◌, ◌≤◌, ◌<◌, Bool, true, false, List, Option, None, Some, length, is_some}
 use Rattle.slots.specs.Slots.{slot, live}
 use Rattle.call_types.specs.Names.{file_of}
-use Rattle.posix_model.specs.Proved.Whole.{IsThere, EachThere, is_regular_file, is_fifo, TargetIsThere, IsItsFifo, IsOnItsPipe}
+use Rattle.posix_model.specs.Proved.Whole.{EachThere, is_regular_file, is_fifo, TargetIsThere, IsItsFifo, IsOnItsPipe}
+use Rattle.posix_model.specs.Kept.{IsThere}
 use Rattle.process_table.specs.Proved.Waits.{AsksFew}
 use Rattle.posix_model.specs.Descriptors.{held_in}
 use Rattle.posix_model.specs.Pipes.{fifo_at, pipe_between}

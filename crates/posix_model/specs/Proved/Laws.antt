@@ -2,6 +2,7 @@
 use Rattle.std.specs.Prelude.{◌≡◌, ℕ, ◌+◌, ◌||◌, Bool, List, ◌++◌, None, Some, length, if◌then◌else◌}
 use Rattle.posix_model.specs.Types.{Act, Record, Bounds, World}
 use Rattle.slots.specs.Slots.{slot, live}
+use Rattle.posix_model.specs.Kept.{KeptExactly}
 use Rattle.posix_model.specs.Proved.Whole.{IsWhole}
 use Rattle.posix_model.specs.Proved.Numbers.{NumbersRise}
 use Rattle.posix_model.specs.Sweep.{is_referred, is_open, is_wanted, without_gone_pipe, sweep}
@@ -65,3 +66,7 @@ pub record Swept (w v : World) : Type 0 where
 -- every sweep leaves just that (page of close)
 abbrev pub SweepLeaves : Type 0
 SweepLeaves = (w : World) → Swept w (sweep w)
+
+-- what is there is just that, at any time of a history (page of close)
+abbrev pub HistoryKeepsExactly : Type 0
+HistoryKeepsExactly = (bounds : Bounds) (h : List Record) → KeptExactly (world_of bounds h)

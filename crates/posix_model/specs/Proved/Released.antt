@@ -1,12 +1,13 @@
 -- What goes where one description loses a reference, or one file a name: it and what it alone held, and no other.
-use Rattle.std.specs.Prelude.{◌≡◌, ◌≢◌, ℕ, ◌+◌, ◌<◌, true, List, Option, None, Some, is_some, slice_set, if◌then◌else◌}
+use Rattle.std.specs.Prelude.{◌≡◌, ◌≢◌, ℕ, ◌<◌, List, Option, None, Some, slice_set, if◌then◌else◌}
 use Rattle.slots.specs.Slots.{slot}
 use Rattle.call_types.specs.Names.{Entries}
-use Rattle.posix_model.specs.Counts.{links, refs, holders, readers, writers}
+use Rattle.posix_model.specs.Counts.{links, refs}
 use Rattle.posix_model.specs.Proved.Whole.{IsItsFifo}
 use Rattle.posix_model.specs.Sweep.{is_referred, is_open, is_wanted, without_gone_pipe, sweep}
 use Rattle.posix_model.specs.Types.{World, Process, Description, Target, File}
 use Rattle.call_types.specs.declared.description.Target.TheVariants as target
+use Rattle.posix_model.specs.Kept.{IsSettled}
 
 -- a description goes where nothing refers to it
 abbrev pub released_descriptions : List (Option Process) → List (Option Description) → ℕ → List (Option Description)
@@ -43,13 +44,6 @@ abbrev pub released : World → ℕ → Target → World
 released w n t =
     let ds = released_descriptions w.processes w.descriptions n in
     record w { descriptions = ds; pipes = pipes_after ds w.pipes t; files = files_after w.names ds (fifos_after ds w.files t) t }
-
--- nothing waits for a sweep
-pub record IsSettled (w : World) : Type 0 where
-  pub descriptions : (n : ℕ) → is_some (slot w.descriptions n) ≡ true → 0 < refs w.processes n
-  pub pipes : (n : ℕ) → is_some (slot w.pipes n) ≡ true → 0 < readers w.descriptions n + writers w.descriptions n
-  pub fifos : (n : ℕ) → without_gone_pipe w.descriptions (slot w.files n) ≡ slot w.files n
-  pub files : (n : ℕ) → is_some (slot w.files n) ≡ true → 0 < links w.names n + holders w.descriptions n
 
 abbrev pub SweptIsSettled : Type 0
 SweptIsSettled = (w : World) → sweep w ≡ w → IsSettled w

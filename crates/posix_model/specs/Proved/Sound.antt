@@ -1,13 +1,14 @@
 -- What holds of all that acts come to: one record, which is proved by one lemma for each call.
-use Rattle.std.specs.Prelude.{◌≡◌, ℕ, ◌+◌, ◌≤◌, Bool, true, false, List, [], Option, None, Some, length, is_some, is_none, ◌&&◌, if◌then◌else◌}
-use Rattle.std.specs.Option.{option_map_or}
+use Rattle.std.specs.Prelude.{◌≡◌, ℕ, ◌+◌, ◌≤◌, Bool, true, false, List, [], Option, None, Some, length, is_some, is_none, ◌&&◌, if◌then◌else◌, ℤ}
+use Rattle.std.specs.Option.{option_map_or, option_map}
 use Rattle.call_types.specs.CallTable.{descriptor_of, payload_of}
 use Rattle.posix_model.specs.Types.{Call, Act, Outcome, Errno, Bounds, World, FileEdit, ProcessEdit, TableEdit, Change, Decided, OPEN_MAX, NAMES_MAX, DESCRIPTIONS_MAX, PROCESSES_MAX, OFFSET_MAX, TRANSFER_MAX, Replied, Error, Number}
 use Rattle.call_types.specs.declared.act.Act.TheVariants as act
 use Rattle.call_types.specs.declared.call.Call.TheVariants as call
 use Rattle.slots.specs.Slots.{live}
-use Rattle.posix_model.specs.Proved.Whole.{IsThere, IsWhole, EachThere}
-use Rattle.posix_model.specs.Descriptors.{number_of, bytes_of, held_in}
+use Rattle.posix_model.specs.Proved.Whole.{IsWhole, EachThere}
+use Rattle.posix_model.specs.Kept.{IsThere}
+use Rattle.posix_model.specs.Descriptors.{bytes_of, held_in, opened}
 use Rattle.posix_model.specs.Pages.{no_change}
 use Rattle.posix_model.specs.Join.{is_full}
 use Rattle.posix_model.specs.Proved.Fits.{Fits, IsProper, PutsWithin}
@@ -184,3 +185,7 @@ CallsAreSound = (bounds : Bounds) (w : World) (process : ℕ) (c : Call) → Sou
 -- all that acts come to is sound
 abbrev pub ActsAreSound : Type 0
 ActsAreSound = (bounds : Bounds) (w : World) (actor : ℕ) (act : Act) (d : Decided) → comes_to bounds w actor act ≡ Some d → Sound bounds w actor act d
+
+-- the number of the open file description that a descriptor leads to, if it is open (XBD 3, File Descriptor)
+abbrev pub number_of : World → ℕ → ℤ → Option ℕ
+number_of w process fd = option_map (λ o. o.number) (opened w process fd)

@@ -1,5 +1,5 @@
 -- What is there: nothing refers to what is gone, and each process has its descriptors.
-use Rattle.std.specs.Prelude.{◌≡◌, ℕ, Bool, true, false, All, List, Option, None, Some, is_some, length}
+use Rattle.std.specs.Prelude.{◌≡◌, ℕ, Bool, true, false, All, List, Option, None, Some, length}
 use Rattle.slots.specs.Slots.{slot}
 use Rattle.posix_model.specs.Types.{World, Process, Parked, Target, File, Fifo, OPEN_MAX}
 use Rattle.process_table.specs.Proved.Waits.{AsksFew}
@@ -7,10 +7,7 @@ use Rattle.posix_model.specs.Counts.{is_pipe, is_file}
 use Rattle.posix_model.specs.Pipes.{fifo_at, pipe_of_fifo}
 use Rattle.call_types.specs.declared.description.Target.TheVariants as target
 use Rattle.posix_model.specs.declared.world.File.TheVariants as file
-
--- something stands at this number, and is not gone (own)
-abbrev pub IsThere : {T : Type 0} → List (Option T) → ℕ → Type 0
-IsThere slots number = is_some (slot slots number) ≡ true
+use Rattle.posix_model.specs.Kept.{IsThere}
 
 -- all that is there has this property (own)
 abbrev pub EachThere : {T : Type 0} → (T → Type 0) → List (Option T) → Type 0

@@ -5,7 +5,8 @@ use Rattle.slots.specs.Slots.{live}
 use Rattle.posix_model.specs.History.{legal, world_of}
 use Rattle.posix_model.specs.declared.world.World.{World}
 use Rattle.record_book.specs.Book.{BookState, exits_left}
-use Rattle.record_book.specs.Exits.{exits_from, closing_record}
+use Rattle.record_book.specs.Exits.{closing_record}
+use Rattle.record_book.specs.Proved.Prepared.{exits_from}
 use Rattle.record_book.specs.Proved.House.{receipts_of, closing_of, HasRoom}
 use Rattle.record_book.specs.declared.journal.Journal.TheInside.{Inside}
 

@@ -3,13 +3,14 @@ use Rattle.std.specs.Prelude.{◌≡◌, ℕ, ◌<◌, List, ◌++◌, Option, N
 use Rattle.std.specs.Io.KnownBytes.{Consumes}
 use Rattle.std.specs.List.{concat}
 use Rattle.call_types.specs.declared.request.Request.{Request}
-use Rattle.frame_codec.specs.Decoding.{DecoderState, fresh, FeedsAll}
+use Rattle.frame_codec.specs.Decoding.{DecoderState, fresh}
+use Rattle.frame_codec.specs.Proved.Filling.{FeedsAll}
 use Rattle.frame_codec.specs.Requests.{SpellsRequest}
 use Rattle.frame_codec.specs.declared.decoder.Progress.{Progress}
 use Rattle.frame_codec.specs.declared.decoder.Progress.TheVariants as progress
 use Rattle.logged_streams.specs.Streams.{LoggedReaderState, one_more}
 use Rattle.logged_streams.specs.declared.stream_log.TheConstants.{INTERRUPTIONS_MAX}
-use Rattle.request_pump.specs.Proved.Pump.{PushedBy, IsMet}
+use Rattle.request_pump.specs.Pump.{PushedBy, IsMet}
 use Rattle.request_pump.specs.declared.pumped.PumpEnd.{PumpEnd}
 use Rattle.request_pump.specs.declared.pumped.PumpEnd.TheVariants as end
 

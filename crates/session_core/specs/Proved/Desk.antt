@@ -1,7 +1,7 @@
 -- A desk: what is answered of the requests that were taken from a ring, and where the session stands (own).
 use Rattle.std.specs.Prelude.{◌≡◌, ℕ, ◌⊎◌, List, [], ◌∷◌, ◌++◌, Option, None, Some}
 use Rattle.rtrb.specs.Ring.{IsPair, SameConsumer}
-use Rattle.request_pump.specs.Proved.Pump.{PushingEnd}
+use Rattle.request_pump.specs.Pump.{PushingEnd}
 use Rattle.call_types.specs.declared.call.Call.{Call}
 use Rattle.call_types.specs.declared.refusal.Refusal.{Refusal}
 use Rattle.call_types.specs.declared.request.Request.{Request}

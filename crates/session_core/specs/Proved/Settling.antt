@@ -9,7 +9,7 @@ use Rattle.record_book.specs.Seat.{SeatState}
 use Rattle.system_lock.specs.declared.kernel.Why.{Why}
 use Rattle.logged_streams.specs.Streams.{LoggedReaderState, fresh_log}
 use Rattle.logged_streams.specs.declared.stream_log.TheConstants.{INTERRUPTIONS_MAX}
-use Rattle.request_pump.specs.Proved.Pump.{PumpState}
+use Rattle.request_pump.specs.Pump.{PumpState}
 use Rattle.request_pump.specs.declared.pumped.PumpEnd.{PumpEnd}
 use Rattle.request_pump.specs.declared.pumped.PumpEnd.TheVariants as pump_end
 use Rattle.session_core.specs.declared.end.End.{End}

@@ -1,5 +1,5 @@
 -- How far a session has come, and how it ends (own).
-use Rattle.std.specs.Prelude.{◌≡◌, ℕ, ◌⊎◌, List, [], ◌∷◌, ◌++◌, Option, None, Some}
+use Rattle.std.specs.Prelude.{◌≡◌, ℕ, ◌⊎◌, List, [], ◌∷◌, ◌++◌, Option, None, Some, Bool, true, false}
 use Rattle.call_types.specs.declared.call.Call.{Call}
 use Rattle.call_types.specs.declared.refusal.Refusal.{Refusal}
 use Rattle.call_types.specs.declared.refusal.Refusal.TheVariants as refusal
@@ -22,6 +22,8 @@ use Rattle.session_core.specs.declared.stage.LeaveCause.TheVariants as why
 use Rattle.session_core.specs.declared.stage.Over.TheVariants as over
 use Rattle.session_core.specs.declared.stage.Turn.TheVariants as turn
 use Rattle.session_core.specs.Refusals.{AreSaid}
+use Rattle.call_types.specs.declared.outcome.Outcome.{Outcome}
+use Rattle.call_types.specs.declared.outcome.Outcome.TheVariants as outcome
 
 -- these requests are answered to their end, and the seat has the receipts of the answers
 abbrev pub IsTalking : List Request → List Told → Stage → Type 0
@@ -157,3 +159,9 @@ abbrev pub WaitSays : (List Request → List Told → Refusal → Type 0) → Se
 WaitSays Said seat old new =
     (base : Option (List ℕ)) (handled : List Request) (call : Call) → IsWaitingAt base handled call seat old → AreSaid (Said (handled ++ request.Call call ∷ [])) old.answers
     → AreSaid (Said (handled ++ request.Call call ∷ [])) new.answers
+
+-- whether a call goes on waiting after an outcome
+abbrev pub goes_on : Outcome → Bool
+goes_on (outcome.Reply reply) = false
+goes_on (outcome.Parked moved) = true
+goes_on (outcome.Part moved) = true

@@ -2,7 +2,8 @@
 use Rattle.std.specs.Prelude.{ℕ, ◌≤◌, ◌&&◌, ◌∷◌, [], ◌++◌, Bool, not, List, length, if◌then◌else◌}
 use Rattle.call_types.specs.declared.limits.TheConstants.{PROCESSES_MAX}
 use Rattle.record_book.specs.Book.{BookState}
-use Rattle.system_lock.specs.Proved.System.{is_live_in, is_among, without, AreDistinct, AreLive, AreUnmarked}
+use Rattle.system_lock.specs.System.{is_live_in, is_among, AreDistinct, AreLive, AreUnmarked}
+use Rattle.system_lock.specs.Proved.Sleeping.{without}
 use Rattle.system_lock.specs.Proved.Sleepers.{SleepersSound, SparesIn}
 use Rattle.system_lock.specs.declared.doors.Doors.{Doors}
 use Rattle.system_lock.specs.declared.stirred.Stirred.{Stirred}

@@ -11,8 +11,9 @@ use Rattle.record_book.specs.Book.{BookState, world_now, Records}
 use Rattle.record_book.specs.Openings.{Opened, next_pid}
 use Rattle.system_lock.specs.Proved.Events.{OpensIn, CallsIn, ExitsIn}
 use Rattle.system_lock.specs.Proved.Stirred.{pipe_waited, is_by, stirs, stirred_at, stirred_by, stirred_told}
-use Rattle.system_lock.specs.Proved.System.{SleepsSound, is_live_in, wakes_in}
-use Rattle.system_lock.specs.Says.{is_ready_in}
+use Rattle.system_lock.specs.System.{is_live_in}
+use Rattle.system_lock.specs.Proved.Sleeping.{SleepsSound, wakes_in}
+use Rattle.record_book.specs.Refusals.{is_ready_in}
 use Rattle.system_lock.specs.declared.sleepers.Sleepers.{Sleepers}
 use Rattle.system_lock.specs.declared.kernel.Why.{Why}
 use Rattle.system_lock.specs.declared.stirred.Stirred.{Stirred}

@@ -1,4 +1,4 @@
-use Rattle.fdref.specs.Replay.{RunsOn}
+use Rattle.fdref.specs.Proved.Running.{RunsOn}
 use Rattle.fdref.proofs.replay.run_all.Given as goal
 
 -- what is left to be read falls

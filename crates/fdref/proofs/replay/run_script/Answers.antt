@@ -1,5 +1,5 @@
 use Rattle.std.proofs.Common.{subst}
-use Rattle.fdref.specs.Replay.{FailsReading}
+use Rattle.fdref.specs.Proved.Running.{FailsReading}
 use Rattle.fdref.proofs.RunLemmas.{output_of}
 use Rattle.fdref.proofs.replay.run_script.Goals as goal
 

@@ -1,5 +1,5 @@
 use Rattle.std.proofs.Common.{ℕ, List, drop, subst}
-use Rattle.frame_codec.specs.Frames.{Begun}
+use Rattle.frame_codec.specs.Proved.Filling.{Begun}
 use Rattle.frame_codec.proofs.Loops.{next_read}
 use Rattle.frame_codec.proofs.decoder.frames_of.Goals as goal
 

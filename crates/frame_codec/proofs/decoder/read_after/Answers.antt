@@ -1,6 +1,5 @@
 use Rattle.std.proofs.Common.{ℕ, List, [], ◌∷◌, ◌++◌, drop, ap, subst, ◌∙◌}
-use Rattle.frame_codec.specs.Frames.{Begun, BeginsWith}
-use Rattle.frame_codec.specs.Decoding.{Completes, HoldsRest}
+use Rattle.frame_codec.specs.Proved.Filling.{Begun, BeginsWith, Completes, HoldsRest}
 use Rattle.frame_codec.proofs.ReadingOn.{reads_none, reads_more}
 use Rattle.frame_codec.proofs.decoder.read_after.Goals as goal
 

@@ -1,7 +1,7 @@
 use Rattle.std.proofs.Common.{List, ◌∷◌, [], ◌++◌, map, ap, refl, subst}
 use Rattle.std.specs.Arc.{arc_value}
 use Rattle.call_types.specs.declared.act.Record.{Record}
-use Rattle.run_core.specs.Judged.{FlagsDecideAll}
+use Rattle.run_core.specs.Proved.Laws.{FlagsDecideAll}
 use Rattle.run_core.specs.Run.{AreAll, held_in}
 use Rattle.run_core.proofs.ReceiptLemmas.{received_all}
 use Rattle.run_core.proofs.closing.end_run.Goals as goal

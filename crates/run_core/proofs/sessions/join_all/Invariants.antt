@@ -1,6 +1,7 @@
 use Rattle.std.proofs.Common.{◌≡◌, ◌+◌, ◌≤◌, map, vec_len, vec_capacity}
 use Rattle.std.specs.Vec.Iter.{into_iter_len}
-use Rattle.run_core.specs.Run.{IsJoined, streams}
+use Rattle.run_core.specs.Run.{streams}
+use Rattle.run_core.specs.Proved.Joining.{IsJoined}
 use Rattle.run_core.proofs.sessions.join_all.Given as goal
 
 -- those that were joined were served, and there is room for the others

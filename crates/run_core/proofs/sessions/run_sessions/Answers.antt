@@ -1,7 +1,7 @@
 use Rattle.std.proofs.Common.{map, subst, sym}
 use Rattle.std.specs.Arc.{arc_value}
 use Rattle.trace_writer.specs.declared.traced.Traced.{Traced}
-use Rattle.run_core.specs.Judged.{FlagsDecideAll}
+use Rattle.run_core.specs.Proved.Laws.{FlagsDecideAll}
 use Rattle.run_core.proofs.JoinLemmas.{run_of}
 use Rattle.run_core.proofs.sessions.run_sessions.Goals as goal
 

@@ -5,7 +5,7 @@ use Rattle.posix_model.specs.Step.{EndsOrWaits}
 use Rattle.record_book.specs.Seat.{Receipted}
 use Rattle.system_lock.specs.Kernel.{Adds}
 use Rattle.session_core.specs.declared.told.Told.TheVariants as told
-use Rattle.session_core.specs.Talk.{goes_on}
+use Rattle.session_core.specs.Proved.Turns.{goes_on}
 use Rattle.session_core.proofs.CallLemmas as laws
 use Rattle.call_types.specs.declared.request.Request.TheVariants as request
 use Rattle.session_core.specs.Refusals.{RefusalSaid}

@@ -1,6 +1,6 @@
 use Rattle.std.proofs.Common.{sym, subst}
 use Rattle.call_types.specs.declared.request.Request.{Request}
-use Rattle.system_lock.specs.Kernel.{OpensBy}
+use Rattle.system_lock.specs.Proved.Reasons.{OpensBy}
 use Rattle.system_lock.proofs.OpeningLaws as laws
 use Rattle.system_lock.proofs.acts.open.Goals as goal
 

@@ -1,6 +1,7 @@
 -- The lines so far, and those of what is left.
 use Rattle.std.proofs.Common.{◌≡◌, ◌+◌, ◌++◌, length}
-use Rattle.fdref.specs.Shown.{lines_after, lines_from}
+use Rattle.fdref.specs.Shown.{lines_from}
+use Rattle.fdref.specs.Proved.Showing.{lines_after}
 use Rattle.fdref.proofs.shown.Lines.put_all.Given as goal
 
 -- fewer records are left

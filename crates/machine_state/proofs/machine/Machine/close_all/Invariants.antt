@@ -1,7 +1,7 @@
 use Rattle.std.proofs.Common.{◌≡◌, ℕ, ◌≤◌, ◌-◌}
 use Rattle.call_types.specs.declared.limits.TheConstants.{OPEN_MAX}
 use Rattle.posix_model.specs.Sweep.{sweep}
-use Rattle.posix_model.specs.Proved.Whole.{IsThere}
+use Rattle.posix_model.specs.Kept.{IsThere}
 use Rattle.posix_model.specs.Proved.Drops.{closed_below}
 use Rattle.machine_state.specs.Proved.Targets.{EndsAreTheirs}
 use Rattle.machine_state.proofs.machine.Machine.close_all.Given as goal

@@ -1,6 +1,6 @@
 use Rattle.std.proofs.Common.{map, None}
 use Rattle.std.specs.Arc.{arc_value}
-use Rattle.record_book.specs.Proved.Closed.{closed_book}
+use Rattle.record_book.specs.Book.{closed_book}
 use Rattle.record_book.proofs.CountLemmas.{counts_of}
 use Rattle.record_book.proofs.closed.ClosedBook.counts.Goals as goal
 

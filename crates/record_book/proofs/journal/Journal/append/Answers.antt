@@ -9,7 +9,8 @@ use Rattle.posix_model.specs.Proved.Sound.{ended_by, adds, ended, closes}
 use Rattle.posix_model.specs.Turns.{took, gave}
 use Rattle.record_book.specs.Book.{world_now}
 use Rattle.record_book.specs.Proved.Inside.{state_of, prepared_closing}
-use Rattle.record_book.specs.Exits.{closing_record, prepared_for}
+use Rattle.record_book.specs.Exits.{closing_record}
+use Rattle.record_book.specs.Proved.Prepared.{prepared_for}
 use Rattle.record_book.proofs.GrowLemmas.{journal_grows, journal_stays, closed_same}
 use Rattle.record_book.proofs.ExitLemmas.{exits_changed, prepared_count, house_grows}
 use Rattle.record_book.proofs.journal.Journal.append.Goals as goal

@@ -1,5 +1,5 @@
 use Rattle.std.proofs.Common.{◌≡◌, ◌∙◌, false, arith, refl, sym}
-use Rattle.system_lock.specs.Proved.System.{is_among}
+use Rattle.system_lock.specs.System.{is_among}
 use Rattle.system_lock.proofs.DoorLaws as laws
 use Rattle.system_lock.proofs.doors.Doors.fall_asleep.Goals as goal
 

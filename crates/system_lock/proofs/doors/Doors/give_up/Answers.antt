@@ -1,5 +1,5 @@
 use Rattle.std.proofs.Common.{◌≡◌, ◌∙◌, true, false, arith, sym}
-use Rattle.system_lock.specs.Proved.System.{is_among, is_live_in}
+use Rattle.system_lock.specs.System.{is_among, is_live_in}
 use Rattle.system_lock.specs.Proved.Sleepers.{pipe_in}
 use Rattle.system_lock.proofs.DoorLaws as laws
 use Rattle.system_lock.proofs.doors.Doors.give_up.Goals as goal

@@ -1,5 +1,6 @@
 use Rattle.std.proofs.Common.{subst}
-use Rattle.system_lock.specs.Proved.System.{is_live_in, wakes_in}
+use Rattle.system_lock.specs.System.{is_live_in}
+use Rattle.system_lock.specs.Proved.Sleeping.{wakes_in}
 use Rattle.system_lock.specs.Proved.Sleepers.{SparesIn}
 use Rattle.system_lock.specs.declared.stirred.Stirred.{Stirred}
 use Rattle.system_lock.proofs.DoorLaws as laws

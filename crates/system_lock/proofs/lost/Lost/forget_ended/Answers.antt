@@ -1,6 +1,6 @@
 use Rattle.std.proofs.Common.{rules}
 use Rattle.std.proofs.lemmas.Fn.{filter_same}
-use Rattle.system_lock.specs.Proved.System.{is_live_in}
+use Rattle.system_lock.specs.System.{is_live_in}
 use Rattle.system_lock.proofs.lost.Lost.forget_ended.Goals as goal
 
 pub returns : goal.returns

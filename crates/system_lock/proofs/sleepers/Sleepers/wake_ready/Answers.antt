@@ -1,5 +1,5 @@
 use Rattle.std.proofs.Common.{arith}
-use Rattle.system_lock.specs.Proved.System.{wakes_in}
+use Rattle.system_lock.specs.Proved.Sleeping.{wakes_in}
 use Rattle.system_lock.specs.Proved.Sleepers.{pipe_in}
 use Rattle.system_lock.proofs.SleeperLaws as laws
 use Rattle.system_lock.proofs.sleepers.Sleepers.wake_ready.Goals as goal

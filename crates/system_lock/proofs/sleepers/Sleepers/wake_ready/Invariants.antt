@@ -1,5 +1,5 @@
 use Rattle.std.proofs.Common.{ℕ, ◌-◌, Option, length}
-use Rattle.system_lock.specs.Proved.System.{wakes_in}
+use Rattle.system_lock.specs.Proved.Sleeping.{wakes_in}
 use Rattle.system_lock.proofs.SleeperLaws.{StartsLook, IsLooked}
 use Rattle.system_lock.proofs.sleepers.Sleepers.wake_ready.Given as goal
 

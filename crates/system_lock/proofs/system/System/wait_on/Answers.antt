@@ -1,5 +1,6 @@
 use Rattle.std.proofs.Common.{◌∙◌, ℕ, List, ap}
-use Rattle.system_lock.specs.Proved.System.{SystemState, with_one}
+use Rattle.system_lock.specs.System.{SystemState}
+use Rattle.system_lock.specs.Proved.Sleeping.{with_one}
 use Rattle.system_lock.specs.Proved.Events.{still_asleep, still_lost}
 use Rattle.system_lock.proofs.DoorLaws as laws
 use Rattle.system_lock.proofs.system.System.wait_on.Goals as goal

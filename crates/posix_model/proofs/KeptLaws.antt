@@ -6,13 +6,13 @@ use Rattle.std.proofs.lemmas.List.Sums.{sum_by-cons}
 use Rattle.slots.specs.Slots.{slot}
 use Rattle.call_types.specs.Descriptions.{can_read, can_write}
 use Rattle.posix_model.specs.Counts.{links, refs, refs_of, refers, holders, holds, readers, reads, writers, writes, is_file, is_pipe}
-use Rattle.posix_model.specs.Proved.Whole.{IsThere, TargetIsThere, is_regular_file, is_fifo, IsWhole}
-use Rattle.posix_model.specs.Proved.Laws.{HistoryIsWhole, HistorySettles}
-use Rattle.posix_model.specs.Proved.Released.{IsSettled, SweptIsSettled}
+use Rattle.posix_model.specs.Proved.Whole.{TargetIsThere, is_regular_file, is_fifo, IsWhole}
+use Rattle.posix_model.specs.Kept.{IsThere, IsSettled, KeptExactly}
+use Rattle.posix_model.specs.Proved.Laws.{HistoryIsWhole, HistorySettles, HistoryKeepsExactly}
+use Rattle.posix_model.specs.Proved.Released.{SweptIsSettled}
 use Rattle.posix_model.specs.History.{world_of}
-use Rattle.plain_world.specs.Proved.Types.{World, Process, Description, Target, File}
+use Rattle.posix_model.specs.Types.{World, Process, Description, Target, File}
 use Rattle.call_types.specs.declared.description.Target.TheVariants as target
-use Rattle.plain_world.specs.Proved.Laws.{KeptExactly, HistoryKeepsExactly}
 
 -- a sum of two that is above zero has a term that is
 either : (a b : ℕ) (A : Type 0) → 0 < a + b → (0 < a → A) → (0 < b → A) → A

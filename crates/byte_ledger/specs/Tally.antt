@@ -7,12 +7,6 @@ pub record TallyState : Type 0 where
   pub total : ℕ
   pub opened : ℕ
 
--- a tally, how many of its shares are brought together, and their sum
-pub record MergedState : Type 0 where
-  pub tally : TallyState
-  pub held : ℕ
-  pub sum : ℕ
-
 -- so many shares are there, fewer than were opened
 pub record Misses (opened held : ℕ) (missing : Missing) : Type 0 where
   pub held_is : missing.held ≡ held

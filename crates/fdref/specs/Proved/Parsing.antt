@@ -1,0 +1,45 @@
+-- How words are read (own).
+use Rattle.std.specs.Prelude.{◌≡◌, ◌≢◌, ◌∷◌, List, [], Option, true, codes, is_some, ⊤}
+use Rattle.clap.specs.Words.{Text, fault_of, kind_of, subcommand_of, subcommand_rows_of}
+use Rattle.clap.specs.declared.parser.matches.ArgMatches.{ArgMatches}
+use Rattle.clap.specs.declared.error.Error.{Error}
+use Rattle.clap.specs.declared.error.kind.ErrorKind.TheVariants as kind
+use Rattle.fdref.specs.declared.job.JobFault.{JobFault}
+use Rattle.fdref.specs.declared.job.JobFault.TheVariants.{Usage, Shown, NoMemory}
+use Rattle.fdref.specs.CommandLine.{fdref_app, Given, IsOutOfRange, IsRequest}
+
+-- words that ask for a server
+abbrev pub served : List Text
+served = codes "serve" ∷ codes "--socket" ∷ codes "s" ∷ codes "--sessions" ∷ codes "2" ∷ codes "--records=5" ∷ codes "--trace=t" ∷ []
+
+-- words that ask for the acts of a trace
+abbrev pub shown : List Text
+shown = codes "show" ∷ codes "--acts" ∷ codes "t" ∷ []
+
+-- each option of a server is given
+abbrev pub GivesAll : Given → Type 0
+GivesAll given = (is_some (given (codes "socket")) ≡ true) × (is_some (given (codes "sessions")) ≡ true)
+    × (is_some (given (codes "records")) ≡ true) × (is_some (given (codes "trace")) ≡ true)
+
+-- the file of an audit, or of a trace to be shown, is given
+abbrev pub GivesFile : Given → Type 0
+GivesFile given = is_some (given (codes "file")) ≡ true
+
+-- ---- what the program makes of them
+
+-- the matches are those of the words, which have no fault
+pub record IsParse (words : List Text) (m : ArgMatches) : Type 0 where
+  pub parsed : fault_of fdref_app words ≡ []
+  pub rows : subcommand_rows_of m ≡ subcommand_of fdref_app words
+
+-- the fault says that a number is out of its range, or that memory ran out
+abbrev pub RefusesNumber : Option Text → Given → JobFault → Type 0
+RefusesNumber name given (Usage e) = IsOutOfRange name given × (kind_of e ≡ kind.ValueValidation)
+RefusesNumber name given (Shown e) = ⊥
+RefusesNumber name given NoMemory = ⊤
+
+-- the fault that an error of the parse is: its error, unless memory ran out
+abbrev pub IsFaultOf : Error → JobFault → Type 0
+IsFaultOf error (Usage e) = (e ≡ error) × (kind_of error ≢ kind.OutOfMemory) × (IsRequest (kind_of error) → ⊥)
+IsFaultOf error (Shown e) = (e ≡ error) × IsRequest (kind_of error)
+IsFaultOf error NoMemory = kind_of error ≡ kind.OutOfMemory

@@ -1,0 +1,21 @@
+-- How the line of a server is written (own).
+use Rattle.std.specs.Prelude.{◌≡◌, ◌⊎◌, ℕ, List, Option}
+use Rattle.std.specs.Io.KnownBytes.{Appends}
+use Rattle.run_core.specs.declared.report.RunFault.{RunFault}
+use Rattle.run_core.specs.declared.report.RunFault.TheVariants as fault
+use Rattle.session_core.specs.declared.end.End.TheVariants as end
+use Rattle.fdref.specs.Output.{AppendsFront}
+use Rattle.fdref.specs.declared.job_end.JobEnd.{JobEnd}
+use Rattle.fdref.specs.declared.job_end.JobEnd.TheVariants as ended
+
+-- how a run ended that gave no report
+abbrev pub ended_by : RunFault → JobEnd
+ended_by fault.NoMemory = ended.NoMemory
+ended_by fault.NoThread = ended.NoThread
+ended_by fault.Missing = ended.MissingShare
+ended_by (fault.Disagree place) = ended.Disagree place
+
+-- a line was written, and the job ends so; or a front of the line was written, or memory ran out before
+abbrev pub WritesLine : List ℕ → JobEnd → Option (List ℕ) → Option (List ℕ) → JobEnd → Type 0
+WritesLine line so old new end =
+    ((end ≡ so) × Appends old new line) ⊎ (((end ≡ ended.CannotWrite) × AppendsFront old new line) ⊎ ((end ≡ ended.NoMemory) × (new ≡ old)))
