@@ -70,8 +70,7 @@ traced_end None lacks = if lacks then ended.NoThread else ended.Done
 abbrev pub end_of : ℕ → ℕ → Option TraceFault → Bool → JobEnd
 end_of started wanted fault lacks = if nat_lt started wanted then ended.CannotListen else traced_end fault lacks
 
--- the line reports a run that was asked for, and its trace, which went into the sink and left it so; each record is told, and the run
--- ends so
+-- the line reports a run that was asked for, and its trace, which went into the sink and left it so; the run ends so
 pub record IsReport (asked : RunAsked) (sink : SinkState) (line : List ℕ) (end : JobEnd) : Type 0 where
   pub told : RunTold
   pub is_of : IsOf asked sink told

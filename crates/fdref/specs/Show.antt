@@ -96,5 +96,3 @@ ShowEnds form input old new ended.CannotRead = OfFront input (λ bytes. Writes f
 ShowEnds form input old new ended.NoMemory = OfFront input (λ bytes. Writes form old new (λ records. BeginsWith bytes records))
 ShowEnds form input old new ended.CannotWrite = OfFront input (λ bytes. WritesSome form old new (λ records. BeginsWith bytes records))
 ShowEnds form input old new other = ⊥
-
--- ---- while its bytes come

@@ -29,7 +29,7 @@ pub enum JobEnd {
     CannotListen,
     /// The trace is not whole, or may not last, since its sink or memory failed; the run was reported.
     TraceFault,
-    /// A thread could not be started, so nothing was reported; the sessions before were served.
+    /// A thread could not be started; the sessions before were served. They were reported where only the reader of one could not be.
     NoThread,
     /// Shares of some seats are missing, so nothing was reported.
     MissingShare,

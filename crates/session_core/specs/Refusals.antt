@@ -75,5 +75,3 @@ pub record ReadSaid (Said : List Request → List Told → Refusal → Type 0) (
 -- each refusal that a session told was said by a kernel, where this is what its reader had at the start
 abbrev pub RefusalsSaid : (Request → Refusal → Type 0) → (SeatState → Call → Refusal → Type 0) → (SeatState → Why → Type 0) → Option (List ℕ) → SessionState → Type 0
 RefusalsSaid unopened refused ended from s = ReadSaid (RefusalSaid unopened refused ended) from s.reader s.answers
-
--- ---- how a session comes to them
