@@ -18,8 +18,8 @@ use std::io::Read;
 /// How many reads an audit has.
 pub const READS_MAX: u32 = 16_777_216;
 
-/// How many bytes a read asks for. The records that they spell take thrice as many bytes of memory; from 16,384 to 65,536 an audit was
-/// as fast.
+/// How many bytes a read asks for. Their records take three times as much memory. Sizes from 16,384 to 65,536 were
+/// equally fast.
 pub const READ_LENGTH: usize = 32_768;
 
 /// Why an audit has no verdict.

@@ -61,7 +61,7 @@ impl Judge {
         }
     }
 
-    /// How many records were what the model gives: the place of the next one. The greatest number stands for those past it too.
+    /// How many records agreed with the model so far: the place of the next one. It stops at `u64::MAX`.
     pub fn place(&self) -> u64
         ensures { result ≡ self.now.place }
     {

@@ -45,7 +45,7 @@ pub fn faults_stay()
     ensures { FaultStays }
 {}
 
-/// What was met of a header goes on with each piece. Where a byte of it is another, the bytes so far do not begin with the header.
+/// A header may come in pieces: the count of its matching bytes goes on. After a wrong byte it never matches.
 pub fn headers_go_on()
     ensures takes { HeaderGoesOn }
     ensures lacks { HeaderLacks }

@@ -9,9 +9,8 @@ use process_table::process::Parked;
 use process_table::table::DescriptorTable;
 use std::alloc::{AllocError, Global};
 
-/// The machine of an audit, and nothing more. Calls are compiled for each type of state that they read. As a type of its own it
-/// has them for itself, and so has the machine of a recorded run: each call then has one caller in a program, in which it stands
-/// inline.
+/// The machine of an audit, as a type of its own. Calls are compiled once for each type of state that they read, so
+/// here and in a recorded run each of them has one caller and is inlined.
 #[derive(Drop)]
 pub(crate) struct Audited {
     pub(crate) machine: Machine,

@@ -107,9 +107,8 @@ impl TraceAudit {
         }
     }
 
-    /// Takes the next bytes of the trace, of any length, and judges the records that they complete: nothing, or the verdict, which no
-    /// byte after them changes. An error says that memory ran out, or that the machine has no number left for what is new; the trace
-    /// is not to go on then.
+    /// Takes the next bytes of the trace, of any length, and judges the records that they complete. Returns the verdict
+    /// once no further byte can change it. After an error (memory or numbers ran out) do not go on.
     pub fn take(&mut self, alloc: Global, piece: &[u8]) -> Result<Option<Verdict>, AllocError>
         ensures { IfOk result (λ found. TakesPiece piece.now self.old self.new found) }
     {

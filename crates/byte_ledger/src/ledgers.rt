@@ -4,8 +4,8 @@ use crate::tally::PARTS;
 use std::marker::{Brand, Model, PhantomData};
 use std::sync::ledger::{Blank, Ledger};
 
-/// A run, as types name it: what its three ledgers are called, and what limits it has, where it has any. What is of one run does not
-/// fit to another.
+/// A run as a type: the names of its three ledgers, and its limits, if it has any. What belongs to one run does not fit
+/// another.
 pub trait Ledgers {
     ghost use Rattle.std.specs.Prelude.{Option};
     ghost use Rattle.byte_ledger.specs.Counted.{Names};

@@ -1,14 +1,11 @@
-ghost use Rattle.std.specs.Prelude.{◌≡◌, ◌+◌, ◌^◌, ◌<◌, ◌≤◌};
+ghost use Rattle.std.specs.Prelude.{◌≡◌, ◌+◌, ◌^◌, ◌<◌};
 ghost use Rattle.byte_ledger.specs.Tally.{TallyState};
 
 use std::marker::Model;
 use std::sync::ledger;
 use std::sync::ledger::{Blank, Book, Ledger};
 
-/// How many shares a tally opens at most.
-pub const SHARES_MAX: u64 = 1_000_000;
-
-/// How many parts the ledger of a tally has: one for each share, and one that stays with the tally.
+/// How many parts the ledger of a tally has: one for each of at most 1,000,000 shares, and one that stays with the tally.
 pub const PARTS: u64 = 1_000_001;
 
 /// A sum, and how many shares of it were opened. Its type names its ledger, so a share of another tally does not fit.
@@ -70,13 +67,6 @@ impl<L: Ledger> Tally<L> {
         ensures { result ≡ self.now.total }
     {
         self.total
-    }
-
-    /// How many shares were opened.
-    pub fn opened(&self) -> u64
-        ensures { result ≡ self.now.opened }
-    {
-        self.opened
     }
 
     /// One share more, with nothing added.

@@ -73,7 +73,7 @@ pub fn greatest_lengths() -> (usize, usize, usize)
     (Name::most(), Payload::most(), Content::most())
 }
 
-/// A name's bytes, for which there was memory of their own: it is given back where they are few. An error says that memory ran out.
+/// Stores the bytes of a name. Where they are few, the vector is freed. An error says that memory ran out.
 fn kept_name(alloc: Global, bytes: Vec<u8>) -> Result<StoredName, AllocError>
     ensures { IfOk result (λ stored. stored_name stored ≡ bytes.items) }
 {
@@ -140,7 +140,7 @@ impl Clone for Name {
     }
 }
 
-/// The byte of which these bytes are, where they have one and no other.
+/// The byte that all of these are, if there are any and all are the same.
 fn one_byte(bytes: &[u8]) -> Option<u8>
     ensures { IfSome result (λ byte. bytes.now ≡ replicate (length bytes.now) byte) }
 {

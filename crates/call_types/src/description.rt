@@ -11,7 +11,7 @@ pub enum Target {
     Fifo { file: usize, pipe: usize },
 }
 
-/// For what a file was opened. Of a pipe or FIFO it says which end.
+/// What a file was opened for. For a pipe or FIFO it says which end.
 #[derive(Clone, Copy)]
 pub enum Mode {
     Read,
@@ -20,7 +20,7 @@ pub enum Mode {
 }
 
 impl Mode {
-    /// Whether it has reading.
+    /// Whether it allows reads.
     pub fn can_read(self) -> bool
         ensures { result ≡ can_read self }
     {
@@ -30,7 +30,7 @@ impl Mode {
         }
     }
 
-    /// Whether it has writing.
+    /// Whether it allows writes.
     pub fn can_write(self) -> bool
         ensures { result ≡ can_write self }
     {

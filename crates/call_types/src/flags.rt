@@ -3,7 +3,7 @@ ghost use Rattle.call_types.specs.Flags.{has};
 
 use bitflags::{Flag, Flags, bitflag_items};
 
-/// How a file is opened (page of open): one bit a flag, with the bits of request frames.
+/// How a file is opened (page of open): one bit for each flag, as in a request frame.
 #[derive(Clone, Copy, PartialEq, Eq, Debug)]
 pub struct OpenFlags(u8);
 

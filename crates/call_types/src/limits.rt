@@ -48,8 +48,7 @@ pub const RECORD_LENGTH_MAX: usize = 66_048;
 /// Records of one run, at most.
 pub const RECORDS_MAX: u64 = 1_000_000;
 
-/// What the limits of this profile are. The definitions and the code name each limit by its constant, so this is where its
-/// number stands once more, and a wrong one is seen. It does nothing.
+/// The limits as numbers. Everything else names them by constant, so a wrong number is seen here. It does nothing.
 pub fn numbers_of_the_profile()
     ensures open_max { OPEN_MAX ≡ 32 }
     ensures name_max { NAME_MAX ≡ 64 }
@@ -98,7 +97,7 @@ pub struct Limits {
     ghost small: { bounds.file_size ≤ OFFSET_MAX },
 }
 
-/// A limit that no run has.
+/// Why `Limits::new` refuses.
 #[derive(Clone, Copy, Debug, PartialEq, Eq)]
 pub enum LimitFault {
     /// The number of records is not from 1 to 1,000,000.

@@ -36,7 +36,7 @@ pub enum Reply {
     Pair(u32, u32),
     /// What fstat tells.
     Stat(Stat),
-    /// The call is refused, and changed nothing, but that a resume's EPIPE ends the call that waited.
+    /// The call is refused and changed nothing, except that EPIPE for a resume ends the call that waited.
     Error(Errno),
 }
 

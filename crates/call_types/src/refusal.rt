@@ -3,7 +3,7 @@ ghost use Rattle.call_types.specs.declared.refusal.Refusal.TheVariants.{NoMemory
 
 use std::alloc::AllocError;
 
-/// Why nothing was recorded. Machine and history are as they were.
+/// Why nothing was recorded. Machine and history are as they were. The number is the byte of the refusal in an answer.
 #[derive(Clone, Copy, Debug, PartialEq, Eq)]
 pub enum Refusal {
     /// Memory ran out (17).

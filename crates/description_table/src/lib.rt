@@ -164,7 +164,7 @@ impl DescriptionTable {
         })
     }
 
-    /// A description has one reference more.
+    /// Adds a reference to a description.
     pub fn hold(&mut self, ticket: &Ticket)
         requires there { is_some (slot self.old.0 ticket.now) ≡ true }
         requires few { uses_at (slot self.old.0 ticket.now) < 2 ^ 63 }
@@ -174,7 +174,7 @@ impl DescriptionTable {
         self.descriptions.add_use(ticket);
     }
 
-    /// A description has one reference less, and goes with its last one (page of close). Of a number that is gone nothing goes.
+    /// Drops a reference to a description, which goes with its last one (page of close). It does nothing if it is gone.
     pub fn drop_one(&mut self, ticket: &Ticket) -> Dropped
         ensures slots { self.new.0 ≡ use_dropped ticket.now self.old.0 }
         ensures room { self.old.1 ≤ self.new.1 }

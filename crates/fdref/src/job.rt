@@ -456,7 +456,7 @@ fn not_text_error(alloc: Global) -> Result<Error, AllocError>
     fdref_command(alloc)?.error(ErrorKind::InvalidValue, "a word is not UTF-8")
 }
 
-/// How the program's command line is read, at words that are written out.
+/// Command lines, written out, and how the program reads each of them. It does nothing.
 pub fn lines_read()
     ensures plain { (fault_of fdref_app (line (codes "replay" ∷ [])) ≡ []) × (text_given (line (codes "replay" ∷ [])) (codes "records") ≡ None) }
     ensures apart { (fault_of fdref_app (line (codes "replay" ∷ codes "--records" ∷ codes "5" ∷ [])) ≡ []) × (text_given (line (codes "replay" ∷ codes "--records" ∷ codes "5" ∷ [])) (codes "records") ≡ Some (codes "5")) }

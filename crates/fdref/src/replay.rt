@@ -78,8 +78,8 @@ fn run_all<L: Ledgers>(
     Ok(())
 }
 
-/// Runs the acts that are left of a script in a book, and gathers the lines of what is told of each, and the line of totals. Where it
-/// succeeds, the seats are leaked, and not dropped one receipt after another. The lines have so much room from the start, in bytes.
+/// Runs the acts that are left of a script, and gathers their lines and the line of totals. `room` is the room for
+/// lines at the start, in bytes. If it succeeds, the seats are leaked and not dropped receipt by receipt.
 fn gather_lines<L: Ledgers>(
     alloc: Global,
     script: &mut Script<'_>,

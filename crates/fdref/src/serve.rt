@@ -72,8 +72,8 @@ fn lacks_a_thread<R: Read, V: Write>(sessions: &[Session<R, V>]) -> bool
     sessions.iter().any(|session| is_unstarted(session.end))
 }
 
-/// How a run ended whose report is written: that sessions are wanting is told before a fault of its trace, and that before the want of
-/// a thread.
+/// How a run with a report ended. If several apply: missing sessions first, then a fault of the trace, then a missing
+/// thread.
 fn end_of(started: usize, wanted: usize, fault: Option<TraceFault>, lacks_a_thread: bool) -> JobEnd
     ensures { result ≡ end_of started wanted fault lacks_a_thread }
 {

@@ -65,7 +65,7 @@ impl Model for ShownTrace {
     ghost invariant = { λ t. t.header ≤ length trace_header };
 }
 
-/// Where the fault is in the trace that is told of the bytes after the header.
+/// The byte of the trace at which a fault is, from the byte after the header that the decoder tells.
 fn fault_at(told: Progress) -> Option<u64>
     ensures { result ≡ fault_at told }
 {

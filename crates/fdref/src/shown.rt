@@ -51,7 +51,7 @@ fn forked(told: &Record) -> Option<u64>
     }
 }
 
-/// Whether after a record its actor is no child that is not attached.
+/// Whether a record takes its actor off the list of unattached children: an exit, or an attach that succeeded.
 fn is_left(told: &Record) -> bool
     ensures { result ≡ is_left told.now }
 {

@@ -119,7 +119,7 @@ fn opens<R: WorldReader>(
     does(Reply::Number(fd as u64), files, edit)
 }
 
-/// Under trunc the file loses its bytes.
+/// The edit of an open with trunc: the file becomes empty.
 fn emptied(file: usize, flags: OpenFlags) -> FileEdit
     ensures { result ≡ emptied file flags }
 {

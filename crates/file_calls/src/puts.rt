@@ -22,7 +22,7 @@ pub(crate) fn fitting(bounds: Bounds, start: u64, bytes: &Payload) -> usize
         .min(bounds.file_size.saturating_sub(start) as usize)
 }
 
-/// So many bytes are put into a file, with an edit of the offset; no bytes are no change.
+/// Decides to put `count` bytes into a file and to edit the offset; without bytes nothing changes.
 pub(crate) fn puts(
     bytes: &Payload,
     file: usize,

@@ -32,7 +32,7 @@ fn read_fault(descriptor: &OpenDescriptor, count: usize) -> Option<Errno>
     None
 }
 
-/// The bytes are told, and the offset goes past them; none are no change.
+/// Replies with the bytes and moves the offset past them; without bytes nothing changes.
 fn gives(descriptor: &OpenDescriptor, got: Content) -> Decided
     requires { descriptor.now.description.offset + length got < 2 ^ 64 }
     ensures { result ≡ gives descriptor.now got }

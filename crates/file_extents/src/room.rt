@@ -4,7 +4,7 @@ ghost use Rattle.std.specs.Prelude.{◌≡◌, ◌+◌, ◌≤◌, ◌++◌, rep
 use posix_model::contents::pad;
 use std::alloc::AllocError;
 
-/// Makes room for `len` items in all, where at most `most` are wanted: room for half of them is followed by room for all.
+/// Makes room for `len` items in all, of at most `most`. Once half of `most` is exceeded, it makes room for all.
 #[cold]
 #[inline(never)]
 pub(crate) fn grow<T>(items: &mut Vec<T>, len: usize, most: usize) -> Result<(), AllocError>

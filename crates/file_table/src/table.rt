@@ -196,7 +196,7 @@ impl FileTable {
         self.files.value_mut(file).value.forget(pipe);
     }
 
-    /// A file has one holder more.
+    /// Adds a holder to a file.
     pub fn hold(&mut self, file: usize)
         requires there { is_some (slot self.old.0 file) ≡ true }
         requires few { uses_at (slot self.old.0 file) < 2 ^ 63 }
@@ -206,7 +206,7 @@ impl FileTable {
         self.files.add_use(file);
     }
 
-    /// A file has one holder less, and goes with its last name or holder (page of close). Of a number that is gone nothing goes.
+    /// Drops a holder of a file, which goes with its last name or holder (page of close). A file that is gone stays so.
     pub fn drop_one(&mut self, file: usize)
         ensures slots { self.new.0 ≡ use_dropped file self.old.0 }
         ensures room { self.old.1 ≤ self.new.1 }
@@ -215,7 +215,7 @@ impl FileTable {
         drop(self.files.drop_use(file));
     }
 
-    /// A file has one name more (page of link).
+    /// Adds a name to a file (page of link).
     pub fn add_link(&mut self, file: usize)
         requires there { is_some (slot self.old.0 file) ≡ true }
         requires few { uses_at (slot self.old.0 file) < 2 ^ 63 }
@@ -228,7 +228,7 @@ impl FileTable {
         used.uses += 1;
     }
 
-    /// A file has one name less, and goes with its last name or holder (page of unlink).
+    /// Drops a name of a file, which goes with its last name or holder (page of unlink).
     pub fn drop_link(&mut self, file: usize)
         requires { 0 < links_at (value_at (slot self.old.0 file)) }
         ensures slots { self.new.0 ≡ use_dropped file (edited file (with_value unnamed) self.old.0) }

@@ -17,7 +17,8 @@ use std::marker::{Model, PhantomData};
 pub enum Progress {
     /// There is no fault so far.
     More,
-    /// A payload spells no value. Its frame begins at this byte of the stream, from 0; at the greatest number or past it where that is told.
+    /// A payload spells no value. Its frame begins at this byte of the stream, from 0; `u64::MAX` stands for that byte
+    /// and all after it.
     Malformed { at: u64 },
     /// A length is greater than is allowed. It begins at this byte of the stream, as above.
     TooLong { at: u64 },
@@ -65,8 +66,8 @@ fn progress_of(before: u64, stop: Stop) -> Progress
     }
 }
 
-/// Takes bytes of a piece until `len` are held, or the piece ends. It tells how many it took; an error says that memory ran out,
-/// with what was held as the front.
+/// Takes bytes of a piece until `len` are held or the piece ends, and returns how many it took. An error says that
+/// memory ran out; then `held` still begins with what it held.
 fn fill(held: &mut Vec<u8>, len: usize, piece: &[u8]) -> Result<usize, AllocError>
     requires { length held.old.items ≤ len }
     ensures ok { IfOk result (λ taken. Fills held.old.items held.new.items piece.now len taken) }
@@ -107,7 +108,8 @@ fn complete(held: &mut Vec<u8>, most: usize, piece: &[u8]) -> Result<usize, Allo
     Ok(first + second)
 }
 
-/// The values of the frames with which bytes begin, added to those before; how many bytes these have, and why no further one begins.
+/// Appends the values of the whole frames at the start of `bytes`. Returns how many bytes these frames have, and why no
+/// further frame begins.
 fn frames_of<K: FrameKind>(
     alloc: Global,
     values: &mut Vec<K::Value>,

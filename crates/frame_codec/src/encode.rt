@@ -227,7 +227,7 @@ fn record_length(record: &Record) -> u32
     4 + act_length(&record.act) + outcome_length(&record.outcome)
 }
 
-/// How many bytes the frame has that `encode_record` writes of a record.
+/// The length in bytes of the frame that `encode_record` writes for a record.
 #[tactic(auto, using(crate::proofs::Lengths::frame_length))]
 pub fn record_frame_length(record: &Record) -> usize
     ensures exact { result ≡ length (frame (record_bytes «record».now)) }
@@ -262,8 +262,8 @@ fn put_record(out: &mut Vec<u8>, record: &Record) -> Result<(), AllocError>
     Ok(())
 }
 
-/// Appends a record's frame. An error says that memory ran out; the bytes before are still the front. A record that no decoder takes is
-/// written too, as a closing by another actor than `HOUSE`: `records_have_frames` says which are taken.
+/// Appends a record's frame. An error says that memory ran out; the bytes before are still the front. It also writes
+/// records that no decoder takes, such as a closing by another actor than `HOUSE`: see `records_have_frames`.
 #[tactic(auto, using(crate::proofs::Fronts::keeps, crate::proofs::Fronts::keeps_after))]
 pub fn encode_record(out: &mut Vec<u8>, record: &Record) -> Result<(), AllocError>
     ensures appends { Appends result out.old.items out.new.items (frame (record_bytes «record».now)) }

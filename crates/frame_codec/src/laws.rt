@@ -32,8 +32,8 @@ pub fn read_values_are_spelled()
     ensures records { (r : Record) (payload : List ℕ) → AreBytes payload → payload_at record_at payload ≡ Some r → SpellsRecord r payload }
 {}
 
-/// A decoder takes the frame of each record in range, if no act but a read, or a resume, is answered with data. The frame of a long
-/// write that is answered with long data would be too long.
+/// A decoder takes the frame of each record in range, if only a read, a pread or a resume is answered with data. With
+/// other acts the frame could be too long: a long write that is answered with long data.
 pub fn records_have_frames()
     ensures { (r : Record) → RecordFits r → DataIsRead r.act r.outcome → IsFrame SpellsRecord 66048 r (frame (record_bytes r)) }
 {}
@@ -45,7 +45,7 @@ pub fn no_frame_begins_another()
     ensures records { OneForm SpellsRecord 66048 }
 {}
 
-/// However a stream is cut into pieces, what a decoder gives are the values of the stream, and it tells where the first fault is.
+/// However a stream is cut into pieces, a decoder gives the same values and tells the same first fault.
 pub fn cuts_do_not_matter()
     ensures requests { CutsDoNotMatter SpellsRequest 65792 }
     ensures answers { CutsDoNotMatter SpellsAnswer 66048 }

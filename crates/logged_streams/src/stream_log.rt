@@ -84,7 +84,7 @@ impl StreamLog {
         self.failed
     }
 
-    /// How many times in a row the owner of the stream was now refused leave to write. It is 0 where nobody asks for leave.
+    /// How many times in a row leave to write was refused, up to now. It stays 0 where nobody asks for leave.
     pub fn refusals(&self) -> u32
         ensures value { result ≡ self.now.refusals }
         ensures few { result ≤ 1000 }
@@ -108,7 +108,7 @@ impl StreamLog {
         }
     }
 
-    /// Notes that a call failed which is neither a read nor a write.
+    /// Notes that a call other than a read or a write failed: a flush.
     pub(crate) fn note_failure(&mut self)
         ensures { self.new ≡ record self.old { failed = true } }
     {
@@ -128,7 +128,7 @@ impl StreamLog {
     }
 }
 
-/// What a call gave that returned this. Where it returned 0 bytes, it gave `none`.
+/// What a call that returned `told` gave; `none` is what a return of 0 bytes means.
 pub(crate) fn gave_of(told: io::Result<usize>, none: Gave) -> Gave
     ensures ok { IfOk told (λ count. result ≡ (if count == 0 then none else gave.Bytes count)) }
     ensures interrupted { IfErr told (λ error. (result ≡ gave.Interrupted) ↔ (error_kind error ≡ ErrorKind.Interrupted)) }

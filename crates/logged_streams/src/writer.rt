@@ -1,6 +1,6 @@
 //! A writer with a log of its writes.
 
-ghost use Rattle.std.specs.Prelude.{◌≡◌, ◌<◌, ◌≤◌, length, IfOk, OnOk, OnErr};
+ghost use Rattle.std.specs.Prelude.{◌≡◌, ◌<◌, length, IfOk, OnOk, OnErr};
 ghost use Rattle.std.specs.Io.KnownBytes.{Keeps};
 ghost use Rattle.logged_streams.specs.Streams.{fresh_log, asked, WritesFront, WritesNone, SomeWritten, IsBroken};
 ghost use Rattle.logged_streams.specs.Proved.Writes.{WritesOnce};
@@ -53,16 +53,6 @@ impl<W: Write> LoggedWriter<W> {
         &self.writer
     }
 
-    /// The writer, and what became of its writes.
-    pub fn into_parts(self) -> (W, StreamLog)
-        ensures writer { W.contents result.0 ≡ self.contents }
-        ensures log { result.1 ≡ self.log }
-        ensures few { result.1.interruptions ≤ 16 }
-    {
-        let _few = self.log.interruptions();
-        (self.writer, self.log)
-    }
-
     /// Notes whether there was leave to write.
     pub fn note_leave(&mut self, is_given: bool)
         requires { self.old.log.refusals < 1000 }
@@ -82,7 +72,7 @@ impl<W: Write> LoggedWriter<W> {
         gave
     }
 
-    /// Writes a front of bytes that is not empty, unless the writer is broken.
+    /// Writes some of the bytes, at least one, from the first on; an error says that the writer is broken.
     #[tactic(auto, using(crate::proofs::WriteLemmas::noted_leave))]
     pub fn write_some(&mut self, bytes: &[u8]) -> Result<usize, WriterFailed>
         ensures ok { IfOk result (λ count. SomeWritten self.old.contents self.new.contents bytes.now count) }

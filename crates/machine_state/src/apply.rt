@@ -100,7 +100,7 @@ impl Machine {
                 return;
             }
         }
-        // All but an entry that is set leaves nothing for a sweep: the fields hold that.
+        // The other edits leave nothing to sweep. The invariant of the tables says so.
         sweep_releases();
         self.is_settled();
     }

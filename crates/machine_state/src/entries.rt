@@ -11,7 +11,7 @@ ghost use Rattle.machine_state.specs.Proved.Uses.{with_use, with_uses, without_u
 use description_table::{DescriptionTable, Dropped};
 use slots::ticket::Ticket;
 
-/// What an entry refers to has one reference more; a free entry refers to nothing.
+/// Adds a reference to the description of an entry; a free entry refers to none.
 pub(crate) fn hold_entry(table: &mut DescriptionTable, entry: &Option<Ticket>)
     requires there { (n : ℕ) → entry.now ≡ Some n → is_some (slot table.old.0 n) ≡ true }
     requires few { (n : ℕ) → uses_at (slot table.old.0 n) < 2 ^ 63 }
@@ -23,7 +23,7 @@ pub(crate) fn hold_entry(table: &mut DescriptionTable, entry: &Option<Ticket>)
     }
 }
 
-/// What each of these entries refers to has one reference more.
+/// Adds a reference to the description of each of these entries.
 pub(crate) fn hold_entries(table: &mut DescriptionTable, entries: &[Option<Ticket>])
     requires there { EachThere (IsThere table.old.0) entries.now }
     requires few { (n : ℕ) → uses_at (slot table.old.0 n) + length entries.now < 2 ^ 63 }
@@ -35,7 +35,7 @@ pub(crate) fn hold_entries(table: &mut DescriptionTable, entries: &[Option<Ticke
     }
 }
 
-/// What an entry referred to has one reference less, and goes with its last one.
+/// Drops a reference to the description of an entry; with its last one the description is removed.
 pub(crate) fn drop_entry(table: &mut DescriptionTable, entry: &Option<Ticket>) -> Dropped
     ensures slots { table.new.0 ≡ without_use entry.now table.old.0 }
     ensures told { result ≡ dropped (lost entry.now table.old.0) }

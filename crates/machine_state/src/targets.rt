@@ -34,7 +34,7 @@ pub(crate) fn pipe_of_target(target: Target) -> Option<usize>
     }
 }
 
-/// A file has one holder more, if one is named.
+/// Adds a holder to a file, if a file is named.
 pub(crate) fn hold_file(files: &mut FileTable, file: Option<usize>)
     requires there { (n : ℕ) → file ≡ Some n → is_some (slot files.old.0 n) ≡ true }
     requires few { (n : ℕ) → uses_at (slot files.old.0 n) < 2 ^ 63 }
@@ -45,7 +45,7 @@ pub(crate) fn hold_file(files: &mut FileTable, file: Option<usize>)
     }
 }
 
-/// A file has one holder less, if one is named, and goes with its last name or holder.
+/// Drops a holder of a file, if one is named; the file goes with its last name or holder.
 fn drop_file(files: &mut FileTable, file: Option<usize>)
     ensures { files.new.0 ≡ without_use file files.old.0 }
 {
@@ -54,7 +54,7 @@ fn drop_file(files: &mut FileTable, file: Option<usize>)
     }
 }
 
-/// A pipe has one end more, if one is named.
+/// Adds an end to a pipe, if a pipe is named.
 pub(crate) fn add_end(pipes: &mut PipeTable, pipe: Option<usize>, mode: Mode)
     requires there { (n : ℕ) → pipe ≡ Some n → is_some (slot pipes.old.0 n) ≡ true }
     requires few { (n : ℕ) → uses_at (slot pipes.old.0 n) < 2 ^ 63 }
@@ -68,7 +68,7 @@ pub(crate) fn add_end(pipes: &mut PipeTable, pipe: Option<usize>, mode: Mode)
     }
 }
 
-/// A pipe has one end less, if one is named, and goes with its last one; the pipe that went.
+/// Drops an end of a pipe, if one is named. Returns the pipe if that was its last end.
 fn drop_end(pipes: &mut PipeTable, pipe: Option<usize>, mode: Mode) -> Option<StoredPipe>
     requires { (n : ℕ) → pipe ≡ Some n → HasEndAt pipes.old.0 mode n }
     ensures slots { pipes.new.0 ≡ without_use pipe (counted_less pipe mode pipes.old.0) }
@@ -100,7 +100,8 @@ fn forget_gone(files: &mut FileTable, target: Target, gone: Option<StoredPipe>)
     }
 }
 
-/// What a description that went held has one use less: its pipe, which goes with the last end, and then out of its FIFO, and its file.
+/// Releases what a removed description held: its pipe, removed with its last end and then forgotten by its FIFO, and
+/// its file.
 pub(crate) fn release(pipes: &mut PipeTable, files: &mut FileTable, dropped: Dropped)
     requires { CanLeave dropped pipes.old.0 files.old.0 }
     ensures pipes { pipes.new.0 ≡ pipes_left dropped pipes.old.0 }

@@ -26,7 +26,7 @@ fn read_ready<R: WorldReader>(state: &R, pipe: usize) -> bool
     state.held_in(pipe) != 0 || !state.has_writer(pipe)
 }
 
-/// For how many bytes there must be room before a write of so many can go on.
+/// How many bytes of room a write of `len` bytes needs before it can go on.
 fn room_wanted(len: usize) -> usize
     ensures { result ≡ room_wanted len }
 {

@@ -13,7 +13,7 @@ use process_table::kept_call::KeptCall;
 use process_table::process::Parked;
 use std::alloc::{AllocError, Global};
 
-/// What a call under nonblock tells that would wait: the bytes that it moved, or EAGAIN (pages of read and write).
+/// What a call that would wait returns under nonblock: how many bytes it moved, or EAGAIN (pages of read, write).
 fn instead(moved: u32, edit: FileEdit) -> Decided
     ensures { result ≡ instead moved edit }
 {
@@ -23,7 +23,7 @@ fn instead(moved: u32, edit: FileEdit) -> Decided
     does(Reply::Number(u64::from(moved)), edit, TableEdit::Nothing)
 }
 
-/// What was decided, but that the process waits in this call.
+/// The same decision, except that the process now waits in this call.
 pub(crate) fn parks(process: usize, parked: Parked, mut decided: Decided) -> Decided
     ensures { result ≡ parks process parked decided }
 {
@@ -80,7 +80,7 @@ pub fn first_try(
     }
 }
 
-/// What a further try of the call comes to that a process waits in: it ends, or it waits on, having moved more.
+/// What the next try of a waiting call comes to: the call ends, or it has moved more bytes and waits on.
 pub fn next_try(process: usize, tried: Try) -> Decided
     ensures { result ≡ next_try process tried }
 {

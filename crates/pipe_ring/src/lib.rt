@@ -2,7 +2,7 @@
 //! overwritten.
 #![tactic(auto)]
 
-ghost use Rattle.std.specs.Prelude.{◌≡◌, ◌-◌, ◌≤◌, ◌==◌, [], ◌++◌, length, min, take, drop, replicate, IfOk};
+ghost use Rattle.std.specs.Prelude.{◌≡◌, ◌-◌, ◌≤◌, [], ◌++◌, length, min, take, drop, replicate, IfOk};
 
 use circular_buffer::HeapCircularBuffer;
 use std::alloc::{AllocError, Global};
@@ -46,20 +46,6 @@ impl PipeRing {
         ensures within { result ≤ self.now.capacity }
     {
         self.ring.len()
-    }
-
-    /// Whether it holds no byte.
-    pub fn is_empty(&self) -> bool
-        ensures { result ≡ (length self.now.bytes == 0) }
-    {
-        self.ring.is_empty()
-    }
-
-    /// How many bytes it can hold.
-    pub fn capacity(&self) -> usize
-        ensures { result ≡ self.now.capacity }
-    {
-        self.ring.capacity()
     }
 
     /// How many more bytes it can hold.

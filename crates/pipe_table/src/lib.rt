@@ -207,7 +207,7 @@ impl PipeTable {
         });
     }
 
-    /// A pipe has one end more (page of open).
+    /// Adds an end to a pipe (page of open).
     pub fn add_end(&mut self, pipe: usize, mode: Mode)
         requires there { is_some (slot self.old.0 pipe) ≡ true }
         requires few { uses_at (slot self.old.0 pipe) < 2 ^ 63 }
@@ -221,7 +221,7 @@ impl PipeTable {
         used.uses += 1;
     }
 
-    /// A pipe has one end less, and goes with its last one, which then is given back (page of close).
+    /// Drops an end of a pipe. With its last end the pipe is removed and returned (page of close).
     pub fn drop_end(&mut self, pipe: usize, mode: Mode) -> Option<StoredPipe>
         requires { HasEndAt self.old.0 mode pipe }
         ensures slots { self.new.0 ≡ use_dropped pipe (edited pipe (with_value (without_end mode)) self.old.0) }

@@ -2,8 +2,8 @@
 
 ghost use Rattle.plain_world.specs.Proved.DescriptorLaws.{OpenGivesLowest, DupLeads, Dup2Leads, Dup2KeepsEqual, CloseCloses, NotOpenIsBad, AccessIsNeeded, ProcessesAreApart};
 
-/// An open that is not refused gives the least descriptor of its process that is free: it tells the number, or, where it waits, its
-/// process keeps the descriptor (page of open; of one that waits own). A resume tells what was kept: `posix_model::pipe_laws::ready_moves`.
+/// An open that is not refused takes the lowest free descriptor of its process, and tells its number; if it waits, the
+/// process keeps it (own: a choice of the profile; else page of open). `ready_moves` says what a resume tells.
 pub fn open_gives_the_lowest()
     ensures { OpenGivesLowest }
 {}

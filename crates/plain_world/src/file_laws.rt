@@ -71,9 +71,8 @@ pub fn other_files_stay()
     ensures { OwnFileAlone }
 {}
 
-/// Only an open, a write, a pwrite, an ftruncate, a mkfifo, a link and an unlink may change a file or a name; so a file is no
-/// longer for a seek past its end. Only an open, a read, a write, a pipe and a resume may change a pipe. What a sweep takes after an
-/// act is another matter (pages of the other calls).
+/// Only open, write, pwrite, ftruncate, mkfifo, link and unlink may change a file or a name, so no seek past the end
+/// makes a file longer. Only open, read, write, pipe and resume may change a pipe. Sweeps are another matter.
 pub fn contents_stay()
     ensures files { FilesStay }
     ensures pipes { PipesStay }
@@ -114,8 +113,8 @@ pub fn trunc_empties()
     ensures { TruncOpenEmpties }
 {}
 
-/// An open without trunc of a name that is there, and leads to no FIFO, changes no file, and one of a name that is there no
-/// other file; one of a new name that is not refused adds an empty regular file (page of open).
+/// An open without trunc of a name that is there and leads to no FIFO changes no file. No open of a name that is there
+/// changes another file. An open of a new name that is not refused adds an empty regular file (page of open).
 pub fn open_keeps_files()
     ensures present { OpenKeepsFiles }
     ensures others { OpenKeepsOthers }

@@ -1,5 +1,5 @@
-//! A change, made in place. Where memory runs out the world may be changed in part. What is taken out of a slot and put back sets
-//! the slot twice.
+//! Applies a change in place. If memory runs out, the world may be changed in part. A value that is edited is taken out
+//! of its slot and put back, so its slot is set twice.
 #![tactic(auto, using(crate::proofs::SlotLemmas::set_twice))]
 
 ghost use Rattle.std.specs.Prelude.{◌≡◌, ◌+◌, ◌<◌, ◌≤◌, ◌^◌, None, length, slice_set, OnOk};

@@ -6,7 +6,7 @@ ghost use Rattle.posix_model.specs.Proved.WaitLaws.{NonblockNeverWaits};
 use posix_model::laws::sweep_leaves_wanted;
 use posix_model::pipe_laws::ready_moves;
 
-/// An open of a FIFO that is not refused is for reading or for writing, and not for both (own).
+/// An open of a FIFO that is not refused is for reading or for writing, never both (own: a choice of the profile).
 pub fn fifo_opens_one_way()
     ensures { FifoOpensOneWay }
 {}

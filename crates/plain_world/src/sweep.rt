@@ -58,7 +58,7 @@ fn forget_gone_pipe(descriptions: &Slots<Description>, files: &mut Slots<File>, 
     }
 }
 
-/// The descriptions without a descriptor go.
+/// Removes the descriptions without a descriptor.
 fn sweep_descriptions(processes: &Slots<Process>, descriptions: &mut Slots<Description>)
     ensures { descriptions.new ≡ kept (is_referred processes.now) descriptions.old }
 {
@@ -67,7 +67,7 @@ fn sweep_descriptions(processes: &Slots<Process>, descriptions: &mut Slots<Descr
     }
 }
 
-/// The pipes without an open end go.
+/// Removes the pipes without an open end.
 fn sweep_pipes(descriptions: &Slots<Description>, pipes: &mut Slots<Contents>)
     ensures { pipes.new ≡ kept (is_open descriptions.now) pipes.old }
 {
@@ -85,7 +85,7 @@ fn forget_gone_pipes(descriptions: &Slots<Description>, files: &mut Slots<File>)
     }
 }
 
-/// The files without a name and a holder go.
+/// Removes the files without a name or a holder.
 fn sweep_files(names: &Names, descriptions: &Slots<Description>, files: &mut Slots<File>)
     ensures { files.new ≡ kept (is_wanted names.now descriptions.now) files.old }
 {
@@ -94,7 +94,7 @@ fn sweep_files(names: &Names, descriptions: &Slots<Description>, files: &mut Slo
     }
 }
 
-/// What nothing refers to any more goes (page of close).
+/// Removes what nothing refers to any more (page of close).
 pub(crate) fn sweep(world: &mut World)
     ensures { world.new ≡ sweep world.old }
 {

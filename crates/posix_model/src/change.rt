@@ -23,7 +23,7 @@ pub enum DataSource {
 pub enum FileEdit {
     /// Nothing.
     Nothing,
-    /// The first bytes of the act stand in a regular file from a position on.
+    /// The first `count` bytes of the act are written to a regular file from a position on.
     Bytes {
         file: usize,
         start: usize,

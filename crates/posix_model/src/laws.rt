@@ -6,14 +6,14 @@ ghost use Rattle.posix_model.specs.Proved.Released.{SweptIsSettled, SettledStays
 ghost use Rattle.posix_model.specs.Proved.Drops.{ExitCloses, ClosedIsBare, CloseThenSet};
 ghost use Rattle.posix_model.specs.Proved.Laws.{StepRaisesNumbers, StepKeepsWhole, HistoryIsWhole, HistoryRaisesNumbers, SweepSettles, StepSettles, HistorySettles, HistoryKeepsExactly, SweepLeaves, StepTellsProcesses, StepPlansProcesses};
 
-/// What each act comes to can be made, within all limits; a refusal changes nothing (that of a resume ends its call:
-/// `resume_breaks_alone`), and no act moves an offset but that of its own descriptor, changes a file, a name or a pipe
-/// where it may not, or takes more bytes than it gives.
+/// Whatever an act comes to can be applied, within all limits. A refusal changes nothing (for a resume see
+/// `resume_breaks_alone`). An act moves no offset but that of its own descriptor, changes no file, name or pipe that it
+/// may not change, and takes no more bytes from its process than the process gives.
 pub fn acts_are_sound()
     ensures { ActsAreSound }
 {}
 
-/// And so is what each call comes to, also where its process is not there.
+/// The law of `acts_are_sound` for each call, even where its process is not there.
 pub fn calls_are_sound()
     ensures { CallsAreSound }
 {}
@@ -26,7 +26,7 @@ pub fn numbers_rise()
     ensures history { HistoryRaisesNumbers }
 {}
 
-/// The world after a step, and every world of a history, is its own sweep.
+/// Sweeping changes nothing in the world after a step, nor in any world of a history.
 pub fn sweep_settles()
     ensures sweep { SweepSettles }
     ensures step { StepSettles }
@@ -38,8 +38,8 @@ pub fn sweep_leaves_wanted()
     ensures { SweepLeaves }
 {}
 
-/// After a change of one description's references, the sweep takes it and what it alone held, or nothing; after a change of one
-/// file's names that file, or nothing.
+/// A world is its own sweep exactly where it is settled. After a change of the references to one description, the sweep
+/// takes it and what it alone held, or nothing; after a change of the names of one file, that file or nothing.
 pub fn sweep_releases()
     ensures settled { SweptIsSettled }
     ensures stays { SettledStays }

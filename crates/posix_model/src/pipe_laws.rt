@@ -4,8 +4,8 @@ ghost use Rattle.posix_model.specs.Proved.PipeLaws.{BytesOfPipe, SmallWritesUnbr
 ghost use Rattle.posix_model.specs.Proved.Waiting.{HistoryWaits, ReadyOpenEnds, StepKeepsWaits, WaitingReadIsReady, WaitingWriteIsReady};
 ghost use Rattle.posix_model.specs.Proved.WaitLaws.{BrokenNextUnparks, BrokenStepUnparks, CallsEndOrWait, NonblockNeverWaits, ReadyReads, ReadyWrites, ResumeBreaksAlone, ResumesEndOrGoOn};
 
-/// What was put into a pipe that is there is what was got from it, followed by what it holds; and the data of a write of at
-/// most PIPE_BUF bytes stands there unbroken.
+/// The bytes that went into a live pipe are those that came out of it, followed by those that it holds. The data of a
+/// write of at most PIPE_BUF bytes stands there unbroken.
 pub fn bytes_of_pipe()
     ensures bytes { BytesOfPipe }
     ensures small { SmallWritesUnbroken }
@@ -22,8 +22,8 @@ pub fn ready_moves()
     ensures waiting_opens { ReadyOpenEnds }
 {}
 
-/// A resume is refused with EPIPE alone, of a write that moved nothing into a pipe that nobody reads, and that changes
-/// nothing but that the write waits no more.
+/// EPIPE is the only refusal of a resume. It is given to a write that has moved nothing, into a pipe that nobody reads,
+/// and changes nothing except that the write no longer waits.
 pub fn resume_breaks_alone()
     ensures decided { ResumeBreaksAlone }
     ensures step { BrokenStepUnparks }

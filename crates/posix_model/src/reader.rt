@@ -28,7 +28,7 @@ pub trait WorldReader {
     fn opened(&self, process: usize, fd: i32) -> Option<OpenDescriptor>
         ensures { result ≡ opened (world self.now) process fd };
 
-    /// What a descriptor of a process leads to, by a number that no descriptor has to have.
+    /// What a descriptor of a process leads to, if it is open. Any `usize` may be asked for.
     fn opened_at(&self, process: usize, fd: usize) -> Option<OpenDescriptor>
         ensures { result ≡ opened (world self.now) process (pos fd) };
 

@@ -14,7 +14,7 @@ use std::marker::Model;
 /// How many places there are for keys: many more than processes may be live, so that few of these share one.
 const PLACES: usize = 1024;
 
-/// At a place, that no live process has it.
+/// In `places`: no live process has this entry.
 const NOBODY: usize = usize::MAX;
 
 /// The live processes. Contracts see a slot for each number that was ever given, and for how many more processes there is room.
@@ -198,7 +198,7 @@ impl ProcessTable {
         self.processes.value_mut(&ticket).table.replace(fd, entry)
     }
 
-    /// A live process has its connection.
+    /// Marks a live process as connected.
     pub fn attach(&mut self, process: usize)
         requires { is_some (slot self.old.0 process) ≡ true }
         ensures slots { self.new.0 ≡ edited process with_connection self.old.0 }
@@ -208,7 +208,7 @@ impl ProcessTable {
         self.processes.value_mut(&ticket).attached = true;
     }
 
-    /// A live process waits in a call.
+    /// Lets a live process wait in a call.
     pub fn park(&mut self, process: usize, parked: Parked)
         requires { is_some (slot self.old.0 process) ≡ true }
         ensures slots { self.new.0 ≡ edited process (with_parked (Some parked)) self.old.0 }
@@ -230,7 +230,7 @@ impl ProcessTable {
         }
     }
 
-    /// A live process waits in no call any more.
+    /// Ends the wait of a live process.
     pub fn unpark(&mut self, process: usize)
         requires { is_some (slot self.old.0 process) ≡ true }
         ensures slots { self.new.0 ≡ edited process (with_parked None) self.old.0 }
@@ -240,7 +240,7 @@ impl ProcessTable {
         self.processes.value_mut(&ticket).parked = None;
     }
 
-    /// A process goes, and its number is not given again. Of a number that is gone nothing goes.
+    /// Removes a process; its number is not given again. It does nothing if the process is gone.
     pub fn remove(&mut self, process: usize)
         ensures slots { self.new.0 ≡ slice_set self.old.0 process None }
         ensures room { self.old.1 ≤ self.new.1 }

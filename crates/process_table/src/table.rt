@@ -43,13 +43,6 @@ impl DescriptorTable {
         })
     }
 
-    /// How many descriptors there are, open or not.
-    pub fn len(&self) -> usize
-        ensures { result ≡ length self.now }
-    {
-        self.slots.len()
-    }
-
     /// All descriptors, in the order of their numbers.
     pub fn entries(&self) -> &[Option<Ticket>]
         ensures { result.now ≡ self.now }

@@ -54,8 +54,8 @@ impl<L: Ledgers> Book<L> {
         })
     }
 
-    /// The state to which the records led. What it tells of references, names, holders and ends it has counted as it went, and each
-    /// count is the one that the model takes afresh.
+    /// The state to which the records led. It counts references, names, holders and ends as it goes, and each count
+    /// equals the one that the model takes afresh.
     pub fn machine(&self) -> &Machine
         ensures { result.now.world ≡ world_now self.now }
     {

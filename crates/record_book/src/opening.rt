@@ -30,7 +30,7 @@ impl<L: Ledgers> Book<L> {
         self.journal.next_pid()
     }
 
-    /// Records a join that is not refused. Returns its receipt once more beside the seat. On an error nothing changes.
+    /// Records a join that is not refused. Returns the seat and, beside it, its receipt. On an error nothing changes.
     pub(crate) fn record_join(
         &mut self,
         alloc: Global,

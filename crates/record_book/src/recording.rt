@@ -48,8 +48,8 @@ impl<L: Ledgers> Book<L> {
         Ok(appended.receipt)
     }
 
-    /// Appends the record of a planned act that opens a seat. Returns its receipt once more beside the seat. On an error nothing
-    /// changes.
+    /// Appends the record of an act that opens a seat and that `is_planned` covers. Returns the seat and, beside it,
+    /// its receipt. On an error nothing changes.
     pub(crate) fn append_first(
         &mut self,
         alloc: Global,

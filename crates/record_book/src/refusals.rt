@@ -51,7 +51,7 @@ impl Journal {
         pipe_calls::resume::is_ready(&self.machine, self.limits.bounds(), process as usize)
     }
 
-    /// Whether one record more would leave too few for the exits of so many live processes and the closing of an open run.
+    /// Whether one more record would leave too few for `live` exits and, while the run is open, the closing.
     pub(crate) fn overfills(&self, live: usize) -> bool
         requires { live ≤ live_in (world_now self.now).processes + 1 }
         ensures { result ≡ not (nat_le ((length self.now.history + 1) + (if (world_now self.now).closed then live else live + 1)) self.now.limits.records) }
@@ -101,7 +101,7 @@ impl Journal {
         self.overfills(self.machine.live_processes())
     }
 
-    /// The first refusal of an exit. The refusals of all that the seat's process does begin with these.
+    /// The first refusal of an exit. Every act of the seat's process checks these refusals first.
     #[inline(always)]
     pub(crate) fn exit_refusal<L: Ledgers>(&self, seat: &Seat<L>) -> Option<Refusal>
         ensures { result ≡ exit_refusal self.now seat.now }

@@ -42,7 +42,7 @@ fn copy_of(call: &Call) -> Result<Call, AllocError>
 }
 
 impl<L: Ledgers> Book<L> {
-    /// The same as `start`, for a call that is borrowed: it is copied once nothing but want of memory can refuse it.
+    /// The same as `start`, for a borrowed call. It copies the call only when nothing but lack of memory can refuse it.
     #[inline(always)]
     fn start_copy(
         &mut self,

@@ -106,7 +106,7 @@ fn part<L: Ledgers>(alloc: Global, seats: Vec<SpentSeat<L>>) -> Result<Parted<L>
     Ok(Parted { receipts, shares })
 }
 
-/// Whether memory ran out for the list of the records that were received, so that it ends before those of a run of this many do.
+/// Whether the list of received records ends early, before the `len` records of the run, because memory ran out.
 fn is_torn(traced: &Traced, records: u64) -> bool {
     traced.fault == Some(TraceFault::NoMemory) && (traced.received.len() as u64) < records
 }

@@ -253,7 +253,7 @@ fn is_received<L: Ledgers>(book: &ClosedBook<L>, received: &[Arc<Record>], place
     }
 }
 
-/// The first place at which records and what was received of them differ, one of the two ending there too.
+/// The first place at which the records and what was received differ. If one of them ends first, its end differs.
 fn first_difference<L: Ledgers>(book: &ClosedBook<L>, received: &[Arc<Record>]) -> Option<u64>
     ensures same { (p : ℕ) → IsBefore p result → IsReceivedAt book.now.history (map arc_value received.now) p }
     ensures decided { (p : ℕ) → IsBefore p result → FlagsDecideAt (map arc_value received.now) p }

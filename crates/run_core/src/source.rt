@@ -25,7 +25,7 @@ pub trait Source {
     /// How many connections it gave.
     ghost accepted: { Self → ℕ };
 
-    /// What the connections hold that it has still to give, in order; none where that is not known, as of sockets.
+    /// What the connections to come hold, in order; `None` where that is not known, as for sockets.
     ghost coming: { Self → Option (List Streams) };
 
     /// The next connection, for which it may wait. It is the next of those to come, and its writer holds nothing.

@@ -1,5 +1,5 @@
-//! Each call, read from a line and written to one. What is not inlined keeps the room of its values, which is cleared at
-//! each entry, out of the way of reads and writes.
+//! Reads each call from a line, and writes it to one. Locals are cleared at entry; what is not inlined keeps its locals
+//! off the path of reads and writes.
 #![tactic(auto, unfolding(crate::specs::Lines::call_text))]
 
 ghost use Rattle.std.specs.Prelude.{◌≡◌, ◌++◌, ◌+◌, ◌<◌, ◌^◌, ◌≤◌};

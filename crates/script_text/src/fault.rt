@@ -8,7 +8,7 @@ use std::fmt;
 /// What could stand where a line of a script is no act.
 #[derive(Clone, Copy, Debug, PartialEq, Eq)]
 pub enum Expected {
-    /// A process, or an act that none makes.
+    /// A process, or an act without one: `join` or `close-run`.
     Actor,
     /// An act of a process.
     Act,

@@ -96,7 +96,7 @@ pub fn write_outcome(out: &mut Vec<u8>, outcome: &Outcome) -> Result<(), AllocEr
     Ok(())
 }
 
-/// Appends of whom a script asks an act: the process and a space, or nothing for a join and for the closing.
+/// Appends the process that a script asks for an act, and a space; nothing for a join or for the closing.
 fn put_asked(out: &mut Vec<u8>, actor: u32, act: &Act)
     requires { HasRoom out.old LINE_ROOM }
     ensures text { out.new.items ≡ out.old.items ++ asked_of actor act.now }

@@ -79,7 +79,7 @@ fn signed_value(most: u64, word: &[u8]) -> Option<i64>
     }
 }
 
-/// The negative of a size, of which 0 has none.
+/// Minus the size; `None` for 0, since `-0` is not a number of a script.
 fn negative_value(size: u64) -> Option<i64>
     requires { size ≤ 2 ^ 63 }
     ensures { result ≡ negative (Some size) }

@@ -169,7 +169,7 @@ fn all_are(byte: u8, bytes: &[u8]) -> bool
     bytes.iter().all(|b| *b == byte)
 }
 
-/// The one byte of which data is that is not written out, where it has no other.
+/// The byte of data that is written as a byte and a count: more than 16 bytes, all the same. `None` for other data.
 fn repeated_byte(bytes: &[u8]) -> Option<u8>
     ensures { result ≡ one_byte bytes.now }
 {

@@ -69,11 +69,11 @@ fn act(alloc: Global, line: &[u8]) -> Result<ScriptAct, WordFault>
 
 /// Reads the act of a script line, given without its LF.
 pub fn read_act(alloc: Global, line: &[u8]) -> Result<ScriptAct, ReadFault>
-    // What is read is spelled so.
+    // The line spells the act that is returned.
     ensures found { IfOk result (λ act. SpellsAct act line.now) }
-    // What is spelled so is read, unless memory runs out.
+    // A line that spells an act is read as that act, unless memory runs out.
     ensures only { (act : ScriptAct) → SpellsAct act line.now → LineGives result (Ok act) }
-    // Which fault it is.
+    // Which act or fault is returned, exactly.
     ensures exact { LineGives result (reading line.now) }
 {
     match act(alloc, line) {

@@ -18,7 +18,7 @@ pub(crate) fn whence_value(word: &[u8]) -> Option<Whence>
     }
 }
 
-/// How it is written.
+/// How a base of an offset is written.
 pub(crate) fn whence_text(whence: Whence) -> &'static [u8]
     ensures text { result.now ≡ whence_word whence }
     ensures short { length result.now ≤ 3 }

@@ -48,7 +48,7 @@ impl<'a> Next<'a> {
     }
 }
 
-/// The next word of a line; what it says is expected where there is none.
+/// The next word of a line. Where there is none, the fault says what was `expected`.
 pub(crate) fn next_word(expected: Expected, left: Unread<'_>) -> Result<Next<'_>, WordFault>
     ensures { Gives (λ w. record { text = w.text.now; remaining = w.remaining; after = option_copied w.after }) result (word_at expected (option_copied left.entry)) }
 {
@@ -68,7 +68,7 @@ pub(crate) fn next_word(expected: Expected, left: Unread<'_>) -> Result<Next<'_>
     }
 }
 
-/// A line ends where its act does.
+/// Checks that the line ends here.
 pub(crate) fn line_end(left: Unread<'_>) -> Result<(), WordFault>
     ensures reads { Gives (λ x. x) result (ended (option_copied left.entry)) }
     ensures fault { IfErr result (λ fault. ¬ (fault ≡ WordFault.NoMemory)) }

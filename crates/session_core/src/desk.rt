@@ -82,8 +82,8 @@ fn leave<Rt: Wait, W: Write + Connection, G: Gate, L: Ledgers, K: Kernel<Seat<L>
     left
 }
 
-/// Where a session stands after a turn. One that is over is left, but for one whose call was given up: how that ends is known once no more
-/// is read.
+/// Where a session stands after a turn. A session that is over is left now, unless its call was given up: how that one
+/// ends is known only when no more is read.
 fn stand<Rt: Wait, W: Write + Connection, G: Gate, L: Ledgers, K: Kernel<Seat<L>, SpentSeat<L>>>(
     rt: &Rt,
     output: &mut Output<W, G>,
@@ -259,8 +259,8 @@ fn take_late<
     standing
 }
 
-/// Answers the requests that the ring still holds, so many, once both its ends are in one thread; then leaves the session, for what ended
-/// its reads.
+/// Answers the `count` requests that are still in the ring, once both its ends are in one thread. Then it leaves the
+/// session, for the reason that ended its reads.
 pub(crate) fn leave_requests<
     Rt: Wait,
     W: Write + Connection,
@@ -311,7 +311,7 @@ pub(crate) enum Attended {
     Left,
 }
 
-/// What a desk has come to whose session stands there.
+/// What a desk has come to, by where its session stands.
 fn comes_to<L: Ledgers>(standing: &StandingOf<L>) -> Attended
     ensures { result ≡ comes_to standing.now }
 {

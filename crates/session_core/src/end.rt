@@ -1,4 +1,4 @@
-/// Why a session has ended. Where the kernel gave up the call that its process waited in, that is what ended its reads.
+/// Why a session has ended. If the kernel gave up a waiting call, this is what had ended the reads.
 #[derive(Clone, Copy, Debug, PartialEq, Eq)]
 pub enum End {
     /// The reader's end was met, or the opening was refused in the record.

@@ -4,7 +4,7 @@ ghost use Rattle.std.specs.Prelude.{◌≡◌, Bool, true};
 
 use std::sync::Arc;
 
-/// It says when an answer of a session may be written.
+/// Decides when an answer of a session may be written.
 pub trait Gate: Drop {
     ghost use Rattle.std.specs.Prelude.{Bool};
 

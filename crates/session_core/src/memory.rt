@@ -1,6 +1,6 @@
 //! Readers and writers over memory. They fail, are interrupted, and give or take few bytes, as they are told to.
 
-ghost use Rattle.std.specs.Prelude.{◌≡◌, ◌+◌, ◌≤◌, ◌⊎◌, [], Some, None, List, true, false, min, length, IfOk, IfErr, OnOk, OnErr};
+ghost use Rattle.std.specs.Prelude.{◌≡◌, ◌+◌, ◌≤◌, ◌⊎◌, [], Some, None, true, false, min, length, IfOk, IfErr, OnOk, OnErr};
 ghost use Rattle.std.specs.Io.{ReadsAtMost, WritesAtMost};
 ghost use Rattle.std.specs.Io.KnownBytes.{ReadConsumes, WriteAppends, Keeps};
 ghost use Rattle.std.specs.IoError.{error_kind};
@@ -27,7 +27,7 @@ pub struct Manner {
 }
 
 impl Manner {
-    /// What befalls a call, if something does.
+    /// The fault that the call of this number meets, if it meets one.
     fn fault(self, call: u64) -> Option<ErrorKind>
         ensures { result ≡ fault_of self call }
     {
@@ -73,13 +73,6 @@ impl MemoryReader {
             calls: 0,
             manner,
         }
-    }
-
-    /// How often it was read.
-    pub fn calls(&self) -> u64
-        ensures { result ≡ self.now.calls }
-    {
-        self.calls
     }
 
     /// Gives as many bytes as there are, as fit, and as it may.
@@ -145,13 +138,6 @@ impl MemoryWriter {
             flushes: 0,
             manner,
         }
-    }
-
-    /// How often it was written to.
-    pub fn calls(&self) -> u64
-        ensures { result ≡ self.now.calls }
-    {
-        self.calls
     }
 
     /// How often it was flushed.

@@ -83,7 +83,7 @@ impl Note {
         self.bed.unpark();
     }
 
-    /// Sleeps until it is woken, or for no reason.
+    /// Sleeps until it is woken; it may also wake up for no reason.
     pub(crate) fn sleep<R: Wait>(&self, rt: &R) {
         self.bed.park(rt);
     }

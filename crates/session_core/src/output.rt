@@ -45,7 +45,7 @@ impl<W: Write, G: Gate> Model for Output<W, G> {
     ghost invariant = { λ o. (vec_len o.answers < vec_capacity o.answers) × (o.let_through ≤ vec_len o.answers) × (G.is_open ≡ true → o.sink.log.refusals ≡ 0) };
 }
 
-/// The place that a gate is told of an answer. The process has seen so many records before it.
+/// The place that the gate is told for an answer; `seen` is how many records the process had seen before it.
 fn place_of(answer: &Told, seen: u64) -> u64 {
     match answer {
         Told::Recorded(receipt) => receipt.place(),

@@ -24,7 +24,7 @@ pub(crate) enum LeaveCause {
     Ahead,
 }
 
-/// A session that goes on no more, with a seat of the kind `S`, a spent one of the kind `P`, or an admission of the kind `A`.
+/// A session that does not go on. `S`, `P` and `A` are the types of its seat, its spent seat and its admission.
 #[derive(Drop)]
 pub(crate) enum Over<S, P, A> {
     /// It leaves off where it is. Its process, if it has one, is still to be hung up.

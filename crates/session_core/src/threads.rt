@@ -84,7 +84,7 @@ impl<
         }
     }
 
-    /// The same, but it is written later.
+    /// Answers what the ring holds. The answers are written later.
     fn make_room<Rt: Wait>(&self, rt: &Rt) -> Attended {
         let mut place = self.desk.lock(rt);
         match place.as_mut() {
@@ -102,7 +102,7 @@ impl<
         }
     }
 
-    /// Waits for the calls that wait, and answers what came behind them, until the session is left or no more is read.
+    /// Waits for each call that waits, then answers the requests after it, until the session ends or no more is read.
     pub(crate) fn attend<Rt: Wait>(&self, rt: &Rt) {
         for _ in rt.forever() {
             let has_ended = self.note.has_ended(rt);
@@ -124,7 +124,7 @@ impl<
     }
 }
 
-/// What the thread that reads rings for, and tells its end.
+/// What the thread that reads rings, and tells when it ends.
 pub(crate) trait Attendant: Bell {
     /// No more is read.
     fn end_reading(&self);

@@ -40,7 +40,8 @@ fn put_first<W: Write, G: Gate>(
     }
 }
 
-/// Answers that memory ran out or the run is full, and says why the session ends. Where memory runs out for the answer, that is why.
+/// Answers that memory ran out or that the run is full. Returns why the session ends: if there is no memory for the
+/// answer itself, `NoMemory`.
 fn put_given_up<W: Write, G: Gate>(output: &mut Output<W, G>, refusal: Refusal) -> LeaveCause
     requires { IsWanting refusal }
     ensures { PutsGivenUp output.old output.new refusal result }

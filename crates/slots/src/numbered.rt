@@ -5,7 +5,8 @@ ghost use Rattle.slots.specs.Proved.Entries.{found, EntriesRise, IsAt};
 use std::alloc::{AllocError, Global};
 use std::marker::Model;
 
-/// The index of the entry of a number. As long as none is gone between the lowest entry and it, it is how far it is above that one.
+/// The index of the entry of a number. While no entry between the lowest and this one is gone, it is the distance
+/// between their numbers, so that is tried first.
 pub(crate) fn index_of<T>(entries: &[(usize, T)], number: usize) -> Result<usize, usize>
     requires { (next : ℕ) × EntriesRise 0 entries.now next }
     ensures there { IfOk result (IsAt entries.now number) }

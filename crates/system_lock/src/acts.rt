@@ -48,7 +48,7 @@ pub(crate) fn call<L: Ledgers>(
     book.start(alloc, seat, call)
 }
 
-/// Records an exit, for a reason that is not `Foreign`; that is told where the book knows no such seat.
+/// Records an exit for a reason other than `Foreign`. `Foreign` is returned where the book does not know the seat.
 pub(crate) fn exit<L: Ledgers>(book: &mut Book<L>, seat: Seat<L>, reason: Why) -> EndedIn<L>
     requires { IsReason reason }
     ensures ends { EndsFor seat reason result }

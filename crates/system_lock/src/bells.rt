@@ -5,7 +5,7 @@ ghost use Rattle.std.specs.Prelude.{◌≡◌, vec_len};
 use std::alloc::{AllocError, Global};
 use std::sync::Condvar;
 
-/// As many bells as there are processes at once at most.
+/// One bell for each process that can be live at once (PROCESSES_MAX).
 const BELLS: usize = 64;
 
 /// Bells, of which each process has one: those whose numbers differ by a multiple of 64 share it.

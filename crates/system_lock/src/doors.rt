@@ -58,7 +58,7 @@ impl Doors {
         self.sleepers.wake(book, bells, stirred);
     }
 
-    /// Lets a process sleep whose call waits on this pipe and is not ready. It takes no memory.
+    /// Puts a process to sleep. Its call waits on this pipe and is not ready. It takes no memory.
     pub(crate) fn fall_asleep<L: Ledgers>(
         &mut self,
         book: &Book<L>,

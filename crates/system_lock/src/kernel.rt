@@ -8,8 +8,8 @@ use record_book::seat::{AsSeat, Receipt, Seat, SpentSeat};
 use std::marker::{Model, PhantomData};
 use std::sync::Wait;
 
-/// Leave to open one process, whose seat is of the kind `S`. The owner of a kernel gives it, to whom serves a connection; it is gone
-/// when the opening is recorded. So who still has it has opened no process, and who has it no more has the process's seat.
+/// Permission to open one process, whose seat is of the kind `S`. The owner of a kernel gives it to whoever serves a
+/// connection, and the opening uses it up. So whoever still has it has opened no process; whoever has not has a seat.
 #[derive(Drop)]
 pub struct Admission<S> {
     seat: PhantomData<S>,
@@ -65,8 +65,8 @@ pub enum Finished<S, P> {
     Ended(Ended<P>),
 }
 
-/// What records the acts of processes, each in one book and for any thread. None of its calls says that it returns. Its seats are of the
-/// kind `S`, and of the kind `P` when they are spent; their types name the ledgers of its book.
+/// Records the acts of processes in one book, for any thread. No contract here promises that a call returns. A seat is
+/// of the kind `S`, a spent one of the kind `P`; their types name the ledgers of the book.
 pub trait Kernel<S: AsSeat, P: AsSeat> {
     ghost use Rattle.std.specs.Prelude.{IfErr};
     ghost use Rattle.call_types.specs.declared.call.Call.{Call};

@@ -1,4 +1,4 @@
-//! A kernel of one thread, for tests: where a call would wait, acts of other processes are run, which stand ready.
+//! A kernel for one thread, for tests. Where a call would wait, prepared acts of other processes are run first.
 
 ghost use Rattle.std.specs.Prelude.{⊤, IfErr};
 ghost use Rattle.system_lock.specs.Kernel.{FinishesBy, HangsUpBy, IsOpening, OpensAs, SaysEnded, itself};

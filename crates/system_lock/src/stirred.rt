@@ -29,7 +29,7 @@ pub(crate) enum Stirred {
 }
 
 impl Stirred {
-    /// Whom an event of a process stirs that is on this pipe, or on none.
+    /// Whom an event of this process on this pipe stirs; nobody, if it is on no pipe.
     pub(crate) fn at(process: u32, pipe: Option<usize>) -> Self
         ensures { result ≡ stirred_at process pipe }
     {
@@ -56,7 +56,7 @@ impl Stirred {
         }
     }
 
-    /// Whom a call stirs that has this outcome.
+    /// Whom a call with this outcome stirs.
     fn with(self, outcome: &Outcome) -> Self
         ensures { result ≡ stirred_with outcome.now self }
     {
@@ -66,7 +66,7 @@ impl Stirred {
         }
     }
 
-    /// Whom a call stirs of which this was told.
+    /// Whom a call with this answer stirs.
     pub(crate) fn told(self, told: &Result<Receipt, Refusal>) -> Self
         ensures { result ≡ stirred_told told.now self }
     {
@@ -109,7 +109,7 @@ impl Stirred {
         }
     }
 
-    /// Whether the event may have made a process ready whose call waits on this pipe.
+    /// Whether the event may have made this process ready. Its call waits on this pipe.
     pub(crate) fn stirs(self, process: u32, pipe: Option<usize>) -> bool
         ensures { result ≡ stirs self process pipe }
     {
@@ -137,7 +137,7 @@ pub(crate) fn pipe_waited<R: WorldReader>(state: &R, process: u32) -> Option<usi
     }
 }
 
-/// The process that an opening is of: the one that it opens.
+/// The process that a join or an attach is about to open; 0 for a call, which opens none.
 pub(crate) fn opener<L: Ledgers>(book: &Book<L>, request: &Request) -> u32
     ensures { result ≡ opener book.now request.now }
 {

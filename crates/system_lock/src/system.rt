@@ -148,7 +148,7 @@ impl<L: Ledgers> System<L> {
         told
     }
 
-    /// Lets a process sleep whose call waits on this pipe and is not ready; where its connection is lost, its exit is recorded.
+    /// Puts a process to sleep whose call waits on this pipe; if its connection is lost, records its exit instead.
     fn wait_on(&mut self, bells: &Bells, seat: Seat<L>, pipe: Option<usize>) -> TriedIn<L>
         requires not_refused { resume_refusal self.old.book_is seat ≡ None }
         requires not_ready { is_ready_in self.old.book_is seat.pid ≡ false }

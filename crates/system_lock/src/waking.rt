@@ -21,7 +21,7 @@ fn wakes<L: Ledgers>(book: &Book<L>, process: u32) -> bool
     book.is_ready(process) || !is_live(book, process)
 }
 
-/// Whether a process that sleeps is woken: the event may have made its call ready or ended it, and so it has.
+/// Whether to wake a sleeping process: the event may have made its call ready or ended it, and it did.
 fn is_woken<L: Ledgers>(book: &Book<L>, stirred: Stirred, process: u32, pipe: Option<usize>) -> bool
     ensures { result ≡ (stirs stirred process pipe && wakes_in book.now process) }
 {

@@ -10,7 +10,7 @@ use posix_model::reader::WorldReader;
 use process_table::table::DescriptorTable;
 use std::alloc::{AllocError, Global};
 
-/// Whether there may be no further process: there are too many, or the run is closed.
+/// Whether no further process may be made: there are PROCESSES_MAX already, or the run is closed.
 pub fn is_full<R: WorldReader>(state: &R) -> bool
     ensures { result ≡ is_full (R.world state.now) }
 {

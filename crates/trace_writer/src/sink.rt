@@ -21,8 +21,8 @@ pub trait Sink {
     /// Whether it was synced after the last write.
     ghost is_synced: { Self → Bool };
 
-    /// Whether it may still be called. A call that fails does not say so, and whoever knows nothing else of the sink may then call it
-    /// no more.
+    /// Whether it may still be called. A failed call does not promise that: after a failure, stop calling it unless you
+    /// know more about the sink.
     ghost is_sound: { Self → Bool };
 
     /// Takes a front of the bytes that is not empty, or fails and takes none.

@@ -59,7 +59,7 @@ fn headed_buffer(alloc: Global) -> Result<Vec<u8>, AllocError>
     Ok(buffer)
 }
 
-/// What is not written of a trace without records, and what went wrong.
+/// The header, still to be written, of a trace without records; or that memory ran out.
 fn first_unsent(alloc: Global) -> (Vec<u8>, Option<TraceFault>)
     ensures { (result.1 ≡ None) × (result.0.items ≡ trace_header) ⊎ (result.1 ≡ Some faults.NoMemory) }
 {
