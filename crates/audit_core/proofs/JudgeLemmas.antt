@@ -9,12 +9,11 @@ use Rattle.frame_codec.specs.Decoding.{told_place}
 use Rattle.posix_model.specs.declared.change.Decided.{Decided}
 use Rattle.posix_model.specs.declared.world.World.{World}
 use Rattle.posix_model.specs.Proved.Whole.{IsWhole}
-use Rattle.posix_model.specs.Step.{given, comes_to, stepped, step}
+use Rattle.posix_model.specs.Step.{given, comes_to, stepped, step, outcome_of}
 use Rattle.posix_model.specs.Proved.Sound.{ActsAreSound}
 use Rattle.posix_model.specs.Proved.Laws.{StepKeepsWhole}
 use Rattle.posix_model.specs.History.{after, world_from, legal_from, empty_world}
 use Rattle.audit_core.specs.Proved.Judging.{JudgeState, CanMake, GoesOn, HasJudged, fresh_judge, IsAt}
-use Rattle.posix_model.specs.Step.{outcome_of}
 
 -- what an act comes to can be made
 pub can_make : ActsAreSound → StepKeepsWhole → (j : JudgeState) (actor : ℕ) (act : Act) (d : Decided) → IsWhole j.world → j.bounds.file_size ≤ OFFSET_MAX →

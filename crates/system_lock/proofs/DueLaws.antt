@@ -7,9 +7,8 @@ use Rattle.process_table.specs.Processes.{is_here}
 use Rattle.posix_model.specs.Types.{Process}
 use Rattle.record_book.specs.Seat.{SeatState}
 use Rattle.record_book.specs.Book.{BookState, world_now}
-use Rattle.record_book.specs.Refusals.{first_refusal, IsDue, exit_refusal, resume_refusal, ResumeRefused}
+use Rattle.record_book.specs.Refusals.{first_refusal, IsDue, exit_refusal, resume_refusal, ResumeRefused, is_ready_in}
 use Rattle.system_lock.specs.System.{is_live_in}
-use Rattle.record_book.specs.Refusals.{is_ready_in}
 
 none_of : (other absent full : Bool) (seen len : ℕ) → IsDue (first_refusal ((other, Foreign seen len) ∷ (absent, NotHere) ∷ (full, RunFull) ∷ [])) NoMemory →
     first_refusal ((other, Foreign seen len) ∷ (absent, NotHere) ∷ (full, RunFull) ∷ []) ≡ None

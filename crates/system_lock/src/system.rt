@@ -2,12 +2,11 @@
 
 ghost use Rattle.std.specs.Prelude.{◌≡◌, [], None, Some, false, true, All, IfOk};
 ghost use Rattle.rtrb.specs.Ring.{received};
-ghost use Rattle.record_book.specs.Refusals.{resume_refusal};
+ghost use Rattle.record_book.specs.Refusals.{resume_refusal, is_ready_in};
 ghost use Rattle.system_lock.specs.Kernel.{IsOpening, CallsBy, HangsUpBy};
 ghost use Rattle.system_lock.specs.Proved.Reasons.{OpensBy, IsReason, EndsFor};
 ghost use Rattle.system_lock.specs.Proved.Acts.{TriesBy};
 ghost use Rattle.system_lock.specs.System.{is_live_in, is_among, AreDistinct, AreLive, AreUnmarked};
-ghost use Rattle.record_book.specs.Refusals.{is_ready_in};
 ghost use Rattle.system_lock.specs.Proved.Sleepers.{pipe_in};
 ghost use Rattle.system_lock.specs.Proved.Doors.{lost_with, asleep_without};
 ghost use Rattle.system_lock.specs.Proved.Events.{OpensIn, CallsIn, ExitsIn, TriesIn, IsGivenUp, IsLeftWaiting, still_asleep, still_lost, with_sleeper};

@@ -9,12 +9,11 @@ use Rattle.posix_model.specs.declared.world.World.{World}
 use Rattle.posix_model.specs.declared.change.Decided.{Decided}
 use Rattle.posix_model.specs.Proved.Fits.{Fits, IsProper, PutsWithin}
 use Rattle.posix_model.specs.Proved.Whole.{IsWhole}
-use Rattle.posix_model.specs.Step.{given, stepped}
+use Rattle.posix_model.specs.Step.{given, stepped, outcome_of}
 use Rattle.posix_model.specs.History.{empty_world, after, world_of, legal}
 use Rattle.audit_core.specs.declared.judge.Judged.{Judged}
 use Rattle.audit_core.specs.declared.judge.Judged.TheVariants as judged
 use Rattle.audit_core.specs.Verdict.{BreaksAt}
-use Rattle.posix_model.specs.Step.{outcome_of}
 
 -- the limits of the run, the world after the records so far, and how many they were
 pub record JudgeState : Type 0 where

@@ -4,7 +4,7 @@ use Rattle.plain_world.specs.Proved.Types.{Act, Record, Errno, Bounds, World, De
 use Rattle.call_types.specs.declared.act.Act.TheVariants as act
 use Rattle.slots.specs.Slots.{slot, lowest}
 use Rattle.posix_model.specs.Proved.Numbers.{IsLowest}
-use Rattle.process_table.specs.Proved.Waits.{new_process}
+use Rattle.process_table.specs.Proved.Joined.{new_process}
 use Rattle.posix_model.specs.Change.{changed}
 use Rattle.posix_model.specs.Join.{is_full}
 use Rattle.posix_model.specs.Sweep.{sweep}

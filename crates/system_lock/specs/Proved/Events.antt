@@ -12,11 +12,10 @@ use Rattle.record_book.specs.Book.{BookState, Records}
 use Rattle.record_book.specs.Openings.{Opened, Joins, Attaches}
 use Rattle.record_book.specs.Resumes.{Resumes}
 use Rattle.record_book.specs.declared.resume.Resumed.TheVariants as resumed
-use Rattle.record_book.specs.Refusals.{IsDue, join_refusal, attach_refusal, start_refusal, exit_refusal, resume_refusal}
+use Rattle.record_book.specs.Refusals.{IsDue, join_refusal, attach_refusal, start_refusal, exit_refusal, resume_refusal, is_ready_in}
 use Rattle.record_book.specs.Ends.{Exits}
 use Rattle.system_lock.specs.System.{SystemState, is_live_in, is_among}
 use Rattle.system_lock.specs.Proved.Sleeping.{with_one, wakes_in}
-use Rattle.record_book.specs.Refusals.{is_ready_in}
 use Rattle.system_lock.specs.Proved.Acts.{Tried}
 use Rattle.system_lock.specs.declared.acts.Tried.TheVariants as tried
 use Rattle.system_lock.specs.declared.kernel.Why.{Why}
