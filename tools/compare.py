@@ -34,14 +34,14 @@ from typing import NamedTuple
 sys.path.insert(1, str(Path(__file__).resolve().parents[1] / "tests"))
 
 from support import plain_model, walks
+from support.commands import NoProgram, add_program, program_of
 from support.counting import Failure
-from support.places import FDREF, TOOLS
+from support.places import TOOLS
 from support.plain_model import FILE_SIZE_MAX, OFFSET_MAX, OPEN_MAX, PIPE_BUF, PIPE_CAPACITY, TRANSFER_MAX
 from support.running import run
 from support.runs import ALL_RECORDS, Line, Settled, line_of
 from support.shrinking import shrunk
 
-PROGRAM = str(FDREF)
 SECONDS = 120
 LINES_BEFORE = 12
 STRIKES_MOST = 8
@@ -812,8 +812,7 @@ def parse(words: Sequence[str]) -> argparse.Namespace:
     parser.add_argument("--acts", type=int, default=60, help="acts of a random script; 60 where no number is given")
     which = "small: pipes are never full; full-pipes: they are; all: every tenth"
     parser.add_argument("--class", dest="which", choices=[*CLASSES, "all"], default="all", help=which)
-    program = "fdref, or a command that takes `replay` as its next word"
-    parser.add_argument("--program", default=shlex.quote(PROGRAM), help=program)
+    add_program(parser)
     ask = "reads a script and prints its run: ask_kernel with its options, on whatever system; "
     ask += "compiled for this run where it is not given"
     parser.add_argument("--ask", metavar="COMMAND", help=ask)
@@ -825,15 +824,6 @@ def parse(words: Sequence[str]) -> argparse.Namespace:
         if not os.path.exists(path):
             parser.error(f"there is no {path}")
     return args
-
-
-def program_of(command: str) -> list[str]:
-    """The words of the command that runs fdref. The program of this tree has to be built."""
-    program = shlex.split(command)
-    if program == [PROGRAM] and not os.path.exists(PROGRAM):
-        ways = "'./fdref build' makes it; --program './fdref --unproved' takes the unproved one"
-        raise CannotRun(f"no program at {PROGRAM}: {ways}")
-    return program
 
 
 def check_all(args: argparse.Namespace, totals: Totals, driver: str) -> None:
@@ -853,7 +843,7 @@ def main(words: Sequence[str]) -> int:
     with tempfile.TemporaryDirectory(prefix="compare-") as folder:
         try:
             check_all(args, totals, args.ask or shlex.quote(compile_driver(folder)))
-        except CannotRun as fault:
+        except (CannotRun, NoProgram) as fault:
             print(f"compare.py: {fault}", file=sys.stderr)
             return 3
     print(totals.text())

@@ -7,7 +7,7 @@ On a built tree one command judges a program of your own, in a few seconds:
 
     cc -o my-test my-test.c && python3 tools/judge.py ./my-test
 
-With the unproved fdref it is `python3 tools/judge.py --program './fdref --unproved' ./my-test`.
+Where only an unproved fdref is built that one is taken, which is told.
 
 The program is run twice, each time in an empty folder and with 32 descriptors at most: once with a live
 server that answers its calls in place of the system, and once natively. A library that is loaded before
@@ -33,7 +33,6 @@ import collections
 import os
 import re
 import resource
-import shlex
 import shutil
 import signal
 import socket
@@ -51,6 +50,7 @@ sys.path.insert(1, str(Path(__file__).resolve().parents[1] / "tests"))
 import compare
 from partings import Compared, Finding
 from support import plain_model
+from support.commands import add_program, program_of
 from support.counting import Failure
 from support.places import TOP
 from support.running import Ran, run
@@ -340,7 +340,7 @@ def parse(words: Sequence[str]) -> argparse.Namespace:
     parser = argparse.ArgumentParser(
         description=__doc__, formatter_class=argparse.RawDescriptionHelpFormatter, usage=argparse.SUPPRESS
     )
-    parser.add_argument("--program", default=shlex.quote(compare.PROGRAM), help="fdref, or a command that runs it")
+    add_program(parser)
     parser.add_argument("--shim", metavar="PATH", help="the shim, where it is built already")
     parser.add_argument("--stdin", metavar="FILE", default=os.devnull, help="its standard input, else /dev/null")
     seconds = "how long it may take; 60 where no number is given"
@@ -364,9 +364,7 @@ def parse(words: Sequence[str]) -> argparse.Namespace:
 
 def job_of(args: argparse.Namespace, folder: str) -> Job:
     """What is asked for."""
-    program = compare.program_of(args.program)
-    if os.path.exists(program[0]):
-        program[0] = os.path.abspath(program[0])
+    program = program_of(args.program)
     shim = os.path.abspath(args.shim) if args.shim else built_shim(folder)
     job = Job([found(args.judged), *args.words], program, shim, folder)
     job.stdin, job.seconds, job.sessions, job.is_strict = args.stdin, args.seconds, args.sessions, args.strict

@@ -1,7 +1,7 @@
 #!/usr/bin/env python3
 """Tells whether there is an order of the calls of a history that explains what they gave.
 
-usage: tools/order.py HISTORY [--program PATH] [--seconds N] [--states N] [--quiet]
+usage: tools/order.py HISTORY [--program COMMAND] [--seconds N] [--states N] [--quiet]
 
 HISTORY is a file, or - for the standard input. It has a line for each call, `START END pK ACT = OUTCOME`: the times
 before and after it, in nanoseconds, the call and its answer as in docs/FORMATS.md. A call that still waits at the end
@@ -18,8 +18,8 @@ matter, and END `-` with `?` is a call of which nothing else is known. Then come
 with those that overlap it, and the page of the standard. Histories that differ in their times alone are searched once.
 
 After several histories the last line counts them. Exit status: 0 where all are explained, 1 where one is not, 2 for
-wrong words, 3 where fdref could not be run or is not what the plain model is, 4 where a line is no call, 5 where one
-was given up and the others are explained.
+wrong words and where HISTORY cannot be read, 3 where fdref could not be run or is not what the plain model is, 4 where
+a line is no call, 5 where one was given up and the others are explained.
 """
 
 import argparse
@@ -29,19 +29,19 @@ from pathlib import Path
 
 sys.path.insert(1, str(Path(__file__).resolve().parents[1] / "tests"))
 
+from support.commands import NoProgram, add_program, program_of
 from support.histories import BadHistory, Noted, form, history_text, read_histories
-from support.options import add_path, is_missing
 from support.ordering import SECONDS, STATES_MOST, Explained, GivenUp, Result, Unexplained, explain
-from support.places import FDREF
 from support.replaying import CannotRun, Differs, verified
 
-EXPLAINED, NOT_EXPLAINED, CANNOT_RUN, NO_CALL, GIVEN_UP = 0, 1, 3, 4, 5
+EXPLAINED, NOT_EXPLAINED, WRONG_WORDS, CANNOT_RUN, NO_CALL, GIVEN_UP = 0, 1, 2, 3, 4, 5
 
 
 class Orders:
     """The histories that were looked at, with the answer to each form that was met."""
 
-    def __init__(self, args: argparse.Namespace, is_one: bool) -> None:
+    def __init__(self, program: list[str], args: argparse.Namespace, is_one: bool) -> None:
+        self.program = program
         self.args = args
         self.is_one = is_one
         self.known: dict[tuple[object, ...], tuple[int, Result]] = {}
@@ -64,7 +64,7 @@ class Orders:
 
     def ordered(self, history: Sequence[Noted], result: Explained) -> str:
         """The order of a history, as the program printed it."""
-        lines = verified(self.args.program, history, result.steps)
+        lines = verified(self.program, history, result.steps)
         return "an order explains it\n" + "".join(f"{line.place} {line.act} = {line.outcome}\n" for line in lines)
 
     def unordered(self, result: Result) -> str:
@@ -99,7 +99,7 @@ def parse(words: Sequence[str]) -> argparse.Namespace:
         description=__doc__, formatter_class=argparse.RawDescriptionHelpFormatter, usage=argparse.SUPPRESS
     )
     parser.add_argument("history", metavar="HISTORY", help="a file with histories, or - for the standard input")
-    add_path(parser, "--program", "fdref", FDREF)
+    add_program(parser)
     parser.add_argument("--seconds", type=float, default=SECONDS, metavar="N", help="give a history up after so long")
     parser.add_argument("--states", type=int, default=STATES_MOST, metavar="N", help="or after so many states")
     parser.add_argument("--quiet", action="store_true", help="print nothing of histories that are explained")
@@ -109,12 +109,15 @@ def parse(words: Sequence[str]) -> argparse.Namespace:
 def main(words: Sequence[str]) -> int:
     """Answers for all histories: the exit status."""
     args = parse(words)
-    if is_missing(args.program):
-        return CANNOT_RUN
     try:
         text = sys.stdin.read() if args.history == "-" else Path(args.history).read_text(encoding="utf-8")
+    except (OSError, UnicodeDecodeError) as fault:
+        print(f"order.py: {fault}", file=sys.stderr)
+        return WRONG_WORDS
+    try:
+        program = program_of(args.program)
         histories = read_histories(text)
-        orders = Orders(args, len(histories) == 1)
+        orders = Orders(program, args, len(histories) == 1)
         for number, history in enumerate(histories, 1):
             orders.answer(number, history)
     except BadHistory as fault:
@@ -123,7 +126,7 @@ def main(words: Sequence[str]) -> int:
     except Differs as fault:
         print(f"order.py: the program differs from the plain model: {fault}", file=sys.stderr)
         return CANNOT_RUN
-    except (CannotRun, OSError, UnicodeDecodeError) as fault:
+    except (CannotRun, NoProgram) as fault:
         print(f"order.py: {fault}", file=sys.stderr)
         return CANNOT_RUN
     if len(histories) != 1:

@@ -32,10 +32,10 @@ from typing import NamedTuple
 sys.path.insert(1, str(Path(__file__).resolve().parents[1] / "tests"))
 
 from support import histories, ordering, plain_model, replaying
+from support.commands import NoProgram, add_program, program_of
 from support.counting import Failure
 from support.histories import History, Noted
-from support.options import add_path
-from support.places import FDREF, TOOLS
+from support.places import TOOLS
 from support.replaying import CannotRun
 from support.running import run
 
@@ -180,7 +180,7 @@ def reason_of(race: Race) -> Reason | None:
 class Asked:
     """The driver and fdref, as they are called."""
 
-    def __init__(self, program: str, driver: list[str]) -> None:
+    def __init__(self, program: str | list[str], driver: list[str]) -> None:
         self.program = program
         self.driver = driver
         self.verified: set[str] = set()
@@ -344,7 +344,7 @@ def parse(words: Sequence[str]) -> argparse.Namespace:
     parser.add_argument("--kind", default="", metavar="WORD", help="only the kinds that have this word in their name")
     parser.add_argument("--processes", type=int, metavar="N", help="of each script; 3 to 5 where none is given")
     parser.add_argument("--dir", metavar="DIR", help="where the files are made; else in $TMPDIR or /tmp")
-    add_path(parser, "--program", "fdref", FDREF)
+    add_program(parser)
     driver = "tools/race_kernel.c, as it was compiled; compiled for this run where it is not given"
     parser.add_argument("--driver", metavar="PATH", help=driver)
     parser.add_argument("--pin", action="store_true", help="each process has a processor of its own")
@@ -384,11 +384,10 @@ def tell_and_keep(races: Races, found: Unexplained, name: str, folder: str | Non
 
 def asked_for(args: argparse.Namespace, folder: str) -> Asked:
     """The driver and fdref, as the command line has them."""
-    if not os.path.exists(args.program):
-        raise CannotRun(f"no program at {args.program}: './fdref build' makes it")
+    program = program_of(args.program)
     driver = [os.path.abspath(args.driver) if args.driver else compile_driver(folder)]
     driver += ["--dir", args.dir] if args.dir else []
-    return Asked(args.program, [*driver, "--pin"] if args.pin else driver)
+    return Asked(program, [*driver, "--pin"] if args.pin else driver)
 
 
 def end_quietly(number: int, _: object) -> None:
@@ -404,7 +403,7 @@ def main(words: Sequence[str]) -> int:
         try:
             races = Races(asked_for(args, folder), args.seed, args.processes)
             race_all(args, races)
-        except (CannotRun, replaying.Differs, histories.BadHistory) as fault:
+        except (CannotRun, NoProgram, replaying.Differs, histories.BadHistory) as fault:
             print(f"race.py: {fault}", file=sys.stderr)
             return 3
     print(races.text())

@@ -251,7 +251,7 @@ def not_run(bench: Bench) -> Iterator[tuple[str, str, tuple[str, ...], tuple[str
     yield "no compiler", compiler, (agrees,), ("CC=/no/cc",)
     yield "a server that ends", "no server: status 1: ", ("--program", "false", *shim, agrees), ()
     nowhere = ("--program", "/no/fdref", *shim, agrees)
-    yield "no program of the server", "/no/fdref: No such file or directory", nowhere, ()
+    yield "no program of the server", "no program at /no/fdref", nowhere, ()
     yield "no call", NO_CALLS, (*shim, "true"), ()
     left_out = "uses what fdref leaves out: symlink"
     yield "what is left out", left_out, ("--strict", *shim, bench.compiled("judge_strays"), "leaves-out"), ()

@@ -1,5 +1,7 @@
 """What tools/order.py prints for histories, and its exit status; and which lines are no calls."""
 
+import contextlib
+import io
 import os
 import stat
 import tempfile
@@ -8,6 +10,7 @@ from functools import partial
 from pathlib import Path
 
 from parts.told_histories import EXPLAINED, IMPOSSIBLE, Told
+from support import commands
 from support.counting import Case, Failure, require, same
 from support.histories import BadHistory, form, history_text, read_histories
 from support.places import TOOLS
@@ -78,6 +81,42 @@ def reads_a_file(program: str) -> None:
         same((0, GOOD_LINES), (ran.status, ran.stdout.decode()))
 
 
+def fails_without_file(program: str) -> None:
+    """A history that cannot be read is a wrong word."""
+    ran = run(["python3", str(TOOLS / "order.py"), "/no/history", "--program", program])
+    same((2, b""), (ran.status, ran.stdout))
+    require(b"/no/history" in ran.stderr, ran.said())
+
+
+def takes_what_is_built() -> None:
+    """Where no command is given the proved program is taken, else the unproved one, which is told, as is that there is
+    neither."""
+    with tempfile.TemporaryDirectory(prefix="fdref-") as folder:
+        proved, unproved = Path(folder, "proved"), Path(folder, "unproved")
+        before = commands.FDREF, commands.UNPROVED
+        commands.FDREF, commands.UNPROVED = proved, unproved
+        told = io.StringIO()
+        try:
+            with contextlib.redirect_stderr(told):
+                require("./fdref build --unproved" in not_built(), not_built())
+                unproved.touch()
+                same([str(unproved)], commands.program_of(None))
+                require(told.getvalue().count("\n") == 1 and "not proved" in told.getvalue(), told.getvalue())
+                proved.touch()
+                same([str(proved)], commands.program_of(None))
+            same(1, told.getvalue().count("\n"))
+        finally:
+            commands.FDREF, commands.UNPROVED = before
+
+
+def not_built() -> str:
+    """What is told where nothing is built."""
+    try:
+        return f"{commands.program_of(None)} is taken"
+    except commands.NoProgram as fault:
+        return str(fault)
+
+
 def finds_a_wrong_program(program: str) -> None:
     """A program that is not what the plain model is, in an answer or where a call waits, is told."""
     with tempfile.TemporaryDirectory(prefix="fdref-") as folder:
@@ -102,9 +141,12 @@ def cases(program: str) -> Iterator[Case]:
     yield "given up after states", partial(prints, program, GOOD, 5, "given up after 2 states\n", "--states", "1")
     yield "wrong words", partial(fails, program, GOOD, 2, "unrecognized", "--no")
     yield "no program", partial(fails, "/no/program", GOOD, 3, "no program at /no/program")
+    yield "a command of several words", partial(prints, f"env {program}", GOOD, 0, GOOD_LINES)
     yield "a program that ends badly", partial(fails, "/bin/false", GOOD, 3, "status 1")
     yield "a line that is no call", partial(fails, program, f"{GOOD}\n1 2 p0 jion = 0\n", 4, "line 8: ")
+    yield "what is built", takes_what_is_built
     yield "a file", partial(reads_a_file, program)
+    yield "no file", partial(fails_without_file, program)
     yield "a program that differs", partial(finds_a_wrong_program, program)
 
 

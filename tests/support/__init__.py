@@ -2,6 +2,7 @@
 
 - `places`: the top folder of the tree, and the paths of the built programs
 - `options`: the options that several scripts have, and what is said where a program is not built
+- `commands`: the command that runs fdref, as the tools take it
 - `counting`: `Count` counts checks, prints each failure and the last line; `Failure`, `require`, `same`
 - `running`: `run` runs a program with a time limit and gives its status, standard output and error
 - `texts`: where two outputs differ, and short forms of long ones

@@ -29,16 +29,17 @@ def script_line(act: plain_model.Act) -> str:
     return "join" if act.word == "join" else plain_model.act_text(act)
 
 
-def replayed(program: str, acts: Sequence[plain_model.Act]) -> list[Line]:
-    """The lines that the program prints for these acts, but that of the totals."""
+def replayed(program: str | Sequence[str], acts: Sequence[plain_model.Act]) -> list[Line]:
+    """The lines that the program, or a command that runs it, prints for these acts, but that of the totals."""
     script = "".join(f"{script_line(act)}\n" for act in acts).encode()
+    words = [program] if isinstance(program, str) else program
     records = min(2 * len(acts) + 200, ALL_RECORDS)
     try:
-        ran = run([program, "replay", "--records", str(records)], script, seconds=SECONDS)
+        ran = run([*words, "replay", "--records", str(records)], script, seconds=SECONDS)
     except (Failure, OSError) as fault:
-        raise CannotRun(f"{program}: {fault}") from None
+        raise CannotRun(f"{words[0]}: {fault}") from None
     if ran.status != 0:
-        raise CannotRun(f"{program} ends with {ran.said()}")
+        raise CannotRun(f"{words[0]} ends with {ran.said()}")
     return [line_of(line) for line in ran.stdout.decode("ascii").splitlines()[:-1]]
 
 
@@ -109,7 +110,7 @@ def keeps_time(went: Sequence[tuple[Noted, Went]]) -> None:
 # ---- both
 
 
-def verified(program: str, history: Sequence[Noted], steps: Sequence[Step]) -> list[Line]:
+def verified(program: str | Sequence[str], history: Sequence[Noted], steps: Sequence[Step]) -> list[Line]:
     """The lines of the program for the steps of an order. They have to be the steps of the model, and explain the
     history; and none of the calls that wait at its end may be ready."""
     waiting = [noted.process for noted in history if noted.outcome == WAITS]
