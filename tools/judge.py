@@ -13,7 +13,10 @@ The program is run twice, each time in an empty folder and with 32 descriptors a
 server that answers its calls in place of the system, and once natively. A library that is loaded before
 the C library (the shim, clients/preload) makes its calls, so it need not be changed. The shim is compiled
 for this run, by $CC or cc, unless --shim names a built one. A statically linked program does not load it.
-What fdref leaves out goes to the system; under --strict it ends the program, and is told.
+What fdref leaves out goes past it to the system, and is not judged: paths with a slash, folders, streams
+of stdio, other programs. The shim notes what it sees of that, and it is told by kinds, each with the
+first of it; --keep has all. Under --strict it ends the program. A static program, and calls that the C
+library makes inside, are not seen: so printf is lost where dup2 puts a file of fdref at descriptor 1.
 
 Told is how both ended, and where they part: the first call whose answer differs and has no reason, else
 the first that differs, after some lines before it and with its reason. The reasons are those of
@@ -24,8 +27,10 @@ that differ later may follow from it, and are only counted. At last fdref audits
 The processes of a program may come in another order in the next run, and where its answers depend on
 that, so may what is told of it.
 
-Exit status: 0 where both agree, or differ for reasons alone and end alike; 1 where they differ otherwise;
-2 for wrong words; 3 where the program could not be run or compared, or ended with neither.
+Exit status: 0 where both ended by themselves, with the same status, standard output and standard error,
+each answer that differs has a reason or may follow from one that has, and the audit finds the trace legal,
+whatever went past fdref; 1 where one of these is not so; 2 for wrong words; 3 where the program could not
+be run or compared, or ended with neither.
 """
 
 import argparse
@@ -73,6 +78,9 @@ NOT_ASKED = 124
 LEAVES_OUT = "uses what fdref leaves out: "
 IS_TOLD = re.compile(rb"^fdref: (.*)$", re.MULTILINE)
 IS_LEFT_OUT = re.compile(rb"^fdref: (.*) is left out$", re.MULTILINE)
+# What goes past fdref, by the kinds that the shim has for it, and what is said of one.
+PAST = {"path": "path", "stream": "stream", "program": "program", "call": "other call"}
+STDIO = "stdio"
 
 
 class CannotJudge(Exception):
@@ -167,13 +175,14 @@ def environment(shim: str, log: str, **more: str) -> dict[str, str]:
 
 
 class Both(NamedTuple):
-    """How a program ended on the system and with fdref, the logs of both, and the trace."""
+    """How a program ended on the system and with fdref, the logs of both, the trace, and what went past fdref."""
 
     system: Ended
     fdref: Ended
     system_log: bytes
     fdref_log: bytes
     trace: bytes
+    past: bytes = b""
 
 
 class Job:
@@ -209,7 +218,9 @@ class Job:
         """Runs it with fdref and on the system."""
         strict = {"FDREF_STRICT": "1"} if self.is_strict else {}
         with Server(self.program, self.folder, self.sessions) as server:
-            fdref, fdref_log = self.ran("fdref", FDREF_SOCKET=server.path, **strict)
+            past = Path(self.folder, "past")
+            past.touch()
+            fdref, fdref_log = self.ran("fdref", FDREF_SOCKET=server.path, FDREF_PAST=str(past), **strict)
             server.finish()
             trace = Path(server.trace).read_bytes()
         left_out = IS_LEFT_OUT.search(fdref.stderr) if self.is_strict else None
@@ -219,7 +230,7 @@ class Job:
         if fdref.status == NOT_ASKED and said:
             raise CannotJudge(f"the server gave no answer: {said[-1].decode('utf-8', 'replace')}")
         system, system_log = self.ran("system")
-        return Both(system, fdref, system_log, fdref_log, trace)
+        return Both(system, fdref, system_log, fdref_log, trace, past.read_bytes())
 
     def audited(self) -> str:
         """What the audit says of the trace."""
@@ -243,7 +254,8 @@ class Verdict:
             raise CannotJudge(str(fault)) from None
         self.findings, self.unexplained = self.compared.findings, self.compared.unexplained
         if not self.compared.fdref.total() and not self.compared.system.total():
-            raise CannotJudge("made none of the calls that fdref knows, or does not load the shim, as a static program")
+            none = "made none of the calls that fdref knows, or does not load the shim, as a static program"
+            raise CannotJudge("; ".join([none, *told_past(both.past)]))
         count = len(self.compared.system.calls)
         if count > sessions:
             most = f"--sessions, {SESSIONS_MOST} at most"
@@ -302,6 +314,31 @@ def told_finding(finding: Finding, lines: list[Line], before: int) -> list[str]:
     return [compare.clipped(line) for line in [*told, compare.told_reason(finding.reason)]]
 
 
+def past_of(text: bytes) -> list[tuple[str, str, str]]:
+    """What went past fdref, as the shim notes it: `!` where --strict would tell it, its kind, and what it is."""
+    lines = text.decode("ascii", "replace").splitlines()
+    return [(mark, kind, what) for mark, kind, what in (line.split(" ", 2) for line in lines)]
+
+
+def told_past(text: bytes) -> list[str]:
+    """What went past fdref: how much of each kind, with the first of it, and where stdio does."""
+    met = past_of(text)
+    told = []
+    for kind, one in PAST.items():
+        what = [it[2] for it in met if it[1] == kind]
+        told += [f"{len(what)} {one}s (first {what[0]})" if what[1:] else f"1 {one} ({what[0]})"] if what else []
+    lines = [compare.clipped(f"past fdref: {', '.join(told)}")] if told else []
+    for number in sorted({what for _, kind, what in met if kind == STDIO}):
+        lines.append(f"past fdref: stdio on descriptor {number}, which is a file of fdref: it fails there")
+    return lines
+
+
+def told_strict(text: bytes) -> list[str]:
+    """Where --strict would end the program."""
+    ends = [what for mark, _, what in past_of(text) if mark == "!"]
+    return [compare.clipped(f"--strict ends it at {ends[0]}")] if ends else []
+
+
 def told(verdict: Verdict, seconds: float, before: int) -> str:
     """All that is said of a program."""
     findings = verdict.findings
@@ -316,7 +353,7 @@ def told(verdict: Verdict, seconds: float, before: int) -> str:
     follow = sum(it.follows for it in findings)
     lines += [f"{follow:8} may follow from these"] if follow else []
     lines += [f"{len(findings) - reasons.total() - follow:8} without a reason"] if findings else []
-    return "\n".join([*lines, f"audit: {verdict.audit}"])
+    return "\n".join([*lines, *told_past(verdict.both.past), f"audit: {verdict.audit}"])
 
 
 # ---- the whole
@@ -352,7 +389,7 @@ def parse(words: Sequence[str]) -> argparse.Namespace:
     before = f"lines that are told before a difference; {compare.LINES_BEFORE} where no number is given"
     parser.add_argument("--before", metavar="N", type=number_in(0, 10**6), default=compare.LINES_BEFORE, help=before)
     parser.add_argument("--strict", action="store_true", help="end it where it uses what fdref leaves out")
-    parser.add_argument("--keep", metavar="DIR", help="a folder for both logs and the trace")
+    parser.add_argument("--keep", metavar="DIR", help="a folder for both logs, the trace, and what went past")
     parser.add_argument("judged", metavar="PROGRAM", help="the program that is judged")
     parser.add_argument("words", metavar="WORD", nargs=argparse.REMAINDER, help="its words")
     args = parser.parse_args(words)
@@ -372,8 +409,8 @@ def job_of(args: argparse.Namespace, folder: str) -> Job:
 
 
 def keep(folder: str, into: str) -> None:
-    """Keeps both logs and the trace, as far as they are there."""
-    for name in ("system.log", "fdref.log", "trace"):
+    """Keeps both logs, the trace and what went past fdref, as far as they are there."""
+    for name in ("system.log", "fdref.log", "trace", "past"):
         if os.path.exists(os.path.join(folder, name)):
             shutil.copy(os.path.join(folder, name), into)
 
@@ -399,7 +436,7 @@ def main(words: Sequence[str]) -> int:
                 keep(folder, args.keep)
     print(told(verdict, args.seconds, args.before))
     if verdict.status() == 1 and not args.strict:
-        print("--strict tells whether it uses what fdref leaves out")
+        print("".join(f"{line}\n" for line in told_strict(verdict.both.past)), end="")
     return verdict.status()
 
 

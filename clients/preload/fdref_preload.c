@@ -11,6 +11,10 @@
                         exit have no line. Without FDREF_SOCKET the run is *native*: the system answers, and the lines
                         are the same, with `-` in place of the place.
      FDREF_STRICT=1     What fdref leaves out is told on standard error, and the program ends with status 125.
+     FDREF_PAST=FILE    Each call that is left to the system, as far as it is seen, is appended to FILE as a line, with
+                        its kind: `! path d/x`, `! path mkdir d`, `! program execve ./a`, `! call poll`. Where
+                        FDREF_STRICT would not tell it `-` stands for `!`: `- stream fopen /tmp/x`, and `- stdio 1`,
+                        as a file of fdref comes to be at descriptor 0, 1 or 2.
 
    Without the first two nothing is changed. Where there is no answer (no server, a run that is full, a lost connection)
    that is told on standard error, and the program ends with status 124.
@@ -51,7 +55,8 @@
      - pipe2 with O_NONBLOCK or O_DIRECT: it is a pipe of the kernel.
 
    What cannot be seen, and is not told: system calls that are made past the C library, and what it makes inside. So
-   stdio does not reach standard output while that is a file of fdref, and clone is no fork. A bad address is no EFAULT.
+   stdio does not reach standard output while that is a file of fdref (FDREF_PAST tells that it is), and clone is no
+   fork. A bad address is no EFAULT.
 
    Threads: one call is made at a time, so a call that waits keeps those of other threads waiting. A handler of a signal
    may make no call of fdref while one waits: that is status 124. Signals do not end a call that waits in fdref.
@@ -142,7 +147,7 @@ static int open_in(int folder, const char *name, int flags, mode_t mode)
     struct slot slot = {OURS, 0, flags & STATUS_FLAGS, 0, 0};
     struct fdref_act act = fdref_act_open(rest, flags & ASKED_FLAGS);
     if (way != PASS && (flags & ~(ASKED_FLAGS | IGNORED_FLAGS)) != 0) {
-        leave_out("open with other flags");
+        leave_out("path", "open with other flags", rest);
         way = PASS;
     }
     if (way == PASS) {
@@ -237,7 +242,7 @@ static unsigned close_low(unsigned first, unsigned last, int is_cloexec)
 static unsigned own_from(unsigned first)
 {
     unsigned lowest = UINT_MAX;
-    for (int at = 0; at < 3; at++) {
+    for (int at = 0; at < OWN_NUMBERS; at++) {
         unsigned number = (unsigned)own_numbers(at);
         lowest = number >= first && number < lowest ? number : lowest;
     }
@@ -445,7 +450,7 @@ static int64_t seek(int fd, int64_t offset, int whence)
     struct fdref_act act = fdref_act_lseek(fd, offset, whence);
     int is_known = whence == SEEK_SET || whence == SEEK_CUR || whence == SEEK_END;
     if (way == ASK && !is_known)
-        leave_out("lseek by SEEK_DATA and its kin");
+        leave_out("call", "lseek by SEEK_DATA and its kin", NULL);
     if (way == ASK)
         return ALONE(ask_most(act, NULL, INT64_MAX));
     return way == NOTE && is_known ? noted(act, system_lseek(fd, offset, whence)) : system_lseek(fd, offset, whence);
@@ -642,7 +647,7 @@ int pipe2(int ends[2], int flags)
     enum way way = (prepare(), way_of_ours());
     int made[2] = {-1, -1}, done;
     if (way != PASS && (flags & ~O_CLOEXEC) != 0) {
-        leave_out("pipe2 with other flags");
+        leave_out("call", "pipe2 with other flags", NULL);
         way = PASS;
     }
     if (way == PASS)
@@ -693,7 +698,7 @@ int unlinkat(int folder, const char *name, int flags)
     enum way way = way_in(folder, &rest);
     struct fdref_act act = fdref_act_unlink(rest);
     if (way != PASS && (flags & AT_REMOVEDIR) != 0) {
-        leave_out("unlinkat of a directory");
+        leave_out("path", "unlinkat of a directory", rest);
         way = PASS;
     }
     if (way == ASK)

@@ -97,7 +97,7 @@ static int refuse(int fd, const char *what)
 {
     if (slot_of(fd).held == FREE)
         return (int)fails(EBADF);
-    leave_out(what);
+    leave_out("call", what, NULL);
     return (int)fails(ENOSYS);
 }
 
@@ -258,14 +258,23 @@ static int is_selected(int count, const fd_set *one, const fd_set *other)
     return fd < end;
 }
 
-/* A call that is told where this holds, and is the system's. */
-#define TELLS(type, name, parameters, words, holds) \
+/* Notes a call with a path that is none of fdref's. */
+static void passes(const char *kind, const char *what, const char *path)
+{
+    if (path)
+        goes_past('-', kind, what, path);
+}
+
+/* A call with a path, or a command, that is told where this holds, and is the system's. */
+#define TELLS(type, name, parameters, words, kind, path, holds) \
     type name parameters \
     { \
         static __typeof__(&name) next; \
         prepare(); \
         if (holds) \
-            leave_out(#name); \
+            leave_out(kind, #name, path); \
+        else \
+            passes(kind, #name, path); \
         find(&next, #name); \
         return next words; \
     }
@@ -277,7 +286,7 @@ static int is_selected(int count, const fd_set *one, const fd_set *other)
         static __typeof__(&name) next; \
         prepare(); \
         if (holds) { \
-            leave_out(#name); \
+            leave_out("call", #name, NULL); \
             errno = ENOSYS; \
             return value; \
         } \
@@ -285,26 +294,29 @@ static int is_selected(int count, const fd_set *one, const fd_set *other)
         return next words; \
     }
 
-TELLS(FILE *, fopen, (const char *path, const char *mode), (path, mode), is_plain(path))
-TELLS(FILE *, freopen, (const char *path, const char *mode, FILE *file), (path, mode, file), is_plain(path))
-TELLS(int, rename, (const char *old, const char *new), (old, new), is_plain(old) || is_plain(new))
+TELLS(FILE *, fopen, (const char *path, const char *mode), (path, mode), "stream", path, is_plain(path))
+TELLS(FILE *, freopen, (const char *path, const char *mode, FILE *file), (path, mode, file),
+      "stream", path, is_plain(path))
+TELLS(int, rename, (const char *old, const char *new), (old, new), "path", old, is_plain(old) || is_plain(new))
 TELLS(int, renameat, (int from, const char *old, int to, const char *new), (from, old, to, new),
-      is_plain_in(from, old) || is_plain_in(to, new))
-TELLS(int, symlink, (const char *text, const char *path), (text, path), is_plain(path))
-TELLS(int, symlinkat, (const char *text, int to, const char *path), (text, to, path), is_plain_in(to, path))
-TELLS(ssize_t, readlink, (const char *path, char *text, size_t size), (path, text, size), is_plain(path))
-TELLS(int, mkdir, (const char *path, mode_t mode), (path, mode), is_plain(path))
-TELLS(int, mkdirat, (int in, const char *path, mode_t mode), (in, path, mode), is_plain_in(in, path))
-TELLS(int, rmdir, (const char *path), (path), is_plain(path))
-TELLS(DIR *, opendir, (const char *path), (path), is_plain(path))
-TELLS(int, mknod, (const char *path, mode_t mode, dev_t device), (path, mode, device), is_plain(path))
-TELLS(int, mkstemp, (char *path), (path), is_plain(path))
-TELLS(int, chmod, (const char *path, mode_t mode), (path, mode), is_plain(path))
-TELLS(int, fchmodat, (int in, const char *path, mode_t mode, int flags), (in, path, mode, flags), is_plain_in(in, path))
-TELLS(int, chown, (const char *path, uid_t user, gid_t group), (path, user, group), is_plain(path))
+      "path", old, is_plain_in(from, old) || is_plain_in(to, new))
+TELLS(int, symlink, (const char *text, const char *path), (text, path), "path", path, is_plain(path))
+TELLS(int, symlinkat, (const char *text, int to, const char *path), (text, to, path),
+      "path", path, is_plain_in(to, path))
+TELLS(ssize_t, readlink, (const char *path, char *text, size_t size), (path, text, size), "path", path, is_plain(path))
+TELLS(int, mkdir, (const char *path, mode_t mode), (path, mode), "path", path, is_plain(path))
+TELLS(int, mkdirat, (int in, const char *path, mode_t mode), (in, path, mode), "path", path, is_plain_in(in, path))
+TELLS(int, rmdir, (const char *path), (path), "path", path, is_plain(path))
+TELLS(DIR *, opendir, (const char *path), (path), "path", path, is_plain(path))
+TELLS(int, mknod, (const char *path, mode_t mode, dev_t device), (path, mode, device), "path", path, is_plain(path))
+TELLS(int, mkstemp, (char *path), (path), "path", path, is_plain(path))
+TELLS(int, chmod, (const char *path, mode_t mode), (path, mode), "path", path, is_plain(path))
+TELLS(int, fchmodat, (int in, const char *path, mode_t mode, int flags), (in, path, mode, flags),
+      "path", path, is_plain_in(in, path))
+TELLS(int, chown, (const char *path, uid_t user, gid_t group), (path, user, group), "path", path, is_plain(path))
 TELLS(int, utimensat, (int in, const char *path, const struct timespec times[2], int flags), (in, path, times, flags),
-      is_plain_in(in, path))
-TELLS(int, chdir, (const char *path), (path), is_plain(path))
+      "path", path, is_plain_in(in, path))
+TELLS(int, chdir, (const char *path), (path), "path", path, is_plain(path))
 FAILS(int, poll, (struct pollfd *parts, nfds_t count, int ms), (parts, count, ms), is_polled(parts, count), -1)
 FAILS(int, ppoll, (struct pollfd *parts, nfds_t count, const struct timespec *most, const sigset_t *mask),
       (parts, count, most, mask), is_polled(parts, count), -1)
@@ -332,17 +344,18 @@ FAILS(int, fchown, (int fd, uid_t user, gid_t group), (fd, user, group), is_ours
 FAILS(int, futimens, (int fd, const struct timespec times[2]), (fd, times), is_ours(fd), -1)
 
 /* exec is told, and not followed. */
-TELLS(int, execve, (const char *path, char *const list[], char *const env[]), (path, list, env), how == ASKED)
-TELLS(int, execv, (const char *path, char *const list[]), (path, list), how == ASKED)
-TELLS(int, execvp, (const char *path, char *const list[]), (path, list), how == ASKED)
-TELLS(int, system, (const char *command), (command), how == ASKED && command)
-TELLS(FILE *, popen, (const char *command, const char *mode), (command, mode), how == ASKED)
+TELLS(int, execve, (const char *path, char *const list[], char *const env[]), (path, list, env),
+      "program", path, how == ASKED)
+TELLS(int, execv, (const char *path, char *const list[]), (path, list), "program", path, how == ASKED)
+TELLS(int, execvp, (const char *path, char *const list[]), (path, list), "program", path, how == ASKED)
+TELLS(int, system, (const char *command), (command), "program", command, how == ASKED && command)
+TELLS(FILE *, popen, (const char *command, const char *mode), (command, mode), "program", command, how == ASKED)
 TELLS(int, posix_spawn, (pid_t *pid, const char *path, const posix_spawn_file_actions_t *acts,
                          const posix_spawnattr_t *how_to, char *const list[], char *const env[]),
-      (pid, path, acts, how_to, list, env), how == ASKED)
+      (pid, path, acts, how_to, list, env), "program", path, how == ASKED)
 TELLS(int, posix_spawnp, (pid_t *pid, const char *path, const posix_spawn_file_actions_t *acts,
                           const posix_spawnattr_t *how_to, char *const list[], char *const env[]),
-      (pid, path, acts, how_to, list, env), how == ASKED)
+      (pid, path, acts, how_to, list, env), "program", path, how == ASKED)
 
 /* The functions that list the words are the same with an array of them. */
 #define LISTS(name, called) \
@@ -352,7 +365,7 @@ TELLS(int, posix_spawnp, (pid_t *pid, const char *path, const posix_spawn_file_a
         size_t count = 0; \
         va_list values; \
         prepare(); \
-        leave_out(#name); \
+        end_strictly(#name); \
         va_start(values, word); \
         for (list[0] = bytes_of(word); list[count] && count + 1 < LIST_MOST;) \
             list[++count] = va_arg(values, char *); \
@@ -397,13 +410,15 @@ int statx(int folder, const char *name, int flags, unsigned wanted, struct statx
     return done > 0 ? next(folder, name, flags, wanted, to) : done;
 }
 
-TELLS(int, execvpe, (const char *path, char *const list[], char *const env[]), (path, list, env), how == ASKED)
+TELLS(int, execvpe, (const char *path, char *const list[], char *const env[]), (path, list, env),
+      "program", path, how == ASKED)
 FAILS(ssize_t, copy_file_range, (int from, off64_t *start, int to, off64_t *place, size_t count, unsigned flags),
       (from, start, to, place, count, flags), is_ours(from) || is_ours(to), -1)
 FAILS(ssize_t, splice, (int from, off64_t *start, int to, off64_t *place, size_t count, unsigned flags),
       (from, start, to, place, count, flags), is_ours(from) || is_ours(to), -1)
-TELLS(FILE *, fopen64, (const char *path, const char *mode), (path, mode), is_plain(path))
-TELLS(FILE *, freopen64, (const char *path, const char *mode, FILE *file), (path, mode, file), is_plain(path))
+TELLS(FILE *, fopen64, (const char *path, const char *mode), (path, mode), "stream", path, is_plain(path))
+TELLS(FILE *, freopen64, (const char *path, const char *mode, FILE *file), (path, mode, file),
+      "stream", path, is_plain(path))
 FAILS(void *, mmap64, (void *at, size_t size, int access, int flags, int fd, off64_t offset),
       (at, size, access, flags, fd, offset), is_ours(fd) && !(flags & MAP_ANONYMOUS), MAP_FAILED)
 FAILS(ssize_t, sendfile64, (int to, int from, off64_t *offset, size_t count), (to, from, offset, count),

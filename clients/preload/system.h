@@ -104,7 +104,7 @@ static volatile enum how how;
 
 static struct fdref *process;
 static char socket_path[sizeof ((struct sockaddr_un *)NULL)->sun_path + 1];
-static int is_strict, log_file = -1, blank = -1;
+static int is_strict, log_file = -1, past_file = -1, blank = -1;
 
 /* The number of this process in a native run, and the next one, which all processes share. */
 static uint32_t native_number, *next_number;
@@ -132,22 +132,54 @@ static void end_with(int status, const char *format, ...)
             abort();
 }
 
+/* Notes in a line what goes past fdref: `!` where FDREF_STRICT tells it, its kind, and what of which name it is. */
+static void goes_past(char mark, const char *kind, const char *what, const char *of)
+{
+    char text[400];
+    size_t size;
+    int error = errno;
+    if (how != ASKED || past_file < 0)
+        return;
+    size = (size_t)snprintf(text, 100, "%c %s %s%s", mark, kind, what, of && *what ? " " : "");
+    for (; of && *of && size < sizeof text - 5; of++)
+        if (*of >= ' ' && *of < 127 && *of != '%')
+            text[size++] = *of;
+        else
+            size += (size_t)snprintf(text + size, 4, "%%%02x", (unsigned char)*of);
+    text[size++] = '\n';
+    if (system_write(past_file, text, size) != (ssize_t)size)
+        end_with(NO_ANSWER, "what goes past fdref cannot be noted: %s", strerror(errno));
+    errno = error;
+}
+
 /* What fdref leaves out ends a program that has to be strict. */
-static void leave_out(const char *what)
+static void end_strictly(const char *what)
 {
     if (is_strict && how == ASKED)
         end_with(LEFT_OUT, "%s is left out", what);
 }
 
+static void leave_out(const char *kind, const char *what, const char *of)
+{
+    goes_past('!', kind, what, of);
+    end_strictly(what);
+}
+
 /* ---- numbers of this library's own, which are high */
 
-enum { HIGH = 1024, OWN = 16 };
+enum { HIGH = 1024, OWN = 16, OWN_NUMBERS = 4 };
 
-static int own_numbers(int at) { return at == 0 ? log_file : at == 1 ? blank : process ? process->socket : -1; }
+static int own_numbers(int at)
+{
+    return at == 0 ? log_file : at == 1 ? past_file : at == 2 ? blank : process ? process->socket : -1;
+}
 
 static int is_own(int fd)
 {
-    return fd >= 0 && (fd == own_numbers(0) || fd == own_numbers(1) || fd == own_numbers(2));
+    int at = 0;
+    while (at < OWN_NUMBERS && fd != own_numbers(at))
+        at++;
+    return fd >= 0 && at < OWN_NUMBERS;
 }
 
 /* Lets numbers go up to HIGH where the system permits it, and gives the limits that were before. */
@@ -182,6 +214,8 @@ static void make_way(int to)
 {
     if (to >= 0 && to == log_file)
         log_file = hidden(log_file);
+    else if (to >= 0 && to == past_file)
+        past_file = hidden(past_file);
     else if (to >= 0 && to == blank)
         blank = hidden(blank);
     else if (to >= 0 && process && to == process->socket)

@@ -85,6 +85,8 @@ static void take(int fd, struct slot slot, int is_cloexec)
         return;
     slots[fd] = slot;
     slots[fd].is_cloexec = is_cloexec;
+    if (slot.held == OURS && fd <= 2)
+        goes_past('-', "stdio", fd == 0 ? "0" : fd == 1 ? "1" : "2", NULL);
 }
 
 static void take_real(int fd)
@@ -311,12 +313,12 @@ static void join(void)
     at_quick_exit(end_quickly);
 }
 
-static void open_log(const char *path)
+static int opened_log(const char *path)
 {
     int fd = system_open(path, O_WRONLY | O_CREAT | O_APPEND | O_CLOEXEC, 0666);
     if (fd < 0)
         end_with(NO_ANSWER, "the log %s cannot be opened: %s", path, strerror(errno));
-    log_file = hidden(fd);
+    return hidden(fd);
 }
 
 /* A shared number, from which each process takes the next one. */
@@ -332,18 +334,21 @@ static void share_numbers(void)
 /* Begins where that was not done yet. */
 static void prepare(void)
 {
-    const char *socket_named, *log_named, *strict;
+    const char *socket_named, *log_named, *past_named, *strict;
     int error = errno;
     if (how != UNKNOWN)
         return;
     find_all();
     socket_named = getenv("FDREF_SOCKET");
     log_named = getenv("FDREF_LOG");
+    past_named = getenv("FDREF_PAST");
     strict = getenv("FDREF_STRICT");
     is_strict = strict && strcmp(strict, "1") == 0;
     how = socket_named ? ASKED : log_named ? NATIVE : OFF;
     if (log_named)
-        open_log(log_named);
+        log_file = opened_log(log_named);
+    if (how == ASKED && past_named)
+        past_file = opened_log(past_named);
     if (how == NATIVE)
         share_numbers();
     if (how == ASKED) {
@@ -392,6 +397,8 @@ static const char *plain(const char *name)
 /* A path that leads elsewhere is the kernel's. */
 static enum way way_elsewhere(const char *name)
 {
+    if (name && *name)
+        goes_past('!', "path", "", name);
     if (is_strict && how == ASKED && name && *name)
         end_with(LEFT_OUT, "the path %s is left out", name);
     return PASS;

@@ -1,20 +1,34 @@
 /* Does what the answers of no two systems agree on.
 
-   usage: judge_strays call|answer|output|leaves-out
+   usage: judge_strays call|answer|output|leaves-out|passes|spawns|stdio
 
    call        writes the number of its process into a file
    answer      changes a file by a system call that no library sees, and asks for the size of it
    output      prints the number of its process, and makes the same calls
-   leaves-out  makes a symbolic link, which fdref leaves out */
+   leaves-out  makes a symbolic link, which fdref leaves out
+   passes      does more that goes past fdref
+   spawns      prints the number of its process, and has a shell exit
+   stdio       has a file at descriptor 1, to which it prints */
 
 #define _GNU_SOURCE
 
 #include <fcntl.h>
 #include <stdio.h>
+#include <stdlib.h>
 #include <string.h>
 #include <sys/stat.h>
 #include <sys/syscall.h>
 #include <unistd.h>
+
+/* Makes a folder, opens files by paths with a slash, and by stdio, and asks for what no fcntl of fdref has. */
+static int passes(int fd)
+{
+    FILE *file = fopen("/dev/null", "r");
+    int null = open("/dev/null", O_RDONLY), is_made = mkdir("d", 0700) == 0;
+    int in = open("d/x", O_RDWR | O_CREAT, 0600);
+    fcntl(fd, F_SETFL, O_NONBLOCK);
+    return !file || fclose(file) != 0 || !is_made || close(in) != 0 || close(null) != 0;
+}
 
 int main(int count, char **words)
 {
@@ -29,9 +43,15 @@ int main(int count, char **words)
         return 1;
     if (strcmp(what, "answer") == 0)
         syscall(SYS_write, fd, "abc", (size_t)3);
-    if (strcmp(what, "output") == 0)
+    if (strcmp(what, "output") == 0 || strcmp(what, "spawns") == 0)
         printf("%s", text);
+    if (strcmp(what, "spawns") == 0 && system("exit 3") == 0)
+        return 1;
     if (strcmp(what, "leaves-out") == 0 && symlink("a", "b") != 0)
         return 1;
+    if (strcmp(what, "passes") == 0 && passes(fd) != 0)
+        return 1;
+    if (strcmp(what, "stdio") == 0 && dup2(fd, 1) == 1 && printf("%s", text) > 0)
+        fflush(stdout);
     return fstat(fd, &told) || close(fd);
 }

@@ -139,7 +139,29 @@ PROGRAMS = [
         ("--before", "0"),
     ),
     Judged("strays", ("output",), 1, (WELL, "3 calls of 1 process: no answer differs")),
-    Judged("strays", ("leaves-out",), 0, (WELL, "3 calls of 1 process: no answer differs")),
+    Judged(
+        "strays",
+        ("leaves-out",),
+        0,
+        (WELL, "3 calls of 1 process: no answer differs", "past fdref: 1 path (symlink b)", "audit: legal"),
+    ),
+    Judged(
+        "strays",
+        ("passes",),
+        0,
+        (
+            WELL,
+            "3 calls of 1 process: no answer differs",
+            "past fdref: 3 paths (first /dev/null), 1 stream (fopen /dev/null), 1 other call (fcntl with F_SETFL)",
+            "audit: legal",
+        ),
+    ),
+    Judged(
+        "strays",
+        ("stdio",),
+        1,
+        (WELL, NONE, "past fdref: stdio on descriptor 1, which is a file of fdref: it fails there", "audit: legal"),
+    ),
     Judged("stays", ("reads",), 3, (NEITHER, "2 calls of 2 processes: no answer differs"), SOON),
     Judged(
         "stays",
@@ -176,23 +198,32 @@ def cases(bench: Bench) -> Iterator[Case]:
     for judged in PROGRAMS:
         yield " ".join(["judge_" + judged.name, *judged.words]), partial(is_said, bench, judged)
     yield "what is kept, and standard input", partial(is_kept, bench)
+    yield "what --strict would tell", partial(tells_of_strict, bench)
     yield "the shim that is built for it", partial(builds_shim, bench)
     yield "a trace that is not legal", partial(is_illegal, bench)
 
 
 def is_kept(bench: Bench) -> None:
-    """With --keep the logs and the trace are kept; with --stdin the program reads a file."""
+    """With --keep all that judge.py was given is kept; with --stdin the program reads a file."""
     into = bench.path("kept")
     os.mkdir(into)
     Path(bench.path("line")).write_text(A_LINE, encoding="ascii")
     words = ["--shim", bench.shim(), "--keep", into, "--stdin", bench.path("line"), bench.compiled("judge_agrees")]
     same(0, bench.judged(*words).status)
-    same(["fdref.log", "system.log", "trace"], sorted(os.listdir(into)))
+    same(["fdref.log", "past", "system.log", "trace"], sorted(os.listdir(into)))
     data = f" x{A_LINE.encode().hex()} = {len(A_LINE)}\n"
     for name in ("fdref.log", "system.log"):
         require(data in Path(into, name).read_text(encoding="ascii"), f"{name} has no write of the line")
     audit = run([bench.program, "audit", os.path.join(into, "trace")])
     same((0, b""), (audit.status, audit.stderr))
+
+
+def tells_of_strict(bench: Bench) -> None:
+    """Where a program that differs does what --strict would tell, that is the last line; else it says nothing of it."""
+    for word, wanted in (("spawns", "--strict ends it at system exit 3"), ("output", "audit: legal")):
+        ran = bench.judged("--shim", bench.shim(), bench.compiled("judge_strays"), word)
+        last = ran.stdout.decode("ascii").splitlines()[-1]
+        require(ran.status == 1 and last.startswith(wanted), ran.said())
 
 
 def builds_shim(bench: Bench) -> None:

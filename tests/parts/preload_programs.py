@@ -9,6 +9,7 @@ import threading
 import time
 from collections.abc import Iterator, Sequence
 from functools import partial
+from pathlib import Path
 
 from parts.preload_builds import (
     LEFT_OUT,
@@ -65,6 +66,8 @@ DESCRIPTORS = [
     "select", "pselect", "epoll_ctl",
 ]  # fmt: skip
 SEEK = "lseek by SEEK_DATA and its kin"
+# What ends a strict program before the call that it leads to is noted.
+NOTED_BY_OTHERS = ["execl", "execle", "execlp", "none in a folder"]
 
 
 def both(program: str, library: Library, name: str, words: Sequence[str], sessions: int, before: str) -> None:
@@ -148,13 +151,23 @@ def exits_first(program: str, library: Library, way: str) -> None:
 def leaves_out(program: str, library: Library) -> None:
     """A program that has to be strict ends where fdref leaves something out, which is told."""
     words = [*NAMES, *DESCRIPTORS, SEEK]
-    with Server(program, len(words), ALL_RECORDS) as server:
+    with Server(program, len(words), ALL_RECORDS) as server, empty_folder() as folder:
         log: list[str] = []
         for word in words:
-            given = asking(library, server, [library.program("preload_ends"), word], ["FDREF_STRICT=1"])
+            past = os.path.join(folder, "past")
+            settings = ["FDREF_STRICT=1", f"FDREF_PAST={past}"]
+            given = asking(library, server, [library.program("preload_ends"), word], settings)
             same(Ran(LEFT_OUT, b"", f"fdref: {word} is left out\n".encode()), given.ran)
+            notes = Path(past).read_text(encoding="ascii").splitlines()
+            os.unlink(past)
+            require(word in NOTED_BY_OTHERS or is_noted(word, notes), f"{word}: {notes}")
             log += given.log
         ended(server, len(words), log)
+
+
+def is_noted(word: str, notes: list[str]) -> bool:
+    """Whether the last of what was noted is this."""
+    return bool(notes) and notes[-1].startswith("! ") and word.removeprefix("the path ") in notes[-1]
 
 
 def refuses(program: str, library: Library) -> None:
