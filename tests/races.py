@@ -406,6 +406,13 @@ OWN = [
     "6 7 p1 open f rw = 0",
     "8 9 p0 pwrite 0 0 x3030 = 2",
 ]
+PIPED = [
+    "0 1 p0 join = 0",
+    "2 3 p0 pipe = 0 1",
+    "4 5 p0 fork = 1",
+    "6 7 p1 attach = ok",
+    "8 9 p0 write 1 61*1000 = 1000",
+]
 SHARED = [
     "0 1 p0 join = 0",
     "2 3 p0 open f rw,creat = 0",
@@ -431,6 +438,9 @@ def reason_cases() -> Iterator[Case]:
         yield f"{one} and {other}", partial(has_reason, OWN, one, other, reason)
     shared = "100 900 p0 write 0 x6162 = 2", "200 300 p1 read 0 2 = x6130"
     yield "a read under the lock of one offset", partial(has_reason, SHARED, *shared, None)
+    large = "100 900 p0 write 1 62*1000 = 1000"
+    yield "a larger pipe", partial(has_reason, PIPED, large, "200 300 p1 fork = 2", "room of a pipe (own)")
+    yield "a larger pipe, in vain", partial(has_reason, PIPED, large, "200 300 p1 read 0 2 = x6162", None)
 
 
 # ---- the tool

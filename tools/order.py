@@ -13,13 +13,18 @@ searched for with the plain model of the tests, and then run through `fdref repl
 the program, and each was compared with the history. A call that waits has a line where it begins to wait, and one for
 each resume.
 
-Where no order explains a history a part of it is printed that has none either. In it `?` is an answer that does not
-matter, and END `-` with `?` is a call of which nothing else is known. Then comes the call that makes it impossible,
-with those that overlap it, and the page of the standard. Histories that differ in their times alone are searched once.
+In fdref a pipe has room for 1,024 bytes. Where no order explains a history with a pipe or FIFO, one is searched for
+with pipes of 65,536 bytes. If there is one the history has a reason, `room of a pipe (own)`: the standard leaves it
+open. What is printed then is the order by the plain model.
 
-After several histories the last line counts them. Exit status: 0 where all are explained, 1 where one is not, 2 for
-wrong words and where HISTORY cannot be read, 3 where fdref could not be run or is not what the plain model is, 4 where
-a line is no call, 5 where one was given up and the others are explained.
+Where none explains a history a part of it is printed that has none either. In it `?` is an answer that does not
+matter, and END `-` with `?` is a call of which nothing else is known. Both may be asked, too. Then comes the call that
+makes it impossible, with those that overlap it, and the page of the standard. Histories that differ in their times
+alone are searched once.
+
+After several histories the last line counts them. Exit status: 0 where all are explained, or have that reason, 1 where
+one is not, 2 for wrong words and where HISTORY cannot be read, 3 where fdref could not be run or is not what the plain
+model is, 4 where a line is no call, 5 where one was given up and the others are explained.
 """
 
 import argparse
@@ -29,10 +34,25 @@ from pathlib import Path
 
 sys.path.insert(1, str(Path(__file__).resolve().parents[1] / "tests"))
 
+from support import plain_model
 from support.commands import NoProgram, add_program, program_of
 from support.histories import BadHistory, Noted, form, history_text, read_histories
-from support.ordering import SECONDS, STATES_MOST, Explained, GivenUp, Result, Unexplained, explain
+from support.ordering import (
+    ROOM,
+    SECONDS,
+    STATES_MOST,
+    ByRoom,
+    Explained,
+    GivenUp,
+    Result,
+    Unexplained,
+    by_room,
+    explain,
+)
 from support.replaying import CannotRun, Differs, verified
+
+# The reason of a history that only larger pipes explain.
+ROOMY = "reason: room of a pipe (own; page of write)"
 
 EXPLAINED, NOT_EXPLAINED, WRONG_WORDS, CANNOT_RUN, NO_CALL, GIVEN_UP = 0, 1, 2, 3, 4, 5
 
@@ -44,15 +64,15 @@ class Orders:
         self.program = program
         self.args = args
         self.is_one = is_one
-        self.known: dict[tuple[object, ...], tuple[int, Result]] = {}
-        self.counts = {Explained: 0, Unexplained: 0, GivenUp: 0}
+        self.known: dict[tuple[object, ...], tuple[int, Result | ByRoom]] = {}
+        self.counts = {Explained: 0, Unexplained: 0, GivenUp: 0, ByRoom: 0}
 
     def answer(self, number: int, history: Sequence[Noted]) -> None:
         """Answers for a history, and prints what is to be told of it."""
         key = form(history)
         is_new = key not in self.known
         if is_new:
-            self.known[key] = number, explain(history, self.args.states, self.args.seconds)
+            self.known[key] = number, self.found(history)
         first, result = self.known[key]
         self.counts[type(result)] += 1
         if isinstance(result, Explained) and is_new:
@@ -62,13 +82,24 @@ class Orders:
         if not (self.args.quiet and (isinstance(result, Explained) or not is_new)):
             print(("" if self.is_one else f"history {number}: ") + told, end="", flush=True)
 
+    def found(self, history: Sequence[Noted]) -> Result | ByRoom:
+        """Whether an order explains a history, with pipes as they are in fdref or with larger ones."""
+        limits = self.args.states, self.args.seconds
+        result = explain(history, *limits, shrink_seconds=0)
+        if not isinstance(result, Unexplained):
+            return result
+        return by_room(history, *limits) or explain(history, *limits)
+
     def ordered(self, history: Sequence[Noted], result: Explained) -> str:
         """The order of a history, as the program printed it."""
         lines = verified(self.program, history, result.steps)
         return "an order explains it\n" + "".join(f"{line.place} {line.act} = {line.outcome}\n" for line in lines)
 
-    def unordered(self, result: Result) -> str:
+    def unordered(self, result: Result | ByRoom) -> str:
         """What is told of a history without an order, or of one that was given up."""
+        if isinstance(result, ByRoom):
+            lines = [f"  {plain_model.act_text(step.act)} = {step.outcome}" for step in result.steps]
+            return "\n".join([f"an order explains it where a pipe has room for {ROOM:,} bytes", *lines, ROOMY, ""])
         if not isinstance(result, Unexplained):
             return f"given up after {result.states} states\n" if isinstance(result, GivenUp) else ""
         parts = ["no order explains it, nor this part of it:", indented(result.shrunk)]
@@ -77,9 +108,9 @@ class Orders:
 
     def totals(self) -> str:
         """The last line."""
-        explained, unexplained, given_up = self.counts.values()
-        total = explained + unexplained + given_up
-        return f"histories {total} explained {explained} unexplained {unexplained} given up {given_up}"
+        explained, unexplained, given_up, roomy = self.counts.values()
+        text = f"histories {sum(self.counts.values())} explained {explained} unexplained {unexplained} "
+        return text + f"given up {given_up}" + (f" room of a pipe {roomy}" if roomy else "")
 
     def status(self) -> int:
         """The exit status."""

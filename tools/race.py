@@ -120,6 +120,14 @@ class Reason(NamedTuple):
         return bool(doubted) and isinstance(explained(without(race.history, doubted)), ordering.Explained)
 
 
+class RoomReason(Reason):
+    """The reason that a pipe of the system has more room than one of the profile: an order explains all with that."""
+
+    def fits(self, race: Race) -> bool:
+        """Whether an order explains a history where pipes are larger."""
+        return ordering.by_room(race.history, STATES_MOST, SEARCH_SECONDS) is not None
+
+
 def overlap(one: Noted, other: Noted) -> bool:
     """Whether two calls overlap in time."""
     return not one.precedes(other) and not other.precedes(one)
@@ -155,6 +163,7 @@ REASONS = [
     Reason("a length grows by pages while a write goes on", "XSH 2.9.7; pages of fstat, lseek and write", is_growing),
     Reason("a read gives a part of what is written meanwhile", "XSH 2.9.7; pages of read and write", is_torn),
     Reason("both at once", "XSH 2.9.7", is_either),
+    RoomReason("room of a pipe (own)", "page of write", lambda *_: False),
 ]
 
 

@@ -53,6 +53,21 @@ page of write: at most PIPE_BUF bytes are not interleaved; page of read
 WAITING = GOOD.replace("80 99 p0 read 0 4 = x61\n90 95 p1 write 1 x61 = 1", "80 - p0 read 0 9 = parked ?")
 
 
+# One that only a larger pipe explains, and what is printed of it.
+ROOMY = """10 20 p0 join = 0
+30 40 p0 pipe = 0 1
+50 60 p0 write 1 61*600 = 600
+70 80 p0 write 1 61*600 = 600
+"""
+ROOMY_LINES = """an order explains it where a pipe has room for 65,536 bytes
+  p0 join = 0
+  p0 pipe = 0 1
+  p0 write 1 61*600 = 600
+  p0 write 1 61*600 = 600
+reason: room of a pipe (own; page of write)
+"""
+
+
 def told(program: str, text: str, *options: str) -> Ran:
     """What the tool prints of histories."""
     words = ["python3", str(TOOLS / "order.py"), "-", "--program", program, *options]
@@ -135,6 +150,12 @@ def cases(program: str) -> Iterator[Case]:
     yield "an order", partial(prints, program, GOOD, 0, GOOD_LINES)
     yield "no order", partial(prints, program, BAD, 1, BAD_LINES)
     yield "several histories", partial(prints, program, four, 1, several)
+    yield "a larger pipe", partial(prints, program, ROOMY, 0, ROOMY_LINES)
+    both = f"history 1: {ROOMY_LINES}history 2: {GOOD_LINES}"
+    both += "histories 2 explained 1 unexplained 0 given up 0 room of a pipe 1\n"
+    yield "a larger pipe, counted", partial(prints, program, f"{ROOMY}\n{GOOD}", 0, both)
+    wrong = ROOMY.replace("70 80 p0 write 1 61*600 = 600", "70 80 p0 read 0 9 = x")
+    yield "a larger pipe, in vain", partial(fails, program, wrong, 1, "no order explains it")
     yield "quiet", partial(prints, program, four, 1, f"history 2: {BAD_LINES}{totals}", "--quiet")
     nothing = "histories 0 explained 0 unexplained 0 given up 0\n"
     yield "no history", partial(prints, program, "\n", 0, nothing)

@@ -6,9 +6,11 @@ end no call that waits may be ready.
 """
 
 import time
-from collections.abc import Sequence
+from collections.abc import Iterator, Sequence
+from contextlib import contextmanager
 from typing import NamedTuple
 
+from support import plain_model
 from support.footprints import Footprints, Opened
 from support.histories import WAITS, Noted
 from support.plain_model import PIPE_BUF
@@ -20,12 +22,20 @@ SECONDS = 60
 SHRINK_SECONDS = 20
 # A search for a shorter part may take so many times as long as that of the whole, or so long.
 EACH_TIMES, EACH_LEAST = 4, 0.5
+# How many bytes a pipe holds on many a system, where the profile has fewer.
+ROOM = 65_536
 # How many of the calls that overlap the one that is blamed are told.
 OVERLAPPING_MOST = 3
 
 
 class Explained(NamedTuple):
     """A history that an order explains: the steps of that order."""
+
+    steps: list[Step]
+
+
+class ByRoom(NamedTuple):
+    """A history that an order explains only where a pipe has room for ROOM bytes: the steps of that order."""
 
     steps: list[Step]
 
@@ -67,6 +77,26 @@ def explain(
     shrunk = Shortening(states_most, shrink_seconds, each).shortest(ordered)
     blamed = blamed_in(shrunk)
     return Unexplained(shrunk, blamed, page_of(shrunk, blamed[0]))
+
+
+@contextmanager
+def roomy_pipes() -> Iterator[None]:
+    """Pipes of the plain model have room for ROOM bytes."""
+    before = plain_model.PIPE_CAPACITY
+    plain_model.PIPE_CAPACITY = ROOM
+    try:
+        yield
+    finally:
+        plain_model.PIPE_CAPACITY = before
+
+
+def by_room(history: Sequence[Noted], states_most: int = STATES_MOST, seconds: float = SECONDS) -> ByRoom | None:
+    """An order of a history with a pipe or FIFO that explains it where pipes have more room, if there is one."""
+    if not any(noted.act.word in ("pipe", "mkfifo") for noted in history):
+        return None
+    with roomy_pipes():
+        result = explain(history, states_most, seconds, 0)
+    return ByRoom(result.steps) if isinstance(result, Explained) else None
 
 
 # ---- who is to blame
