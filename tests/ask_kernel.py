@@ -16,6 +16,7 @@ failed`, and the exit status is 1 where M is above 0.
 import argparse
 import contextlib
 import os
+import shlex
 import shutil
 import signal
 import subprocess
@@ -24,6 +25,7 @@ import tempfile
 import time
 from collections.abc import Callable, Iterator, Sequence
 from functools import partial
+from pathlib import Path
 from typing import Any
 
 from stand_ins import wrong_oracle
@@ -315,6 +317,42 @@ def question_marks_fit(bench: Bench) -> None:
     require(asked.has_same_room, "the room of its pipes is not seen")
     for number in range(10):
         differs_nowhere(asked, compare.random_lines(SEED, number, 60, "full-pipes"))
+
+
+def says(bench: Bench, text: bytes) -> tuple[int, list[str]]:
+    """How tools/compare.py ends for a script, and what it prints."""
+    path = Path(bench.folder, "told.script")
+    path.write_bytes(text)
+    command = [sys.executable, str(TOOLS / "compare.py"), "--program", bench.program, "--ask", shlex.join(bench.ask())]
+    ran = run([*command, str(path)], seconds=SECONDS)
+    path.unlink()
+    return ran.status, ran.stdout.decode("ascii").splitlines()
+
+
+@case("acts that are struck")
+def struck_acts_are_told(bench: Bench) -> None:
+    """The last line names the acts that were struck."""
+    if not IS_LINUX:
+        return
+    status, lines = says(bench, b"join\np0 pipe\np0 write 1 61*3000\np0 write 1 62*2000\n")
+    last = "       2 acts were struck and not compared: p0 write 1 61*3000; p0 write 1 62*2000"
+    require((status, lines[-1]) == (0, last), f"status {status}: {lines}")
+
+
+@case("a fault in a script")
+def fault_is_told(bench: Bench) -> None:
+    """A line that is no act is told as fdref tells it."""
+    status, lines = says(bench, b"join\n\np0 read 0\n")
+    told = "line 3 column 10: not an act, expected a count of bytes, from 0 to 4294967295"
+    require(status == 3 and lines[0].endswith(f"told.script: {told}"), f"status {status}: {lines}")
+
+
+@case("a folder without a script")
+def no_script_is_told(bench: Bench) -> None:
+    """A folder without a script is a wrong word."""
+    command = [sys.executable, str(TOOLS / "compare.py"), "--program", bench.program, bench.folder]
+    ran = run(command, seconds=SECONDS)
+    require(ran.status == 2 and b"error: there is no file" in ran.stderr, ran.said())
 
 
 # ---- wrong rules

@@ -14,8 +14,9 @@ standard, and whether the system departs from it or the profile chose (own). Whe
 apart after it, its act is struck from the script and the script is run again, so that one difference is
 not a hundred. A random script with a difference without a reason is shrunk.
 
-The last lines count the differences by reason. Exit status: 0 where each difference had a reason, 1
-where one had none, 2 for wrong words, 3 where a script could not be run. docs/KERNELS.md has more.
+The last lines count the differences by reason, and tell which acts were struck: they were not compared further. Exit
+status: 0 where each difference had a reason, 1 where one had none, 2 for wrong words and where no script is found, 3
+where a script could not be run. docs/KERNELS.md has more.
 """
 
 import argparse
@@ -44,6 +45,7 @@ from support.shrinking import shrunk
 
 SECONDS = 120
 LINES_BEFORE = 12
+ACTS_TOLD = 8
 STRIKES_MOST = 8
 ORDERS_MOST = 150
 SHRINK_SECONDS = 120
@@ -398,6 +400,15 @@ class Asked:
         """The run of a script as it happened."""
         return self.run(self.driver, b"".join(line + b"\n" for line in lines), "ask_kernel")
 
+    def fault(self, path: str) -> str:
+        """The fault of a script, as fdref tells it: its line, its column and what could stand there."""
+        try:
+            done = run([*self.program, "replay"], Path(path).read_bytes(), seconds=SECONDS)
+        except (Failure, OSError):
+            return "not a script"
+        lines = done.stderr.decode("ascii", "replace").splitlines()
+        return ", ".join(line for line in lines if line.startswith(("line ", "expected "))) or "not a script"
+
     def fdref(self, lines: list[Line]) -> list[Line]:
         """What fdref gives for the acts of a run."""
         ends = ends_of_closing(lines)
@@ -593,10 +604,13 @@ def random_lines(seed: str, number: int, acts: int, which: str) -> list[bytes]:
 
 
 class Checked:
-    """What came of a script: how many calls the system made, its differences, and the first without a reason."""
+    """What came of a script: how many calls the system made, its differences, and the first without a reason; the acts
+    that were struck, and the one after which nothing was compared, if there is one."""
 
     def __init__(self) -> None:
         self.calls = 0
+        self.struck: list[str] = []
+        self.last: str | None = None
         self.differences: list[Difference] = []
         self.unexplained: Difference | None = None
 
@@ -675,6 +689,7 @@ def checked(asked: Asked, lines: list[bytes]) -> Checked:
     lines = with_looks(lines)
     for _ in range(STRIKES_MOST):
         system, found = compared(asked, lines)
+        result.last = None
         result.calls = sum(line.place not in ("-", "") and not is_told_back(line) for line in system)
         result.differences = apart + found
         last = found[-1] if found else None
@@ -683,9 +698,11 @@ def checked(asked: Asked, lines: list[bytes]) -> Checked:
             return result
         if not last or last.is_settled():
             return result
+        result.last = act_of(last.lines[last.place])
         shorter = struck(lines, system, last)
         if shorter == lines:
             return result
+        result.struck.append(result.last)
         apart, lines = [*apart, last], shorter
     return result
 
@@ -739,15 +756,27 @@ def scripts_in(paths: Sequence[str]) -> Iterator[tuple[str, list[bytes]]]:
             yield path, [line for line in Path(path).read_bytes().split(b"\n") if line]
 
 
+def told_acts(acts: list[str], of_one: str, of_more: str) -> list[str]:
+    """A line that counts acts and names the first of them."""
+    if not acts:
+        return []
+    named = "; ".join(clipped(act) for act in acts[:ACTS_TOLD]) + ("; .." if acts[ACTS_TOLD:] else "")
+    return [f"{len(acts):8} {of_more if acts[1:] else of_one}: {named}"]
+
+
 class Totals:
     """What is counted over all scripts."""
 
     def __init__(self) -> None:
         self.scripts = self.calls = self.unexplained = self.failed = 0
         self.by_reason: collections.Counter[str] = collections.Counter()
+        self.struck: list[str] = []
+        self.last: list[str] = []
 
     def add(self, result: Checked) -> None:
         """Counts a script."""
+        self.struck += result.struck
+        self.last += [result.last] if result.last is not None else []
         self.scripts += 1
         self.calls += result.calls
         self.unexplained += result.unexplained is not None
@@ -760,6 +789,8 @@ class Totals:
         met = [it for it in REASONS if self.by_reason[it.name]]
         lines += [f"{self.by_reason[it.name]:8} {it.name} ({it.who}; {it.page})" for it in met]
         lines += [f"{self.unexplained:8} without a reason"]
+        lines += told_acts(self.struck, "act was struck and not compared", "acts were struck and not compared")
+        lines += told_acts(self.last, "time the rest was not compared, after", "times the rest was not compared, after")
         return "\n".join(lines)
 
     def status(self) -> int:
@@ -773,7 +804,7 @@ def check_one(asked: Asked, totals: Totals, name: str, lines: list[bytes], is_ra
         result = checked(asked, lines)
     except (CannotRun, plain_model.NotAnAct) as fault:
         totals.failed += 1
-        print(f"{name}: {fault}" if isinstance(fault, CannotRun) else f"{name}: not a script", flush=True)
+        print(f"{name}: {fault if isinstance(fault, CannotRun) else asked.fault(name)}", flush=True)
         return
     totals.add(result)
     if result.unexplained:
@@ -823,13 +854,16 @@ def parse(words: Sequence[str]) -> argparse.Namespace:
     for path in [*args.paths, *([args.keep] if args.keep else [])]:
         if not os.path.exists(path):
             parser.error(f"there is no {path}")
+    args.scripts = list(scripts_in(args.paths))
+    if args.paths and not args.scripts:
+        parser.error(f"there is no file named script or *.script in {', '.join(args.paths)}")
     return args
 
 
 def check_all(args: argparse.Namespace, totals: Totals, driver: str) -> None:
     """Compares all scripts that are asked for."""
     asked = Asked(program_of(args.program), shlex.split(driver))
-    for name, lines in scripts_in(args.paths):
+    for name, lines in args.scripts:
         check_one(asked, totals, name, lines, False, args.keep)
     for number in range(args.first, args.first + args.random):
         lines = random_lines(args.seed, number, args.acts, class_of(number, args.which))
