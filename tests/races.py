@@ -31,7 +31,7 @@ from support import histories, ordering
 from support.counting import Case, Count, Failure, require, same
 from support.histories import Noted
 from support.options import add_count, add_only, add_path, end_without
-from support.places import FDREF, STAND_INS, TOOLS
+from support.places import EXAMPLES, FDREF, STAND_INS, TOOLS
 from support.replaying import CannotRun, Differs
 from support.running import Ran, run
 
@@ -468,6 +468,13 @@ def system_is_explained(bench: Bench) -> None:
     bench.is_clean()
 
 
+def example_has_orders(bench: Bench) -> None:
+    """The example is raced, and each history has an order, or has one with larger pipes."""
+    for history in bench.races((EXAMPLES / "big-write.race").read_text(encoding="ascii"), "--rounds", "5"):
+        is_explained = isinstance(race.explained(history), ordering.Explained)
+        require(is_explained or ordering.by_room(history), "\n".join(texts(history)))
+
+
 def impossible_is_told(bench: Bench) -> None:
     """A history without an order and without a reason is told, shown and kept, and is status 1."""
     driver, kept = Path(bench.folder, "impossible"), os.path.join(bench.folder, "kept")
@@ -502,6 +509,7 @@ def tool_cases(bench: Bench) -> Iterator[Case]:
     yield "no program", partial(tool_ends, bench, 3, ["--seconds", "1", "--program", "/no/such"])
     yield "no driver", partial(tool_ends, bench, 3, ["--seconds", "1", "--driver", "/no/such"])
     yield "impossible answers", partial(impossible_is_told, bench)
+    yield "the example", partial(example_has_orders, bench)
     if IS_LINUX:
         yield "SIGTERM", partial(term_leaves_nothing, bench)
     yield f"{bench.seconds} seconds of all kinds", partial(system_is_explained, bench)

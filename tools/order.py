@@ -79,7 +79,7 @@ class Orders:
             told = self.ordered(history, result)
         else:
             told = self.unordered(result) if is_new else f"as history {first}\n"
-        if not (self.args.quiet and (isinstance(result, Explained) or not is_new)):
+        if not (self.args.quiet and (isinstance(result, Explained | ByRoom) or not is_new)):
             print(("" if self.is_one else f"history {number}: ") + told, end="", flush=True)
 
     def found(self, history: Sequence[Noted]) -> Result | ByRoom:
@@ -133,7 +133,7 @@ def parse(words: Sequence[str]) -> argparse.Namespace:
     add_program(parser)
     parser.add_argument("--seconds", type=float, default=SECONDS, metavar="N", help="give a history up after so long")
     parser.add_argument("--states", type=int, default=STATES_MOST, metavar="N", help="or after so many states")
-    parser.add_argument("--quiet", action="store_true", help="print nothing of histories that are explained")
+    parser.add_argument("--quiet", action="store_true", help="tell only of histories without order and reason")
     return parser.parse_args(words)
 
 

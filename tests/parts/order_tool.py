@@ -13,7 +13,7 @@ from parts.told_histories import EXPLAINED, IMPOSSIBLE, Told
 from support import commands
 from support.counting import Case, Failure, require, same
 from support.histories import BadHistory, form, history_text, read_histories
-from support.places import TOOLS
+from support.places import EXAMPLES, TOOLS
 from support.running import Ran, run
 
 # A history that has an order, what is printed of it, and the same one at other times.
@@ -96,6 +96,14 @@ def reads_a_file(program: str) -> None:
         same((0, GOOD_LINES), (ran.status, ran.stdout.decode()))
 
 
+def answers_the_example(program: str) -> None:
+    """The example asks what a write may give: that, and what had gone in before the read, but nothing in between."""
+    text = Path(EXAMPLES, "may-it.history").read_text(encoding="ascii")
+    require(told(program, text).stdout.endswith(b" p0 resume = 1624\n"), told(program, text).said())
+    for status, other in ((0, "1024"), (1, "1025"), (1, "1625"), (0, "?")):
+        same(status, told(program, text.replace("= 1624", f"= {other}")).status)
+
+
 def fails_without_file(program: str) -> None:
     """A history that cannot be read is a wrong word."""
     ran = run(["python3", str(TOOLS / "order.py"), "/no/history", "--program", program])
@@ -166,6 +174,7 @@ def cases(program: str) -> Iterator[Case]:
     yield "a program that ends badly", partial(fails, "/bin/false", GOOD, 3, "status 1")
     yield "a line that is no call", partial(fails, program, f"{GOOD}\n1 2 p0 jion = 0\n", 4, "line 8: ")
     yield "what is built", takes_what_is_built
+    yield "the example", partial(answers_the_example, program)
     yield "a file", partial(reads_a_file, program)
     yield "no file", partial(fails_without_file, program)
     yield "a program that differs", partial(finds_a_wrong_program, program)
