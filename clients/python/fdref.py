@@ -160,8 +160,11 @@ class Process:
         while True:
             try:
                 return self._socket.connect(path)
-            except (FileNotFoundError, ConnectionRefusedError):
-                if time.monotonic() >= until:
+            except OSError as fault:
+                is_starting = isinstance(fault, FileNotFoundError | ConnectionRefusedError)
+                if not is_starting or time.monotonic() >= until:
+                    if fault.errno is not None:
+                        fault.filename = path
                     raise
             time.sleep(0.01)
 
@@ -338,6 +341,8 @@ def _outcome(value: Any) -> bytes:
     if value is None:
         return b"\x01"
     if isinstance(value, int):
+        if value < 0:
+            raise ValueError(f"{value} is no value of a call; an error is Error('EBADF') or so")
         return b"\x02" + _number(value, 8)
     if isinstance(value, bytes | bytearray | memoryview):
         return b"\x03" + _data(value, TRANSFER_MOST)
@@ -346,7 +351,7 @@ def _outcome(value: Any) -> bytes:
         return bytes([5, _place_in(KINDS, value.kind, "kind of file")]) + numbers
     if isinstance(value, Error | OSError):
         name = value.name if isinstance(value, Error) else errno.errorcode.get(value.errno or 0)
-        return bytes([6, _place_in(ERRORS, name, "error") + 1])
+        return bytes([6, _place_in(ERRORS, name, "error of the profile") + 1])
     if isinstance(value, Parked | Part):
         return (b"\x07" if isinstance(value, Parked) else b"\x08") + _number(value.moved, 4)
     if isinstance(value, tuple) and len(value) == 2:
@@ -427,8 +432,19 @@ def _flags(flags: int) -> bytes:
             byte |= bit
             flags &= ~flag
     if flags:
-        raise ValueError(f"flags that no request holds: {flags:#o}")
+        raise ValueError(f"flags that no request holds: {_flag_names(flags)}")
     return bytes([byte])
+
+
+def _flag_names(flags: int) -> str:
+    """Flags by the names that `os` has for them, those of the most bits first, and what is left over as a number."""
+    known = {name: value for name, value in vars(os).items() if name.startswith("O_") and value}
+    names = []
+    for name, value in sorted(known.items(), key=lambda it: (-it[1].bit_count(), len(it[0]))):
+        if flags & value == value:
+            names.append(name)
+            flags &= ~value
+    return ", ".join([*names, f"{flags:#o}"] if flags else names)
 
 
 def _place_in(values: Sequence[Any], value: Any, what: str) -> int:

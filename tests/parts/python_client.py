@@ -130,7 +130,10 @@ def faults(program: str) -> None:
         same(57, process.place)
         same("RunFull", raises(fdref.Refused, fdref.join, server.path).reason)
         server.process.kill()
+        server.process.wait()
         require(isinstance(raised_by(process.close, 7), ConnectionError), "no ConnectionError")
+        for path in (server.path, "/no/such/socket"):
+            same(path, getattr(raised_by(fdref.join, path), "filename", None))
         raises(ConnectionError, process.close, 7)
 
 
