@@ -3,6 +3,8 @@
 
 usage: tools/judge.py [OPTIONS] PROGRAM [WORD ...]
 
+All that follows PROGRAM are words of it.
+
 On a built tree one command judges a program of your own, in a few seconds:
 
     cc -o my-test my-test.c && python3 tools/judge.py ./my-test
@@ -15,8 +17,8 @@ the C library (the shim, clients/preload) makes its calls, so it need not be cha
 for this run, by $CC or cc, unless --shim names a built one. A statically linked program does not load it.
 What fdref leaves out goes past it to the system, and is not judged: paths with a slash, folders, streams
 of stdio, other programs. The shim notes what it sees of that, and it is told by kinds, each with the
-first of it; --keep has all. Under --strict it ends the program. A static program, and calls that the C
-library makes inside, are not seen: so printf is lost where dup2 puts a file of fdref at descriptor 1.
+first of it; --keep has all. Under --strict it ends the program. Calls that the C library makes inside
+are not seen: so printf is lost where dup2 puts a file of fdref at descriptor 1.
 
 Told is how both ended, and where they part: the first call whose answer differs and has no reason, else
 the first that differs, after some lines before it and with its reason. The reasons are those of
@@ -389,10 +391,15 @@ def parse(words: Sequence[str]) -> argparse.Namespace:
     before = f"lines that are told before a difference; {compare.LINES_BEFORE} where no number is given"
     parser.add_argument("--before", metavar="N", type=number_in(0, 10**6), default=compare.LINES_BEFORE, help=before)
     parser.add_argument("--strict", action="store_true", help="end it where it uses what fdref leaves out")
-    parser.add_argument("--keep", metavar="DIR", help="a folder for both logs, the trace, and what went past")
+    parser.add_argument("--keep", metavar="DIR", help="a folder that is there, for logs, trace, and what went past")
     parser.add_argument("judged", metavar="PROGRAM", help="the program that is judged")
-    parser.add_argument("words", metavar="WORD", nargs=argparse.REMAINDER, help="its words")
+    rest = parser.add_argument("words", metavar="WORD", nargs=argparse.REMAINDER, help="its words, options too")
+    # argparse would say that there has to be one
+    rest.required = False
     args = parser.parse_args(words)
+    astray = [word for word in args.words if word.partition("=")[0] in (f"--{name}" for name in vars(args))]
+    if astray:
+        print(f"judge.py: {astray[0]} is a word of {args.judged}: own options stand before it", file=sys.stderr)
     for path in (args.stdin, args.shim, args.keep):
         if path and not os.path.exists(path):
             parser.error(f"there is no {path}")

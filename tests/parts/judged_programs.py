@@ -199,6 +199,7 @@ def cases(bench: Bench) -> Iterator[Case]:
         yield " ".join(["judge_" + judged.name, *judged.words]), partial(is_said, bench, judged)
     yield "what is kept, and standard input", partial(is_kept, bench)
     yield "what --strict would tell", partial(tells_of_strict, bench)
+    yield "an option after the program", partial(tells_astray, bench)
     yield "the shim that is built for it", partial(builds_shim, bench)
     yield "a trace that is not legal", partial(is_illegal, bench)
 
@@ -216,6 +217,14 @@ def is_kept(bench: Bench) -> None:
         require(data in Path(into, name).read_text(encoding="ascii"), f"{name} has no write of the line")
     audit = run([bench.program, "audit", os.path.join(into, "trace")])
     same((0, b""), (audit.status, audit.stderr))
+
+
+def tells_astray(bench: Bench) -> None:
+    """An option of judge.py that stands after the program is a word of that, which is told."""
+    program = bench.compiled("judge_agrees")
+    ran = bench.judged("--shim", bench.shim(), program, "--seconds=3")
+    told = f"judge.py: --seconds=3 is a word of {program}: own options stand before it\n"
+    same((0, told), (ran.status, ran.stderr.decode("utf-8")))
 
 
 def tells_of_strict(bench: Bench) -> None:
@@ -261,7 +270,8 @@ def is_wrong(bench: Bench, words: tuple[str, ...]) -> None:
     """Wrong words end with status 2, and tell why on standard error alone."""
     ran = bench.judged(*words)
     same((2, b""), (ran.status, ran.stdout))
-    require(ran.stderr.splitlines()[-1].startswith(b"judge.py: error: "), ran.said())
+    last = ran.stderr.splitlines()[-1]
+    require(last.startswith(b"judge.py: error: ") and b"WORD" not in last, ran.said())
 
 
 def cannot_run(bench: Bench, words: tuple[str, ...], why: str, variables: tuple[str, ...]) -> None:
