@@ -44,6 +44,7 @@ SECONDS = 60
 SEED = "acceptance"
 RULE_SEED = "rules"
 RULE_SCRIPTS = 120
+NOT_AN_ACT = b"not an act; fdref replay tells the column and what could stand there"
 IS_LINUX = sys.platform.startswith("linux")
 WARNINGS = ["-std=c99", "-O2", "-Wall", "-Wextra", "-pedantic", "-Werror"]
 
@@ -141,7 +142,7 @@ def is_usage(bench: Bench, status: int, *words: str) -> None:
 @case("a word is missing", b"\np0 close\n", b"", 2)
 def is_bad_line(bench: Bench, script: bytes, lines: bytes, line: int) -> None:
     """A script that is refused for a line."""
-    gives(bench.run(script), lines, 3, b"ask_kernel: line %d: not an act\n" % line)
+    gives(bench.run(script), lines, 3, b"ask_kernel: line %d: %b\n" % (line, NOT_AN_ACT))
 
 
 @case("spellings")

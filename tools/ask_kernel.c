@@ -361,7 +361,7 @@ static void run_script(void)
         line[size] = 0;
         snprintf(where, sizeof where, "line %lu", number);
         if (size > 0 && (strlen(line) != (size_t)size || !read_act(line, &act)))
-            die(BAD_SCRIPT, where, "not an act");
+            die(BAD_SCRIPT, where, "not an act; fdref replay tells the column and what could stand there");
         heed_signals();
         if (size > 0)
             run_act(&act);
