@@ -27,6 +27,10 @@ use Rattle.rtrb.specs.declared.consumer.Consumer.{Consumer}
 abbrev pub AnsweredSeat : Type 0
 AnsweredSeat = SeatOf SeatState SeatState (Unit {0})
 
+-- the end of a ring that gives requests
+abbrev pub TakingEnd : Type 0
+TakingEnd = Consumer Request Global AnyItems
+
 -- what was answered: the seat, the answers, the end, if there is one of its own, the ring and the writer
 pub record AnsweredState : Type 0 where
   pub seat_is : AnsweredSeat
@@ -62,7 +66,3 @@ HasAnswered unopened ended base taken s (Some found) = ComesToEnd base taken s f
 pub record AnswersRing (unopened : Request → Refusal → Type 0) (refused : SeatState → Call → Refusal → Type 0) (ended : SeatState → Why → Type 0) (base : Option (List ℕ)) (s : AnsweredState) : Type 0 where
   pub answered : HasAnswered unopened ended base (received s.ring) s s.end_is
   pub said : AreSaid (RefusalSaid unopened refused ended (received s.ring)) s.answers
-
--- the end of a ring that gives requests
-abbrev pub TakingEnd : Type 0
-TakingEnd = Consumer Request Global AnyItems

@@ -34,6 +34,11 @@ FrontIsLegal = (bounds : Bounds) (h : List Record) (bytes left : List ℕ) (v : 
 abbrev pub LegalFront : Type 0
 LegalFront = (bounds : Bounds) (h more : List Record) → legal bounds (h ++ more) → legal bounds h
 
+-- records with their fields in range
+abbrev pub AllInRange : List Record → Type 0
+AllInRange [] = Unit {0}
+AllInRange (r ∷ h) = IsInRange r × AllInRange h
+
 -- a frame can tell each record of a legal history whose fields are in range
 abbrev pub LegalHaveFrames : Type 0
 LegalHaveFrames = (bounds : Bounds) (h : List Record) → legal bounds h → AllInRange h → HaveFrames h
@@ -65,8 +70,3 @@ HeaderLacks = (met : ℕ) (input body piece : List ℕ) → IsHeaded met input b
 pub record BrokenStays : Type 0 where
   pub frame : (rest more : List ℕ) → IsAtFault rest → IsAtFault (rest ++ more)
   pub header : (bytes more : List ℕ) → HasNoHeader bytes → HasNoHeader (bytes ++ more)
-
--- records with their fields in range
-abbrev pub AllInRange : List Record → Type 0
-AllInRange [] = Unit {0}
-AllInRange (r ∷ h) = IsInRange r × AllInRange h

@@ -59,6 +59,11 @@ abbrev pub BodyGives : List ℕ → List Record → ShownState → Option ℕ �
 BodyGives body records new None = HasGiven SpellsRecord RECORD_LENGTH_MAX body records new.decoder
 BodyGives body records new (Some at) = (told : Progress) × HasEnded SpellsRecord RECORD_LENGTH_MAX body records told × (fault_at told ≡ Some at)
 
+-- after the next records
+abbrev pub lines_after : LinesState → List Record → LinesState
+lines_after s [] = s
+lines_after s (r ∷ rs) = lines_after (next_lines s r) rs
+
 -- a piece more of the bytes after the header
 pub record TakesBody (piece : List ℕ) (old new : ShownState) (text more : List ℕ) (found : Option ℕ) : Type 0 where
   pub added : List Record
@@ -108,8 +113,3 @@ pub record HasShown (from to was is : Option (List ℕ)) (first t : ShownState) 
   pub lines_are : t.lines ≡ lines_after first.lines records
   pub appends : Appends was is (lines_from first.lines records)
   pub long : length bytes ≤ turns * READ_LENGTH
-
--- after the next records
-abbrev pub lines_after : LinesState → List Record → LinesState
-lines_after s [] = s
-lines_after s (r ∷ rs) = lines_after (next_lines s r) rs

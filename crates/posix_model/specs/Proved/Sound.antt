@@ -84,6 +84,10 @@ abbrev pub moved_offset : TableEdit → Option ℕ
 moved_offset (on_table.Offset number offset) = Some number
 moved_offset other = None
 
+-- the number of the open file description that a descriptor leads to, if it is open (XBD 3, File Descriptor)
+abbrev pub number_of : World → ℕ → ℤ → Option ℕ
+number_of w process fd = option_map (λ o. o.number) (opened w process fd)
+
 -- the number of the description that the descriptor of an act leads to (XBD 3, File Descriptor)
 abbrev pub number_at : World → ℕ → Act → Option ℕ
 number_at w actor (act.Call c) = option_map_or (number_of w actor) (descriptor_of c) None
@@ -185,7 +189,3 @@ CallsAreSound = (bounds : Bounds) (w : World) (process : ℕ) (c : Call) → Sou
 -- all that acts come to is sound
 abbrev pub ActsAreSound : Type 0
 ActsAreSound = (bounds : Bounds) (w : World) (actor : ℕ) (act : Act) (d : Decided) → comes_to bounds w actor act ≡ Some d → Sound bounds w actor act d
-
--- the number of the open file description that a descriptor leads to, if it is open (XBD 3, File Descriptor)
-abbrev pub number_of : World → ℕ → ℤ → Option ℕ
-number_of w process fd = option_map (λ o. o.number) (opened w process fd)
