@@ -13,8 +13,6 @@ Where no C compiler is there, it says so and leaves all of it out. The last line
 failed`, and the exit status is 1 where M is above 0.
 """
 
-import argparse
-import contextlib
 import os
 import shlex
 import shutil
@@ -30,8 +28,9 @@ from typing import Any
 
 from stand_ins import wrong_oracle
 from support.counting import Case, Count, Failure, require
-from support.options import add_count, add_path, end_without
-from support.places import EXAMPLES, FDREF, STAND_INS, TOOLS
+from support.drivers import IS_LINUX, Driver
+from support.options import PROGRAM, count_option, end_without, parsed
+from support.places import EXAMPLES, STAND_INS, TOOLS
 from support.rows import rows
 from support.running import Ran, run
 from support.texts import difference
@@ -45,7 +44,6 @@ SEED = "acceptance"
 RULE_SEED = "rules"
 RULE_SCRIPTS = 120
 NOT_AN_ACT = b"not an act; fdref replay tells the column and what could stand there"
-IS_LINUX = sys.platform.startswith("linux")
 WARNINGS = ["-std=c99", "-O2", "-Wall", "-Wextra", "-pedantic", "-Werror"]
 
 CASES: list[tuple[str, Callable[["Bench"], None]]] = []
@@ -64,44 +62,17 @@ def case(name: str, *values: Any) -> Callable[[Check], Check]:
     return keep
 
 
-class Bench:
+class Bench(Driver):
     """The driver, as it was compiled, a folder for what it makes, and fdref."""
 
-    def __init__(self, folder: str, driver: str, program: str, scripts: int) -> None:
-        self.folder = folder
-        self.driver = driver
+    def __init__(self, driver: str, names: str, program: str, scripts: int) -> None:
+        super().__init__(driver, names)
         self.program = program
         self.scripts = scripts
 
-    def ask(self, *words: str) -> list[str]:
-        """The command that runs the driver."""
-        return [self.driver, "--dir", self.folder, *words]
-
     def asked(self, program: list[str] | None = None, words: Sequence[str] = ()) -> compare.Asked:
         """The driver, and fdref or what stands in for it."""
-        return compare.Asked(program or [self.program], self.ask(*words))
-
-    def run(self, script: bytes, *words: str) -> Ran:
-        """Runs the driver on a script: nothing that it made may be left."""
-        done = run(self.ask(*words), script)
-        self.is_clean()
-        return done
-
-    def processes(self) -> dict[int, str]:
-        """The processes that run the driver's program, each with its working folder."""
-        found: dict[int, str] = {}
-        for number in filter(str.isdigit, os.listdir("/proc") if IS_LINUX else []):
-            with contextlib.suppress(OSError):
-                if os.readlink(f"/proc/{number}/exe") == self.driver:
-                    found[int(number)] = os.readlink(f"/proc/{number}/cwd")
-        return found
-
-    def is_clean(self) -> None:
-        """No process of a script is left, and no folder, or they go by themselves in a moment."""
-        until = time.monotonic() + SECONDS
-        while self.processes() or os.listdir(self.folder):
-            require(time.monotonic() < until, f"left: {self.processes()} {os.listdir(self.folder)}")
-            time.sleep(0.01)
+        return compare.Asked(program or [self.program], self.asks(*words))
 
 
 def gives(done: Ran, lines: bytes, status: int = 0, stderr: bytes = b"") -> None:
@@ -232,13 +203,13 @@ def deadlock_ends(bench: Bench, calls: bytes, lines: bytes) -> None:
 
 def waiting(bench: Bench) -> tuple[subprocess.Popen[bytes], list[int]]:
     """The driver, whose script is not at its end, and the numbers of its two processes, which wait."""
-    process = subprocess.Popen(bench.ask(), stdin=subprocess.PIPE, stdout=subprocess.PIPE, stderr=subprocess.PIPE)
+    process = subprocess.Popen(bench.asks(), stdin=subprocess.PIPE, stdout=subprocess.PIPE, stderr=subprocess.PIPE)
     assert process.stdin
     process.stdin.write(b"join\np0 pipe\np0 fork\np1 attach\np1 read 0 1\np0 read 0 1\n")
     process.stdin.flush()
     until = time.monotonic() + SECONDS
     while True:
-        found = [number for number, folder in bench.processes().items() if folder.endswith("/names")]
+        found = bench.working()
         if len(found) == 2:
             time.sleep(0.3)
             return process, found
@@ -322,9 +293,9 @@ def question_marks_fit(bench: Bench) -> None:
 
 def says(bench: Bench, text: bytes) -> tuple[int, list[str]]:
     """How tools/compare.py ends for a script, and what it prints."""
-    path = Path(bench.folder, "told.script")
+    path = Path(bench.names, "told.script")
     path.write_bytes(text)
-    command = [sys.executable, str(TOOLS / "compare.py"), "--program", bench.program, "--ask", shlex.join(bench.ask())]
+    command = [sys.executable, str(TOOLS / "compare.py"), "--program", bench.program, "--ask", shlex.join(bench.asks())]
     ran = run([*command, str(path)], seconds=SECONDS)
     path.unlink()
     return ran.status, ran.stdout.decode("ascii").splitlines()
@@ -351,7 +322,7 @@ def fault_is_told(bench: Bench) -> None:
 @case("a folder without a script")
 def no_script_is_told(bench: Bench) -> None:
     """A folder without a script is a wrong word."""
-    command = [sys.executable, str(TOOLS / "compare.py"), "--program", bench.program, bench.folder]
+    command = [sys.executable, str(TOOLS / "compare.py"), "--program", bench.program, bench.names]
     ran = run(command, seconds=SECONDS)
     require(ran.status == 2 and b"error: there is no file" in ran.stderr, ran.said())
 
@@ -401,20 +372,14 @@ def all_cases(bench: Bench) -> Iterator[Case]:
 
 def main(words: Sequence[str]) -> int:
     """Makes all checks: the exit status."""
-    parser = argparse.ArgumentParser(
-        description="Compiles tools/ask_kernel.c, and holds fdref against the system at hand with it."
-    )
-    add_path(parser, "--program", "the program", FDREF)
-    add_count(parser, "--scripts", 100, "how many random scripts")
-    args = parser.parse_args(words)
+    about = "Compiles tools/ask_kernel.c, and holds fdref against the system at hand with it."
+    args = parsed(words, about, PROGRAM, count_option("--scripts", 100, "how many random scripts"))
     compiler = os.environ.get("CC", "cc")
-    count = Count(also=(compare.CannotRun,))
+    count = Count()
     if not shutil.which(compiler):
         print("no C compiler: tools/ask_kernel.c is not compiled, and no system is asked")
         return count.end()
-    missing = end_without(args.program)
-    if missing is not None:
-        return missing
+    end_without(args.program)
     with tempfile.TemporaryDirectory(prefix="ask-") as folder:
         driver, names = os.path.join(os.path.realpath(folder), "ask_kernel"), os.path.join(folder, "names")
         os.mkdir(names)
@@ -425,7 +390,7 @@ def main(words: Sequence[str]) -> int:
         if compiled.returncode or compiled.stdout or compiled.stderr:
             count.fail(compiler, f"it says\n{compiled.stdout}{compiled.stderr}")
         else:
-            count.check_all(all_cases(Bench(names, driver, args.program, args.scripts)))
+            count.check_all(all_cases(Bench(driver, names, args.program, args.scripts)))
     return count.end()
 
 

@@ -23,7 +23,6 @@ Where no C compiler is there, it says so and leaves out all but what can be seen
 is `N passed, M failed`, and the exit status is 1 where M is above 0.
 """
 
-import argparse
 import os
 import sys
 import tempfile
@@ -34,8 +33,7 @@ from pathlib import Path
 from parts import c_calls, c_traces
 from parts.c_programs import INCLUDES, SOURCES, WARNINGS, builds, can, compilers, compiles
 from support.counting import Case, Count, same
-from support.options import add_count, add_only, add_path, add_seed, end_without
-from support.places import FDREF
+from support.options import ONLY, PROGRAM, SEED, asked, count_option
 from support.running import run
 
 TELL_MOST = 10
@@ -82,16 +80,9 @@ def compiling(folder: str) -> Iterator[Case]:
 
 def main(words: Sequence[str]) -> int:
     """Makes all checks: the exit status."""
-    parser = argparse.ArgumentParser(description="Compiles the client in C, and holds it against the built server.")
-    add_path(parser, "--program", "the program", FDREF)
-    add_seed(parser)
-    add_count(parser, "--calls", 10_000, "random calls in C")
-    add_only(parser)
-    args = parser.parse_args(words)
+    about = "Compiles the client in C, and holds it against the built server."
+    args = asked(words, about, PROGRAM, SEED, count_option("--calls", 10_000, "random calls in C"), ONLY)
     program = args.program
-    missing = end_without(program)
-    if missing is not None:
-        return missing
     parts = [("the header as a text", c_calls.without_compiler())]
     with tempfile.TemporaryDirectory(prefix="fdref-") as folder:
         every = builds(folder)

@@ -28,7 +28,6 @@ A failure is told in one line, the first ten of them. The last line is `N passed
 where M is above 0.
 """
 
-import argparse
 import itertools
 import sys
 import time
@@ -43,8 +42,8 @@ from stand_ins import wrong_auditor
 from support.auditing import audited
 from support.counting import Case, Count, require, same
 from support.frames import Malformed, trace_of
-from support.options import add_count, add_only, add_path, add_seed, end_without
-from support.places import FDREF, STAND_INS
+from support.options import ONLY, PROGRAM, SEED, asked, count_option, seconds_option
+from support.places import STAND_INS
 from support.running import ran_all
 from support.sources import source
 
@@ -201,16 +200,9 @@ def check_on(kinds: Kinds, program: str, seed: str, until: float, met: Counter[s
 
 def main(words: Sequence[str]) -> int:
     """Makes all checks: the exit status."""
-    parser = argparse.ArgumentParser(description="Gives the built program forged traces, and hostile clients.")
-    add_path(parser, "--program", "the program", FDREF)
-    add_seed(parser)
-    parser.add_argument("--seconds", metavar="N", type=float, default=0, help="go on with other seeds for so long")
-    add_count(parser, "--runs", 10, "runs of a server with enemies")
-    add_only(parser)
-    args = parser.parse_args(words)
-    missing = end_without(args.program)
-    if missing is not None:
-        return missing
+    about = "Gives the built program forged traces, and hostile clients."
+    runs = count_option("--runs", 10, "runs of a server with enemies")
+    args = asked(words, about, PROGRAM, SEED, seconds_option("go on with other seeds for so long"), runs, ONLY)
     until = time.monotonic() + args.seconds
     kinds, met = Kinds(args.only), Counter[str]()
     check_bounded(kinds, args.program, args.seed, args.runs, met)

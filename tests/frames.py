@@ -22,7 +22,6 @@ A failure is told in one line. The last line is `N passed, M failed`, and the ex
 M is above 0.
 """
 
-import argparse
 import random
 import sys
 import tempfile
@@ -53,7 +52,7 @@ from support.frames import (
     u32,
     u64,
 )
-from support.options import add_count, add_path, add_seed, end_without
+from support.options import SEED, asked, count_option, trial_option
 from support.places import FRAME_TRIAL
 from support.refusing import GIVEN_AGAIN, NO_MEMORY, Refuser, build
 from support.running import Ran, run
@@ -385,17 +384,10 @@ def random_streams(trial: str, seed: str, streams: int) -> Iterator[Case]:
 
 def main(words: Sequence[str]) -> int:
     """Makes all checks: the exit status."""
-    parser = argparse.ArgumentParser(
-        description="Decodes streams of frames by the built trial and by a decoder of its own."
-    )
-    add_path(parser, "--trial", "the trial", FRAME_TRIAL)
-    add_seed(parser)
-    add_count(parser, "--streams", 10_000, "how many are random")
-    args = parser.parse_args(words)
+    about = "Decodes streams of frames by the built trial and by a decoder of its own."
+    streams = count_option("--streams", 10_000, "how many are random")
+    args = asked(words, about, trial_option(FRAME_TRIAL), SEED, streams)
     trial = args.trial
-    missing = end_without(trial, "trial")
-    if missing is not None:
-        return missing
     count = Count(TELL_MOST)
     with tempfile.TemporaryDirectory() as folder:
         refuser = Refuser(build(folder))

@@ -23,7 +23,6 @@ Where no C compiler is there, it says so and leaves out all that is in C. A fail
 of each part. The last line is `N passed, M failed`, and the exit status is 1 where M is above 0.
 """
 
-import argparse
 import itertools
 import os
 import sys
@@ -37,8 +36,7 @@ from typing import NamedTuple
 from parts import garbage_clients, garbage_load, garbage_scripts, garbage_traces
 from parts.c_programs import Build, builds
 from support.counting import Case, Count, Failure, require
-from support.options import add_count, add_only, add_path, add_seed, end_without
-from support.places import FDREF
+from support.options import ONLY, PROGRAM, SEED, asked, count_option, seconds_option
 
 TELL_MOST = 10
 
@@ -132,16 +130,9 @@ def cases(make: Callable[[Setting], Part], setting: Setting, seconds: float) -> 
 
 def main(words: Sequence[str]) -> int:
     """Makes all checks: the exit status."""
-    parser = argparse.ArgumentParser(description="Gives garbage to the C and the Python around the program.")
-    add_path(parser, "--program", "the program", FDREF)
-    add_seed(parser)
-    add_count(parser, "--first", 0, "the number with which the choices of a seed begin")
-    parser.add_argument("--seconds", metavar="N", type=float, default=0, help="let each part go on for so long")
-    add_only(parser)
-    args = parser.parse_args(words)
-    missing = end_without(args.program)
-    if missing is not None:
-        return missing
+    about = "Gives garbage to the C and the Python around the program."
+    first = count_option("--first", 0, "the number with which the choices of a seed begin")
+    args = asked(words, about, PROGRAM, SEED, first, seconds_option("let each part go on for so long"), ONLY)
     # whatever a client raises that it should not is a failure
     count, met = Count(TELL_MOST, (Exception,)), Counter[str]()
     with tempfile.TemporaryDirectory(prefix="fdref-") as given:

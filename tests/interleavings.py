@@ -19,7 +19,6 @@ A failure tells the steps that lead to it. The last line is `N passed, M failed`
 above 0.
 """
 
-import argparse
 import sys
 from collections import deque
 from collections.abc import Iterator, Sequence
@@ -29,7 +28,7 @@ from typing import NamedTuple
 
 from parts.two_threads import MANNERS, OPENING, OVER, READY, REFUSED, ROOMS, WAITING, Broken, Session, State
 from support.counting import Case, Count, require
-from support.options import add_count
+from support.options import count_option, parsed
 
 TELL_MOST = 10
 
@@ -156,9 +155,8 @@ def is_found(most: int, faults: Sequence[str]) -> None:
 
 def main(words: Sequence[str]) -> int:
     """Makes all checks: the exit status."""
-    parser = argparse.ArgumentParser(description="Goes through all orders of the steps of a session's two threads.")
-    add_count(parser, "--requests", 4, "how many requests a session is sent at most")
-    most = parser.parse_args(words).requests
+    requests = count_option("--requests", 4, "how many requests a session is sent at most")
+    most = parsed(words, "Goes through all orders of the steps of a session's two threads.", requests).requests
     count, tally = Count(TELL_MOST), Tally()
     count.part("sessions", ((session.name(), partial(tally.is_right, session)) for session in sessions(most)))
     print(f"{tally.states} states")

@@ -10,7 +10,6 @@ has to pass, or to differ for just the reason that tests/parts/gnulib.py has for
 cannot be had, it says so and leaves out what needs it. The last line is `N passed, M failed`.
 """
 
-import argparse
 import os
 import sys
 import tempfile
@@ -19,8 +18,7 @@ from collections.abc import Iterator, Sequence
 from parts import gnulib, judged_logs, judged_programs
 from parts.c_programs import compilers
 from support.counting import Case, Count
-from support.options import add_only, add_path, end_without
-from support.places import FDREF
+from support.options import ONLY, PROGRAM, asked
 
 GNULIB = "gnulib"
 
@@ -49,13 +47,7 @@ def parts_with(bench: judged_programs.Bench, only: str) -> Iterator[Part]:
 
 def main(words: Sequence[str]) -> int:
     """Makes all checks: the exit status."""
-    parser = argparse.ArgumentParser(description="Judges programs by tools/judge.py.")
-    add_path(parser, "--program", "the program", FDREF)
-    add_only(parser)
-    args = parser.parse_args(words)
-    missing = end_without(args.program)
-    if missing is not None:
-        return missing
+    args = asked(words, "Judges programs by tools/judge.py.", PROGRAM, ONLY)
     count = Count(also=(gnulib.judge.CannotJudge,))
     parts: list[Part] = [("logs", judged_logs.cases())]
     found = compilers()

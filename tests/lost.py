@@ -21,7 +21,6 @@ what is written here, to the last record, and `fdref audit` must find it legal.
 A failure is told in one line. The last line is `N passed, M failed`, and the exit status is 1 where M is above 0.
 """
 
-import argparse
 import contextlib
 import socket
 import sys
@@ -33,8 +32,7 @@ from parts import lost_crowds
 from support.auditing import legal
 from support.counting import Case, Count, Failure, require, same
 from support.frames import framed, request_frame, session_frames
-from support.options import add_count, add_only, add_path, add_seed, end_without
-from support.places import FDREF
+from support.options import ONLY, PROGRAM, SEED, Option, asked, count_option
 from support.plain_model import data_text, read_data
 from support.players import Player, are_told, traced, until_traced
 from support.running import run
@@ -800,17 +798,10 @@ def hung_up(program: str) -> Iterator[Case]:
 
 def main(words: Sequence[str]) -> int:
     """Makes all checks: the exit status."""
-    parser = argparse.ArgumentParser(description="Plays clients of the built server that go away.")
-    add_path(parser, "--program", "the program", FDREF)
-    add_seed(parser)
-    add_count(parser, "--runs", 10, "how often what may go several ways is tried")
-    parser.add_argument("--crowds", metavar="N", type=int, help="runs of 64 clients; 4, or a tenth of --runs")
-    add_only(parser)
-    args = parser.parse_args(words)
+    runs = count_option("--runs", 10, "how often what may go several ways is tried")
+    of_64 = Option("--crowds", {"metavar": "N", "type": int, "help": "runs of 64 clients; 4, or a tenth of --runs"})
+    args = asked(words, "Plays clients of the built server that go away.", PROGRAM, SEED, runs, of_64, ONLY)
     program = args.program
-    missing = end_without(program)
-    if missing is not None:
-        return missing
     crowds = max(4, args.runs // 10) if args.crowds is None else args.crowds
     parts = [
         ("clients that go while they wait", going(program)),

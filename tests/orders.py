@@ -21,7 +21,6 @@ live server may order the calls otherwise. The last line is `N passed, M failed`
 above 0.
 """
 
-import argparse
 import sys
 import tempfile
 from collections.abc import Sequence
@@ -29,25 +28,18 @@ from collections.abc import Sequence
 from parts import clocked_clients, order_tool, random_histories, told_histories
 from parts.c_programs import builds
 from support.counting import Count
-from support.options import add_count, add_only, add_path, add_seed, end_without
-from support.places import FDREF
+from support.options import ONLY, PROGRAM, SEED, asked, count_option
 
 TELL_MOST = 10
 
 
 def main(words: Sequence[str]) -> int:
     """Makes all checks: the exit status."""
-    parser = argparse.ArgumentParser(description="Looks for orders of histories by hand, random ones and live ones.")
-    add_path(parser, "--program", "the program", FDREF)
-    add_seed(parser)
-    add_count(parser, "--histories", 6, "random histories of each kind")
-    add_count(parser, "--calls", 100_000, "calls of live clients")
-    add_only(parser)
-    args = parser.parse_args(words)
+    about = "Looks for orders of histories by hand, random ones and live ones."
+    histories = count_option("--histories", 6, "random histories of each kind")
+    calls = count_option("--calls", 100_000, "calls of live clients")
+    args = asked(words, about, PROGRAM, SEED, histories, calls, ONLY)
     program = args.program
-    missing = end_without(program)
-    if missing is not None:
-        return missing
     parts = [
         ("by hand", told_histories.cases(program)),
         ("short parts by hand", told_histories.short_cases()),

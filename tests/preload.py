@@ -19,7 +19,6 @@ Where no C compiler is there, it says so and leaves out all. The last line is `N
 is 1 where M is above 0.
 """
 
-import argparse
 import sys
 import tempfile
 from collections.abc import Callable, Iterator, Sequence
@@ -28,8 +27,7 @@ from parts.preload_builds import Library, documented_command, libraries
 from parts.preload_programs import endings, left_out, programs
 from parts.preload_system import commands
 from support.counting import Case, Count, require
-from support.options import add_only, add_path, end_without
-from support.places import FDREF
+from support.options import ONLY, PROGRAM, asked
 
 TELL_MOST = 10
 
@@ -68,13 +66,7 @@ def with_each(
 
 def main(words: Sequence[str]) -> int:
     """Makes all checks: the exit status."""
-    parser = argparse.ArgumentParser(description="Runs programs with the library of clients/preload.")
-    add_path(parser, "--program", "the program", FDREF)
-    add_only(parser)
-    args = parser.parse_args(words)
-    missing = end_without(args.program)
-    if missing is not None:
-        return missing
+    args = asked(words, "Runs programs with the library of clients/preload.", PROGRAM, ONLY)
     with tempfile.TemporaryDirectory(prefix="fdref-") as folder:
         every = libraries(folder)
         if not every:

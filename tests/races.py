@@ -12,7 +12,6 @@ Where no C compiler is there, it says so and leaves all of it out. The last line
 status is 1 where M is above 0.
 """
 
-import argparse
 import contextlib
 import os
 import re
@@ -29,11 +28,12 @@ from pathlib import Path
 from parts.c_programs import SANITIZERS, WARNINGS, can, compilers, compiles
 from support import histories, ordering
 from support.counting import Case, Count, Failure, require, same
+from support.drivers import IS_LINUX, Driver
 from support.histories import Noted
-from support.options import add_count, add_only, add_path, end_without
-from support.places import EXAMPLES, FDREF, STAND_INS, TOOLS
-from support.replaying import CannotRun, Differs
-from support.running import Ran, run
+from support.options import ONLY, PROGRAM, count_option, end_without, parsed
+from support.places import EXAMPLES, STAND_INS, TOOLS
+from support.replaying import Differs
+from support.running import CannotRun, Ran, run
 
 sys.path.insert(1, str(TOOLS))
 
@@ -44,7 +44,6 @@ SECONDS = 60
 # How long what was ended may take to be gone.
 GONE_SECONDS = 10
 SEED = "acceptance"
-IS_LINUX = sys.platform.startswith("linux")
 STANDARD = ["-std=c11", "-O2"]
 USAGE = b"usage: race_kernel [--dir DIR] [--rounds N] [--seed S] [--pin] [--wait MS] < script\n"
 
@@ -65,15 +64,14 @@ WRONG = {
 }
 
 
-class Bench:
+class Bench(Driver):
     """The driver, as it was compiled, a folder for what it makes, and fdref."""
 
     def __init__(self, folder: str, program: str, seconds: int) -> None:
         self.folder = os.path.realpath(folder)
-        self.names = os.path.join(self.folder, "names")
         self.program = program
         self.seconds = seconds
-        self.driver = self.built(compilers()[0], "race_kernel")
+        super().__init__(self.built(compilers()[0], "race_kernel"), os.path.join(self.folder, "names"), GONE_SECONDS)
         os.mkdir(self.names)
 
     def built(self, compiler: str, name: str, words: Sequence[str] = ()) -> str:
@@ -82,37 +80,11 @@ class Bench:
         compiles([compiler, *SOURCES[name], *WARNINGS, *words, "-o", path])
         return path
 
-    def asks(self, *words: str) -> list[str]:
-        """The command that runs the driver."""
-        return [self.driver, "--dir", self.names, *words]
-
-    def run(self, script: str, *words: str) -> Ran:
-        """Runs the driver on a script: nothing that it made may be left."""
-        done = run(self.asks(*words), script.encode(), seconds=SECONDS)
-        self.is_clean()
-        return done
-
     def races(self, script: str, *words: str) -> list[list[Noted]]:
         """The histories of a script, which the driver has to run well."""
-        done = self.run(script, *words)
+        done = self.run(script.encode(), *words)
         require(done.status == 0 and not done.stderr, done.said())
         return histories.read_histories(done.stdout.decode("ascii"))
-
-    def processes(self) -> list[int]:
-        """The processes that run the driver's program."""
-        found: list[int] = []
-        for number in filter(str.isdigit, os.listdir("/proc") if IS_LINUX else []):
-            with contextlib.suppress(OSError):
-                if os.readlink(f"/proc/{number}/exe") == self.driver:
-                    found.append(int(number))
-        return found
-
-    def is_clean(self) -> None:
-        """No process of a script is left, and no folder, or they go by themselves in a moment."""
-        until = time.monotonic() + GONE_SECONDS
-        while self.processes() or os.listdir(self.names):
-            require(time.monotonic() < until, f"left: {self.processes()} {os.listdir(self.names)}")
-            time.sleep(0.01)
 
     def end_all(self) -> None:
         """Ends the processes that a driver has left which is wrong."""
@@ -211,7 +183,7 @@ def setup_comes_first(bench: Bench) -> None:
 
 def rounds_end(bench: Bench) -> None:
     """Each round is ended by an empty line, and has a folder of its own."""
-    done = bench.run("join\nrace\np0 open a rw,creat,excl\np0 fstat 0\n", "--rounds", "3")
+    done = bench.run(b"join\nrace\np0 open a rw,creat,excl\np0 fstat 0\n", "--rounds", "3")
     lines = re.sub(rb"(?m)^\d+ \d+ ", b"", done.stdout)
     same(b"p0 join = 0\np0 open a rw,creat,excl = 0\np0 fstat 0 = regular 0 1\n\n" * 3, lines)
 
@@ -321,7 +293,7 @@ def loss_is_told(bench: Bench) -> None:
     """A process that is killed from outside is told."""
     bench.is_clean()
     process = waiting(bench)
-    its_own = [number for number in bench.processes() if os.readlink(f"/proc/{number}/cwd").endswith("/names")]
+    its_own = bench.working()
     same(2, len(its_own))
     os.kill(its_own[0], signal.SIGKILL)
     _, stderr = process.communicate(timeout=SECONDS)
@@ -550,18 +522,13 @@ def all_parts(bench: Bench) -> Iterator[tuple[str, Iterator[Case]]]:
 
 def main(words: Sequence[str]) -> int:
     """Makes all checks: the exit status."""
-    parser = argparse.ArgumentParser(description="Races processes on the system at hand, and on wrong ones.")
-    add_path(parser, "--program", "the program", FDREF)
-    add_count(parser, "--seconds", 10, "how long the system at hand is raced")
-    add_only(parser)
-    args = parser.parse_args(words)
+    seconds = count_option("--seconds", 10, "how long the system at hand is raced")
+    args = parsed(words, "Races processes on the system at hand, and on wrong ones.", PROGRAM, seconds, ONLY)
     count = Count(also=(CannotRun, Differs, histories.BadHistory))
     if not compilers():
         print("no C compiler: tools/race_kernel.c is not compiled, and no system is raced")
         return count.end()
-    missing = end_without(args.program)
-    if missing is not None:
-        return missing
+    end_without(args.program)
     with tempfile.TemporaryDirectory(prefix="race-") as folder:
         bench = Bench(folder, args.program, args.seconds)
         try:

@@ -17,7 +17,6 @@ where an error number of the profile, or another way in which an act can end, is
 all. The last line is `N passed, M failed`, and the exit status is 1 where M is above 0.
 """
 
-import argparse
 import multiprocessing
 import random
 import re
@@ -28,8 +27,7 @@ from typing import NamedTuple
 from support import plain_model
 from support.counting import Count
 from support.frames import ERRORS
-from support.options import add_count, add_path, add_seed, end_without
-from support.places import FDREF
+from support.options import PROGRAM, SEED, asked, count_option
 from support.plain_model import FIELDS, RECORDS_DEFAULT
 from support.running import Ran, StillRunning, run
 from support.shrinking import shrunk
@@ -277,16 +275,10 @@ def checked(tasks: list[tuple[str, int, str]], jobs: int) -> Iterator[Checked]:
 
 def main(words: Sequence[str]) -> int:
     """Makes all checks: the exit status."""
-    parser = argparse.ArgumentParser(description="Runs random scripts on the built program and on a plain model.")
-    add_seed(parser)
-    add_count(parser, "--scripts", 1_000, "how many")
-    add_path(parser, "--program", "the program", FDREF)
-    add_count(parser, "--jobs", 1, "how many run at a time")
-    args = parser.parse_args(words)
+    about = "Runs random scripts on the built program and on a plain model."
+    scripts, jobs = count_option("--scripts", 1_000, "how many"), count_option("--jobs", 1, "how many run at a time")
+    args = asked(words, about, SEED, scripts, PROGRAM, jobs)
     program = args.program
-    missing = end_without(program)
-    if missing is not None:
-        return missing
     count = Count()
     acts = 0
     ends: set[str] = set()

@@ -27,7 +27,6 @@ A failure is told in one line. The last line is `N passed, M failed`, and the ex
 M is above 0.
 """
 
-import argparse
 import concurrent.futures
 import contextlib
 import os
@@ -45,8 +44,7 @@ from functools import partial
 from parts import crowds, python_client
 from support.counting import Case, Count, Failure, require, same
 from support.frames import JOIN, attach_frame, call_frame, framed, recorded, u32
-from support.options import add_count, add_only, add_path, add_seed, end_without
-from support.places import FDREF
+from support.options import ONLY, PROGRAM, SEED, asked, count_option
 from support.refusing import build
 from support.serving import A_WHILE, ALL_RECORDS, SECONDS, Client, Server, outcome_of, report, serve_words, started
 
@@ -837,18 +835,13 @@ def system_cases(program: str) -> Iterator[Case]:
 
 def main(words: Sequence[str]) -> int:
     """Makes all checks: the exit status."""
-    parser = argparse.ArgumentParser(description="Plays clients of the built server over real sockets.")
-    add_path(parser, "--program", "the program", FDREF)
-    add_seed(parser)
-    add_count(parser, "--runs", 200, "runs of two clients in turns")
-    add_count(parser, "--crowds", 3, "runs of 64 clients")
-    add_count(parser, "--calls", 40, "random calls of each of the 64 clients")
-    add_only(parser)
-    args = parser.parse_args(words)
+    numbers = [
+        count_option("--runs", 200, "runs of two clients in turns"),
+        count_option("--crowds", 3, "runs of 64 clients"),
+        count_option("--calls", 40, "random calls of each of the 64 clients"),
+    ]
+    args = asked(words, "Plays clients of the built server over real sockets.", PROGRAM, SEED, *numbers, ONLY)
     program = args.program
-    missing = end_without(program)
-    if missing is not None:
-        return missing
     parts = [
         ("conversations that are written out", written_out(program)),
         ("clients that vanish and hostile ones", hostile(program)),

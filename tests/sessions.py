@@ -23,7 +23,6 @@ A failure is told in one line. The last line is `N passed, M failed`, and the ex
 M is above 0.
 """
 
-import argparse
 import collections
 import itertools
 import random
@@ -49,7 +48,7 @@ from support.frames import (
     session_frames,
     u32,
 )
-from support.options import add_count, add_path, add_seed, end_without
+from support.options import SEED, asked, count_option, trial_option
 from support.places import SESSION_TRIAL
 from support.refusing import NEVER, NO_MEMORY, Refuser, build
 from support.running import Ran, run
@@ -1003,15 +1002,10 @@ def random_sessions(trial: str, seed: str, sessions: int) -> Iterator[Case]:
 
 def main(words: Sequence[str]) -> int:
     """Makes all checks: the exit status."""
-    parser = argparse.ArgumentParser(description="Serves sessions by the built trial and by a model of its own.")
-    add_path(parser, "--trial", "the trial", SESSION_TRIAL)
-    add_seed(parser)
-    add_count(parser, "--sessions", 3_000, "how many are random")
-    args = parser.parse_args(words)
+    about = "Serves sessions by the built trial and by a model of its own."
+    how_many = count_option("--sessions", 3_000, "how many are random")
+    args = asked(words, about, trial_option(SESSION_TRIAL), SEED, how_many)
     trial = args.trial
-    missing = end_without(trial, "trial")
-    if missing is not None:
-        return missing
     count = Count(TELL_MOST)
     with tempfile.TemporaryDirectory() as folder:
         refuser = Refuser(build(folder))

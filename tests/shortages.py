@@ -35,13 +35,13 @@ goes another way at most, besides what is held back for it.
 A failure is told in one line. The last line is `N passed, M failed`, and the exit status is 1 where M is above 0.
 """
 
-import argparse
 import collections
 import contextlib
 import os
 import re
 import sys
 import tempfile
+from collections.abc import Sequence
 from functools import partial
 from pathlib import Path
 from typing import NamedTuple
@@ -49,8 +49,8 @@ from typing import NamedTuple
 from parts import run_shortages
 from support.auditing import Audit, legal
 from support.counting import Count, Failure, require, same
-from support.options import add_count, add_path, end_without
-from support.places import FDREF, RUN_TRIAL, SCRATCH
+from support.options import PROGRAM, asked, count_option, trial_option
+from support.places import RUN_TRIAL, SCRATCH
 from support.refusing import NEVER, Refuser, build
 from support.running import Ran
 from support.serving import SECONDS, Client, HungUp, Server, outcome_of, report
@@ -258,24 +258,18 @@ def check_server(count: Count, program: str, refuser: Refuser) -> None:
     count.check("an act given again", check.gave_again)
 
 
-def main() -> int:
+def main(words: Sequence[str]) -> int:
     """Refuses the server and the trial their allocations: the exit status."""
-    parser = argparse.ArgumentParser(description="Refuses the live server and a run over memory their allocations.")
-    add_path(parser, "--program", "the program", FDREF)
-    add_path(parser, "--trial", "the trial", RUN_TRIAL)
-    add_count(parser, "--rounds", 10, "how often each allocation of the trial is refused")
-    asked = parser.parse_args()
-    for path, what in ((asked.program, "program"), (asked.trial, "trial")):
-        status = end_without(path, what)
-        if status is not None:
-            return status
+    about = "Refuses the live server and a run over memory their allocations."
+    rounds = count_option("--rounds", 10, "how often each allocation of the trial is refused")
+    args = asked(words, about, PROGRAM, trial_option(RUN_TRIAL), rounds)
     count = Count()
     with tempfile.TemporaryDirectory(prefix="fdref-", dir=SCRATCH) as folder:
         refuser = Refuser(build(folder))
-        check_server(count, asked.program, refuser)
-        count.part("a run over memory", run_shortages.cases(asked.trial, refuser, asked.rounds))
+        check_server(count, args.program, refuser)
+        count.part("a run over memory", run_shortages.cases(args.trial, refuser, args.rounds))
     return count.end()
 
 
 if __name__ == "__main__":
-    sys.exit(main())
+    sys.exit(main(sys.argv[1:]))

@@ -26,7 +26,6 @@ and the client in clients/python and its example write traces and read them.
 A failure is told in one line. The last line is `N passed, M failed`, and the exit status is 1 where M is above 0.
 """
 
-import argparse
 import concurrent.futures
 import multiprocessing
 import os
@@ -48,8 +47,7 @@ from support import plain_model
 from support.auditing import Frames, audited, illegal, legal, shown
 from support.counting import FAULTS, Case, Count, require, same
 from support.frames import ERRORS, TRACE_HEADER, trace_of, u32
-from support.options import add_count, add_only, add_path, add_seed, end_without
-from support.places import FDREF
+from support.options import ONLY, PROGRAM, SEED, asked, count_option
 from support.running import Ran, ran_all, run
 from support.runs import line_of
 from support.serving import A_WHILE, SECONDS, Server, outcome_of, serve_words, started
@@ -358,19 +356,14 @@ def check_live(count: Count, program: str, seed: str, runs: int, jobs: int) -> N
 
 def main(words: Sequence[str]) -> int:
     """Makes all checks: the exit status."""
-    parser = argparse.ArgumentParser(description="Has the built program write, judge and show traces.")
-    add_path(parser, "--program", "the program", FDREF)
-    add_seed(parser)
-    add_count(parser, "--runs", 4_000, "random runs of a live server")
-    add_count(parser, "--changed", 2_000, "traces with a record that is changed")
-    add_count(parser, "--stride", 5_003, "of the sizes of a file for a long trace, take one in N")
-    add_count(parser, "--jobs", 2, "how many run at a time")
-    add_only(parser)
-    args = parser.parse_args(words)
+    numbers = [
+        count_option("--runs", 4_000, "random runs of a live server"),
+        count_option("--changed", 2_000, "traces with a record that is changed"),
+        count_option("--stride", 5_003, "of the sizes of a file for a long trace, take one in N"),
+        count_option("--jobs", 2, "how many run at a time"),
+    ]
+    args = asked(words, "Has the built program write, judge and show traces.", PROGRAM, SEED, *numbers, ONLY)
     program = args.program
-    missing = end_without(program)
-    if missing is not None:
-        return missing
     every_byte: Callable[[Count], None] = lambda count: judge_all(count, program, list(changed_bytes()), args.jobs)
     parts: list[tuple[str, Callable[[Count], None]]] = [
         ("verdicts that are written out", lambda count: check_written_out(count, program)),

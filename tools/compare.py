@@ -25,7 +25,6 @@ import itertools
 import os
 import random
 import shlex
-import subprocess
 import sys
 import tempfile
 from collections.abc import Callable, Iterator, Sequence
@@ -35,11 +34,11 @@ from typing import NamedTuple
 sys.path.insert(1, str(Path(__file__).resolve().parents[1] / "tests"))
 
 from support import plain_model, walks
-from support.commands import NoProgram, add_program, program_of
+from support.commands import add_program, program_of
 from support.counting import Failure
-from support.places import TOOLS
+from support.drivers import compiled
 from support.plain_model import FILE_SIZE_MAX, OFFSET_MAX, OPEN_MAX, PIPE_BUF, PIPE_CAPACITY, TRANSFER_MAX
-from support.running import run
+from support.running import CannotRun, run
 from support.runs import ALL_RECORDS, Line, Settled, line_of
 from support.shrinking import shrunk
 
@@ -362,10 +361,6 @@ def fits(system: Line, fdref: Line, has_same_room: bool) -> bool:
 
 
 # ---- the two that are asked
-
-
-class CannotRun(Exception):
-    """A script could not be run by the driver or by fdref."""
 
 
 class Asked:
@@ -819,17 +814,6 @@ def check_one(asked: Asked, totals: Totals, name: str, lines: list[bytes], is_ra
         print(f"{name}: the first of {len(result.differences)} differences\n{told(result.differences[0])}", flush=True)
 
 
-def compile_driver(folder: str) -> str:
-    """Compiles the driver, and gives its path."""
-    path = os.path.join(folder, "ask_kernel")
-    source = str(TOOLS / "ask_kernel.c")
-    try:
-        subprocess.run([os.environ.get("CC", "cc"), "-std=c99", "-O2", "-o", path, source], check=True)
-    except (OSError, subprocess.CalledProcessError) as fault:
-        raise CannotRun(f"tools/ask_kernel.c is not compiled: {fault}") from None
-    return path
-
-
 def parse(words: Sequence[str]) -> argparse.Namespace:
     """What the command line asks for."""
     parser = argparse.ArgumentParser(
@@ -876,8 +860,8 @@ def main(words: Sequence[str]) -> int:
     totals = Totals()
     with tempfile.TemporaryDirectory(prefix="compare-") as folder:
         try:
-            check_all(args, totals, args.ask or shlex.quote(compile_driver(folder)))
-        except (CannotRun, NoProgram) as fault:
+            check_all(args, totals, args.ask or shlex.quote(compiled("ask_kernel", "c99", folder)))
+        except CannotRun as fault:
             print(f"compare.py: {fault}", file=sys.stderr)
             return 3
     print(totals.text())

@@ -43,7 +43,6 @@ import resource
 import shutil
 import signal
 import socket
-import subprocess
 import sys
 import tempfile
 import time
@@ -435,7 +434,7 @@ def main(words: Sequence[str]) -> int:
     with tempfile.TemporaryDirectory(prefix="judge-") as folder:
         try:
             verdict = job_of(args, folder).verdict()
-        except (CannotJudge, compare.CannotRun, Failure) as fault:
+        except (CannotJudge, Failure) as fault:
             print(f"judge.py: {fault}", file=sys.stderr)
             return 3
         finally:

@@ -35,7 +35,7 @@ from pathlib import Path
 sys.path.insert(1, str(Path(__file__).resolve().parents[1] / "tests"))
 
 from support import plain_model
-from support.commands import NoProgram, add_program, program_of
+from support.commands import add_program, program_of
 from support.histories import BadHistory, Noted, form, history_text, read_histories
 from support.ordering import (
     ROOM,
@@ -49,7 +49,8 @@ from support.ordering import (
     by_room,
     explain,
 )
-from support.replaying import CannotRun, Differs, verified
+from support.replaying import Differs, verified
+from support.running import CannotRun
 
 # The reason of a history that only larger pipes explain.
 ROOMY = "reason: room of a pipe (own; page of write)"
@@ -157,7 +158,7 @@ def main(words: Sequence[str]) -> int:
     except Differs as fault:
         print(f"order.py: the program differs from the plain model: {fault}", file=sys.stderr)
         return CANNOT_RUN
-    except (CannotRun, NoProgram) as fault:
+    except CannotRun as fault:
         print(f"order.py: {fault}", file=sys.stderr)
         return CANNOT_RUN
     if len(histories) != 1:

@@ -21,7 +21,6 @@ import itertools
 import os
 import re
 import signal
-import subprocess
 import sys
 import tempfile
 import time
@@ -32,12 +31,11 @@ from typing import NamedTuple
 sys.path.insert(1, str(Path(__file__).resolve().parents[1] / "tests"))
 
 from support import histories, ordering, plain_model, replaying
-from support.commands import NoProgram, add_program, program_of
+from support.commands import add_program, program_of
 from support.counting import Failure
+from support.drivers import compiled
 from support.histories import History, Noted
-from support.places import TOOLS
-from support.replaying import CannotRun
-from support.running import run
+from support.running import CannotRun, run
 
 import race_kinds
 
@@ -332,17 +330,6 @@ def keep_files(found: Unexplained, name: str, folder: str) -> None:
 # ---- the whole
 
 
-def compile_driver(folder: str) -> str:
-    """Compiles the driver, and gives its path."""
-    path = os.path.join(folder, "race_kernel")
-    source = str(TOOLS / "race_kernel.c")
-    try:
-        subprocess.run([os.environ.get("CC", "cc"), "-std=c11", "-O2", "-o", path, source], check=True)
-    except (OSError, subprocess.CalledProcessError) as fault:
-        raise CannotRun(f"tools/race_kernel.c is not compiled: {fault}") from None
-    return path
-
-
 def parse(words: Sequence[str]) -> argparse.Namespace:
     """What the command line asks for."""
     parser = argparse.ArgumentParser(
@@ -394,7 +381,7 @@ def tell_and_keep(races: Races, found: Unexplained, name: str, folder: str | Non
 def asked_for(args: argparse.Namespace, folder: str) -> Asked:
     """The driver and fdref, as the command line has them."""
     program = program_of(args.program)
-    driver = [os.path.abspath(args.driver) if args.driver else compile_driver(folder)]
+    driver = [os.path.abspath(args.driver) if args.driver else compiled("race_kernel", "c11", folder)]
     driver += ["--dir", args.dir] if args.dir else []
     return Asked(program, [*driver, "--pin"] if args.pin else driver)
 
@@ -412,7 +399,7 @@ def main(words: Sequence[str]) -> int:
         try:
             races = Races(asked_for(args, folder), args.seed, args.processes)
             race_all(args, races)
-        except (CannotRun, NoProgram, replaying.Differs, histories.BadHistory) as fault:
+        except (CannotRun, replaying.Differs, histories.BadHistory) as fault:
             print(f"race.py: {fault}", file=sys.stderr)
             return 3
     print(races.text())

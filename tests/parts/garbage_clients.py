@@ -1,17 +1,14 @@
 """The clients in Python and in C with a server whose answers are bent."""
 
 import itertools
-import os
 import random
 import socket
 import sys
-import tempfile
 import threading
 import time
 from collections import Counter
 from collections.abc import Iterator, Sequence
 from functools import partial
-from typing import Any
 
 from parts.c_calls import NUMBERS, Told
 from parts.c_programs import Build, call_of, outcome_text
@@ -19,7 +16,7 @@ from parts.garbage_answers import Exchange, Given, Hearing, exchange, pieces
 from support.counting import Case, Failure, require, same
 from support.frames import framed, recorded, u32
 from support.places import CLIENT
-from support.serving import SECONDS
+from support.serving import SECONDS, Listener
 from support.sources import numbered, source
 
 sys.path.insert(0, str(CLIENT))
@@ -61,27 +58,14 @@ def take_all(connection: socket.socket) -> None:
         pass
 
 
-class Pouring:
+class Pouring(Listener):
     """A socket whose clients are sent streams, one after another."""
-
-    def __init__(self) -> None:
-        self.folder = tempfile.TemporaryDirectory(prefix="fdref-")
-        self.path = os.path.join(self.folder.name, "socket")
-        self.socket = socket.socket(socket.AF_UNIX, socket.SOCK_STREAM)
-        self.socket.bind(self.path)
-        self.socket.listen()
-        self.socket.settimeout(SECONDS)
 
     def pouring(self, stream: bytes, pick: random.Random) -> threading.Thread:
         """A thread that sends the next client a stream."""
         thread = threading.Thread(target=pour, args=(self.socket, pieces(pick, stream), pick), daemon=True)
         thread.start()
         return thread
-
-    def close(self) -> None:
-        """Ends it."""
-        self.socket.close()
-        self.folder.cleanup()
 
 
 # ---- the client in Python

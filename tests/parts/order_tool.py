@@ -14,7 +14,7 @@ from support import commands
 from support.counting import Case, Failure, require, same
 from support.histories import BadHistory, form, history_text, read_histories
 from support.places import EXAMPLES, TOOLS
-from support.running import Ran, run
+from support.running import CannotRun, Ran, run
 
 # A history that has an order, what is printed of it, and the same one at other times.
 GOOD = """10 20 p0 join = 0
@@ -136,7 +136,7 @@ def not_built() -> str:
     """What is told where nothing is built."""
     try:
         return f"{commands.program_of(None)} is taken"
-    except commands.NoProgram as fault:
+    except CannotRun as fault:
         return str(fault)
 
 

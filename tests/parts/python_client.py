@@ -4,10 +4,8 @@ import errno
 import os
 import queue
 import shlex
-import socket
 import stat
 import sys
-import tempfile
 import threading
 import time
 from collections.abc import Callable, Iterator
@@ -18,7 +16,7 @@ from support import frames
 from support.counting import Case, Failure, require, same
 from support.places import CLIENT, EXAMPLES
 from support.players import until_traced
-from support.serving import SECONDS, Server, is_listening, outcome_of, report, started
+from support.serving import SECONDS, Listener, Server, is_listening, outcome_of, report, started
 
 sys.path.insert(0, str(CLIENT))
 
@@ -227,21 +225,8 @@ REPLIES: list[tuple[Callable[[fdref.Process], object], str, object]] = [
 ]
 
 
-class Listener:
+class Answering(Listener):
     """A socket that answers each request of a client with what it is told, and keeps the request."""
-
-    def __init__(self) -> None:
-        self.folder = tempfile.TemporaryDirectory(prefix="fdref-")
-        self.path = os.path.join(self.folder.name, "socket")
-        self.socket = socket.socket(socket.AF_UNIX, socket.SOCK_STREAM)
-        self.socket.bind(self.path)
-        self.socket.listen()
-        self.socket.settimeout(SECONDS)
-
-    def close(self) -> None:
-        """Ends it."""
-        self.socket.close()
-        self.folder.cleanup()
 
     def asked(self, *exchanges: tuple[Callable[[Any], Any], bytes]) -> tuple[list[bytes], list[Any]]:
         """Makes calls, of which each is given what the one before it gave, and answers each with these bytes."""
@@ -276,7 +261,7 @@ def answer_of(place: int, outcome: str) -> bytes:
 
 def agrees_on_requests() -> None:
     """The client sends each request as the tests write it."""
-    listener = Listener()
+    listener = Answering()
     try:
         words = {line.split(" ")[0] for line, _ in REQUESTS}
         same({form.word for form in frames.CALLS.values()}, words)
@@ -292,7 +277,7 @@ def agrees_on_requests() -> None:
 
 def agrees_on_answers() -> None:
     """The client reads each answer as the tests write it."""
-    listener = Listener()
+    listener = Answering()
     join = (fdref.join, answer_of(0, "0"))
 
     def error(process: fdref.Process) -> object:

@@ -13,7 +13,7 @@
 - `runs`: the lines of a run, and a run in which calls go on by themselves
 - `frames`: the bytes of sessions and traces, written and read
 - `auditing`: a plain auditor of traces, by the plain model
-- `serving`: a server whose trace is audited, and clients of it whose waits are bounded
+- `serving`: a server whose trace is audited, a socket for what stands in for one, and clients whose waits are bounded
 - `players`: clients that keep what they were told, and the traces of servers that run still
 - `refusing`: runs in which allocations are refused
 - `histories`: what several processes did at once, call by call, with the times
@@ -21,12 +21,14 @@
   (`footprints`), by what later answers tell (`foretold`) and by what nobody looks at (`unseen`); `shortening` makes
   short what has none; `replaying` holds an order against the program
 - `call_logs`: the logs of the library for LD_PRELOAD; `trees`: a program with all that comes of it
+- `drivers`: the drivers of tools/, which are compiled, and whose scripts leave nothing
 
 A test is a file tests/NAME.py. The first line of its docstring says what it asks and how long it takes, and
 `python3 tests` lists it. Its `main` takes the words of the command line and gives the exit status:
 
+    args = asked(words, "Looks at what is given.", PROGRAM)
     count = Count()
-    count.check("what is looked at", lambda: same(wanted, given))
+    count.check("what is looked at", lambda: same(wanted, given(args.program)))
     count.check_all((name, partial(is_right, it)) for name, it in others)
     return count.end()
 

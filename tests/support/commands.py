@@ -6,14 +6,10 @@ import shlex
 import shutil
 import sys
 
-from support.counting import Failure
 from support.places import FDREF, TOP
+from support.running import CannotRun
 
 UNPROVED = TOP / "out" / "unproved" / "fdref"
-
-
-class NoProgram(Failure):
-    """There is no program that could be run."""
 
 
 def add_program(parser: argparse.ArgumentParser) -> None:
@@ -31,13 +27,13 @@ def program_of(command: str | None) -> list[str]:
     try:
         words = shlex.split(command)
     except ValueError as fault:
-        raise NoProgram(f"--program {command}: {fault}") from None
+        raise CannotRun(f"--program {command}: {fault}") from None
     if not words:
-        raise NoProgram("--program has no word")
+        raise CannotRun("--program has no word")
     # from the root on, so that it stays right in another folder
     program = os.path.abspath(shutil.which(words[0]) or words[0])
     if not os.path.exists(program):
-        raise NoProgram(f"no program at {program}")
+        raise CannotRun(f"no program at {program}")
     return [program, *words[1:]]
 
 
@@ -47,6 +43,6 @@ def built_here() -> str:
         return str(FDREF)
     if not UNPROVED.exists():
         ways = "'./fdref build' proves and builds it in half an hour or more, './fdref build --unproved' compiles one"
-        raise NoProgram(f"no program at {FDREF}: {ways} without proof in a minute")
+        raise CannotRun(f"no program at {FDREF}: {ways} without proof in a minute")
     print(f"no proved program is built, and {UNPROVED} is taken, which is not proved", file=sys.stderr)
     return str(UNPROVED)

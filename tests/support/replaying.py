@@ -6,7 +6,7 @@ from typing import NamedTuple
 from support import plain_model
 from support.counting import Failure
 from support.histories import UNKNOWN, WAITS, Noted
-from support.running import run
+from support.running import CannotRun, run
 from support.runs import ALL_RECORDS, Line, line_of
 from support.searching import Step
 
@@ -15,10 +15,6 @@ SECONDS = 60
 
 class Differs(Failure):
     """An answer of the program that is not the one of the plain model, or not that of the history."""
-
-
-class CannotRun(Failure):
-    """The program could not be run."""
 
 
 # ---- running

@@ -31,6 +31,10 @@ class Ran(NamedTuple):
         return f"{how}: {'; '.join(lines)[:400]}"
 
 
+class CannotRun(Failure):
+    """What could not be run: a program, a script, or a driver that is not compiled."""
+
+
 class StillRunning(Failure):
     """A program that had to be killed."""
 

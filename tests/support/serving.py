@@ -1,4 +1,4 @@
-"""A server as the tests run it, and clients of it, whose waits are all bounded."""
+"""A server as the tests run it, a socket for what stands in for one, and clients, whose waits are all bounded."""
 
 import os
 import re
@@ -142,6 +142,26 @@ def report(
     """The line that the server prints; all records are in the trace where it is not told how many."""
     whole = records if traced is None else traced
     return f"sessions {count} records {records} in {bytes_in} out {bytes_out} trace {whole}\n".encode()
+
+
+# ---- what stands in for a server
+
+
+class Listener:
+    """A socket that listens in a folder of its own, for clients that no server is to answer."""
+
+    def __init__(self) -> None:
+        self.folder = tempfile.TemporaryDirectory(prefix="fdref-")
+        self.path = os.path.join(self.folder.name, "socket")
+        self.socket = socket.socket(socket.AF_UNIX, socket.SOCK_STREAM)
+        self.socket.bind(self.path)
+        self.socket.listen()
+        self.socket.settimeout(SECONDS)
+
+    def close(self) -> None:
+        """Ends it."""
+        self.socket.close()
+        self.folder.cleanup()
 
 
 # ---- clients
