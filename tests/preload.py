@@ -12,7 +12,7 @@ these
   - the server's trace must be legal, and have each line of the log at its place; what else is there must be what the
     library does by itself,
   - programs must end as they do natively, and be told where there is no answer: no server, a full run, a server that
-    is gone. What fdref leaves out must be told to a strict program, and fail for another,
+    is gone. What fdref leaves out must be told to a strict program and noted, and fail for another,
   - programs of the system must read and write the right bytes: Python, cat, head, dd, cp, ln, truncate, stat and sh.
 
 Where no C compiler is there, it says so and leaves out all. The last line is `N passed, M failed`, and the exit status
