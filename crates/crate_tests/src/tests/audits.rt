@@ -6,7 +6,7 @@ use audit_core::audit::{AuditFault, audit};
 use audit_core::verdict::Verdict;
 use call_types::outcome::{Outcome, Reply};
 use logged_streams::reader::LoggedReader;
-use std::alloc::Global;
+use std::alloc::{AllocError, Global};
 use std::io;
 use std::io::{Error, ErrorKind, Read};
 use std::test::Fail;
@@ -71,9 +71,14 @@ fn said_with(alloc: Global, at: usize, byte: u8) -> Said {
     said_of(alloc, bytes.as_slice())
 }
 
+/// The trace.
+fn trace(alloc: Global) -> Result<Vec<u8>, AllocError> {
+    Vec::from_slice(alloc, TRACE.as_slice())
+}
+
 /// What is said of the trace with these bytes after it.
 fn said_after(alloc: Global, more: &[u8]) -> Result<Said, Fail> {
-    let mut bytes = Vec::from_slice(alloc, TRACE.as_slice())?;
+    let mut bytes = trace(alloc)?;
     bytes.extend_from_slice(more)?;
     Ok(said_of(alloc, bytes.as_slice()))
 }

@@ -24,14 +24,15 @@ fn of_first(call: Call) -> ScriptAct {
 /// them read.
 fn script(alloc: Global) -> Result<Vec<ScriptAct>, AllocError> {
     let bytes = Data::copied(alloc, b"abc")?;
-    let mut acts = Vec::with_capacity(alloc, 7)?;
-    acts.push_reserved(ScriptAct::Join);
-    acts.push_reserved(of_first(Call::Pipe));
-    acts.push_reserved(of_first(Call::Write { fd: 1, bytes }));
-    acts.push_reserved(of_first(Call::Read { fd: 0, count: 2 }));
-    acts.push_reserved(of_first(Call::Fork));
-    acts.push_reserved(ScriptAct::Exit { process: 0 });
-    acts.push_reserved(ScriptAct::CloseRun);
+    let acts = vec![in alloc;
+        ScriptAct::Join,
+        of_first(Call::Pipe),
+        of_first(Call::Write { fd: 1, bytes }),
+        of_first(Call::Read { fd: 0, count: 2 }),
+        of_first(Call::Fork),
+        ScriptAct::Exit { process: 0 },
+        ScriptAct::CloseRun,
+    ]?;
     Ok(acts)
 }
 
