@@ -88,7 +88,7 @@ class Kinds:
 SMALL_ONES: list[Named] = [
     ("the short trace", SHORT),
     ("an illegal one", with_byte(SHORT, 43, 2)),
-    ("a malformed one", with_byte(SHORT, 34, 32)),
+    ("a malformed one", with_byte(SHORT, 34, 255)),
 ]
 
 

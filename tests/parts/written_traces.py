@@ -53,7 +53,7 @@ WRITTEN_OUT: list[tuple[str, bytes, Ran]] = [
     ),
     (
         "what is malformed before what is wrong",
-        with_byte(with_byte(SHORT, 34, 32), 51, 1),
+        with_byte(with_byte(SHORT, 34, 255), 51, 1),
         Ran(8, b"malformed 26\n", b""),
     ),
 ]
