@@ -28,7 +28,7 @@ from typing import Any
 
 from stand_ins import wrong_oracle
 from support.counting import Case, Count, Failure, require
-from support.drivers import IS_LINUX, Driver
+from support.drivers import IS_LINUX, NOT_AN_ACT, Driver
 from support.options import PROGRAM, count_option, end_without, parsed
 from support.places import EXAMPLES, STAND_INS, TOOLS
 from support.rows import rows
@@ -43,7 +43,6 @@ SECONDS = 60
 SEED = "acceptance"
 RULE_SEED = "rules"
 RULE_SCRIPTS = 120
-NOT_AN_ACT = b"not an act; fdref replay tells the column and what could stand there"
 WARNINGS = ["-std=c99", "-O2", "-Wall", "-Wextra", "-pedantic", "-Werror"]
 
 CASES: list[tuple[str, Callable[["Bench"], None]]] = []

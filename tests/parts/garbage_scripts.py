@@ -15,6 +15,7 @@ from typing import NamedTuple
 from parts.c_programs import WARNINGS, Build, compiles
 from support import plain_model
 from support.counting import Case, Failure, require, same
+from support.drivers import NOT_AN_ACT
 from support.places import TOOLS
 from support.plain_model import DATA_MOST, NAME_MOST, Act, NotAnAct
 from support.running import Ran, run
@@ -232,7 +233,7 @@ def program_of(number: str) -> str:
 
 def ended(script: Script, done: Ran) -> None:
     """The driver has told the first line that is no act, or ended well."""
-    fault = b"ask_kernel: line %d: not an act\n" % (len(script.acts) + 1)
+    fault = b"ask_kernel: line %d: %s\n" % (len(script.acts) + 1, NOT_AN_ACT)
     same((3, fault) if script.has_fault else (0, b""), (done.status, done.stderr))
 
 

@@ -11,6 +11,8 @@ from support.places import TOOLS
 from support.running import SECONDS, CannotRun, Ran, run
 
 IS_LINUX = sys.platform.startswith("linux")
+# What tools/ask_kernel.c says of a line that it cannot read.
+NOT_AN_ACT = b"not an act; fdref replay tells the column and what could stand there"
 
 
 def compiled(name: str, standard: str, folder: str) -> str:
