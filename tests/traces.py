@@ -46,7 +46,7 @@ from parts.written_traces import SHORT, Named, changed_bytes, random_records, wr
 from support import plain_model
 from support.auditing import Frames, audited, illegal, legal, shown
 from support.counting import FAULTS, Case, Count, require, same
-from support.frames import ERRORS, TRACE_HEADER, trace_of, u32
+from support.frames import ERRORS, MOST, TRACE_HEADER, trace_of, u32
 from support.options import ONLY, PROGRAM, SEED, asked, count_option
 from support.running import Ran, ran_all, run
 from support.runs import line_of
@@ -114,6 +114,11 @@ class Change(NamedTuple):
     verdict: Ran
 
 
+def is_short(record: str) -> bool:
+    """Whether a record has no more bytes than a frame may have."""
+    return len(trace_of([record])) <= len(trace_of([])) + 4 + MOST["records"]
+
+
 def with_other_record(pick: random.Random, right: Sequence[str]) -> Change:
     """A trace of which these records are right, but for one that has another outcome or another act."""
     while True:
@@ -121,8 +126,9 @@ def with_other_record(pick: random.Random, right: Sequence[str]) -> Change:
         place = pick.randrange(len(records))
         record, other = line_of(records[place]), line_of(pick.choice(records))
         outcome = other_outcome(pick, record.outcome, [line_of(line).outcome for line in records])
-        if pick.random() < 0.75 and outcome != record.outcome:
-            records[place] = f"{place} {record.act} = {outcome}"
+        changed_record = f"{place} {record.act} = {outcome}"
+        if pick.random() < 0.75 and outcome != record.outcome and is_short(changed_record):
+            records[place] = changed_record
             return Change(trace_of(records), illegal(place, record.outcome))
         records[place] = f"{place} {other.act} = {record.outcome}"
         trace = trace_of(records)
