@@ -21,8 +21,9 @@ use Rattle.session_core.specs.declared.stage.Turn.TheVariants as turn
 use Rattle.session_core.specs.Answers.{receipts_of}
 use Rattle.session_core.specs.Proved.Output.{OutputState, Holds, Puts, Flushes, FailsToSend}
 use Rattle.session_core.specs.Talk.{IsReply, IsParked, Talked, Converses}
+use Rattle.session_core.specs.Served.{IsGranted}
 use Rattle.session_core.specs.Proved.Turns.{goes_on, IsTalking, HasReceipts, IsWaitingAt, OverBy, TakesUp}
-use Rattle.session_core.proofs.WaitLemmas.{talk_more, receipts_recorded, receipts_refused, cut_now, cut_converses, talked_converses}
+use Rattle.session_core.proofs.WaitLemmas.{granted_more, talk_more, receipts_recorded, receipts_refused, cut_now, cut_converses, talked_converses}
 
 pub refused : (seat after : SeatState) (call : Call) (refusal : Refusal) (old new : OutputState) → after ≡ seat → Puts old new (told.Refused refusal) → TakesUp (stage.Ready seat) (request.Call call) old new (turn.GoesOn (stage.Ready after))
 refused seat after call refusal old new same put base handled holds talking = (
@@ -30,6 +31,7 @@ refused seat after call refusal old new same put base handled holds talking = (
   (
     talk_more handled old.answers new.answers (record { request_is = request.Call call; told_of = told.Refused refusal ∷ [] }) talking.0 (call, refl, inl (record { refusal = refusal; is = refl })) put.answers,
     ap (λ (s : SeatState). s.receipts) same ∙ talking.1 ∙ sym (receipts_refused old.answers new.answers refusal put.answers),
+    subst (λ (s : SeatState). IsGranted s.receipts) (sym same) talking.2,
   ),
 )
 
@@ -51,6 +53,7 @@ replied seat after call receipt old new adds kind ends put base handled holds ta
     talk_more handled old.answers new.answers (record { request_is = request.Call call; told_of = told.Recorded receipt ∷ [] }) talking.0
         (call, refl, inr (inl (record { receipt = receipt; is = refl; act_is = adds.act_is; ends = is_reply receipt.record_is.outcome kind ends }))) put.answers,
     receipts_recorded old.answers new.answers receipt seat.receipts after.receipts put.answers talking.1 adds.receives.receipts,
+    granted_more seat.receipts after.receipts receipt adds.receives.receipts talking.2,
   ),
 )
 
@@ -66,12 +69,13 @@ parked base handled seat after call receipt old new adds kind more put holds tal
     waits = record { receipt = receipt; parts = []; is = refl; act_is = adds.act_is; waits = is_parked receipt.record_is.outcome kind more; go_on = tt };
   };
   receipts = receipts_recorded old.answers new.answers receipt seat.receipts after.receipts put.answers talking.1 adds.receives.receipts;
+  granted = granted_more seat.receipts after.receipts receipt adds.receives.receipts talking.2;
 }
 
 -- what a session has told so far is a conversation, and so it is with requests that are not taken up yet
 pub has_receipts : (requests : List Request) (answers : List Told) (at : Stage) → IsTalking requests answers at → HasReceipts at answers
 has_receipts requests answers (stage.Opening admission) h = ap receipts_of h.1
-has_receipts requests answers (stage.Ready seat) h = h.1
+has_receipts requests answers (stage.Ready seat) h = (h.1, h.2)
 
 pub talk_converses : (requests later : List Request) (answers : List Told) (at : Stage) → IsTalking requests answers at → Converses (requests ++ later) answers
 talk_converses requests later answers (stage.Opening admission) h = record { handled = requests; later = later; requests_are = refl; is = inl (inl h) }
@@ -103,6 +107,7 @@ untold seat after call receipt old new adds kind e base handled holds talking =
     subst (λ (o : OutputState). OverBy base handled (request.Call call) o (over.Untold after receipt)) (sym e) (record {
       holds = holds;
       receipts_are = adds.receives.receipts ∙ ap (λ (l : List Receipted). l ++ receipt ∷ []) talking.1;
+      granted = granted_more seat.receipts after.receipts receipt adds.receives.receipts talking.2;
       without = record { handled = handled; later = request.Call call ∷ []; requests_are = refl; is = inl (inr talking.0) };
       with_it = with_called (goes_on receipt.record_is.outcome) handled old.answers call receipt refl kind adds.act_is talking.0;
     })
@@ -112,7 +117,7 @@ pub refusal_unput : (seat after : SeatState) (call : Call) (old new : OutputStat
 refusal_unput seat after call old new same e base handled holds talking =
     subst (λ (o : OutputState). OverBy base handled (request.Call call) o (over.Leaves (stage.Ready after) why.NoMemory)) (sym e) (
       holds,
-      ap (λ (s : SeatState). s.receipts) same ∙ talking.1,
+      (ap (λ (s : SeatState). s.receipts) same ∙ talking.1, subst (λ (s : SeatState). IsGranted s.receipts) (sym same) talking.2),
       record { handled = handled; later = request.Call call ∷ []; requests_are = refl; is = inl (inr talking.0) },
     )
 

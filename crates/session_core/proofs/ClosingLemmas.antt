@@ -11,7 +11,7 @@ use Rattle.call_types.specs.declared.request.Request.TheVariants as request
 use Rattle.frame_codec.specs.declared.decoder.Progress.{Progress}
 use Rattle.frame_codec.specs.declared.decoder.Progress.TheVariants as progress
 use Rattle.record_book.specs.Seat.{Receipted, SeatState}
-use Rattle.system_lock.specs.Kernel.{Exits}
+use Rattle.system_lock.specs.Kernel.{Exits, IsNoError}
 use Rattle.session_core.specs.declared.end.End.{End}
 use Rattle.session_core.specs.declared.end.End.TheVariants as end
 use Rattle.session_core.specs.declared.told.Told.{Told}
@@ -25,7 +25,7 @@ use Rattle.session_core.specs.Answers.{answers_text, told_bytes, receipts_of, Is
 use Rattle.session_core.specs.Proved.Output.{OutputState, Holds, Broke, SendsAll, FailsToSend}
 use Rattle.logged_streams.specs.Streams.{LoggedReaderState, LoggedWriterState}
 use Rattle.session_core.specs.Talk.{IsCut, IsUnopened, AreAnswered, Converses}
-use Rattle.session_core.specs.Served.{IsMisplaced, AnswersFirst, AnswersAll, AnswersToCut, HasExited, HasUntold, IsRefusedOpening, IsSeatOf, IsSeated, IsWritten, EndsFor, ComesTo}
+use Rattle.session_core.specs.Served.{IsMisplaced, AnswersFirst, AnswersAll, AnswersToCut, HasExited, IsGranted, HasUntold, IsRefusedOpening, IsSeatOf, IsSeated, IsWritten, EndsFor, ComesTo}
 use Rattle.session_core.specs.Proved.Turns.{IsTalking, IsOutOfPlace, HasReceipts, LeavesBy, EndedBy, IsUntoldOpening}
 use Rattle.request_pump.specs.Input.{Begins, AreRequests}
 use Rattle.request_pump.proofs.InputLemmas.{begins_read}
@@ -145,17 +145,26 @@ no_seat input end.NoMemory answers o h = h
 no_seat input end.Foreign answers o h = absurd o
 no_seat input end.NoThread answers o h = absurd o
 
-exited : (old spent : SeatState) (answers : List Told) → Exits old spent → old.receipts ≡ receipts_of answers → HasExited spent answers
-exited old spent answers h e = record { exit = h.0; receipts = h.1.receives.receipts ∙ ap (λ (l : List Receipted). l ++ h.0 ∷ []) e; act_is = h.1.act_is }
+exited : (old spent : SeatState) (answers : List Told) → Exits old spent → old.receipts ≡ receipts_of answers → IsGranted old.receipts → HasExited spent answers
+exited old spent answers h e granted = record {
+  exit = h.0;
+  receipts = h.1.receives.receipts ∙ ap (λ (l : List Receipted). l ++ h.0 ∷ []) e;
+  granted = subst IsGranted e granted;
+  act_is = h.1.act_is;
+}
+
+-- a seat that is given back as it was
+same_granted : (seat spent : SeatState) → spent ≡ seat → IsGranted seat.receipts → IsGranted spent.receipts
+same_granted seat spent e granted = subst (λ (s : SeatState). IsGranted s.receipts) (sym e) granted
 
 hung_up : (input : List ℕ) (base : Option (List ℕ)) (source : LoggedReaderState) (o : OutputState) (wanted found : End) (seat spent : SeatState) → ((held : Result SeatState (Unit {0})) → Stands input base source o held wanted) → IsOrdinary wanted
-    → seat.receipts ≡ receipts_of o.answers → HangsUp seat wanted spent found → ComesTo input base (session_of source o (record { seat = Ok spent; end = found; last = None }))
+    → (seat.receipts ≡ receipts_of o.answers) × IsGranted seat.receipts → HangsUp seat wanted spent found → ComesTo input base (session_of source o (record { seat = Ok spent; end = found; last = None }))
 hung_up input base source o wanted found seat spent stands ordinary receipts (inl h) =
     let s = stands (Ok spent) in
     subst (λ (e : End). ComesTo input base (session_of source o (record { seat = Ok spent; end = e; last = None }))) (sym h.1) (record {
       talks = s.talks;
       written = s.written;
-      seated = seat_exited input wanted spent o.answers ordinary (exited seat spent o.answers h.0 receipts);
+      seated = seat_exited input wanted spent o.answers ordinary (exited seat spent o.answers h.0 receipts.0 receipts.1);
       ends = s.ends;
     })
 hung_up input base source o wanted found seat spent stands ordinary receipts (inr h) =
@@ -163,7 +172,7 @@ hung_up input base source o wanted found seat spent stands ordinary receipts (in
     subst (λ (e : End). ComesTo input base (session_of source o (record { seat = Ok spent; end = e; last = None }))) (sym h.1) (record {
       talks = s.talks;
       written = (o.sent, s.front);
-      seated = inl (ap (λ (x : SeatState). x.receipts) h.0 ∙ receipts);
+      seated = (same_granted seat spent h.0 receipts.1, inl (ap (λ (x : SeatState). x.receipts) h.0 ∙ receipts.0));
       ends = tt;
     })
 
@@ -361,8 +370,8 @@ opening_told base input o handled next later receipts receipt begins h = record 
 }
 
 opening_hung_up : (base : Option (List ℕ)) (input : List ℕ) (source : LoggedReaderState) (o : OutputState) (handled : List Request) (next : Request) (later : List Request) (seat spent : SeatState) (receipt : Receipted) (found : End) → Begins input (handled ++ next ∷ later)
-    → IsUntoldOpening base (handled ++ next ∷ []) o seat.receipts receipt → HangsUp seat end.NoMemory spent found → ComesTo input base (session_of source o (record { seat = Ok spent; end = found; last = None }))
-opening_hung_up base input source o handled next later seat spent receipt found begins h (inl k) =
+    → IsUntoldOpening base (handled ++ next ∷ []) o seat.receipts receipt → IsNoError receipt.record_is.outcome → HangsUp seat end.NoMemory spent found → ComesTo input base (session_of source o (record { seat = Ok spent; end = found; last = None }))
+opening_hung_up base input source o handled next later seat spent receipt found begins h granted (inl k) =
     subst (λ (e : End). ComesTo input base (session_of source o (record { seat = Ok spent; end = e; last = None }))) (sym k.1) (record {
       talks = first_none input (handled ++ next ∷ later) o.answers begins h.answers;
       written = all_written base o h.holds h.unsent;
@@ -370,21 +379,25 @@ opening_hung_up base input source o handled next later seat spent receipt found 
         before = seat.receipts;
         exit = k.0.0;
         receipts = k.0.1.receives.receipts;
+        granted = subst IsGranted (sym h.one) granted;
         has_untold = opening_told base input o handled next later seat.receipts receipt begins h;
         act_is = k.0.1.act_is;
       }));
       ends = tt;
     })
-opening_hung_up base input source o handled next later seat spent receipt found begins h (inr k) =
+opening_hung_up base input source o handled next later seat spent receipt found begins h granted (inr k) =
     subst (λ (e : End). ComesTo input base (session_of source o (record { seat = Ok spent; end = e; last = None }))) (sym k.1) (record {
       talks = first_none input (handled ++ next ∷ later) o.answers begins h.answers;
       written = (o.sent, holds_front base o h.holds);
-      seated = inr (subst (λ (x : SeatState). HasUntold input x.receipts o.answers) (sym k.0) (opening_told base input o handled next later seat.receipts receipt begins h));
+      seated = (
+        same_granted seat spent k.0 (subst IsGranted (sym h.one) granted),
+        inr (subst (λ (x : SeatState). HasUntold input x.receipts o.answers) (sym k.0) (opening_told base input o handled next later seat.receipts receipt begins h)),
+      );
       ends = tt;
     })
 
 pub opening_untold : (o : OutputState) (seat spent : SeatState) (found : End) → HangsUp seat end.NoMemory spent found → LeavesAll o o (over.OpeningUntold seat) (record { seat = Ok spent; end = found; last = None })
-opening_untold o seat spent found h base input source (inl k) met = opening_hung_up base input source o k.handled k.next k.later seat spent k.is.0 found k.begins k.is.1 h
+opening_untold o seat spent found h base input source (inl k) met = opening_hung_up base input source o k.handled k.next k.later seat spent k.is.0 found k.begins k.is.1 k.is.2 h
 opening_untold o seat spent found h base input source (inr k) met = absurd k
 
 pub refusal_untold : (o : OutputState) (spent : SeatState) → LeavesAll o o (over.RefusalUntold spent) (record { seat = Ok spent; end = end.NoMemory; last = None })
@@ -400,19 +413,19 @@ refusal_untold o spent base input source (inr k) met = absurd k
 -- ---- the last receipt is not answered
 
 untold_unwritten : (base : Option (List ℕ)) (input : List ℕ) (source : LoggedReaderState) (o : OutputState) (requests : List Request) (receipt : Receipted) (seat spent : SeatState) (found : End) → AnswersFirst input (o.answers ++ told.Recorded receipt ∷ []) → Broke base o
-    → seat.receipts ≡ receipts_of (o.answers ++ told.Recorded receipt ∷ []) → HangsUp seat (end.WriteFault o.sent) spent found → ComesTo input base (session_of source o (record { seat = Ok spent; end = found; last = Some receipt }))
-untold_unwritten base input source o requests receipt seat spent found talks broke receipts (inl k) =
+    → seat.receipts ≡ receipts_of (o.answers ++ told.Recorded receipt ∷ []) → IsGranted seat.receipts → HangsUp seat (end.WriteFault o.sent) spent found → ComesTo input base (session_of source o (record { seat = Ok spent; end = found; last = Some receipt }))
+untold_unwritten base input source o requests receipt seat spent found talks broke receipts granted (inl k) =
     subst (λ (e : End). ComesTo input base (session_of source o (record { seat = Ok spent; end = e; last = Some receipt }))) (sym k.1) (record {
       talks = talks;
       written = front_of_more base o.sink.contents o.answers (told.Recorded receipt) o.sent broke.front;
-      seated = inl (exited seat spent (o.answers ++ told.Recorded receipt ∷ []) k.0 receipts);
+      seated = inl (exited seat spent (o.answers ++ told.Recorded receipt ∷ []) k.0 receipts granted);
       ends = broke.broken;
     })
-untold_unwritten base input source o requests receipt seat spent found talks broke receipts (inr k) =
+untold_unwritten base input source o requests receipt seat spent found talks broke receipts granted (inr k) =
     subst (λ (e : End). ComesTo input base (session_of source o (record { seat = Ok spent; end = e; last = Some receipt }))) (sym k.1) (record {
       talks = talks;
       written = (o.sent, front_of_more base o.sink.contents o.answers (told.Recorded receipt) o.sent broke.front);
-      seated = inl (ap (λ (s : SeatState). s.receipts) k.0 ∙ receipts);
+      seated = (same_granted seat spent k.0 granted, inl (ap (λ (s : SeatState). s.receipts) k.0 ∙ receipts));
       ends = tt;
     })
 
@@ -423,23 +436,23 @@ untold_failed old new seat spent receipt found fails h base input source (inl k)
     let receipts : seat.receipts ≡ receipts_of (told_with new.answers) =
     k.is.receipts_are ∙ sym (receipts_more old.answers (told_with old.answers) (told.Recorded receipt) refl) ∙ ap (λ (l : List Told). receipts_of (told_with l)) (sym fails.answers) in
     let talks = talks_at input k.handled k.next k.later (told_with old.answers) k.begins k.is.with_it in
-    untold_unwritten base input source new (k.handled ++ k.next ∷ k.later) receipt seat spent found (subst (λ (l : List Told). AnswersFirst input (told_with l)) (sym fails.answers) talks) (fails.breaks base k.is.holds) receipts h
+    untold_unwritten base input source new (k.handled ++ k.next ∷ k.later) receipt seat spent found (subst (λ (l : List Told). AnswersFirst input (told_with l)) (sym fails.answers) talks) (fails.breaks base k.is.holds) receipts k.is.granted h
 untold_failed old new seat spent receipt found fails h base input source (inr k) met = absurd k
 
-untold_written : (base : Option (List ℕ)) (input : List ℕ) (source : LoggedReaderState) (o : OutputState) (receipt : Receipted) (seat spent : SeatState) (found : End) → AnswersFirst input o.answers → Holds base o → o.unsent ≡ [] → HasUntold input seat.receipts o.answers
+untold_written : (base : Option (List ℕ)) (input : List ℕ) (source : LoggedReaderState) (o : OutputState) (receipt : Receipted) (seat spent : SeatState) (found : End) → AnswersFirst input o.answers → Holds base o → o.unsent ≡ [] → HasUntold input seat.receipts o.answers → IsGranted seat.receipts
     → HangsUp seat end.NoMemory spent found → ComesTo input base (session_of source o (record { seat = Ok spent; end = found; last = None }))
-untold_written base input source o receipt seat spent found talks holds all untold (inl k) =
+untold_written base input source o receipt seat spent found talks holds all untold granted (inl k) =
     subst (λ (e : End). ComesTo input base (session_of source o (record { seat = Ok spent; end = e; last = None }))) (sym k.1) (record {
       talks = talks;
       written = all_written base o holds all;
-      seated = inr (inl (record { before = seat.receipts; exit = k.0.0; receipts = k.0.1.receives.receipts; has_untold = untold; act_is = k.0.1.act_is }));
+      seated = inr (inl (record { before = seat.receipts; exit = k.0.0; receipts = k.0.1.receives.receipts; granted = granted; has_untold = untold; act_is = k.0.1.act_is }));
       ends = tt;
     })
-untold_written base input source o receipt seat spent found talks holds all untold (inr k) =
+untold_written base input source o receipt seat spent found talks holds all untold granted (inr k) =
     subst (λ (e : End). ComesTo input base (session_of source o (record { seat = Ok spent; end = e; last = None }))) (sym k.1) (record {
       talks = talks;
       written = (o.sent, holds_front base o holds);
-      seated = inr (subst (λ (x : SeatState). HasUntold input x.receipts o.answers) (sym k.0) untold);
+      seated = (same_granted seat spent k.0 granted, inr (subst (λ (x : SeatState). HasUntold input x.receipts o.answers) (sym k.0) untold));
       ends = tt;
     })
 
@@ -453,7 +466,7 @@ untold_sent old new seat spent receipt found sent h base input source (inl k) me
     untold_written base input source new receipt seat spent found
     (subst (AnswersFirst input) (sym sent.flushes.answers) (talks_at input k.handled k.next k.later old.answers k.begins k.is.without))
     (sent.flushes.holds base k.is.holds) sent.all
-    (subst (HasUntold input seat.receipts) (sym sent.flushes.answers) untold) h
+    (subst (HasUntold input seat.receipts) (sym sent.flushes.answers) untold) k.is.granted h
 untold_sent old new seat spent receipt found sent h base input source (inr k) met = absurd k
 
 -- ---- the process has ended already
@@ -544,7 +557,7 @@ pub foreign : (o : OutputState) (spent : SeatState) → LeavesAll o o (over.Fore
 foreign o spent base input source (inl k) met = record {
   talks = cut_at input k.handled k.next k.later o.answers None k.begins k.is.2;
   written = (o.sent, holds_front base o k.is.0);
-  seated = inl k.is.1;
+  seated = (k.is.3, inl k.is.1);
   ends = tt;
 }
 foreign o spent base input source (inr k) met = absurd k

@@ -166,8 +166,8 @@ seat_fits input seat answers end.RunFull fits h = exited_fits seat answers fits 
 seat_fits input seat answers end.NoMemory fits (inl h) = exited_fits seat answers fits h
 seat_fits input seat answers end.NoMemory fits (inr (inl h)) = exited_untold_fits input seat answers fits h
 seat_fits input seat answers end.NoMemory fits (inr (inr h)) = untold_fits input seat.receipts answers fits h.has_untold
-seat_fits input seat answers end.Foreign fits (inl h) = subst ActsFit (sym h) fits
-seat_fits input seat answers end.Foreign fits (inr h) = untold_fits input seat.receipts answers fits h
+seat_fits input seat answers end.Foreign fits (granted, inl h) = subst ActsFit (sym h) fits
+seat_fits input seat answers end.Foreign fits (granted, inr h) = untold_fits input seat.receipts answers fits h
 seat_fits input seat answers end.NoThread fits h = absurd h
 
 seated_fits : (input : List ℕ) (seat : Option SeatState) (answers : List Told) (found : End) → ActsFit (receipts_of answers) → IsSeated input seat answers found → SeatFits seat

@@ -18,6 +18,7 @@ use Rattle.session_core.specs.declared.stage.Turn.TheVariants as turn
 use Rattle.session_core.specs.Answers.{answers_text, receipts_of}
 use Rattle.session_core.specs.Proved.Output.{OutputState, Holds, Puts}
 use Rattle.session_core.specs.Talk.{IsRecordOf, Talked, IsUnopened, Converses}
+use Rattle.session_core.specs.Served.{IsGranted}
 use Rattle.session_core.specs.Proved.Turns.{IsUntoldOpening, PutsFirst, WhyRefused, PutsGivenUp, TakesUp, LeavesBy}
 use Rattle.session_core.proofs.WaitLemmas.{talked_converses, wanting}
 
@@ -56,7 +57,11 @@ seated admission next seat receipts old new same_list h put_list base handled ho
     let same : h.0 ≡ put.receipt = same_first h.0 put.receipt seat.receipts first.0 put.is in
     let record_of = subst (IsRecordOf next) same first.1 in (
       put.puts.holds base holds,
-      (first_talk next handled old new put.receipt record_of talking.0 talking.1 put.puts, put.is ∙ sym (first_receipts old new put.receipt talking.1 put.puts)),
+      (
+        first_talk next handled old new put.receipt record_of talking.0 talking.1 put.puts,
+        put.is ∙ sym (first_receipts old new put.receipt talking.1 put.puts),
+        subst IsGranted (sym first.0) h.2,
+      ),
     )
 
 pub unseated : (admission : Unit {0}) (next : Request) (seat : SeatState) (receipts : List Receipted) (old new : OutputState) → receipts ≡ seat.receipts → OpensBy next (Ok (opened.Refused seat)) → PutsFirst receipts old new
@@ -113,7 +118,7 @@ untold_opening base next handled old new seat receipt h e holds none empty =
     record { holds = fresh.holds; answers = fresh.answers; unsent = fresh.unsent; one = first.0; with_it = untold_talk next handled receipt first.1 none }
 
 pub opening_untold : (admission : Unit {0}) (next : Request) (seat : SeatState) (old new : OutputState) → OpensBy next (Ok (opened.Seated seat)) → new ≡ old → TakesUp (stage.Opening admission) next old new (turn.Over (over.OpeningUntold seat))
-opening_untold admission next seat old new h e base handled holds talking = (h.0, untold_opening base next handled old new seat h.0 h.1 e holds talking.0 talking.1)
+opening_untold admission next seat old new h e base handled holds talking = (h.0, untold_opening base next handled old new seat h.0 h.1 e holds talking.0 talking.1, h.2)
 
 pub refusal_untold : (admission : Unit {0}) (next : Request) (seat : SeatState) (old new : OutputState) → OpensBy next (Ok (opened.Refused seat)) → new ≡ old → TakesUp (stage.Opening admission) next old new (turn.Over (over.RefusalUntold seat))
 refusal_untold admission next seat old new h e base handled holds talking = (h.0, untold_opening base next handled old new seat h.0 h.1 e holds talking.0 talking.1, h.2)

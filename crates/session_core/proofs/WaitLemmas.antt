@@ -21,7 +21,7 @@ use Rattle.session_core.specs.declared.stage.Over.TheVariants as over
 use Rattle.session_core.specs.declared.stage.Turn.TheVariants as turn
 use Rattle.session_core.specs.Answers.{receipt_of, receipts_of}
 use Rattle.session_core.specs.Proved.Output.{OutputState, Holds, Puts, SendsAll, FailsToSend}
-use Rattle.session_core.specs.Served.{HasExited}
+use Rattle.session_core.specs.Served.{HasExited, IsGranted}
 use Rattle.session_core.specs.Talk.{Group, told_of_all, told_last, IsReply, IsPart, IsPartTold, AreParts, IsCallGroup, AreCalls, IsWaiting, Talked, Waits, IsWantingLast, IsCut, Converses}
 use Rattle.session_core.specs.Proved.Turns.{goes_on, WhyRefused, PutsGivenUp, EndedBy, IsGivenUp, OverBy, TurnBy, IsWaitingAt}
 
@@ -35,6 +35,14 @@ receipts_recorded old new receipt before after e b a = a ∙ ap (λ (l : List Re
 
 pub receipts_refused : (old new : List Told) (refusal : Refusal) → new ≡ old ++ told.Refused refusal ∷ [] → receipts_of new ≡ receipts_of old
 receipts_refused old new refusal e = receipts_more old new (told.Refused refusal) e ∙ append-nil (receipts_of old)
+
+-- the first receipt stays the first
+more_granted : (before more : List Receipted) → IsGranted before → IsGranted (before ++ more)
+more_granted [] more h = absurd h
+more_granted (first ∷ rest) more h = h
+
+pub granted_more : (before after : List Receipted) (receipt : Receipted) → after ≡ before ++ receipt ∷ [] → IsGranted before → IsGranted after
+granted_more before after receipt e h = subst IsGranted (sym e) (more_granted before (receipt ∷ []) h)
 
 -- ---- one call more
 
@@ -105,10 +113,11 @@ waits_no_more handled old new call receipt w act_is ends e =
 
 -- ---- it is given up
 
-exits_with : (seat spent : SeatState) (old new : List Told) → Exits seat spent → seat.receipts ≡ receipts_of old → receipts_of new ≡ receipts_of old → HasExited spent new
-exits_with seat spent old new h e same = record {
+exits_with : (seat spent : SeatState) (old new : List Told) → Exits seat spent → IsGranted seat.receipts → seat.receipts ≡ receipts_of old → receipts_of new ≡ receipts_of old → HasExited spent new
+exits_with seat spent old new h granted e same = record {
   exit = h.0;
   receipts = h.1.receives.receipts ∙ ap (λ (l : List Receipted). l ++ h.0 ∷ []) (e ∙ sym same);
+  granted = subst IsGranted (e ∙ sym same) granted;
   act_is = h.1.act_is;
 }
 
@@ -131,21 +140,22 @@ pub ended_by : (base : Option (List ℕ)) (handled : List Request) (call : Call)
     → EndedBy base (handled ++ request.Call call ∷ []) new spent found
 ended_by base handled call seat spent old new refusal found (inl h) w exits =
     ended_with base (handled ++ request.Call call ∷ []) new spent refusal found h.0 (h.1.holds base w.holds)
-    (exits_with seat spent old.answers new.answers exits w.receipts (receipts_refused old.answers new.answers refusal h.1.answers))
+    (exits_with seat spent old.answers new.answers exits w.granted w.receipts (receipts_refused old.answers new.answers refusal h.1.answers))
     (cut_refused handled old.answers new.answers call refusal (wanting refusal found h.0) w.waits h.1.answers)
 ended_by base handled call seat spent old new refusal found (inr h) w exits =
     let same : new.answers ≡ old.answers = ap (λ (o : OutputState). o.answers) h.1 in
     subst (EndedBy base (handled ++ request.Call call ∷ []) new spent) (sym h.0) (
       subst (Holds base) (sym h.1) w.holds,
-      exits_with seat spent old.answers new.answers exits w.receipts (ap receipts_of same),
+      exits_with seat spent old.answers new.answers exits w.granted w.receipts (ap receipts_of same),
       (None, subst (λ (l : List Told). IsCut (handled ++ request.Call call ∷ []) l None) (sym same) (cut_now handled old.answers call w.waits)),
     )
 
 pub lost_by : (base : Option (List ℕ)) (handled : List Request) (call : Call) (seat spent : SeatState) (o : OutputState) → o.unsent ≡ [] → IsWaitingAt base handled call seat o → Exits seat spent → IsGivenUp base (handled ++ request.Call call ∷ []) o spent
-lost_by base handled call seat spent o sent w exits = record { holds = w.holds; sent = sent; exited = exits_with seat spent o.answers o.answers exits w.receipts refl; cut = cut_now handled o.answers call w.waits }
+lost_by base handled call seat spent o sent w exits = record { holds = w.holds; sent = sent; exited = exits_with seat spent o.answers o.answers exits w.granted w.receipts refl; cut = cut_now handled o.answers call w.waits }
 
 pub foreign_by : (base : Option (List ℕ)) (handled : List Request) (call : Call) (seat spent : SeatState) (o : OutputState) → IsWaitingAt base handled call seat o → spent ≡ seat → OverBy base handled (request.Call call) o (over.Foreign spent)
-foreign_by base handled call seat spent o w same = (w.holds, ap (λ (s : SeatState). s.receipts) same ∙ w.receipts, cut_now handled o.answers call w.waits)
+foreign_by base handled call seat spent o w same =
+    (w.holds, ap (λ (s : SeatState). s.receipts) same ∙ w.receipts, cut_now handled o.answers call w.waits, subst (λ (s : SeatState). IsGranted s.receipts) (sym same) w.granted)
 
 -- ---- one turn
 
@@ -155,12 +165,13 @@ still_waits base handled call seat old new h w = record {
   holds = h.flushes.holds base w.holds;
   waits = subst (λ (l : List Told). Waits handled l call) (sym h.flushes.answers) w.waits;
   receipts = w.receipts ∙ ap receipts_of (sym h.flushes.answers);
+  granted = w.granted;
 }
 
 pub unsent : (base : Option (List ℕ)) (handled : List Request) (call : Call) (seat : SeatState) (old new : OutputState) → FailsToSend old new → IsWaitingAt base handled call seat old → OverBy base handled (request.Call call) new (over.Unwritten (stage.Ready seat))
 unsent base handled call seat old new h w = (
   h.breaks base w.holds,
-  w.receipts ∙ ap receipts_of (sym h.answers),
+  (w.receipts ∙ ap receipts_of (sym h.answers), w.granted),
   cut_converses (handled ++ request.Call call ∷ []) new.answers None (cut_now handled new.answers call (subst (λ (l : List Told). Waits handled l call) (sym h.answers) w.waits)),
 )
 
@@ -180,6 +191,7 @@ resumed_part base handled call seat after receipt old new adds kind more put w =
   holds = put.holds base w.holds;
   waits = waits_more handled old.answers new.answers call (told.Recorded receipt) w.waits (adds.act_is, is_part receipt.record_is.outcome kind more) put.answers;
   receipts = receipts_recorded old.answers new.answers receipt seat.receipts after.receipts put.answers w.receipts adds.receives.receipts;
+  granted = granted_more seat.receipts after.receipts receipt adds.receives.receipts w.granted;
 }
 
 pub resumed_whole : (base : Option (List ℕ)) (handled : List Request) (call : Call) (seat after : SeatState) (receipt : Receipted) (old new : OutputState) → Adds seat after act.Resume receipt → EndsOrGoesOn receipt.record_is.outcome
@@ -189,6 +201,7 @@ resumed_whole base handled call seat after receipt old new adds kind ends put w 
   (
     waits_no_more handled old.answers new.answers call receipt w.waits adds.act_is (is_reply receipt.record_is.outcome kind ends) put.answers,
     receipts_recorded old.answers new.answers receipt seat.receipts after.receipts put.answers w.receipts adds.receives.receipts,
+    granted_more seat.receipts after.receipts receipt adds.receives.receipts w.granted,
   ),
 )
 
@@ -207,6 +220,7 @@ resumed_untold base handled call seat after receipt old new adds kind e w =
     subst (λ (o : OutputState). TurnBy base handled (request.Call call) o (turn.Over (over.Untold after receipt))) (sym e) (record {
       holds = w.holds;
       receipts_are = adds.receives.receipts ∙ ap (λ (l : List Receipted). l ++ receipt ∷ []) w.receipts;
+      granted = granted_more seat.receipts after.receipts receipt adds.receives.receipts w.granted;
       without = cut_converses (handled ++ request.Call call ∷ []) old.answers None (cut_now handled old.answers call w.waits);
       with_it = with_resumed (goes_on receipt.record_is.outcome) handled old.answers call receipt refl kind adds.act_is w.waits;
     })

@@ -13,7 +13,7 @@ use Rattle.system_lock.specs.declared.kernel.Why.TheVariants as ended_why
 use Rattle.session_core.specs.Answers.{answers_text, receipts_of}
 use Rattle.session_core.specs.Refusals.{AreSaid, RefusalSaid}
 use Rattle.session_core.specs.Said.{EndSaid, SaidEnded}
-use Rattle.session_core.specs.Served.{ComesTo, HasExited}
+use Rattle.session_core.specs.Served.{ComesTo, HasExited, IsGranted}
 use Rattle.session_core.specs.Talk.{IsCut, Talked}
 use Rattle.session_core.specs.declared.answer.AnsweredSeat.{AnsweredSeat as SeatOf}
 use Rattle.session_core.specs.declared.answer.AnsweredSeat.TheVariants as seat
@@ -48,7 +48,7 @@ spent_of (seat.Spent spent) = Some spent
 -- each request that was taken is answered to its end, but for a last one that waits and that the kernel gave up
 abbrev pub AnswersTaken : (SeatState → Why → Type 0) → List Request → List Told → AnsweredSeat → Type 0
 AnswersTaken ended taken answers (seat.None admission) = (taken ≡ []) × (answers ≡ [])
-AnswersTaken ended taken answers (seat.Live live) = Talked taken answers × (live.receipts ≡ receipts_of answers)
+AnswersTaken ended taken answers (seat.Live live) = Talked taken answers × (live.receipts ≡ receipts_of answers) × IsGranted live.receipts
 AnswersTaken ended taken answers (seat.Spent spent) = HasExited spent answers × IsCut taken answers None × SaidEnded ended ended_why.Lost
 
 -- whatever bytes begin with the requests that were taken, it is what a session comes to that read them, has this end and is left

@@ -9,7 +9,7 @@ use Rattle.call_types.specs.declared.request.Request.TheVariants as request
 use Rattle.frame_codec.specs.declared.decoder.Progress.{Progress}
 use Rattle.frame_codec.specs.declared.decoder.Progress.TheVariants as progress
 use Rattle.record_book.specs.Seat.{Receipted, SeatState}
-use Rattle.system_lock.specs.Kernel.{IsOpening, IsError}
+use Rattle.system_lock.specs.Kernel.{IsOpening, IsError, IsNoError}
 use Rattle.logged_streams.specs.declared.stream_log.TheConstants.{INTERRUPTIONS_MAX}
 use Rattle.request_pump.specs.Input.{Begins, AreRequests, IsFault}
 use Rattle.request_pump.specs.declared.pump.TheConstants.{READS_MAX}
@@ -120,10 +120,16 @@ pub record AnswersToCut (input : List ℕ) (answers : List Told) (given_up : Opt
 
 -- ---- the seat
 
--- the receipts of the seat are those of the answers, and that of the exit
+-- the first of these receipts, which is that of the opening, is no error
+abbrev pub IsGranted : List Receipted → Type 0
+IsGranted [] = ⊥
+IsGranted (first ∷ more) = IsNoError first.record_is.outcome
+
+-- the receipts of the seat are those of the answers, of which the first is that of an opening that is no error, and that of the exit
 pub record HasExited (seat : SeatState) (answers : List Told) : Type 0 where
   pub exit : Receipted
   pub receipts : seat.receipts ≡ receipts_of answers ++ exit ∷ []
+  pub granted : IsGranted (receipts_of answers)
   pub act_is : exit.record_is.act ≡ act.Exit
 
 -- the receipts are those of the answers, and one that would be the next answer, for which memory ran out
@@ -137,6 +143,7 @@ pub record HasExitedUntold (input : List ℕ) (seat : SeatState) (answers : List
   pub before : List Receipted
   pub exit : Receipted
   pub receipts : seat.receipts ≡ before ++ exit ∷ []
+  pub granted : IsGranted before
   pub has_untold : HasUntold input before answers
   pub act_is : exit.record_is.act ≡ act.Exit
 
@@ -153,9 +160,9 @@ pub record IsRefusedUntold (input : List ℕ) (seat : SeatState) (answers : List
   pub has_untold : HasUntold input seat.receipts answers
   pub is_error : IsError has_untold.untold.record_is.outcome
 
--- no exit is recorded: the receipts of the seat are those of the answers, and at most one that would be the next answer
+-- no exit is recorded: the receipts of the seat, of which the first is no error, are those of the answers, and at most one that would be the next answer
 abbrev pub HasNoExit : List ℕ → SeatState → List Told → Type 0
-HasNoExit input seat answers = (seat.receipts ≡ receipts_of answers) ⊎ HasUntold input seat.receipts answers
+HasNoExit input seat answers = IsGranted seat.receipts × ((seat.receipts ≡ receipts_of answers) ⊎ HasUntold input seat.receipts answers)
 
 -- the receipts of a seat, at each end
 abbrev pub IsSeatOf : List ℕ → SeatState → List Told → End → Type 0

@@ -64,15 +64,20 @@ abbrev pub IsError : Outcome → Type 0
 IsError (outcome.Reply (reply.Error error)) = Unit {0}
 IsError other = ⊥
 
+-- an outcome that is no error
+abbrev pub IsNoError : Outcome → Type 0
+IsNoError (outcome.Reply (reply.Error error)) = ⊥
+IsNoError other = Unit {0}
+
 -- a refusal for want of memory or of records
 abbrev pub IsWanting : Refusal → Type 0
 IsWanting refusal.NoMemory = Unit {0}
 IsWanting refusal.RunFull = Unit {0}
 IsWanting other = ⊥
 
--- an opening is recorded, with a seat, or with the one receipt of an error
+-- an opening is recorded: with a seat, where it is no error; else with the one receipt of that error
 abbrev pub IsOpenedAs : {S P : Type 0} → (S → SeatState) → (P → SeatState) → Request → OpenedOf S P → Type 0
-IsOpenedAs as_seat as_spent request (opened.Seated seat) = (receipt : Receipted) × OpensFor request (as_seat seat) receipt
+IsOpenedAs as_seat as_spent request (opened.Seated seat) = (receipt : Receipted) × OpensFor request (as_seat seat) receipt × IsNoError receipt.record_is.outcome
 IsOpenedAs as_seat as_spent request (opened.Refused seat) = (receipt : Receipted) × OpensFor request (as_spent seat) receipt × IsError receipt.record_is.outcome
 
 -- an opening is recorded; or it is refused for want of memory or of records

@@ -6,7 +6,7 @@ use Rattle.call_types.specs.declared.refusal.Refusal.TheVariants as refusal
 use Rattle.call_types.specs.declared.request.Request.{Request}
 use Rattle.call_types.specs.declared.request.Request.TheVariants as request
 use Rattle.record_book.specs.Seat.{Receipted, SeatState}
-use Rattle.system_lock.specs.Kernel.{Ended, EndsBy, IsError}
+use Rattle.system_lock.specs.Kernel.{Ended, EndsBy, IsError, IsNoError}
 use Rattle.system_lock.specs.declared.kernel.Why.{Why}
 use Rattle.system_lock.specs.declared.kernel.Why.TheVariants as ended_why
 use Rattle.session_core.specs.declared.told.Told.{Told}
@@ -14,7 +14,7 @@ use Rattle.session_core.specs.declared.told.Told.TheVariants as told
 use Rattle.session_core.specs.Answers.{receipts_of}
 use Rattle.session_core.specs.Proved.Output.{OutputState, Holds, Broke, Puts}
 use Rattle.session_core.specs.Talk.{IsCut, IsUnopened, Converses, Talked, Waits}
-use Rattle.session_core.specs.Served.{HasExited, IsRefusedOpening}
+use Rattle.session_core.specs.Served.{HasExited, IsGranted, IsRefusedOpening}
 use Rattle.session_core.specs.Proved.Stages.{Stage, Over, Turn}
 use Rattle.session_core.specs.declared.stage.Stage.TheVariants as stage
 use Rattle.session_core.specs.declared.stage.LeaveCause.{LeaveCause}
@@ -25,10 +25,10 @@ use Rattle.session_core.specs.Refusals.{AreSaid}
 use Rattle.call_types.specs.declared.outcome.Outcome.{Outcome}
 use Rattle.call_types.specs.declared.outcome.Outcome.TheVariants as outcome
 
--- these requests are answered to their end, and the seat has the receipts of the answers
+-- these requests are answered to their end, and the seat has the receipts of the answers, the first of an opening that is no error
 abbrev pub IsTalking : List Request → List Told → Stage → Type 0
 IsTalking handled answers (stage.Opening admission) = (handled ≡ []) × (answers ≡ [])
-IsTalking handled answers (stage.Ready seat) = Talked handled answers × (seat.receipts ≡ receipts_of answers)
+IsTalking handled answers (stage.Ready seat) = Talked handled answers × (seat.receipts ≡ receipts_of answers) × IsGranted seat.receipts
 
 -- a request that has no place where a session is
 abbrev pub IsOutOfPlace : Stage → Request → Type 0
@@ -39,10 +39,10 @@ IsOutOfPlace (stage.Ready seat) request.Join = Unit {0}
 IsOutOfPlace (stage.Ready seat) (request.Attach process) = Unit {0}
 IsOutOfPlace (stage.Ready seat) (request.Call call) = ⊥
 
--- the receipts of the seat are those of the answers; without a seat no answer has one
+-- the receipts of the seat are those of the answers, the first of an opening that is no error; without a seat no answer has one
 abbrev pub HasReceipts : Stage → List Told → Type 0
 HasReceipts (stage.Opening admission) answers = receipts_of answers ≡ []
-HasReceipts (stage.Ready seat) answers = seat.receipts ≡ receipts_of answers
+HasReceipts (stage.Ready seat) answers = (seat.receipts ≡ receipts_of answers) × IsGranted seat.receipts
 
 -- a session that leaves off at the last of its requests so far
 abbrev pub LeavesBy : Option (List ℕ) → List Request → Request → OutputState → Stage → LeaveCause → Type 0
@@ -73,6 +73,7 @@ pub record IsUntoldOpening (base : Option (List ℕ)) (requests : List Request) 
 pub record IsUntold (base : Option (List ℕ)) (requests : List Request) (o : OutputState) (receipts : List Receipted) (receipt : Receipted) : Type 0 where
   pub holds : Holds base o
   pub receipts_are : receipts ≡ receipts_of o.answers ++ receipt ∷ []
+  pub granted : IsGranted receipts
   pub without : Converses requests o.answers
   pub with_it : Converses requests (o.answers ++ told.Recorded receipt ∷ [])
 
@@ -80,19 +81,20 @@ pub record IsUntold (base : Option (List ℕ)) (requests : List Request) (o : Ou
 abbrev pub OverBy : Option (List ℕ) → List Request → Request → OutputState → Over → Type 0
 OverBy base handled next o (over.Leaves stage why) = LeavesBy base handled next o stage why
 OverBy base handled next o (over.Unwritten stage) = Broke base o × HasReceipts stage o.answers × Converses (handled ++ next ∷ []) o.answers
-OverBy base handled next o (over.OpeningUntold seat) = (receipt : Receipted) × IsUntoldOpening base (handled ++ next ∷ []) o seat.receipts receipt
+OverBy base handled next o (over.OpeningUntold seat) = (receipt : Receipted) × IsUntoldOpening base (handled ++ next ∷ []) o seat.receipts receipt × IsNoError receipt.record_is.outcome
 OverBy base handled next o (over.RefusalUntold seat) = (receipt : Receipted) × IsUntoldOpening base (handled ++ next ∷ []) o seat.receipts receipt × IsError receipt.record_is.outcome
 OverBy base handled next o (over.Untold seat receipt) = IsUntold base (handled ++ next ∷ []) o seat.receipts receipt
 OverBy base handled next o (over.Refused seat) = Holds base o × IsRefusedOpening seat o.answers × Talked (handled ++ next ∷ []) o.answers
 OverBy base handled next o (over.Lost seat why) = ⊥
 OverBy base handled next o (over.Ended seat why) = EndedBy base (handled ++ next ∷ []) o seat why
-OverBy base handled next o (over.Foreign seat) = Holds base o × (seat.receipts ≡ receipts_of o.answers) × IsCut (handled ++ next ∷ []) o.answers None
+OverBy base handled next o (over.Foreign seat) = Holds base o × (seat.receipts ≡ receipts_of o.answers) × IsCut (handled ++ next ∷ []) o.answers None × IsGranted seat.receipts
 
 -- a call of the seat's process waits
 pub record IsWaitingAt (base : Option (List ℕ)) (handled : List Request) (call : Call) (seat : SeatState) (o : OutputState) : Type 0 where
   pub holds : Holds base o
   pub waits : Waits handled o.answers call
   pub receipts : seat.receipts ≡ receipts_of o.answers
+  pub granted : IsGranted seat.receipts
 
 -- the next request is such a call
 abbrev pub WaitsIn : Option (List ℕ) → List Request → Request → OutputState → SeatState → Type 0
