@@ -74,8 +74,8 @@ IsBlank contents = is_blank contents ≡ true
 -- leaves off in a call that waits only where that was due in some book
 pub record ServesInRun (always : Bool) (from base : Option (List ℕ)) (s : SessionState) : Type 0 where
   pub serves : Serves always from base s
-  pub said : EndSaid IsNotOpened IsEnded s.end_is
-  pub given_up : CutSaid IsEnded s.answers s.end_is
+  pub said : EndSaid IsNotOpened IsEnded s.seat s.end_is
+  pub given_up : CutSaid IsEnded s.seat s.answers s.end_is
   pub refusals : RefusalsSaid IsNotOpened IsRefused IsEnded from s
 
 -- a connection that was served: what its reader had and its writer held at the start, and the seat of its process, if there is one

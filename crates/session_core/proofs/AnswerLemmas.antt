@@ -21,6 +21,7 @@ use Rattle.session_core.specs.Proved.Closing.{with_last}
 use Rattle.session_core.specs.Proved.Desk.{HasLeft, IsAtRest, Stands}
 use Rattle.session_core.specs.Proved.Output.{OutputState}
 use Rattle.session_core.specs.Refusals.{RefusalSaid}
+use Rattle.session_core.specs.Said.{EndSaid}
 use Rattle.session_core.specs.Served.{ComesTo}
 use Rattle.session_core.specs.Proved.Stages.{LeftSession, Standing}
 use Rattle.session_core.proofs.ClosingLemmas.{all_written, first_none}
@@ -47,7 +48,10 @@ answers_ring unopened refused ended base o ring (standing.Ready (stage.Ready liv
 answers_ring unopened refused ended base o ring (standing.Waits live) h rest = absurd rest
 answers_ring unopened refused ended base o ring (standing.Lost spent) h rest = record { answered = ((h.0.is.exited, h.0.is.cut, h.1), all_written base o h.0.is.holds h.0.is.sent); said = h.0.said }
 answers_ring unopened refused ended base o ring (standing.Left left) h rest = record {
-  answered = (left_comes unopened refused ended base (received ring) o ring left h, h.left_by.end_said);
+  answered = (
+    left_comes unopened refused ended base (received ring) o ring left h,
+    subst (λ (s : Option SeatState). EndSaid unopened ended s left.end) (same_seat left.seat) h.left_by.end_said,
+  );
   said =
       with_last_said (RefusalSaid unopened refused ended (received ring)) o.answers left.last
       (kept_said (RefusalSaid unopened refused ended (received ring)) h.old.answers o.answers h.left_by.answers h.left_by.said);

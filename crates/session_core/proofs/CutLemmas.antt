@@ -1,5 +1,6 @@
 -- A session leaves off in a call that waits only where its kernel gave that call up.
 use Rattle.std.proofs.Common.{◌≡◌, ℕ, inl, inr, List, [], ◌∷◌, ◌++◌, Option, None, Result, Ok, Err, sym, ◌∙◌, ap, subst}
+use Rattle.std.specs.Result.{result_ok}
 use Rattle.std.proofs.lemmas.List.{append-nil, append_assoc}
 use Rattle.std.proofs.Math.Seq.{append_snoc}
 use Rattle.call_types.specs.declared.act.Act.{Act}
@@ -26,8 +27,8 @@ use Rattle.session_core.specs.Proved.Output.{OutputState}
 use Rattle.session_core.specs.Talk.{Group, AnswersCall, AreCalls, AreParts, IsCut, IsParked, IsPart, IsReply, IsRecordOf, Talked, told_of_all}
 use Rattle.session_core.specs.Proved.Turns.{IsTalking, LeavesBy}
 use Rattle.session_core.specs.Proved.Ends.{IsOver, LeavesOff}
-use Rattle.session_core.specs.Proved.Closing.{ClosesAs, ClosesBy, HangsUp, IsOfReads, LeavesWith, MayClose, SendsLast, end_of, with_last}
-use Rattle.session_core.specs.Said.{CutSaid, IsEndOfReads, SaidEnded}
+use Rattle.session_core.specs.Proved.Closing.{ClosesAs, ClosesBy, HangsUp, IsOfReads, KeepsSeat, LeavesWith, MayClose, SendsLast, end_of, with_last}
+use Rattle.session_core.specs.Said.{CutSaid, IsEndOfReads, SeatSaid}
 use Rattle.session_core.specs.Proved.Saying.{CauseEndedSaid, OverSaid}
 
 -- ---- answers that end in a call that waits
@@ -210,27 +211,28 @@ off_uncut base input o at why.NoMemory requests of h cut = of
 off_uncut base input o at why.Ahead requests of h cut = not_cut_at h.requests requests o.answers at h.talking cut
 
 -- nor has one whose process ended in the call that it waited in
-ended_unread : (ended : SeatState → Why → Type 0) (cause : LeaveCause) → IsOfReads cause → CauseEndedSaid ended cause → ⊥
-ended_unread ended why.Closed of said = said
-ended_unread ended why.ReadFault of said = said
-ended_unread ended why.Malformed of said = said
-ended_unread ended why.RunFull of said = of
-ended_unread ended why.NoMemory of said = of
-ended_unread ended why.Ahead of said = said
+ended_unread : (ended : SeatState → Why → Type 0) (seat : SeatState) (cause : LeaveCause) → IsOfReads cause → CauseEndedSaid ended seat cause → ⊥
+ended_unread ended seat why.Closed of said = said
+ended_unread ended seat why.ReadFault of said = said
+ended_unread ended seat why.Malformed of said = said
+ended_unread ended seat why.RunFull of said = of
+ended_unread ended seat why.NoMemory of said = of
+ended_unread ended seat why.Ahead of said = said
 
-given_up : (unopened : Request → Refusal → Type 0) (ended : SeatState → Why → Type 0) (base : Option (List ℕ)) (input : List ℕ) (o : OutputState) (found : Over) (requests : List Request)
-    → MayClose found → IsOver base input o found → OverSaid unopened ended found → IsCut requests o.answers None → SaidEnded ended ended_why.Lost
-given_up unopened ended base input o (over.Leaves at cause) requests may (inl h) said cut = absurd (leaves_uncut base h.handled h.next o at cause requests may h.is cut)
-given_up unopened ended base input o (over.Leaves at cause) requests may (inr off) said cut = absurd (off_uncut base input o at cause requests may off cut)
-given_up unopened ended base input o (over.Unwritten at) requests may is said cut = absurd may
-given_up unopened ended base input o (over.OpeningUntold seat) requests may is said cut = absurd may
-given_up unopened ended base input o (over.RefusalUntold seat) requests may is said cut = absurd may
-given_up unopened ended base input o (over.Untold seat receipt) requests may is said cut = absurd may
-given_up unopened ended base input o (over.Refused seat) requests may (inl h) said cut = absurd (not_cut (h.handled ++ h.next ∷ []) requests o.answers h.is.2 cut)
-given_up unopened ended base input o (over.Refused seat) requests may (inr off) said cut = absurd off
-given_up unopened ended base input o (over.Lost seat cause) requests may is said cut = said.0
-given_up unopened ended base input o (over.Ended seat cause) requests may is said cut = absurd (ended_unread ended cause may said)
-given_up unopened ended base input o (over.Foreign seat) requests may is said cut = absurd may
+given_up : (unopened : Request → Refusal → Type 0) (ended : SeatState → Why → Type 0) (base : Option (List ℕ)) (input : List ℕ) (o : OutputState) (found : Over) (left : LeftSession) (requests : List Request)
+    → MayClose found → IsOver base input o found → OverSaid unopened ended found → KeepsSeat found left → IsCut requests o.answers None → SeatSaid ended (result_ok left.seat) ended_why.Lost
+given_up unopened ended base input o (over.Leaves at cause) left requests may (inl h) said keeps cut = absurd (leaves_uncut base h.handled h.next o at cause requests may h.is cut)
+given_up unopened ended base input o (over.Leaves at cause) left requests may (inr off) said keeps cut = absurd (off_uncut base input o at cause requests may off cut)
+given_up unopened ended base input o (over.Unwritten at) left requests may is said keeps cut = absurd may
+given_up unopened ended base input o (over.OpeningUntold seat) left requests may is said keeps cut = absurd may
+given_up unopened ended base input o (over.RefusalUntold seat) left requests may is said keeps cut = absurd may
+given_up unopened ended base input o (over.Untold seat receipt) left requests may is said keeps cut = absurd may
+given_up unopened ended base input o (over.Refused seat) left requests may (inl h) said keeps cut = absurd (not_cut (h.handled ++ h.next ∷ []) requests o.answers h.is.2 cut)
+given_up unopened ended base input o (over.Refused seat) left requests may (inr off) said keeps cut = absurd off
+given_up unopened ended base input o (over.Lost seat cause) left requests may is said keeps cut =
+    subst (λ (s : Option SeatState). SeatSaid ended s ended_why.Lost) (sym (ap result_ok keeps)) said.0
+given_up unopened ended base input o (over.Ended seat cause) left requests may is said keeps cut = absurd (ended_unread ended seat cause may said)
+given_up unopened ended base input o (over.Foreign seat) left requests may is said keeps cut = absurd may
 
 closed_at : (found : Over) (o : OutputState) (answers : List Told) (given : End) → IsEndOfReads given → ClosesAs found o answers given → MayClose found × (answers ≡ o.answers)
 closed_at found o answers end.Closed of h = h
@@ -244,7 +246,7 @@ closed_at found o answers end.Foreign of h = absurd of
 closed_at found o answers end.NoThread of h = absurd of
 
 pub cut_said : (unopened : Request → Refusal → Type 0) (ended : SeatState → Why → Type 0) (base : Option (List ℕ)) (input : List ℕ) (old new : OutputState) (found : Over) (left : LeftSession) (answers : List Told)
-    → IsOver base input old found → OverSaid unopened ended found → ClosesBy found old new left → answers ≡ with_last new.answers left.last → CutSaid ended answers left.end
-cut_said unopened ended base input old new found left answers is said closes told of requests cut =
+    → IsOver base input old found → OverSaid unopened ended found → KeepsSeat found left → ClosesBy found old new left → answers ≡ with_last new.answers left.last → CutSaid ended (result_ok left.seat) answers left.end
+cut_said unopened ended base input old new found left answers is said keeps closes told of requests cut =
     let at = closed_at found old (with_last new.answers left.last) left.end of closes in
-    given_up unopened ended base input old found requests at.0 is said (subst (λ (l : List Told). IsCut requests l None) (told ∙ at.1) cut)
+    given_up unopened ended base input old found left requests at.0 is said keeps (subst (λ (l : List Told). IsCut requests l None) (told ∙ at.1) cut)

@@ -160,7 +160,7 @@ ends_after_all unopened refused ended base taken rest sent cause at old new left
 
 -- the last that was taken is given up
 pub ends_given_up : (unopened : Request → Refusal → Type 0) (refused : SeatState → Call → Refusal → Type 0) (ended : SeatState → Why → Type 0) (base : Option (List ℕ)) (taken rest sent : List Request) (cause : LeaveCause) (seat : SeatState) (old new : OutputState) (left : LeftSession)
-    → taken ++ rest ≡ sent → IsReadingEnd cause → IsLostIn (RefusalSaid unopened refused ended) base taken old seat × SaidEnded ended ended_why.Lost
+    → taken ++ rest ≡ sent → IsReadingEnd cause → IsLostIn (RefusalSaid unopened refused ended) base taken old seat × SaidEnded ended seat ended_why.Lost
     → ((requests : List Request) → AreSaid (RefusalSaid unopened refused ended requests) old.answers → OverSaid unopened ended (over.Lost seat cause) → LeftBy unopened refused ended requests old (over.Lost seat cause) new left)
     → IsEnding unopened refused ended base sent cause new left
 ends_given_up unopened refused ended base taken rest sent cause seat old new left e reading lost leaves = record {
@@ -182,6 +182,7 @@ ends_early unopened refused ended base taken rest sent cause o left e h =
       ends = inl (record { taken = taken; later = rest; sent_are = sym e; is = h.ends });
       left_by = record {
         leaves = by.leaves;
+        keeps = by.keeps;
         closes = by.closes;
         over_said = by.over_said;
         end_said = by.end_said;

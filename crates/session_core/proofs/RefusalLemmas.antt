@@ -132,13 +132,13 @@ end_put unopened refused ended base handled call seat old new so found put said 
 
 -- the process of the seat ended in the call that it waited in
 pub ended_refused : (unopened : Request → Refusal → Type 0) (refused : SeatState → Call → Refusal → Type 0) (ended : SeatState → Why → Type 0) (base : Option (List ℕ)) (handled : List Request)
-    (call : Call) (seat : SeatState) (reason : Why) (old new : OutputState) (found : Turn) → TellsWhy reason old new found → ended seat reason
+    (call : Call) (seat spent : SeatState) (reason : Why) (old new : OutputState) (found : Turn) → TellsWhy spent reason old new found → ended seat reason
     → IsWaitingAt base handled call seat old → AreSaid (RefusalSaid unopened refused ended (handled ++ request.Call call ∷ [])) old.answers → AreSaid (RefusalSaid unopened refused ended (handled ++ request.Call call ∷ [])) new.answers
-ended_refused unopened refused ended base handled call seat ended_why.NoMemory old new (turn.Over (over.Ended spent why)) tells said w are = end_put unopened refused ended base handled call seat old new refusal.NoMemory why tells said w are
-ended_refused unopened refused ended base handled call seat ended_why.RunFull old new (turn.Over (over.Ended spent why)) tells said w are = end_put unopened refused ended base handled call seat old new refusal.RunFull why tells said w are
-ended_refused unopened refused ended base handled call seat ended_why.Lost old new (turn.Lost spent) tells said w are = same_said (RefusalSaid unopened refused ended (handled ++ request.Call call ∷ [])) old new tells are
-ended_refused unopened refused ended base handled call seat ended_why.Foreign old new (turn.Over (over.Foreign spent)) tells said w are = same_said (RefusalSaid unopened refused ended (handled ++ request.Call call ∷ [])) old new tells are
-ended_refused unopened refused ended base handled call seat reason old new found tells said w are = absurd tells
+ended_refused unopened refused ended base handled call seat spent ended_why.NoMemory old new (turn.Over (over.Ended held why)) tells said w are = end_put unopened refused ended base handled call seat old new refusal.NoMemory why tells.0 said w are
+ended_refused unopened refused ended base handled call seat spent ended_why.RunFull old new (turn.Over (over.Ended held why)) tells said w are = end_put unopened refused ended base handled call seat old new refusal.RunFull why tells.0 said w are
+ended_refused unopened refused ended base handled call seat spent ended_why.Lost old new (turn.Lost held) tells said w are = same_said (RefusalSaid unopened refused ended (handled ++ request.Call call ∷ [])) old new tells.0 are
+ended_refused unopened refused ended base handled call seat spent ended_why.Foreign old new (turn.Over (over.Foreign held)) tells said w are = same_said (RefusalSaid unopened refused ended (handled ++ request.Call call ∷ [])) old new tells.0 are
+ended_refused unopened refused ended base handled call seat spent reason old new found tells said w are = absurd tells
 
 -- ---- requests
 

@@ -1,5 +1,5 @@
 -- What a session ends for is what its kernel said.
-use Rattle.std.proofs.Common.{◌≡◌, Result, Ok, Err, inl, inr, refl, sym, subst}
+use Rattle.std.proofs.Common.{◌≡◌, Option, None, Some, Result, Ok, Err, inl, inr, refl, sym, subst}
 use Rattle.call_types.specs.declared.refusal.Refusal.{Refusal}
 use Rattle.call_types.specs.declared.refusal.Refusal.TheVariants as refusal
 use Rattle.call_types.specs.declared.request.Request.{Request}
@@ -17,7 +17,7 @@ use Rattle.session_core.specs.declared.stage.LeaveCause.{LeaveCause}
 use Rattle.session_core.specs.declared.stage.LeaveCause.TheVariants as why
 use Rattle.session_core.specs.Proved.Output.{OutputState}
 use Rattle.session_core.specs.Proved.Turns.{PutsGivenUp, TellsWhy, WhyRefused}
-use Rattle.session_core.specs.Said.{EndSaid}
+use Rattle.session_core.specs.Said.{EndSaid, SaidEnded}
 use Rattle.session_core.specs.Proved.Saying.{CauseSaid, CauseEndedSaid, IsReadingEnd, OverSaid, TurnSaid}
 
 -- a refusal that brings this end
@@ -33,64 +33,85 @@ unopened_said unopened request told old new found (inl put) said = why_refused u
 unopened_said unopened request told old new found (inr none) said = rw none.0 tt
 
 -- the end that is told of a process that ended in the call that it waited in
-full_said : (ended : SeatState → Why → Type 0) (seat : SeatState) (old new : OutputState) (found : LeaveCause) → PutsGivenUp old new refusal.RunFull found → ended seat ended_why.RunFull → CauseEndedSaid ended found
-full_said ended seat old new found (inl put) said = rw put.0 (seat, said)
-full_said ended seat old new found (inr none) said = rw none.0 (inr (seat, said))
+full_said : (ended : SeatState → Why → Type 0) (spent : SeatState) (old new : OutputState) (found : LeaveCause) → PutsGivenUp old new refusal.RunFull found → SaidEnded ended spent ended_why.RunFull → CauseEndedSaid ended spent found
+full_said ended spent old new found (inl put) said = rw put.0 said
+full_said ended spent old new found (inr none) said = rw none.0 (inr said)
 
-wanting_said : (ended : SeatState → Why → Type 0) (seat : SeatState) (old new : OutputState) (found : LeaveCause) → PutsGivenUp old new refusal.NoMemory found → ended seat ended_why.NoMemory → CauseEndedSaid ended found
-wanting_said ended seat old new found (inl put) said = rw put.0 (inl (seat, said))
-wanting_said ended seat old new found (inr none) said = rw none.0 (inl (seat, said))
+wanting_said : (ended : SeatState → Why → Type 0) (spent : SeatState) (old new : OutputState) (found : LeaveCause) → PutsGivenUp old new refusal.NoMemory found → SaidEnded ended spent ended_why.NoMemory → CauseEndedSaid ended spent found
+wanting_said ended spent old new found (inl put) said = rw put.0 (inl said)
+wanting_said ended spent old new found (inr none) said = rw none.0 (inl said)
 
-pub given_up_said : (unopened : Request → Refusal → Type 0) (ended : SeatState → Why → Type 0) (seat : SeatState) (reason : Why) (old new : OutputState) (found : Turn) → TellsWhy reason old new found → ended seat reason → TurnSaid unopened ended found
-given_up_said unopened ended seat ended_why.NoMemory old new (turn.Over (over.Ended spent why)) tells said = wanting_said ended seat old new why tells said
-given_up_said unopened ended seat ended_why.RunFull old new (turn.Over (over.Ended spent why)) tells said = full_said ended seat old new why tells said
-given_up_said unopened ended seat ended_why.Lost old new (turn.Lost spent) tells said = (seat, said)
-given_up_said unopened ended seat ended_why.Foreign old new (turn.Over (over.Foreign spent)) tells said = (seat, said)
-given_up_said unopened ended seat reason old new found tells said = absurd tells
+same_spent : (ended : SeatState → Why → Type 0) (seat spent : SeatState) (reason : Why) → seat ≡ spent → SaidEnded ended spent reason → SaidEnded ended seat reason
+same_spent ended seat spent reason e said = subst (λ (s : SeatState). SaidEnded ended s reason) (sym e) said
+
+pub given_up_said : (unopened : Request → Refusal → Type 0) (ended : SeatState → Why → Type 0) (spent : SeatState) (reason : Why) (old new : OutputState) (found : Turn) → TellsWhy spent reason old new found → SaidEnded ended spent reason → TurnSaid unopened ended found
+given_up_said unopened ended spent ended_why.NoMemory old new (turn.Over (over.Ended seat why)) tells said = wanting_said ended seat old new why tells.0 (same_spent ended seat spent ended_why.NoMemory tells.1 said)
+given_up_said unopened ended spent ended_why.RunFull old new (turn.Over (over.Ended seat why)) tells said = full_said ended seat old new why tells.0 (same_spent ended seat spent ended_why.RunFull tells.1 said)
+given_up_said unopened ended spent ended_why.Lost old new (turn.Lost seat) tells said = same_spent ended seat spent ended_why.Lost tells.1 said
+given_up_said unopened ended spent ended_why.Foreign old new (turn.Over (over.Foreign seat)) tells said = same_spent ended seat spent ended_why.Foreign tells.1 said
+given_up_said unopened ended spent reason old new found tells said = absurd tells
 
 -- the end that is told once the last answers are written
-why_end : (unopened : Request → Refusal → Type 0) (ended : SeatState → Why → Type 0) (why : LeaveCause) → CauseSaid unopened why → EndSaid unopened ended (end_of why)
-why_end unopened ended why.Closed said = tt
-why_end unopened ended why.ReadFault said = tt
-why_end unopened ended why.Malformed said = tt
-why_end unopened ended why.RunFull said = inl said
-why_end unopened ended why.NoMemory said = tt
-why_end unopened ended why.Ahead said = tt
+why_end : (unopened : Request → Refusal → Type 0) (ended : SeatState → Why → Type 0) (seat : Option SeatState) (why : LeaveCause) → CauseSaid unopened why → EndSaid unopened ended seat (end_of why)
+why_end unopened ended seat why.Closed said = tt
+why_end unopened ended seat why.ReadFault said = tt
+why_end unopened ended seat why.Malformed said = tt
+why_end unopened ended seat why.RunFull said = inl said
+why_end unopened ended seat why.NoMemory said = tt
+why_end unopened ended seat why.Ahead said = tt
 
-ended_end : (unopened : Request → Refusal → Type 0) (ended : SeatState → Why → Type 0) (why : LeaveCause) → CauseEndedSaid ended why → EndSaid unopened ended (end_of why)
-ended_end unopened ended why.Closed said = tt
-ended_end unopened ended why.ReadFault said = tt
-ended_end unopened ended why.Malformed said = tt
-ended_end unopened ended why.RunFull said = inr said
-ended_end unopened ended why.NoMemory said = tt
-ended_end unopened ended why.Ahead said = tt
+ended_end : (unopened : Request → Refusal → Type 0) (ended : SeatState → Why → Type 0) (spent : SeatState) (why : LeaveCause) → CauseEndedSaid ended spent why → EndSaid unopened ended (Some spent) (end_of why)
+ended_end unopened ended spent why.Closed said = tt
+ended_end unopened ended spent why.ReadFault said = tt
+ended_end unopened ended spent why.Malformed said = tt
+ended_end unopened ended spent why.RunFull said = inr said
+ended_end unopened ended spent why.NoMemory said = tt
+ended_end unopened ended spent why.Ahead said = tt
 
-sent_end : (unopened : Request → Refusal → Type 0) (ended : SeatState → Why → Type 0) (old new : OutputState) (why : LeaveCause) (found : End) → SendsLast old new why found → EndSaid unopened ended (end_of why) → EndSaid unopened ended found
-sent_end unopened ended old new why found (inl sent) said = rw sent.1 said
-sent_end unopened ended old new why found (inr failed) said = rw failed.1 tt
+sent_end : (unopened : Request → Refusal → Type 0) (ended : SeatState → Why → Type 0) (seat : Option SeatState) (old new : OutputState) (why : LeaveCause) (found : End) → SendsLast old new why found
+    → EndSaid unopened ended seat (end_of why) → EndSaid unopened ended seat found
+sent_end unopened ended seat old new why found (inl sent) said = rw sent.1 said
+sent_end unopened ended seat old new why found (inr failed) said = rw failed.1 tt
 
-pub leaves_said : (unopened : Request → Refusal → Type 0) (ended : SeatState → Why → Type 0) (old new : OutputState) (is : Over) (stage : Stage) (why : LeaveCause) (found : End) → is ≡ over.Leaves stage why → SendsLast old new why found → OverSaid unopened ended is → EndSaid unopened ended found
-leaves_said unopened ended old new is stage why found same sends said = sent_end unopened ended old new why found sends (why_end unopened ended why (subst (OverSaid unopened ended) same said))
+pub leaves_said : (unopened : Request → Refusal → Type 0) (ended : SeatState → Why → Type 0) (seat : Option SeatState) (old new : OutputState) (is : Over) (stage : Stage) (why : LeaveCause) (found : End) → is ≡ over.Leaves stage why → SendsLast old new why found
+    → OverSaid unopened ended is → EndSaid unopened ended seat found
+leaves_said unopened ended seat old new is stage why found same sends said = sent_end unopened ended seat old new why found sends (why_end unopened ended seat why (subst (OverSaid unopened ended) same said))
 
-pub ended_said : (unopened : Request → Refusal → Type 0) (ended : SeatState → Why → Type 0) (old new : OutputState) (is : Over) (seat : SeatState) (why : LeaveCause) (found : End) → is ≡ over.Ended seat why → SendsLast old new why found → OverSaid unopened ended is → EndSaid unopened ended found
-ended_said unopened ended old new is seat why found same sends said = sent_end unopened ended old new why found sends (ended_end unopened ended why (subst (OverSaid unopened ended) same said))
+pub ended_said : (unopened : Request → Refusal → Type 0) (ended : SeatState → Why → Type 0) (old new : OutputState) (is : Over) (seat : SeatState) (why : LeaveCause) (found : End) → is ≡ over.Ended seat why → SendsLast old new why found → OverSaid unopened ended is
+    → EndSaid unopened ended (Some seat) found
+ended_said unopened ended old new is seat why found same sends said = sent_end unopened ended (Some seat) old new why found sends (ended_end unopened ended seat why (subst (OverSaid unopened ended) same said))
 
-reading_end : (unopened : Request → Refusal → Type 0) (ended : SeatState → Why → Type 0) (why : LeaveCause) → IsReadingEnd why → EndSaid unopened ended (end_of why)
-reading_end unopened ended why.Closed said = tt
-reading_end unopened ended why.ReadFault said = tt
-reading_end unopened ended why.Malformed said = tt
-reading_end unopened ended why.RunFull said = absurd said
-reading_end unopened ended why.NoMemory said = tt
-reading_end unopened ended why.Ahead said = tt
+reading_end : (unopened : Request → Refusal → Type 0) (ended : SeatState → Why → Type 0) (seat : Option SeatState) (why : LeaveCause) → IsReadingEnd why → EndSaid unopened ended seat (end_of why)
+reading_end unopened ended seat why.Closed said = tt
+reading_end unopened ended seat why.ReadFault said = tt
+reading_end unopened ended seat why.Malformed said = tt
+reading_end unopened ended seat why.RunFull said = absurd said
+reading_end unopened ended seat why.NoMemory said = tt
+reading_end unopened ended seat why.Ahead said = tt
 
-pub lost_said : (unopened : Request → Refusal → Type 0) (ended : SeatState → Why → Type 0) (old new : OutputState) (is : Over) (seat : SeatState) (why : LeaveCause) (found : End) → is ≡ over.Lost seat why → SendsLast old new why found → OverSaid unopened ended is → EndSaid unopened ended found
-lost_said unopened ended old new is seat why found same sends said = sent_end unopened ended old new why found sends (reading_end unopened ended why (subst (OverSaid unopened ended) same said).1)
+pub lost_said : (unopened : Request → Refusal → Type 0) (ended : SeatState → Why → Type 0) (old new : OutputState) (is : Over) (seat : SeatState) (why : LeaveCause) (found : End) → is ≡ over.Lost seat why → SendsLast old new why found → OverSaid unopened ended is
+    → EndSaid unopened ended (Some seat) found
+lost_said unopened ended old new is seat why found same sends said =
+    sent_end unopened ended (Some seat) old new why found sends (reading_end unopened ended (Some seat) why (subst (OverSaid unopened ended) same said).1)
 
-pub closed_said : (unopened : Request → Refusal → Type 0) (ended : SeatState → Why → Type 0) (old new : OutputState) (found : End) → SendsLast old new why.Closed found → EndSaid unopened ended found
-closed_said unopened ended old new found sends = sent_end unopened ended old new why.Closed found sends tt
+pub closed_said : (unopened : Request → Refusal → Type 0) (ended : SeatState → Why → Type 0) (seat : Option SeatState) (old new : OutputState) (found : End) → SendsLast old new why.Closed found → EndSaid unopened ended seat found
+closed_said unopened ended seat old new found sends = sent_end unopened ended seat old new why.Closed found sends tt
 
-pub foreign_said : (unopened : Request → Refusal → Type 0) (ended : SeatState → Why → Type 0) (is : Over) (seat : SeatState) → is ≡ over.Foreign seat → OverSaid unopened ended is → EndSaid unopened ended end.Foreign
+pub foreign_said : (unopened : Request → Refusal → Type 0) (ended : SeatState → Why → Type 0) (is : Over) (seat : SeatState) → is ≡ over.Foreign seat → OverSaid unopened ended is → EndSaid unopened ended (Some seat) end.Foreign
 foreign_said unopened ended is seat same said = subst (OverSaid unopened ended) same said
+
+-- what no seat was told of holds of each seat
+pub said_of_any : (unopened : Request → Refusal → Type 0) (ended : SeatState → Why → Type 0) (seat : Option SeatState) (found : End) → EndSaid unopened ended None found → EndSaid unopened ended seat found
+said_of_any unopened ended seat end.Closed said = tt
+said_of_any unopened ended seat end.ReadFault said = tt
+said_of_any unopened ended seat (end.WriteFault sent) said = tt
+said_of_any unopened ended seat end.Malformed said = tt
+said_of_any unopened ended seat end.Ahead said = tt
+said_of_any unopened ended seat end.RunFull (inl said) = inl said
+said_of_any unopened ended seat end.RunFull (inr none) = absurd none
+said_of_any unopened ended seat end.NoMemory said = tt
+said_of_any unopened ended seat end.Foreign said = absurd said
+said_of_any unopened ended seat end.NoThread said = tt
 
 -- a session that leaves off keeps its seat
 hung : (seat : SeatState) (wanted : End) (told : Result SeatState (Unit {0})) (left : LeftSession) → left.seat ≡ told → LeavesWith (stage.Ready seat) wanted told left.end → HangsUpSeat seat left

@@ -89,10 +89,10 @@ pub unwritten_by : (s : SessionState) (remaining : Option (Option (List ℕ))) (
 unwritten_by s remaining held writer found e h = h (ap (λ (w : LoggedWriterState). w.log) e) ∙ ap (λ (w : LoggedWriterState). unserved_by remaining w.contents found) e
 
 -- neither is closed
-pub unserved_open : (ended : SeatState → Why → Type 0) (answers : List Told) → CutSaid ended answers end.NoMemory
+pub unserved_open : (ended : SeatState → Why → Type 0) (answers : List Told) → CutSaid ended None answers end.NoMemory
 unserved_open ended answers of requests cut = absurd of
 
-pub unstarted_open : (ended : SeatState → Why → Type 0) (answers : List Told) → CutSaid ended answers end.NoThread
+pub unstarted_open : (ended : SeatState → Why → Type 0) (answers : List Told) → CutSaid ended None answers end.NoThread
 unstarted_open ended answers of requests cut = absurd of
 
 -- ---- what was pushed, and what was read
@@ -263,17 +263,17 @@ served unopened refused ended always from base ring p s fresh h settles =
     }
 
 pub end_said : (unopened : Request → Refusal → Type 0) (refused : SeatState → Call → Refusal → Type 0) (ended : SeatState → Why → Type 0) (always : Bool) (base : Option (List ℕ)) (p : PumpState) (s : SessionState) → Settles unopened refused ended always base p s
-    → EndSaid unopened ended s.end_is
-end_said unopened refused ended always base p s settles = subst (λ (x : SessionState). EndSaid unopened ended x.end_is) settles.is settles.ending.left_by.end_said
+    → EndSaid unopened ended s.seat s.end_is
+end_said unopened refused ended always base p s settles = subst (λ (x : SessionState). EndSaid unopened ended x.seat x.end_is) settles.is settles.ending.left_by.end_said
 
 pub given_up : (unopened : Request → Refusal → Type 0) (refused : SeatState → Call → Refusal → Type 0) (ended : SeatState → Why → Type 0) (always : Bool) (from base : Option (List ℕ)) (ring : PushingEnd) (p : PumpState) (s : SessionState)
-    → IsFreshRing ring → Pumps from ring p → Settles unopened refused ended always base p s → CutSaid ended s.answers s.end_is
+    → IsFreshRing ring → Pumps from ring p → Settles unopened refused ended always base p s → CutSaid ended s.seat s.answers s.end_is
 given_up unopened refused ended always from base ring p s fresh h settles =
     let ending = settles.ending in
     let by = ending.left_by in
     let at = is_over (producer_capacity ring) base h.input p ending.old ending.found fresh.room (pushed_from from ring p fresh h) h.met ending.ends in
-    subst (λ (x : SessionState). CutSaid ended x.answers x.end_is) settles.is
-    (cut_said unopened ended base h.input ending.old settles.o ending.found settles.left (with_last settles.o.answers settles.left.last) at.0 by.over_said by.closes refl)
+    subst (λ (x : SessionState). CutSaid ended x.seat x.answers x.end_is) settles.is
+    (cut_said unopened ended base h.input ending.old settles.o ending.found settles.left (with_last settles.o.answers settles.left.last) at.0 by.over_said by.keeps by.closes refl)
 
 pub refusals_said : (unopened : Request → Refusal → Type 0) (refused : SeatState → Call → Refusal → Type 0) (ended : SeatState → Why → Type 0) (always : Bool) (from base : Option (List ℕ)) (ring : PushingEnd) (p : PumpState) (s : SessionState)
     → IsFreshRing ring → Pumps from ring p → Settles unopened refused ended always base p s → RefusalsSaid unopened refused ended from s

@@ -49,7 +49,7 @@ spent_of (seat.Spent spent) = Some spent
 abbrev pub AnswersTaken : (SeatState → Why → Type 0) → List Request → List Told → AnsweredSeat → Type 0
 AnswersTaken ended taken answers (seat.None admission) = (taken ≡ []) × (answers ≡ [])
 AnswersTaken ended taken answers (seat.Live live) = Talked taken answers × (live.receipts ≡ receipts_of answers) × IsGranted live.receipts
-AnswersTaken ended taken answers (seat.Spent spent) = HasExited spent answers × IsCut taken answers None × SaidEnded ended ended_why.Lost
+AnswersTaken ended taken answers (seat.Spent spent) = HasExited spent answers × IsCut taken answers None × SaidEnded ended spent ended_why.Lost
 
 -- whatever bytes begin with the requests that were taken, it is what a session comes to that read them, has this end and is left
 abbrev pub ComesToEnd : Option (List ℕ) → List Request → AnsweredState → End → Type 0
@@ -60,7 +60,7 @@ ComesToEnd base taken s found =
 -- without an end of its own all that was taken is answered, and all answers are written after what the writer held
 abbrev pub HasAnswered : (Request → Refusal → Type 0) → (SeatState → Why → Type 0) → Option (List ℕ) → List Request → AnsweredState → Option End → Type 0
 HasAnswered unopened ended base taken s None = AnswersTaken ended taken s.answers s.seat_is × Appends base s.writer.contents (answers_text s.answers)
-HasAnswered unopened ended base taken s (Some found) = ComesToEnd base taken s found × EndSaid unopened ended found
+HasAnswered unopened ended base taken s (Some found) = ComesToEnd base taken s found × EndSaid unopened ended (spent_of s.seat_is) found
 
 -- what came of the requests of a ring, each refusal of which was said by the kernel
 pub record AnswersRing (unopened : Request → Refusal → Type 0) (refused : SeatState → Call → Refusal → Type 0) (ended : SeatState → Why → Type 0) (base : Option (List ℕ)) (s : AnsweredState) : Type 0 where

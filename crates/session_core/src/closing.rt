@@ -3,7 +3,8 @@
 ghost use Rattle.session_core.specs.Proved.Closing.{SendsLast, HangsUp, LeavesWith, LeavesAll, HangsUpSeat, KeepsSeat, ClosesBy, end_of};
 ghost use Rattle.session_core.specs.Said.{EndSaid};
 ghost use Rattle.session_core.specs.Proved.Saying.{OverSaid};
-ghost use Rattle.std.specs.Prelude.{◌≡◌, Ok, None};
+ghost use Rattle.std.specs.Prelude.{◌≡◌, Ok, None, Some};
+ghost use Rattle.std.specs.Result.{result_ok};
 ghost use Rattle.session_core.specs.declared.stage.Over.TheVariants as over;
 
 use crate::end::End;
@@ -50,7 +51,7 @@ fn hang_up<Rt: Wait, L: Ledgers, K: Kernel<Seat<L>, SpentSeat<L>>>(
     end: End,
 ) -> (SpentSeat<L>, End)
     ensures hangs_up { HangsUp seat end result.0 result.1 }
-    ensures said { EndSaid K.not_opened K.ended end → EndSaid K.not_opened K.ended result.1 }
+    ensures said { EndSaid K.not_opened K.ended None end → EndSaid K.not_opened K.ended (Some result.0) result.1 }
 {
     let ended = kernel.hang_up(rt, seat);
     match ended.why {
@@ -67,7 +68,7 @@ fn leave<Rt: Wait, L: Ledgers, K: Kernel<Seat<L>, SpentSeat<L>>>(
     end: End,
 ) -> LeftOf<L>
     ensures seat { LeavesWith stage end result.seat result.end }
-    ensures said { EndSaid K.not_opened K.ended end → EndSaid K.not_opened K.ended result.end }
+    ensures said { EndSaid K.not_opened K.ended None end → EndSaid K.not_opened K.ended (result_ok result.seat) result.end }
     ensures last { result.last ≡ None }
 {
     match stage {
@@ -103,7 +104,7 @@ fn leave_untold<Rt: Wait, W: Write, G: Gate, L: Ledgers, K: Kernel<Seat<L>, Spen
 ) -> LeftOf<L>
     ensures all { LeavesAll output.old output.new (over.Untold seat receipt) result }
     ensures seat { HangsUpSeat seat result }
-    ensures said { EndSaid K.not_opened K.ended result.end }
+    ensures said { EndSaid K.not_opened K.ended (result_ok result.seat) result.end }
     ensures closes { ClosesBy (over.Untold seat receipt) output.old output.new result }
     ensures answers { output.new.answers ≡ output.old.answers }
 {
@@ -127,7 +128,7 @@ pub(crate) fn leave_all<Rt: Wait, W: Write, G: Gate, L: Ledgers, K: Kernel<Seat<
 ) -> LeftOf<L>
     ensures all { LeavesAll output.old output.new over result }
     ensures seat { KeepsSeat over result }
-    ensures said { OverSaid K.not_opened K.ended over → EndSaid K.not_opened K.ended result.end }
+    ensures said { OverSaid K.not_opened K.ended over → EndSaid K.not_opened K.ended (result_ok result.seat) result.end }
     ensures closes { ClosesBy over output.old output.new result }
     ensures answers { output.new.answers ≡ output.old.answers }
 {

@@ -83,8 +83,8 @@ pub fn serve<
     gate: G,
 ) -> Served<R, W, L>
     ensures serves { Serves G.is_open (R.remaining reader) (W.contents writer) result }
-    ensures said { EndSaid K.not_opened K.ended result.end_is }
-    ensures given_up { CutSaid K.ended result.answers result.end_is }
+    ensures said { EndSaid K.not_opened K.ended result.seat result.end_is }
+    ensures given_up { CutSaid K.ended result.seat result.answers result.end_is }
     ensures refusals { RefusalsSaid K.not_opened K.refused K.ended (R.remaining reader) result }
 {
     let (producer, consumer) = match RingBuffer::new(alloc, REQUESTS_AHEAD) {
@@ -130,8 +130,8 @@ fn serve_named<
     requires fresh { (received consumer ≡ []) × (sent producer ≡ []) }
     requires room { producer_capacity producer ≡ REQUESTS_AHEAD }
     ensures serves { Serves G.is_open (R.remaining reader) D.base result }
-    ensures said { EndSaid K.not_opened K.ended result.end_is }
-    ensures given_up { CutSaid K.ended result.answers result.end_is }
+    ensures said { EndSaid K.not_opened K.ended result.seat result.end_is }
+    ensures given_up { CutSaid K.ended result.seat result.answers result.end_is }
     ensures refusals { RefusalsSaid K.not_opened K.refused K.ended (R.remaining reader) result }
 {
     let (shared, other) = match shared_twice::<D, W, G, L, K>(alloc, kernel) {

@@ -104,7 +104,7 @@ fn give_up<W: Write, G: Gate, L: Ledgers>(output: &mut Output<W, G>, ended: Ende
     requires why { IsWhyFinished ended.why }
     requires sent { output.old.unsent ≡ [] }
     ensures gives { GivesUp ended output.old output.new result }
-    ensures tells { TellsWhy ended.why output.old output.new result }
+    ensures tells { TellsWhy ended.seat ended.why output.old output.new result }
 {
     let seat = ended.seat;
     match ended.why {

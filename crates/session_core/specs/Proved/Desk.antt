@@ -1,5 +1,6 @@
 -- A desk: what is answered of the requests that were taken from a ring, and where the session stands (own).
 use Rattle.std.specs.Prelude.{◌≡◌, ℕ, ◌⊎◌, List, [], ◌∷◌, ◌++◌, Option, None, Some}
+use Rattle.std.specs.Result.{result_ok}
 use Rattle.rtrb.specs.Ring.{IsPair, SameConsumer}
 use Rattle.request_pump.specs.Pump.{PushingEnd}
 use Rattle.call_types.specs.declared.call.Call.{Call}
@@ -20,7 +21,7 @@ use Rattle.session_core.specs.declared.stage.Turn.TheVariants as turn
 use Rattle.session_core.specs.Proved.Output.{OutputState, Holds, Broke}
 use Rattle.session_core.specs.Talk.{Converses}
 use Rattle.session_core.specs.Proved.Turns.{IsTalking, IsWaitingAt, IsGivenUp, HasReceipts, OverBy}
-use Rattle.session_core.specs.Proved.Closing.{ClosesBy, LeavesAll}
+use Rattle.session_core.specs.Proved.Closing.{ClosesBy, KeepsSeat, LeavesAll}
 use Rattle.session_core.specs.Refusals.{AreSaid, RefusalSaid}
 use Rattle.session_core.specs.Said.{EndSaid, SaidEnded}
 use Rattle.session_core.specs.Proved.Saying.{OverSaid, TurnSaid}
@@ -92,9 +93,10 @@ TurnStands Said base taken o (turn.Over found) = IsOverAfter Said base taken o f
 -- a session that was over is left, and its kernel said what it ends for
 pub record LeftBy (unopened : Request → Refusal → Type 0) (refused : SeatState → Call → Refusal → Type 0) (ended : SeatState → Why → Type 0) (requests : List Request) (old : OutputState) (found : Over) (new : OutputState) (left : LeftSession) : Type 0 where
   pub leaves : LeavesAll old new found left
+  pub keeps : KeepsSeat found left
   pub closes : ClosesBy found old new left
   pub over_said : OverSaid unopened ended found
-  pub end_said : EndSaid unopened ended left.end
+  pub end_said : EndSaid unopened ended (result_ok left.seat) left.end
   pub answers : new.answers ≡ old.answers
   pub said : AreSaid (RefusalSaid unopened refused ended requests) old.answers
 
@@ -109,7 +111,7 @@ pub record HasLeft (unopened : Request → Refusal → Type 0) (refused : SeatSt
 abbrev pub Stands : (Request → Refusal → Type 0) → (SeatState → Call → Refusal → Type 0) → (SeatState → Why → Type 0) → Option (List ℕ) → List Request → OutputState → Standing → Type 0
 Stands unopened refused ended base taken o (standing.Ready at) = IsReady (RefusalSaid unopened refused ended) base taken o at
 Stands unopened refused ended base taken o (standing.Waits seat) = IsWaitingIn (RefusalSaid unopened refused ended) base taken o seat
-Stands unopened refused ended base taken o (standing.Lost seat) = IsLostIn (RefusalSaid unopened refused ended) base taken o seat × SaidEnded ended ended_why.Lost
+Stands unopened refused ended base taken o (standing.Lost seat) = IsLostIn (RefusalSaid unopened refused ended) base taken o seat × SaidEnded ended seat ended_why.Lost
 Stands unopened refused ended base taken o (standing.Left left) = HasLeft unopened refused ended base taken o left
 
 -- the same at a desk from which it is not taken away

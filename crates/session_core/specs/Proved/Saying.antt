@@ -21,14 +21,14 @@ CauseSaid unopened why.RunFull = SaidUnopened unopened
 CauseSaid unopened why.NoMemory = Unit {0}
 CauseSaid unopened why.Ahead = Unit {0}
 
--- a process ended in the call that it waited in: a kernel said so. Memory may run out for the answer that the run is full
-abbrev pub CauseEndedSaid : (SeatState → Why → Type 0) → LeaveCause → Type 0
-CauseEndedSaid ended why.Closed = ⊥
-CauseEndedSaid ended why.ReadFault = ⊥
-CauseEndedSaid ended why.Malformed = ⊥
-CauseEndedSaid ended why.Ahead = ⊥
-CauseEndedSaid ended why.RunFull = SaidEnded ended ended_why.RunFull
-CauseEndedSaid ended why.NoMemory = SaidEnded ended ended_why.NoMemory ⊎ SaidEnded ended ended_why.RunFull
+-- the process of this seat ended in the call that it waited in: a kernel said so. Memory may run out for the answer that the run is full
+abbrev pub CauseEndedSaid : (SeatState → Why → Type 0) → SeatState → LeaveCause → Type 0
+CauseEndedSaid ended seat why.Closed = ⊥
+CauseEndedSaid ended seat why.ReadFault = ⊥
+CauseEndedSaid ended seat why.Malformed = ⊥
+CauseEndedSaid ended seat why.Ahead = ⊥
+CauseEndedSaid ended seat why.RunFull = SaidEnded ended seat ended_why.RunFull
+CauseEndedSaid ended seat why.NoMemory = SaidEnded ended seat ended_why.NoMemory ⊎ SaidEnded ended seat ended_why.RunFull
 
 -- a session may leave off for this when no more is read
 abbrev pub IsReadingEnd : LeaveCause → Type 0
@@ -43,13 +43,13 @@ OverSaid unopened ended (over.OpeningUntold seat) = Unit {0}
 OverSaid unopened ended (over.RefusalUntold seat) = Unit {0}
 OverSaid unopened ended (over.Untold seat receipt) = Unit {0}
 OverSaid unopened ended (over.Refused seat) = Unit {0}
-OverSaid unopened ended (over.Lost seat why) = SaidEnded ended ended_why.Lost × IsReadingEnd why
-OverSaid unopened ended (over.Ended seat why) = CauseEndedSaid ended why
-OverSaid unopened ended (over.Foreign seat) = SaidEnded ended ended_why.Foreign
+OverSaid unopened ended (over.Lost seat why) = SaidEnded ended seat ended_why.Lost × IsReadingEnd why
+OverSaid unopened ended (over.Ended seat why) = CauseEndedSaid ended seat why
+OverSaid unopened ended (over.Foreign seat) = SaidEnded ended seat ended_why.Foreign
 
 -- the same of a turn that is the last
 abbrev pub TurnSaid : (Request → Refusal → Type 0) → (SeatState → Why → Type 0) → Turn → Type 0
 TurnSaid unopened ended (turn.GoesOn stage) = Unit {0}
 TurnSaid unopened ended (turn.Waits seat) = Unit {0}
-TurnSaid unopened ended (turn.Lost seat) = SaidEnded ended ended_why.Lost
+TurnSaid unopened ended (turn.Lost seat) = SaidEnded ended seat ended_why.Lost
 TurnSaid unopened ended (turn.Over over) = OverSaid unopened ended over

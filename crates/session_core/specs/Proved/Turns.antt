@@ -143,13 +143,13 @@ abbrev pub GivesUp : Ended → OutputState → OutputState → Turn → Type 0
 GivesUp ended old new found =
     (base : Option (List ℕ)) (handled : List Request) (call : Call) (seat : SeatState) → IsWaitingAt base handled call seat old → EndsBy seat ended.seat ended.why → TurnBy base handled (request.Call call) new found
 
--- what is answered of a process that has ended in the call that it waited in
-abbrev pub TellsWhy : Why → OutputState → OutputState → Turn → Type 0
-TellsWhy ended_why.NoMemory old new (turn.Over (over.Ended seat why)) = PutsGivenUp old new refusal.NoMemory why
-TellsWhy ended_why.RunFull old new (turn.Over (over.Ended seat why)) = PutsGivenUp old new refusal.RunFull why
-TellsWhy ended_why.Lost old new (turn.Lost seat) = new ≡ old
-TellsWhy ended_why.Foreign old new (turn.Over (over.Foreign seat)) = new ≡ old
-TellsWhy other old new found = ⊥
+-- what is answered of the process of this seat, which has ended in the call that it waited in
+abbrev pub TellsWhy : SeatState → Why → OutputState → OutputState → Turn → Type 0
+TellsWhy spent ended_why.NoMemory old new (turn.Over (over.Ended seat why)) = PutsGivenUp old new refusal.NoMemory why × (seat ≡ spent)
+TellsWhy spent ended_why.RunFull old new (turn.Over (over.Ended seat why)) = PutsGivenUp old new refusal.RunFull why × (seat ≡ spent)
+TellsWhy spent ended_why.Lost old new (turn.Lost seat) = (new ≡ old) × (seat ≡ spent)
+TellsWhy spent ended_why.Foreign old new (turn.Over (over.Foreign seat)) = (new ≡ old) × (seat ≡ spent)
+TellsWhy spent other old new found = ⊥
 
 -- requests are taken up: each refusal is said still
 abbrev pub TurnSays : (List Request → List Told → Refusal → Type 0) → Stage → List Request → OutputState → OutputState → Type 0

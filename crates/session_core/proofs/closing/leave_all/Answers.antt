@@ -1,4 +1,4 @@
-use Rattle.std.proofs.Common.{ℕ, None, refl, sym, subst}
+use Rattle.std.proofs.Common.{ℕ, None, Some, refl, sym, subst}
 use Rattle.session_core.specs.declared.end.End.TheVariants as end
 use Rattle.session_core.specs.declared.stage.Over.TheVariants as over
 use Rattle.session_core.specs.declared.stage.LeaveCause.TheVariants as why
@@ -55,10 +55,10 @@ returns-in-RefusalUntold-clause-all g c =
     (laws.refusal_untold c.args.output.now c.in-RefusalUntold.seat)
 
 pub returns-in-Leaves-clause-said : goal.returns-in-Leaves-clause-said
-returns-in-Leaves-clause-said g c = λ said. c.leave.ensures.said (leaves_said g.K.Kernel.not_opened g.K.Kernel.ended _ _ c.args.over c.in-Leaves.stage c.in-Leaves.why c.send_last-end.result c.in-Leaves.is c.send_last-end.ensures said)
+returns-in-Leaves-clause-said g c = λ said. c.leave.ensures.said (leaves_said g.K.Kernel.not_opened g.K.Kernel.ended None _ _ c.args.over c.in-Leaves.stage c.in-Leaves.why c.send_last-end.result c.in-Leaves.is c.send_last-end.ensures said)
 
 pub returns-in-Refused-clause-said : goal.returns-in-Refused-clause-said
-returns-in-Refused-clause-said g c = λ said. rw c.left_by-in-Refused.ensures (closed_said g.K.Kernel.not_opened g.K.Kernel.ended _ _ c.send_last-end-in-Refused.result c.send_last-end-in-Refused.ensures)
+returns-in-Refused-clause-said g c = λ said. rw c.left_by-in-Refused.ensures (closed_said g.K.Kernel.not_opened g.K.Kernel.ended (Some c.in-Refused.seat) _ _ c.send_last-end-in-Refused.result c.send_last-end-in-Refused.ensures)
 
 pub returns-in-Lost-clause-said : goal.returns-in-Lost-clause-said
 returns-in-Lost-clause-said g c = λ said. rw c.left_by-in-Lost.ensures (lost_said g.K.Kernel.not_opened g.K.Kernel.ended _ _ c.args.over c.in-Lost.seat c.in-Lost.why c.send_last-end-in-Lost.result c.in-Lost.is c.send_last-end-in-Lost.ensures said)

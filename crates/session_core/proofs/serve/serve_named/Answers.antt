@@ -9,10 +9,10 @@ pub returns-in-Err-clause-serves : goal.returns-in-Err-clause-serves
 returns-in-Err-clause-serves g c = subst (Serves g.G.Gate.is_open (g.R.Read.remaining c.args.reader) g.D.Naming.base) (sym (c.unstarted.ensures g.D.Naming.base c.requires.base)) (laws.unserved g.G.Gate.is_open (g.R.Read.remaining c.args.reader) g.D.Naming.base)
 
 pub returns-in-Err-clause-said : goal.returns-in-Err-clause-said
-returns-in-Err-clause-said g c = subst (λ (s : SessionState). EndSaid g.K.Kernel.not_opened g.K.Kernel.ended s.end_is) (sym (c.unstarted.ensures g.D.Naming.base c.requires.base)) tt
+returns-in-Err-clause-said g c = subst (λ (s : SessionState). EndSaid g.K.Kernel.not_opened g.K.Kernel.ended s.seat s.end_is) (sym (c.unstarted.ensures g.D.Naming.base c.requires.base)) tt
 
 pub returns-in-Err-clause-given_up : goal.returns-in-Err-clause-given_up
-returns-in-Err-clause-given_up g c = subst (λ (s : SessionState). CutSaid g.K.Kernel.ended s.answers s.end_is) (sym (c.unstarted.ensures g.D.Naming.base c.requires.base)) (laws.unserved_open g.K.Kernel.ended [])
+returns-in-Err-clause-given_up g c = subst (λ (s : SessionState). CutSaid g.K.Kernel.ended s.seat s.answers s.end_is) (sym (c.unstarted.ensures g.D.Naming.base c.requires.base)) (laws.unserved_open g.K.Kernel.ended [])
 
 pub returns-in-Err-clause-refusals : goal.returns-in-Err-clause-refusals
 returns-in-Err-clause-refusals g c =
@@ -23,10 +23,10 @@ pub returns-in-None-clause-serves : goal.returns-in-None-clause-serves
 returns-in-None-clause-serves g c = subst (Serves g.G.Gate.is_open (g.R.Read.remaining c.args.reader) g.D.Naming.base) (sym (c.unstarted-in-None.ensures g.D.Naming.base c.requires.base)) (laws.unstarted g.G.Gate.is_open (g.R.Read.remaining c.args.reader) g.D.Naming.base)
 
 pub returns-in-None-clause-said : goal.returns-in-None-clause-said
-returns-in-None-clause-said g c = subst (λ (s : SessionState). EndSaid g.K.Kernel.not_opened g.K.Kernel.ended s.end_is) (sym (c.unstarted-in-None.ensures g.D.Naming.base c.requires.base)) tt
+returns-in-None-clause-said g c = subst (λ (s : SessionState). EndSaid g.K.Kernel.not_opened g.K.Kernel.ended s.seat s.end_is) (sym (c.unstarted-in-None.ensures g.D.Naming.base c.requires.base)) tt
 
 pub returns-in-None-clause-given_up : goal.returns-in-None-clause-given_up
-returns-in-None-clause-given_up g c = subst (λ (s : SessionState). CutSaid g.K.Kernel.ended s.answers s.end_is) (sym (c.unstarted-in-None.ensures g.D.Naming.base c.requires.base)) (laws.unstarted_open g.K.Kernel.ended [])
+returns-in-None-clause-given_up g c = subst (λ (s : SessionState). CutSaid g.K.Kernel.ended s.seat s.answers s.end_is) (sym (c.unstarted-in-None.ensures g.D.Naming.base c.requires.base)) (laws.unstarted_open g.K.Kernel.ended [])
 
 pub returns-in-None-clause-refusals : goal.returns-in-None-clause-refusals
 returns-in-None-clause-refusals g c =

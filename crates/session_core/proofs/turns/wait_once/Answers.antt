@@ -42,7 +42,9 @@ returns-in-Err-put_recorded-clause-waits g c base handled call w =
     (laws.still_waits base handled call c.args.seat _ _ c.in-Ok.ensures.ok w)
 
 pub returns-in-Ended-clause-said : goal.returns-in-Ended-clause-said
-returns-in-Ended-clause-said g c = given_up_said g.K.Kernel.not_opened g.K.Kernel.ended c.args.seat c.in-Ended.ended.why c.flush.new.self c.give_up.new.output c.give_up.result c.give_up.ensures.tells c.in-Ended.ensures.ended
+returns-in-Ended-clause-said g c =
+    given_up_said g.K.Kernel.not_opened g.K.Kernel.ended c.in-Ended.ended.seat c.in-Ended.ended.why c.flush.new.self c.give_up.new.output c.give_up.result c.give_up.ensures.tells
+    (c.args.seat, c.in-Ended.ensures.finishes.0, c.in-Ended.ensures.ended)
 
 pub returns-in-Err-clause-refusals : goal.returns-in-Err-clause-refusals
 returns-in-Err-clause-refusals g c base handled call w are =
@@ -51,7 +53,7 @@ returns-in-Err-clause-refusals g c base handled call w are =
 
 pub returns-in-Ended-clause-refusals : goal.returns-in-Ended-clause-refusals
 returns-in-Ended-clause-refusals g c base handled call w are =
-    ended_refused g.K.Kernel.not_opened g.K.Kernel.refused g.K.Kernel.ended base handled call c.args.seat c.in-Ended.ended.why c.flush.new.self c.give_up.new.output c.give_up.result c.give_up.ensures.tells c.in-Ended.ensures.ended
+    ended_refused g.K.Kernel.not_opened g.K.Kernel.refused g.K.Kernel.ended base handled call c.args.seat c.in-Ended.ended.seat c.in-Ended.ended.why c.flush.new.self c.give_up.new.output c.give_up.result c.give_up.ensures.tells c.in-Ended.ensures.ended
     (laws.still_waits base handled call c.args.seat _ _ c.in-Ok.ensures.ok w)
     (kept_said (RefusalSaid g.K.Kernel.not_opened g.K.Kernel.refused g.K.Kernel.ended (handled ++ request.Call call ∷ [])) c.args.output.now.answers c.flush.new.self.answers c.in-Ok.ensures.ok.flushes.answers are)
 
