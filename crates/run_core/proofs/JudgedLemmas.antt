@@ -75,7 +75,7 @@ of_seat (Some seat) h = h
 
 session_fits : ActsOfSeatsFit → (always : Bool) (c : Connection) (s : ReportedSession) → ServesConnection always c s → ActsFit (held_by s.process).receipts
 session_fits acts_fit always c s h =
-    subst (λ (process : Option Held). ActsFit (held_by process).receipts) (sym h.process_is) (of_seat c.seat (acts_fit always c.from c.base (with_seat c.seat s) h.serves.serves))
+    subst (λ (process : Option Held). ActsFit (held_by process).receipts) (sym h.process_is) (of_seat c.seat (acts_fit always c.from c.base (with_seat c.seat s) h.serves.serves.serves))
 
 sessions_fit : ActsOfSeatsFit → (always : Bool) (cs : List Connection) (ss : List ReportedSession) → AllZip (ServesConnection always) cs ss → AllFit (map (λ s. held_by s.process) ss)
 sessions_fit acts_fit always [] [] h = tt

@@ -18,9 +18,9 @@ use Rattle.run_core.specs.declared.closing.CloseFault.{CloseFault}
 use Rattle.run_core.specs.declared.closing.CloseFault.TheVariants as fault
 use Rattle.session_core.specs.declared.end.End.{End}
 use Rattle.session_core.specs.declared.told.Told.{Told}
-use Rattle.session_core.specs.Refusals.{RefusalsSaid}
+use Rattle.session_core.specs.Refusals.{ServesUnder}
 use Rattle.session_core.specs.Said.{CutSaid, EndSaid}
-use Rattle.session_core.specs.Served.{SessionState, Serves}
+use Rattle.session_core.specs.Served.{SessionState}
 use Rattle.system_lock.specs.Says.{IsEnded, IsNotOpened, IsRefused}
 use Rattle.logged_streams.specs.Streams.{LoggedReaderState, LoggedWriterState}
 
@@ -73,10 +73,9 @@ IsBlank contents = is_blank contents ≡ true
 -- a session was served under the lock of a run: it did what is promised of any session; it ends as full or foreign, refuses a request, and
 -- leaves off in a call that waits only where that was due in some book
 pub record ServesInRun (always : Bool) (from base : Option (List ℕ)) (s : SessionState) : Type 0 where
-  pub serves : Serves always from base s
+  pub serves : ServesUnder IsNotOpened IsRefused IsEnded always from base s
   pub said : EndSaid IsNotOpened IsEnded s.seat s.end_is
   pub given_up : CutSaid IsEnded s.seat s.answers s.end_is
-  pub refusals : RefusalsSaid IsNotOpened IsRefused IsEnded from s
 
 -- a connection that was served: what its reader had and its writer held at the start, and the seat of its process, if there is one
 pub record Connection : Type 0 where

@@ -29,9 +29,9 @@ use Rattle.session_core.specs.Proved.Turns.{IsTalking, OverBy}
 use Rattle.session_core.specs.Proved.Ends.{IsCutOff, IsMet, IsOver}
 use Rattle.session_core.specs.Proved.Closing.{with_last}
 use Rattle.session_core.specs.Proved.Desk.{EndsAs, LeavesUnwritten, OverOf}
-use Rattle.session_core.specs.Proved.Settling.{Settles, unread, unserved_by, why_of}
+use Rattle.session_core.specs.Proved.Settling.{Settles, unserved_by, why_of}
 use Rattle.session_core.specs.Said.{CutSaid, EndSaid}
-use Rattle.session_core.specs.Refusals.{ReadSaid, RefusalSaid, RefusalsSaid}
+use Rattle.session_core.specs.Refusals.{BeginsSaid, RefusalSaid, ServesUnder}
 use Rattle.session_core.specs.Served.{ComesTo, HasRead, KeepsReader, Serves, SessionState, reads_of}
 use Rattle.session_core.proofs.CallLemmas.{converses, has_receipts}
 use Rattle.session_core.proofs.ClosingLemmas.{converses_more, first_none}
@@ -44,8 +44,8 @@ first_nothing : (answers : List Told) → answers ≡ [] → (input : List ℕ) 
 first_nothing answers none input = record { text = []; rest = input; is = refl; frames = refl }
 
 -- memory ran out before
-pub unserved : (always : Bool) (from base : Option (List ℕ)) → Serves always from base (unserved_by (Some from) base end.NoMemory)
-unserved always from base = record {
+has_unserved : (always : Bool) (from base : Option (List ℕ)) → Serves always from base (unserved_by (Some from) base end.NoMemory)
+has_unserved always from base = record {
   input = [];
   consumes = Consumes-nil from;
   kept = tt;
@@ -61,8 +61,8 @@ unserved always from base = record {
 }
 
 -- no thread could be started
-pub unstarted : (always : Bool) (from base : Option (List ℕ)) → Serves always from base (unserved_by None base end.NoThread)
-unstarted always from base = record {
+has_unstarted : (always : Bool) (from base : Option (List ℕ)) → Serves always from base (unserved_by None base end.NoThread)
+has_unstarted always from base = record {
   input = [];
   consumes = refl;
   kept = refl;
@@ -77,11 +77,21 @@ unstarted always from base = record {
   };
 }
 
-pub unserved_said : (Said : List Request → List Told → Refusal → Type 0) (from : Option (List ℕ)) → ReadSaid Said from (Some (unread from)) []
-unserved_said Said from = record { input = []; consumes = Consumes-nil from; begins_said = record { requests = []; begins = first_nothing [] refl []; said = empty_said (Said []) [] refl } }
+-- it has told no refusal
+none_said : (Said : List Request → List Told → Refusal → Type 0) (input : List ℕ) → BeginsSaid Said input []
+none_said Said input = record { requests = []; begins = first_nothing [] refl input; said = empty_said (Said []) [] refl }
 
-pub unstarted_said : (Said : List Request → List Told → Refusal → Type 0) (from : Option (List ℕ)) → ReadSaid Said from None []
-unstarted_said Said from = record { input = []; consumes = refl; begins_said = record { requests = []; begins = first_nothing [] refl []; said = empty_said (Said []) [] refl } }
+pub unserved : (unopened : Request → Refusal → Type 0) (refused : SeatState → Call → Refusal → Type 0) (ended : SeatState → Why → Type 0) (always : Bool) (from base : Option (List ℕ))
+    → ServesUnder unopened refused ended always from base (unserved_by (Some from) base end.NoMemory)
+unserved unopened refused ended always from base =
+    let serves = has_unserved always from base in
+    record { serves = serves; refusals = none_said (RefusalSaid unopened refused ended) serves.input }
+
+pub unstarted : (unopened : Request → Refusal → Type 0) (refused : SeatState → Call → Refusal → Type 0) (ended : SeatState → Why → Type 0) (always : Bool) (from base : Option (List ℕ))
+    → ServesUnder unopened refused ended always from base (unserved_by None base end.NoThread)
+unstarted unopened refused ended always from base =
+    let serves = has_unstarted always from base in
+    record { serves = serves; refusals = none_said (RefusalSaid unopened refused ended) serves.input }
 
 -- nothing was written to its writer
 pub unwritten_by : (s : SessionState) (remaining : Option (Option (List ℕ))) (held : Option (List ℕ)) (writer : LoggedWriterState) (found : End) → writer ≡ record { contents = held; log = fresh_log }
@@ -246,9 +256,9 @@ pushed_from : (from : Option (List ℕ)) (ring : PushingEnd) (p : PumpState) →
 pushed_from from ring p fresh h = subst (λ (l : List Request). PushedBy (producer_capacity ring) h.input l (sent p.producer) p.end_is) fresh.empty h.pushed
 
 -- what it comes to
-pub served : (unopened : Request → Refusal → Type 0) (refused : SeatState → Call → Refusal → Type 0) (ended : SeatState → Why → Type 0) (always : Bool) (from base : Option (List ℕ)) (ring : PushingEnd) (p : PumpState) (s : SessionState)
+has_served : (unopened : Request → Refusal → Type 0) (refused : SeatState → Call → Refusal → Type 0) (ended : SeatState → Why → Type 0) (always : Bool) (from base : Option (List ℕ)) (ring : PushingEnd) (p : PumpState) (s : SessionState)
     → IsFreshRing ring → Pumps from ring p → Settles unopened refused ended always base p s → Serves always from base s
-served unopened refused ended always from base ring p s fresh h settles =
+has_served unopened refused ended always from base ring p s fresh h settles =
     let ending = settles.ending in
     let at = is_over (producer_capacity ring) base h.input p ending.old ending.found fresh.room (pushed_from from ring p fresh h) h.met ending.ends in
     let comes : ComesTo h.input base s = subst (ComesTo h.input base) settles.is (ending.left_by.leaves base h.input p.reader at.0 at.1) in
@@ -275,21 +285,25 @@ given_up unopened refused ended always from base ring p s fresh h settles =
     subst (λ (x : SessionState). CutSaid ended x.seat x.answers x.end_is) settles.is
     (cut_said unopened ended base h.input ending.old settles.o ending.found settles.left (with_last settles.o.answers settles.left.last) at.0 by.over_said by.keeps by.closes refl)
 
-pub refusals_said : (unopened : Request → Refusal → Type 0) (refused : SeatState → Call → Refusal → Type 0) (ended : SeatState → Why → Type 0) (always : Bool) (from base : Option (List ℕ)) (ring : PushingEnd) (p : PumpState) (s : SessionState)
-    → IsFreshRing ring → Pumps from ring p → Settles unopened refused ended always base p s → RefusalsSaid unopened refused ended from s
+refusals_said : (unopened : Request → Refusal → Type 0) (refused : SeatState → Call → Refusal → Type 0) (ended : SeatState → Why → Type 0) (always : Bool) (from base : Option (List ℕ)) (ring : PushingEnd) (p : PumpState) (s : SessionState)
+    → IsFreshRing ring → (h : Pumps from ring p) → Settles unopened refused ended always base p s → BeginsSaid (RefusalSaid unopened refused ended) h.input s.answers
 refusals_said unopened refused ended always from base ring p s fresh h settles =
     let by = settles.ending.left_by in
     let b = begun p.end_is (producer_capacity ring) h.input (sent p.producer) (pushed_from from ring p fresh h) in
     let all = sent p.producer ++ b.extra in
     let said = wider unopened refused ended (sent p.producer) b.extra settles.ending.old.answers by.said in
-    subst (RefusalsSaid unopened refused ended from) settles.is (record {
-      input = h.input;
-      consumes = h.consumes;
-      begins_said = record {
-        requests = all;
-        begins = b.begins;
-        said =
-            with_last_said (RefusalSaid unopened refused ended all) settles.o.answers settles.left.last
-            (kept_said (RefusalSaid unopened refused ended all) settles.ending.old.answers settles.o.answers by.answers said);
-      };
+    subst (λ (x : SessionState). BeginsSaid (RefusalSaid unopened refused ended) h.input x.answers) settles.is (record {
+      requests = all;
+      begins = b.begins;
+      said =
+          with_last_said (RefusalSaid unopened refused ended all) settles.o.answers settles.left.last
+          (kept_said (RefusalSaid unopened refused ended all) settles.ending.old.answers settles.o.answers by.answers said);
     })
+
+pub served : (unopened : Request → Refusal → Type 0) (refused : SeatState → Call → Refusal → Type 0) (ended : SeatState → Why → Type 0) (always : Bool) (from base : Option (List ℕ)) (ring : PushingEnd) (p : PumpState) (s : SessionState)
+    → IsFreshRing ring → Pumps from ring p → Settles unopened refused ended always base p s → ServesUnder unopened refused ended always from base s
+unfolding has_served
+served unopened refused ended always from base ring p s fresh h settles = record {
+  serves = has_served unopened refused ended always from base ring p s fresh h settles;
+  refusals = refusals_said unopened refused ended always from base ring p s fresh h settles;
+}

@@ -1,5 +1,5 @@
 -- Each refusal among the answers is what the kernel said of the very request that it answers (own).
-use Rattle.std.specs.Prelude.{◌≡◌, ℕ, ◌⊎◌, List, [], ◌∷◌, ◌++◌, Option}
+use Rattle.std.specs.Prelude.{◌≡◌, ℕ, ◌⊎◌, Bool, List, [], ◌∷◌, ◌++◌, Option}
 use Rattle.call_types.specs.declared.call.Call.{Call}
 use Rattle.call_types.specs.declared.refusal.Refusal.{Refusal}
 use Rattle.call_types.specs.declared.refusal.Refusal.TheVariants as refusal
@@ -11,9 +11,8 @@ use Rattle.system_lock.specs.declared.kernel.Why.TheVariants as ended_why
 use Rattle.session_core.specs.declared.told.Told.{Told}
 use Rattle.session_core.specs.declared.told.Told.TheVariants as told
 use Rattle.session_core.specs.Answers.{receipts_of}
-use Rattle.logged_streams.specs.Streams.{LoggedReaderState}
 use Rattle.request_pump.specs.Input.{Begins}
-use Rattle.session_core.specs.Served.{HasRead, SessionState}
+use Rattle.session_core.specs.Served.{Serves, SessionState}
 use Rattle.session_core.specs.Talk.{Talked, Waits}
 
 -- a process ended, in the call that it waited in, for what this refusal tells
@@ -66,12 +65,7 @@ pub record BeginsSaid (Said : List Request → List Told → Refusal → Type 0)
   pub begins : Begins input requests
   pub said : AreSaid (Said requests) answers
 
--- the same, of what a reader gave
-pub record ReadSaid (Said : List Request → List Told → Refusal → Type 0) (from : Option (List ℕ)) (reader : Option LoggedReaderState) (answers : List Told) : Type 0 where
-  pub input : List ℕ
-  pub consumes : HasRead from reader input
-  pub begins_said : BeginsSaid Said input answers
-
--- each refusal that a session told was said by a kernel, where this is what its reader had at the start
-abbrev pub RefusalsSaid : (Request → Refusal → Type 0) → (SeatState → Call → Refusal → Type 0) → (SeatState → Why → Type 0) → Option (List ℕ) → SessionState → Type 0
-RefusalsSaid unopened refused ended from s = ReadSaid (RefusalSaid unopened refused ended) from s.reader s.answers
+-- a session did what is promised of any, and a kernel said each refusal that it told, of the requests with which the bytes begin that it read
+pub record ServesUnder (unopened : Request → Refusal → Type 0) (refused : SeatState → Call → Refusal → Type 0) (ended : SeatState → Why → Type 0) (always : Bool) (from base : Option (List ℕ)) (s : SessionState) : Type 0 where
+  pub serves : Serves always from base s
+  pub refusals : BeginsSaid (RefusalSaid unopened refused ended) serves.input s.answers

@@ -6,11 +6,10 @@ ghost use Rattle.rtrb.specs.Ring.{sent, received, producer_capacity, IsPair};
 ghost use Rattle.session_core.specs.Proved.Desk.{IsNamedPair};
 ghost use Rattle.session_core.specs.Proved.Settling.{Settles, unserved_by, why_of};
 ghost use Rattle.session_core.specs.Proved.Output.{fresh_output};
-ghost use Rattle.session_core.specs.Served.{Serves};
 ghost use Rattle.session_core.specs.Said.{CutSaid, EndSaid};
 ghost use Rattle.session_core.specs.Proved.Saying.{IsReadingEnd};
 ghost use Rattle.logged_streams.specs.Streams.{fresh_log};
-ghost use Rattle.session_core.specs.Refusals.{RefusalsSaid};
+ghost use Rattle.session_core.specs.Refusals.{ServesUnder};
 
 use crate::connection::Connection;
 use crate::desk::{Desk, Naming, leave_requests};
@@ -82,10 +81,9 @@ pub fn serve<
     session: u64,
     gate: G,
 ) -> Served<R, W, L>
-    ensures serves { Serves G.is_open (R.remaining reader) (W.contents writer) result }
+    ensures serves { ServesUnder K.not_opened K.refused K.ended G.is_open (R.remaining reader) (W.contents writer) result }
     ensures said { EndSaid K.not_opened K.ended result.seat result.end_is }
     ensures given_up { CutSaid K.ended result.seat result.answers result.end_is }
-    ensures refusals { RefusalsSaid K.not_opened K.refused K.ended (R.remaining reader) result }
 {
     let (producer, consumer) = match RingBuffer::new(alloc, REQUESTS_AHEAD) {
         Ok(ends) => ends,
@@ -129,10 +127,9 @@ fn serve_named<
     requires pair { IsPair producer consumer }
     requires fresh { (received consumer ≡ []) × (sent producer ≡ []) }
     requires room { producer_capacity producer ≡ REQUESTS_AHEAD }
-    ensures serves { Serves G.is_open (R.remaining reader) D.base result }
+    ensures serves { ServesUnder K.not_opened K.refused K.ended G.is_open (R.remaining reader) D.base result }
     ensures said { EndSaid K.not_opened K.ended result.seat result.end_is }
     ensures given_up { CutSaid K.ended result.seat result.answers result.end_is }
-    ensures refusals { RefusalsSaid K.not_opened K.refused K.ended (R.remaining reader) result }
 {
     let (shared, other) = match shared_twice::<D, W, G, L, K>(alloc, kernel) {
         Ok(shared) => shared,

@@ -5,5 +5,4 @@ returns g c = record {
   serves = c.serve.ensures.serves;
   said = c.serve.ensures.said;
   given_up = c.serve.ensures.given_up;
-  refusals = c.serve.ensures.refusals;
 }

@@ -1,7 +1,6 @@
 use Rattle.std.proofs.Common.{Some, sym, subst, ap, ◌∙◌}
 use Rattle.session_core.specs.declared.end.End.TheVariants as end
-use Rattle.session_core.specs.Refusals.{RefusalSaid, RefusalsSaid}
-use Rattle.session_core.specs.Served.{Serves}
+use Rattle.session_core.specs.Refusals.{ServesUnder}
 use Rattle.session_core.specs.Proved.Settling.{unserved_by}
 use Rattle.session_core.proofs.ServeLemmas as laws
 use Rattle.session_core.proofs.serve.serve.Goals as goal
@@ -9,26 +8,13 @@ use Rattle.session_core.proofs.serve.serve.Goals as goal
 pub returns-in-Err-clause-serves : goal.returns-in-Err-clause-serves
 returns-in-Err-clause-serves g c =
     let is = laws.unwritten_by c.unserved.result (Some (g.R.Read.remaining c.args.reader)) (g.W.Write.contents c.args.writer) c.new-writer.result end.NoMemory c.new-writer.ensures c.unserved.ensures in
-    subst (Serves g.G.Gate.is_open (g.R.Read.remaining c.args.reader) (g.W.Write.contents c.args.writer)) (sym is)
-    (laws.unserved g.G.Gate.is_open (g.R.Read.remaining c.args.reader) (g.W.Write.contents c.args.writer))
-
-pub returns-in-Err-clause-refusals : goal.returns-in-Err-clause-refusals
-returns-in-Err-clause-refusals g c =
-    let is = laws.unwritten_by c.unserved.result (Some (g.R.Read.remaining c.args.reader)) (g.W.Write.contents c.args.writer) c.new-writer.result end.NoMemory c.new-writer.ensures c.unserved.ensures in
-    subst (RefusalsSaid g.K.Kernel.not_opened g.K.Kernel.refused g.K.Kernel.ended (g.R.Read.remaining c.args.reader)) (sym is)
-    (laws.unserved_said (RefusalSaid g.K.Kernel.not_opened g.K.Kernel.refused g.K.Kernel.ended) (g.R.Read.remaining c.args.reader))
+    subst (ServesUnder g.K.Kernel.not_opened g.K.Kernel.refused g.K.Kernel.ended g.G.Gate.is_open (g.R.Read.remaining c.args.reader) (g.W.Write.contents c.args.writer)) (sym is)
+    (laws.unserved g.K.Kernel.not_opened g.K.Kernel.refused g.K.Kernel.ended g.G.Gate.is_open (g.R.Read.remaining c.args.reader) (g.W.Write.contents c.args.writer))
 
 pub returns-in-Err-new-clause-serves : goal.returns-in-Err-new-clause-serves
 returns-in-Err-new-clause-serves g c =
     let is =
     laws.unwritten_by c.unserved-in-Err-new.result (Some (g.R.Read.remaining c.args.reader)) (g.W.Write.contents c.in-Err-new.writer) c.new-writer-in-Err-new.result end.NoMemory c.new-writer-in-Err-new.ensures c.unserved-in-Err-new.ensures in
-    subst (Serves g.G.Gate.is_open (g.R.Read.remaining c.args.reader) (g.W.Write.contents c.args.writer))
+    subst (ServesUnder g.K.Kernel.not_opened g.K.Kernel.refused g.K.Kernel.ended g.G.Gate.is_open (g.R.Read.remaining c.args.reader) (g.W.Write.contents c.args.writer))
     (sym (is ∙ ap (λ w. unserved_by (Some (g.R.Read.remaining c.args.reader)) (g.W.Write.contents w) end.NoMemory) c.in-Err-new.ensures.err))
-    (laws.unserved g.G.Gate.is_open (g.R.Read.remaining c.args.reader) (g.W.Write.contents c.args.writer))
-
-pub returns-in-Err-new-clause-refusals : goal.returns-in-Err-new-clause-refusals
-returns-in-Err-new-clause-refusals g c =
-    let is =
-    laws.unwritten_by c.unserved-in-Err-new.result (Some (g.R.Read.remaining c.args.reader)) (g.W.Write.contents c.in-Err-new.writer) c.new-writer-in-Err-new.result end.NoMemory c.new-writer-in-Err-new.ensures c.unserved-in-Err-new.ensures in
-    subst (RefusalsSaid g.K.Kernel.not_opened g.K.Kernel.refused g.K.Kernel.ended (g.R.Read.remaining c.args.reader)) (sym is)
-    (laws.unserved_said (RefusalSaid g.K.Kernel.not_opened g.K.Kernel.refused g.K.Kernel.ended) (g.R.Read.remaining c.args.reader))
+    (laws.unserved g.K.Kernel.not_opened g.K.Kernel.refused g.K.Kernel.ended g.G.Gate.is_open (g.R.Read.remaining c.args.reader) (g.W.Write.contents c.args.writer))
