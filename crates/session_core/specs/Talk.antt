@@ -51,7 +51,7 @@ pub record IsWaiting (call : Call) (told_of : List Told) : Type 0 where
   pub go_on : AreParts parts
 
 -- a call is refused
-pub record IsRefused (told_of : List Told) : Type 0 where
+pub record IsRefusedCall (told_of : List Told) : Type 0 where
   pub refusal : Refusal
   pub is : told_of ≡ told.Refused refusal ∷ []
 
@@ -78,7 +78,7 @@ pub record Group : Type 0 where
 
 -- what is told of a call, to its end
 abbrev pub AnswersCall : Call → List Told → Type 0
-AnswersCall call told_of = IsRefused told_of ⊎ (IsReplied call told_of ⊎ IsResumed call told_of)
+AnswersCall call told_of = IsRefusedCall told_of ⊎ (IsReplied call told_of ⊎ IsResumed call told_of)
 
 -- a call and all that is told of it
 abbrev pub IsCallGroup : Group → Type 0

@@ -1,7 +1,7 @@
 //! The acts of a kernel on a book that is at hand.
 
 ghost use Rattle.system_lock.specs.Kernel.{IsOpening, CallsBy};
-ghost use Rattle.system_lock.specs.Proved.Reasons.{OpensBy, IsReason, EndsFor};
+ghost use Rattle.system_lock.specs.Proved.Reasons.{OpensBy, IsReason, EndsByReason};
 ghost use Rattle.system_lock.specs.Proved.Acts.{TriesBy};
 ghost use Rattle.system_lock.specs.Proved.Events.{OpensIn, CallsIn, ExitsIn, TriesIn, StillIsDue, GivesNoneUp};
 
@@ -51,7 +51,7 @@ pub(crate) fn call<L: Ledgers>(
 /// Records an exit for a reason other than `Foreign`. `Foreign` is returned where the book does not know the seat.
 pub(crate) fn exit<L: Ledgers>(book: &mut Book<L>, seat: Seat<L>, reason: Why) -> EndedIn<L>
     requires { IsReason reason }
-    ensures ends { EndsFor seat reason result }
+    ensures ends { EndsByReason seat reason result }
     ensures event { ExitsIn book.old book.new seat result.seat result.why }
 {
     match book.exit(seat) {

@@ -4,12 +4,12 @@ ghost use Rattle.std.specs.Prelude.{◌≡◌, [], None, Some, false, true, All,
 ghost use Rattle.rtrb.specs.Ring.{received};
 ghost use Rattle.record_book.specs.Refusals.{resume_refusal, is_ready_in};
 ghost use Rattle.system_lock.specs.Kernel.{IsOpening, CallsBy, HangsUpBy};
-ghost use Rattle.system_lock.specs.Proved.Reasons.{OpensBy, IsReason, EndsFor};
+ghost use Rattle.system_lock.specs.Proved.Reasons.{OpensBy, IsReason, EndsByReason};
 ghost use Rattle.system_lock.specs.Proved.Acts.{TriesBy};
 ghost use Rattle.system_lock.specs.System.{is_live_in, is_among, AreDistinct, AreLive, AreUnmarked};
 ghost use Rattle.system_lock.specs.Proved.Sleepers.{pipe_in};
 ghost use Rattle.system_lock.specs.Proved.Doors.{lost_with, asleep_without};
-ghost use Rattle.system_lock.specs.Proved.Events.{OpensIn, CallsIn, ExitsIn, TriesIn, IsGivenUp, IsLeftWaiting, still_asleep, still_lost, with_sleeper};
+ghost use Rattle.system_lock.specs.Proved.Events.{OpensIn, CallsIn, ExitsIn, TriesIn, GivesUpTheLost, IsLeftWaiting, still_asleep, still_lost, with_sleeper};
 ghost use Rattle.record_book.specs.Book.{new_book};
 
 use crate::acts;
@@ -154,7 +154,7 @@ impl<L: Ledgers> System<L> {
         requires its_pipe { pipe ≡ pipe_in self.old.book_is seat.pid }
         ensures tries { TriesBy seat result }
         ensures event { TriesIn self.old.book_is self.new.book_is seat result }
-        ensures given_up { IsGivenUp self.old.lost_are seat result }
+        ensures given_up { GivesUpTheLost self.old.lost_are seat result }
         ensures still { IsLeftWaiting self.old self.new seat result }
         ensures asleep { self.new.asleep_are ≡ still_asleep self.new.book_is (with_sleeper self.old.asleep_are result) }
         ensures lost { self.new.lost_are ≡ still_lost self.new.book_is self.old.lost_are }
@@ -172,7 +172,7 @@ impl<L: Ledgers> System<L> {
     pub(crate) fn take_up(&mut self, alloc: Global, bells: &Bells, seat: Seat<L>) -> TriedIn<L>
         ensures tries { TriesBy seat result }
         ensures event { TriesIn self.old.book_is self.new.book_is seat result }
-        ensures given_up { IsGivenUp self.old.lost_are seat result }
+        ensures given_up { GivesUpTheLost self.old.lost_are seat result }
         ensures still { IsLeftWaiting self.old self.new seat result }
         ensures asleep { self.new.asleep_are ≡ still_asleep self.new.book_is (with_sleeper self.old.asleep_are result) }
         ensures lost { self.new.lost_are ≡ still_lost self.new.book_is self.old.lost_are }
@@ -198,7 +198,7 @@ impl<L: Ledgers> System<L> {
     /// Records the exit of a process for a reason, and wakes whom it concerns.
     fn exit(&mut self, bells: &Bells, seat: Seat<L>, reason: Why) -> EndedIn<L>
         requires { IsReason reason }
-        ensures ends { EndsFor seat reason result }
+        ensures ends { EndsByReason seat reason result }
         ensures event { ExitsIn self.old.book_is self.new.book_is seat result.seat result.why }
         ensures asleep { self.new.asleep_are ≡ still_asleep self.new.book_is self.old.asleep_are }
         ensures lost { self.new.lost_are ≡ still_lost self.new.book_is self.old.lost_are }

@@ -65,9 +65,9 @@ GivesNoneUp (tried.Ended ended) = ended.why ≢ why.Lost
 GivesNoneUp other = Unit {0}
 
 -- a process is given up only where its connection is lost
-abbrev pub IsGivenUp : List ℕ → SeatState → Tried → Type 0
-IsGivenUp lost s (tried.Ended ended) = ended.why ≡ why.Lost → is_among lost s.pid ≡ true
-IsGivenUp lost s other = Unit {0}
+abbrev pub GivesUpTheLost : List ℕ → SeatState → Tried → Type 0
+GivesUpTheLost lost s (tried.Ended ended) = ended.why ≡ why.Lost → is_among lost s.pid ≡ true
+GivesUpTheLost lost s other = Unit {0}
 
 -- a process is told to wait on only where its connection is not lost, and the book is as it was
 abbrev pub IsLeftWaiting : SystemState → SystemState → SeatState → Tried → Type 0

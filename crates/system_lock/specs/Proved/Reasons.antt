@@ -22,5 +22,5 @@ IsReason why.Foreign = ⊥
 IsReason other = Unit {0}
 
 -- the exit of the seat's process is tried for a reason: that is told, or Foreign where the book knows no such seat
-abbrev pub EndsFor : SeatState → Why → Ended → Type 0
-EndsFor old reason ended = EndsBy old ended.seat ended.why × ((ended.why ≡ reason) ⊎ (ended.why ≡ why.Foreign))
+abbrev pub EndsByReason : SeatState → Why → Ended → Type 0
+EndsByReason old reason ended = EndsBy old ended.seat ended.why × ((ended.why ≡ reason) ⊎ (ended.why ≡ why.Foreign))
