@@ -1,4 +1,5 @@
 pub mod Showing
 pub mod Parsing
+pub mod Reading
 pub mod Running
 pub mod Serving

@@ -1,9 +1,11 @@
 //! One run of a script: its bytes in, its lines out.
-ghost use Rattle.std.specs.Prelude.{◌≡◌, ◌≤◌, ◌⊎◌, [], Ok, length, IfOk, IfErr, IfSome, OnOk};
+ghost use Rattle.std.specs.Prelude.{◌≡◌, ◌<◌, ◌≤◌, ◌⊎◌, [], ◌++◌, Ok, length, IfOk, IfErr, IfSome, OnOk};
 ghost use Rattle.script_text.specs.ReadingScripts.{script};
 ghost use Rattle.script_text.specs.ReadingResults.{ScriptFails};
 ghost use Rattle.script_text.specs.declared.script.TheConstants.{SCRIPT_MAX};
+ghost use Rattle.logged_streams.specs.Streams.{IsBroken, IsReadNoMore, fresh_log, one_more};
 ghost use Rattle.fdref.specs.Replay.{Ends};
+ghost use Rattle.fdref.specs.Proved.Reading.{IsMet, ReadsInto};
 ghost use Rattle.fdref.specs.Proved.Running.{Gathers, RunsNext, RunsOn, RunsScript, FailsAs, FailsReading};
 
 use crate::job_end::JobEnd;
@@ -11,6 +13,8 @@ use crate::output::{put_line, write_lines};
 use byte_ledger::ledgers::{Blanks, Ledgers};
 use call_types::act::ScriptAct;
 use call_types::limits::Limits;
+use logged_streams::reader::LoggedReader;
+use logged_streams::stream_log::{Gave, INTERRUPTIONS_MAX};
 use record_book::book::Book;
 use record_book::run::ScriptAnswer;
 use record_book::seats::Seats;
@@ -19,21 +23,86 @@ use script_text::lines::write_totals;
 use script_text::round_trip::{read_scripts_are_spelled, spelled_scripts_are_read};
 use script_text::script::{SCRIPT_MAX, Script};
 use std::alloc::{AllocError, Global};
-use std::io::{ErrorKind, Read, Write};
+use std::io::{Read, Write};
 use std::marker::Brand;
 use std::mem::forget;
 
-/// Reads the whole script, or one byte more than a script has.
+/// How often a script is read. A reader that is not at its end by then has failed.
+pub const READS_MAX: u32 = 1_048_576;
+
+/// How many bytes a read asks for.
+const READ_LENGTH: usize = 65_536;
+
+/// Reads once more, and appends what that gives: whether the reader is at its end. If not, it may be read again: the sixteenth
+/// interruption in a row is an error.
+fn read_on<R: Read>(
+    reader: &mut LoggedReader<R>,
+    text: &mut Vec<u8>,
+    buffer: &mut [u8],
+) -> Result<bool, JobEnd>
+    requires room { 0 < length buffer.old }
+    requires few { reader.old.log.interruptions < INTERRUPTIONS_MAX }
+    ensures reads { IfOk result (λ _. ReadsInto reader.old.remaining reader.new.remaining text.old.items text.new.items) }
+    ensures met { IfOk result (λ is_end. IsMet reader.new is_end) }
+    ensures fault { IfErr result (λ ended. ((ended ≡ JobEnd.CannotRead) × IsBroken reader.new.log) ⊎ (ended ≡ JobEnd.NoMemory)) }
+    ensures calls { reader.new.log.calls ≡ one_more reader.old.log.calls }
+    ensures row { reader.new.log.interruptions ≤ INTERRUPTIONS_MAX }
+    ensures long { length buffer.new ≡ length buffer.old }
+{
+    match reader.read(buffer) {
+        Gave::Bytes(count) => {
+            let (piece, _) = buffer.split_at(count);
+            text.extend_from_slice(piece)?;
+            Ok(false)
+        }
+        Gave::Nothing => Ok(true),
+        Gave::Interrupted => {
+            if reader.log().interruptions() < INTERRUPTIONS_MAX {
+                Ok(false)
+            } else {
+                Err(JobEnd::CannotRead)
+            }
+        }
+        Gave::Failed => Err(JobEnd::CannotRead),
+    }
+}
+
+/// Appends all that a reader gives. It can't be read where a read fails, sixteen in a row were interrupted, or 1,048,576 found no
+/// end.
+fn read_often<R: Read>(
+    reader: &mut LoggedReader<R>,
+    text: &mut Vec<u8>,
+    buffer: &mut [u8],
+) -> Result<(), JobEnd>
+    requires room { 0 < length buffer.old }
+    requires unread { reader.old.log ≡ fresh_log }
+    ensures few { reader.new.log.calls ≤ READS_MAX }
+    ensures row { reader.new.log.interruptions ≤ INTERRUPTIONS_MAX }
+    ensures whole { OnOk result (IfSome reader.old.remaining (λ input. text.new.items ≡ text.old.items ++ input)) }
+    ensures fault { IfErr result (λ ended. ((ended ≡ JobEnd.CannotRead) × IsReadNoMore READS_MAX reader.new.log) ⊎ (ended ≡ JobEnd.NoMemory)) }
+{
+    for _turn in 0..READS_MAX {
+        if read_on(reader, text, buffer)? {
+            return Ok(());
+        }
+    }
+    Err(JobEnd::CannotRead)
+}
+
+/// Reads the whole script, or one byte more than a script has. It can't be read where a read fails, sixteen in a row were
+/// interrupted, or 1,048,576 found no end.
 fn read_text<R: Read + Drop>(alloc: Global, reader: R) -> Result<Vec<u8>, JobEnd>
     ensures text { IfOk result (λ text. IfSome (R.remaining reader) (λ input. script text.items ≡ script input)) }
     ensures whole { IfOk result (λ text. IfSome (R.remaining reader) (λ input. length text.items ≤ SCRIPT_MAX → text.items ≡ input)) }
     ensures fault { IfErr result (λ ended. (ended ≡ JobEnd.CannotRead) ⊎ (ended ≡ JobEnd.NoMemory)) }
 {
+    let mut buffer = vec![in alloc; 0u8; READ_LENGTH]?;
     let mut text = Vec::new(alloc);
-    let mut reader = reader.take(SCRIPT_MAX as u64 + 1);
-    match reader.read_to_end(&mut text) {
-        Ok(_) => Ok(text),
-        Err(error) if error.kind() == ErrorKind::OutOfMemory => Err(JobEnd::NoMemory),
+    let reader = reader.take(SCRIPT_MAX as u64 + 1);
+    let mut logged = LoggedReader::new(reader);
+    match read_often(&mut logged, &mut text, buffer.as_mut_slice()) {
+        Ok(()) => Ok(text),
+        Err(JobEnd::NoMemory) => Err(JobEnd::NoMemory),
         Err(_) => Err(JobEnd::CannotRead),
     }
 }
