@@ -1,6 +1,7 @@
 //! What becomes of a call that waits when the connection of its process is lost.
 
 ghost use Rattle.std.specs.Prelude.{◌≡◌, Some};
+ghost use Rattle.system_lock.specs.Kernel.{IsOpening};
 
 use byte_ledger::ledgers::{Blanks, Ledgers};
 use call_types::act::Act;
@@ -9,7 +10,7 @@ use call_types::call::Call;
 use call_types::limits::Limits;
 use call_types::outcome::{Outcome, Reply};
 use call_types::request::Request;
-use record_book::opening::Opened;
+use record_book::opening::{Opened, OpenedIn};
 use record_book::seat::{Receipt, Seat, SpentSeat};
 use std::alloc::Global;
 use std::marker::Brand;
@@ -20,6 +21,7 @@ use std::thread;
 use std::thread::{Builder, Threads};
 use system_lock::kernel::{Finished, FinishedIn, Kernel, Why};
 use system_lock::lock::SystemLock;
+use system_lock::system::System;
 
 /// How often a thread sleeps and is woken.
 const REPEATED: u32 = 100;
@@ -37,18 +39,41 @@ fn kernel_of<L: Ledgers>(
     Ok(kernel)
 }
 
-/// The seat that an opening gives.
+/// The seat of a process that was opened.
+fn seated<L: Ledgers>(opened: OpenedIn<L>) -> Option<Seat<L>> {
+    match opened {
+        Opened::Seated(seat) => Some(seat),
+        Opened::Refused(_) => None,
+    }
+}
+
+/// The seat that an opening gives, which is a join or an attach.
 fn opened<Rt: Wait, L: Ledgers>(
     rt: &Rt,
     kernel: &SystemLock<L>,
     request: Request,
-) -> Result<Seat<L>, Fail> {
-    match request {
-        Request::Call(_) => Err("a call opens nothing")?,
-        opening => match kernel.open(rt, kernel.admit(), opening) {
-            Ok(Opened::Seated(seat)) => Ok(seat),
-            _ => Err("there is room for a process")?,
-        },
+) -> Option<Seat<L>>
+    requires { IsOpening request }
+{
+    match kernel.open(rt, kernel.admit(), request) {
+        Ok(opened) => seated(opened),
+        Err(_) => None,
+    }
+}
+
+/// The seat of a new process.
+fn joined<Rt: Wait, L: Ledgers>(rt: &Rt, kernel: &SystemLock<L>) -> Result<Seat<L>, Fail> {
+    match opened(rt, kernel, Request::Join) {
+        Some(seat) => Ok(seat),
+        None => Err("there is room for a process")?,
+    }
+}
+
+/// The seat of process 1, which is not attached yet.
+fn attached<Rt: Wait, L: Ledgers>(rt: &Rt, kernel: &SystemLock<L>) -> Result<Seat<L>, Fail> {
+    match opened(rt, kernel, Request::Attach { process: 1 }) {
+        Some(seat) => Ok(seat),
+        None => Err("there is room for a process")?,
     }
 }
 
@@ -68,17 +93,35 @@ fn waits<Rt: Wait, L: Ledgers>(
     }
 }
 
-/// The seat of a new process that waits for the bytes of a pipe of its own.
-fn waiting<Rt: Wait, L: Ledgers>(rt: &Rt, kernel: &SystemLock<L>) -> Result<Seat<L>, Fail> {
-    let mut seat = opened(rt, kernel, Request::Join)?;
-    if kernel.call(rt, &mut seat, Call::Pipe).is_err()
-        || kernel.call(rt, &mut seat, Call::Fork).is_err()
-    {
+/// Whether a call is recorded.
+fn is_recorded<Rt: Wait, L: Ledgers>(
+    rt: &Rt,
+    kernel: &SystemLock<L>,
+    seat: &mut Seat<L>,
+    call: Call,
+) -> bool {
+    kernel.call(rt, seat, call).is_ok()
+}
+
+/// Has a process wait for the bytes of a pipe of its own, which its child could write.
+fn read_of_a_pipe<Rt: Wait, L: Ledgers>(
+    rt: &Rt,
+    kernel: &SystemLock<L>,
+    seat: &mut Seat<L>,
+) -> Result<(), Fail> {
+    if !is_recorded(rt, kernel, seat, Call::Pipe) || !is_recorded(rt, kernel, seat, Call::Fork) {
         return Err("there is room for a pipe and a child")?;
     }
-    if !waits(rt, kernel, &mut seat, Call::Read { fd: 0, count: 1 }) {
+    if !waits(rt, kernel, seat, Call::Read { fd: 0, count: 1 }) {
         return Err("the pipe is empty")?;
     }
+    Ok(())
+}
+
+/// The seat of a new process that waits for the bytes of a pipe of its own.
+fn waiting<Rt: Wait, L: Ledgers>(rt: &Rt, kernel: &SystemLock<L>) -> Result<Seat<L>, Fail> {
+    let mut seat = joined(rt, kernel)?;
+    read_of_a_pipe(rt, kernel, &mut seat)?;
     Ok(seat)
 }
 
@@ -105,6 +148,29 @@ fn is_given_up<L: Ledgers>(finished: FinishedIn<L>) -> bool {
     }
 }
 
+/// Whether a call is given up whose process is lost twice before it would sleep.
+fn is_given_up_awake<Rt: Wait, L: Ledgers>(rt: &Rt, kernel: &SystemLock<L>) -> Result<bool, Fail> {
+    let seat = waiting(rt, kernel)?;
+    kernel.lost(rt, seat.pid());
+    kernel.lost(rt, seat.pid());
+    Ok(is_given_up(kernel.finish(rt, seat)))
+}
+
+/// Whether nobody sleeps.
+fn none_sleeps<L: Ledgers>(system: &System<L>) -> bool {
+    system.asleep().is_empty()
+}
+
+/// Whether nobody is lost.
+fn none_is_lost<L: Ledgers>(system: &System<L>) -> bool {
+    system.lost().is_empty()
+}
+
+/// Whether nobody sleeps and nobody is lost.
+fn is_at_rest<L: Ledgers>(system: &System<L>) -> bool {
+    none_sleeps(system) && none_is_lost(system)
+}
+
 /// Whether a call is given up whose process is lost before it would sleep, and a second word of that changes nothing.
 fn gives_up_at_once<Rt: Wait, L: Ledgers>(
     rt: &Rt,
@@ -116,12 +182,8 @@ fn gives_up_at_once<Rt: Wait, L: Ledgers>(
     requires limits { L.limits ≡ Some limits }
 {
     let kernel = kernel_of::<L>(alloc, limits, blanks)?;
-    let seat = waiting(rt, &kernel)?;
-    kernel.lost(rt, seat.pid());
-    kernel.lost(rt, seat.pid());
-    let is_given_up = is_given_up(kernel.finish(rt, seat));
-    let system = kernel.take();
-    Ok(is_given_up && system.asleep().is_empty() && system.lost().is_empty())
+    let is_given_up = is_given_up_awake(rt, &kernel)?;
+    Ok(is_given_up && is_at_rest(&kernel.take()))
 }
 
 #[test]
@@ -129,6 +191,62 @@ fn call_of_a_lost_process_is_given_up(rt: HostRuntime) -> Result<(), Fail> {
     let limits = Limits::new(100)?;
     assert!(rt; gives_up_at_once::<HostRuntime, Brand>(&rt, rt.alloc(), limits, Blanks::new())?);
     Ok(())
+}
+
+/// Has a child write a byte into the pipe that its parent waits for, after the parent is lost.
+fn child_writes<Rt: Wait, L: Ledgers>(
+    rt: &Rt,
+    alloc: Global,
+    kernel: &SystemLock<L>,
+    parent: u32,
+) -> Result<(), Fail> {
+    let bytes = Payload::copied(alloc, b"x")?;
+    let mut child = attached(rt, kernel)?;
+    kernel.lost(rt, parent);
+    if is_recorded(rt, kernel, &mut child, Call::Write { fd: 1, bytes }) {
+        Ok(())
+    } else {
+        Err("the pipe has room")?
+    }
+}
+
+/// The seat of a process whose call went on and gave data.
+fn resumed<L: Ledgers>(finished: FinishedIn<L>) -> Option<Seat<L>> {
+    match finished {
+        Finished::Resumed { seat, receipt } => match receipt.record().outcome {
+            Outcome::Reply(Reply::Data(_)) => Some(seat),
+            _ => None,
+        },
+        Finished::Ended(_) => None,
+    }
+}
+
+/// Whether a process has ended as one that is lost.
+fn is_lost<L: Ledgers>(finished: FinishedIn<L>) -> bool {
+    match finished {
+        Finished::Ended(ended) => ended.why == Why::Lost && ends_in_exit(ended.seat.receipts()),
+        Finished::Resumed { .. } => false,
+    }
+}
+
+/// Whether the next call of a lost process waits and is given up.
+fn gives_up_the_next<Rt: Wait, L: Ledgers>(rt: &Rt, kernel: &SystemLock<L>, seat: Seat<L>) -> bool {
+    let mut seat = seat;
+    waits(rt, kernel, &mut seat, Call::Read { fd: 0, count: 1 }) && is_lost(kernel.finish(rt, seat))
+}
+
+/// Whether the call of a lost process goes on once a byte is there, and its next one is given up.
+fn goes_on_once<Rt: Wait, L: Ledgers>(
+    rt: &Rt,
+    alloc: Global,
+    kernel: &SystemLock<L>,
+) -> Result<bool, Fail> {
+    let seat = waiting(rt, kernel)?;
+    child_writes(rt, alloc, kernel, seat.pid())?;
+    match resumed(kernel.finish(rt, seat)) {
+        Some(seat) => Ok(gives_up_the_next(rt, kernel, seat)),
+        None => Ok(false),
+    }
 }
 
 /// Whether a call that is ready goes on although its process is lost, and the next one that waits is given up.
@@ -142,30 +260,7 @@ fn goes_on_first<Rt: Wait, L: Ledgers>(
     requires limits { L.limits ≡ Some limits }
 {
     let kernel = kernel_of::<L>(alloc, limits, blanks)?;
-    let seat = waiting(rt, &kernel)?;
-    let mut child = opened(rt, &kernel, Request::Attach { process: 1 })?;
-    let bytes = Payload::copied(alloc, b"x")?;
-    kernel.lost(rt, seat.pid());
-    if kernel
-        .call(rt, &mut child, Call::Write { fd: 1, bytes })
-        .is_err()
-    {
-        return Err("the pipe has room")?;
-    }
-    let mut seat = match kernel.finish(rt, seat) {
-        Finished::Resumed { seat, receipt } => match receipt.record().outcome {
-            Outcome::Reply(Reply::Data(_)) => seat,
-            _ => return Ok(false),
-        },
-        Finished::Ended(_) => return Ok(false),
-    };
-    if !waits(rt, &kernel, &mut seat, Call::Read { fd: 0, count: 1 }) {
-        return Ok(false);
-    }
-    match kernel.finish(rt, seat) {
-        Finished::Ended(ended) => Ok(ended.why == Why::Lost && ends_in_exit(ended.seat.receipts())),
-        Finished::Resumed { .. } => Ok(false),
-    }
+    goes_on_once(rt, alloc, &kernel)
 }
 
 #[test]
@@ -173,6 +268,13 @@ fn call_that_is_ready_goes_on_first(rt: HostRuntime) -> Result<(), Fail> {
     let limits = Limits::new(100)?;
     assert!(rt; goes_on_first::<HostRuntime, Brand>(&rt, rt.alloc(), limits, Blanks::new())?);
     Ok(())
+}
+
+/// Lets other threads run, so that one that was started sleeps more often than not.
+fn stand_aside() {
+    for _ in 0..100 {
+        thread::yield_now();
+    }
 }
 
 /// Whether a thread that sleeps in a call is woken when its process is lost, and gives the call up.
@@ -184,16 +286,13 @@ fn wakes_a_sleeper<
     requires limits { L.limits ≡ Some limits }
 {
     let kernel = Arc::new(alloc, kernel_of::<L>(alloc, limits, blanks)?)?;
+    let its_kernel = Arc::try_clone(&kernel)?;
     let seat = waiting(&rt, &kernel)?;
     let process = seat.pid();
-    let its_kernel = Arc::try_clone(&kernel)?;
     let finishing = move || is_given_up(its_kernel.finish(&rt, seat));
     match Builder::new().spawn(&rt, finishing) {
         Ok(sleeper) => {
-            // so that it sleeps more often than not
-            for _ in 0..100 {
-                thread::yield_now();
-            }
+            stand_aside();
             kernel.lost(&rt, process);
             Ok(sleeper.join(&rt))
         }
