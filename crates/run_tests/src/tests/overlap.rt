@@ -18,6 +18,7 @@ use session_core::memory::{Manner as StreamManner, MemoryReader, MemoryWriter};
 use std::alloc::{AllocError, Global};
 use std::io::{Error, ErrorKind, Read, Write};
 use std::marker::Brand;
+use std::process::Abort;
 use std::sync::atomic::{AtomicBool, AtomicU64, Ordering};
 use std::sync::{Arc, Wait};
 use std::test::Fail;
@@ -140,6 +141,39 @@ fn are_whole<R: Read, W: Write>(report: &Report<R, W, MemorySink>) -> bool {
     match report.ends.as_slice() {
         [one, other] => report.records == 7 && is_whole(one) && is_whole(other),
         _ => false,
+    }
+}
+
+/// Whether a run over two connections, under this gate and with a sound sink, was whole; none where there is no memory for a report.
+fn is_whole_under<
+    Rt: Threads + Wait + Clock + Copy + Drop + Send + Sync + 'static,
+    R: Read + Send + Drop + 'static,
+    W: Write + Connection + Send + Drop + 'static,
+    G: Gate + Send + Sync + 'static,
+    L: Ledgers + Send + Sync + 'static,
+>(
+    rt: Rt,
+    alloc: Global,
+    connections: Vec<(R, W)>,
+    gate: G,
+    limits: Limits,
+    blanks: Blanks,
+) -> Option<bool>
+    requires ledgers { blanks ≡ L.names }
+    requires limits { L.limits ≡ Some limits }
+    requires blank { All (λ connection. IsBlank (W.contents connection.1)) connections.items }
+{
+    match report_of::<Rt, R, W, G, L>(
+        rt,
+        alloc,
+        connections,
+        gate,
+        limits,
+        blanks,
+        Manner::sound(),
+    ) {
+        Some(report) => Some(are_whole(&report)),
+        None => None,
     }
 }
 
@@ -296,32 +330,69 @@ fn guarded(alloc: Global, said: &Arc<Said>) -> Result<(MemoryReader, GuardedWrit
     Ok((MemoryReader::new(two_requests(alloc)?, WELL), writer))
 }
 
+/// Two such connections.
+fn two_guarded(
+    alloc: Global,
+    said: &Arc<Said>,
+) -> Result<Vec<(MemoryReader, GuardedWriter)>, AllocError> {
+    let one = guarded(alloc, said)?;
+    let other = guarded(alloc, said)?;
+    let connections = vec![in alloc; one, other]?;
+    Ok(connections)
+}
+
+/// A gate that says this.
+fn gate_of(says: Says, said: &Arc<Said>) -> Result<NotedGate, AllocError> {
+    let said = Arc::try_clone(said)?;
+    Ok(NotedGate { says, said })
+}
+
+/// Whether a run of two sessions is whole whose first answer waits for the other session.
+fn is_whole_others_first<
+    Rt: Threads + Wait + Clock + Copy + Drop + Send + Sync + 'static,
+    L: Ledgers + Send + Sync + 'static,
+>(
+    rt: Rt,
+    alloc: Global,
+    said: &Arc<Said>,
+    limits: Limits,
+    blanks: Blanks,
+) -> Result<Option<bool>, AllocError>
+    requires ledgers { blanks ≡ L.names }
+    requires limits { L.limits ≡ Some limits }
+{
+    let gate = gate_of(Says::OthersFirst, said)?;
+    let connections = two_guarded(alloc, said)?;
+    Ok(is_whole_under::<Rt, MemoryReader, GuardedWriter, NotedGate, L>(
+        rt,
+        alloc,
+        connections,
+        gate,
+        limits,
+        blanks,
+    ))
+}
+
+/// One run whose first answer waits for the other session.
+fn waits_at_its_gate<
+    Rt: Abort + Threads + Wait + Clock + Copy + Drop + Send + Sync + 'static,
+    L: Ledgers + Send + Sync + 'static,
+>(rt: Rt, alloc: Global, limits: Limits, blanks: Blanks) -> Result<(), AllocError>
+    requires ledgers { blanks ≡ L.names }
+    requires limits { L.limits ≡ Some limits }
+{
+    let said = Arc::new(alloc, Said::new())?;
+    assert!(rt; is_whole_others_first::<Rt, L>(rt, alloc, &said, limits, blanks)? == Some(true));
+    let (_, _, first, others) = said.numbers();
+    assert_eq!(rt; (first, others), (2, 2));
+    Ok(())
+}
+
 #[test]
 fn answer_waits_at_its_gate_for_another_session(rt: HostRuntime) -> Result<(), Fail> {
     for _ in 0..REPEATED {
-        let said = Arc::new(rt.alloc(), Said::new())?;
-        let mut connections = Vec::with_capacity(rt.alloc(), 2)?;
-        connections.push(guarded(rt.alloc(), &said)?)?;
-        connections.push(guarded(rt.alloc(), &said)?)?;
-        let gate = NotedGate {
-            says: Says::OthersFirst,
-            said: Arc::try_clone(&said)?,
-        };
         let limits = Limits::new(100)?;
-        match report_of::<HostRuntime, MemoryReader, GuardedWriter, NotedGate, Brand>(
-            rt,
-            rt.alloc(),
-            connections,
-            gate,
-            limits,
-            Blanks::new(),
-            Manner::sound(),
-        ) {
-            Some(report) => assert!(rt; are_whole(&report)),
-            None => return Err("there is memory for a report")?,
-        }
-        let (_, _, first, others) = said.numbers();
-        assert_eq!(rt; (first, others), (2, 2));
+        waits_at_its_gate::<HostRuntime, Brand>(rt, rt.alloc(), limits, Blanks::new())?;
     }
     Ok(())
 }
@@ -370,12 +441,8 @@ fn under_a_gate<
     requires ledgers { blanks ≡ L.names }
     requires limits { L.limits ≡ Some limits }
 {
-    let mut connections = Vec::with_capacity(alloc, 1)?;
-    connections.push(plain(alloc)?)?;
-    let gate = NotedGate {
-        says,
-        said: Arc::try_clone(said)?,
-    };
+    let gate = gate_of(says, said)?;
+    let connections = vec![in alloc; plain(alloc)?]?;
     match report_of::<Rt, MemoryReader, MemoryWriter, NotedGate, L>(
         rt,
         alloc,
@@ -524,27 +591,46 @@ fn one_by_one(
     Ok((reader, writer))
 }
 
+/// Two such connections, of which each waits for the other.
+fn two_one_by_one(alloc: Global) -> Result<Vec<(ShyReader, TellingWriter)>, AllocError> {
+    let one = Arc::new(alloc, AtomicBool::new(false))?;
+    let other = Arc::new(alloc, AtomicBool::new(false))?;
+    let first = one_by_one(alloc, &one, &other)?;
+    let second = one_by_one(alloc, &other, &one)?;
+    let connections = vec![in alloc; first, second]?;
+    Ok(connections)
+}
+
+/// Whether a run of two sessions is whole whose readers wait for one another.
+fn is_whole_one_by_one<
+    Rt: Threads + Wait + Clock + Copy + Drop + Send + Sync + 'static,
+    L: Ledgers + Send + Sync + 'static,
+>(rt: Rt, alloc: Global, limits: Limits, blanks: Blanks) -> Result<Option<bool>, AllocError>
+    requires ledgers { blanks ≡ L.names }
+    requires limits { L.limits ≡ Some limits }
+{
+    let connections = two_one_by_one(alloc)?;
+    Ok(is_whole_under::<Rt, ShyReader, TellingWriter, OpenGate, L>(
+        rt,
+        alloc,
+        connections,
+        OpenGate,
+        limits,
+        blanks,
+    ))
+}
+
 #[test]
 fn reader_waits_for_the_answer_of_another_session(rt: HostRuntime) -> Result<(), Fail> {
     for _ in 0..REPEATED {
-        let one = Arc::new(rt.alloc(), AtomicBool::new(false))?;
-        let other = Arc::new(rt.alloc(), AtomicBool::new(false))?;
-        let mut connections = Vec::with_capacity(rt.alloc(), 2)?;
-        connections.push(one_by_one(rt.alloc(), &one, &other)?)?;
-        connections.push(one_by_one(rt.alloc(), &other, &one)?)?;
         let limits = Limits::new(100)?;
-        match report_of::<HostRuntime, ShyReader, TellingWriter, OpenGate, Brand>(
+        let whole = is_whole_one_by_one::<HostRuntime, Brand>(
             rt,
             rt.alloc(),
-            connections,
-            OpenGate,
             limits,
             Blanks::new(),
-            Manner::sound(),
-        ) {
-            Some(report) => assert!(rt; are_whole(&report)),
-            None => return Err("there is memory for a report")?,
-        }
+        )?;
+        assert!(rt; whole == Some(true));
     }
     Ok(())
 }
@@ -563,6 +649,46 @@ fn came_all_the_same(
         && report.traced.bytes == report.sink.bytes().len() as u64
 }
 
+/// Two connections over memory that send two requests each.
+fn two_plain(alloc: Global) -> Result<Vec<(MemoryReader, MemoryWriter)>, AllocError>
+    ensures { IfOk result (λ connections. All (λ connection. IsBlank (Some connection.1.bytes)) connections.items) }
+{
+    let one = plain(alloc)?;
+    let other = plain(alloc)?;
+    let connections = vec![in alloc; one, other]?;
+    Ok(connections)
+}
+
+/// Whether all answers of two sessions come, in a run whose sink fails so, and whether this is told of its trace.
+fn keeps_no_answer_back<
+    Rt: Threads + Wait + Clock + Copy + Drop + Send + Sync + 'static,
+    L: Ledgers + Send + Sync + 'static,
+>(
+    rt: Rt,
+    alloc: Global,
+    manner: Manner,
+    told: (TraceFault, u64),
+    limits: Limits,
+    blanks: Blanks,
+) -> Result<Option<bool>, AllocError>
+    requires ledgers { blanks ≡ L.names }
+    requires limits { L.limits ≡ Some limits }
+{
+    let connections = two_plain(alloc)?;
+    match report_of::<Rt, MemoryReader, MemoryWriter, OpenGate, L>(
+        rt,
+        alloc,
+        connections,
+        OpenGate,
+        limits,
+        blanks,
+        manner,
+    ) {
+        Some(report) => Ok(Some(came_all_the_same(&report, told.0, told.1))),
+        None => Ok(None),
+    }
+}
+
 #[test]
 fn sink_that_fails_keeps_no_answer_back(rt: HostRuntime) -> Result<(), Fail> {
     // the sync fails, and then the first write does
@@ -570,22 +696,16 @@ fn sink_that_fails_keeps_no_answer_back(rt: HostRuntime) -> Result<(), Fail> {
         (Manner::unsyncable(), TraceFault::Sync, 7),
         (Manner::refusing(), TraceFault::Write, 0),
     ] {
-        let mut connections = Vec::with_capacity(rt.alloc(), 2)?;
-        connections.push(plain(rt.alloc())?)?;
-        connections.push(plain(rt.alloc())?)?;
         let limits = Limits::new(100)?;
-        match report_of::<HostRuntime, MemoryReader, MemoryWriter, OpenGate, Brand>(
+        let came = keeps_no_answer_back::<HostRuntime, Brand>(
             rt,
             rt.alloc(),
-            connections,
-            OpenGate,
+            manner,
+            (fault, whole),
             limits,
             Blanks::new(),
-            manner,
-        ) {
-            Some(report) => assert!(rt; came_all_the_same(&report, fault, whole)),
-            None => return Err("there is memory for a report")?,
-        }
+        )?;
+        assert!(rt; came == Some(true));
     }
     Ok(())
 }

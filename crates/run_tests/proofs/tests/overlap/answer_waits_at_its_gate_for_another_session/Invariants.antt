@@ -2,5 +2,5 @@
 use Rattle.std.specs.Prelude.{Some}
 use Rattle.run_tests.proofs.tests.overlap.answer_waits_at_its_gate_for_another_session.Given as goal
 
-abbrev pub ghosts-report_of : goal.ghosts-report_of
-ghosts-report_of g a = record { names = a.blanks; limits = Some a.limits }
+abbrev pub ghosts-waits_at_its_gate : goal.ghosts-waits_at_its_gate
+ghosts-waits_at_its_gate g a = record { names = a.blanks; limits = Some a.limits }

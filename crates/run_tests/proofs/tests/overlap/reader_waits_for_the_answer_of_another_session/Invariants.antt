@@ -2,5 +2,5 @@
 use Rattle.std.specs.Prelude.{Some}
 use Rattle.run_tests.proofs.tests.overlap.reader_waits_for_the_answer_of_another_session.Given as goal
 
-abbrev pub ghosts-report_of : goal.ghosts-report_of
-ghosts-report_of g a = record { names = a.blanks; limits = Some a.limits }
+abbrev pub ghosts-is_whole_one_by_one : goal.ghosts-is_whole_one_by_one
+ghosts-is_whole_one_by_one g a = record { names = a.blanks; limits = Some a.limits }

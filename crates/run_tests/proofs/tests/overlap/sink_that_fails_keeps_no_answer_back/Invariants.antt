@@ -2,5 +2,5 @@
 use Rattle.std.specs.Prelude.{Some}
 use Rattle.run_tests.proofs.tests.overlap.sink_that_fails_keeps_no_answer_back.Given as goal
 
-abbrev pub ghosts-report_of : goal.ghosts-report_of
-ghosts-report_of g a = record { names = a.blanks; limits = Some a.limits }
+abbrev pub ghosts-keeps_no_answer_back : goal.ghosts-keeps_no_answer_back
+ghosts-keeps_no_answer_back g a = record { names = a.blanks; limits = Some a.limits }
