@@ -1,6 +1,7 @@
 //! What comes of requests that stand in a ring, answered in the thread that put them there.
 
-ghost use Rattle.std.specs.Prelude.{◌≡◌, Some};
+ghost use Rattle.std.specs.Prelude.{◌≡◌, [], IfOk, Some};
+ghost use Rattle.rtrb.specs.Ring.{received};
 
 use byte_ledger::ledgers::{Blanks, Ledgers};
 use call_types::call::Call;
@@ -8,13 +9,13 @@ use call_types::limits::Limits;
 use call_types::request::Request;
 use record_book::book::Book;
 use record_book::seat::{Seat, SpentSeat};
-use rtrb::RingBuffer;
+use rtrb::{Consumer, Producer, RingBuffer};
 use session_core::answer::{Answered, AnsweredSeat, answer};
 use session_core::end::End;
 use session_core::gate::OpenGate;
 use session_core::memory::{Manner, MemoryWriter};
 use session_core::note::Note;
-use std::alloc::Global;
+use std::alloc::{AllocError, Global};
 use std::marker::Brand;
 use std::sync::Wait;
 use std::test::Fail;
@@ -46,20 +47,41 @@ fn came_of<L: Ledgers>(answered: Answered<MemoryWriter, L>) -> CameOf {
     (held, answered.answers.len(), answered.end)
 }
 
-/// What comes of these requests, where no more is read.
+/// Puts these requests into a ring, and tells whether there was room for all.
+fn put_all(producer: &mut Producer<Request>, requests: Vec<Request>) -> bool {
+    for request in requests {
+        if producer.push(request).is_err() {
+            return false;
+        }
+    }
+    true
+}
+
+/// Both ends of a ring that holds these requests.
+fn ring_of(
+    alloc: Global,
+    requests: Vec<Request>,
+) -> Result<(Producer<Request>, Consumer<Request>), Fail>
+    ensures { IfOk result (λ ends. received ends.1 ≡ []) }
+{
+    let (mut producer, consumer) = RingBuffer::new(alloc, ROOM)?;
+    if put_all(&mut producer, requests) {
+        Ok((producer, consumer))
+    } else {
+        Err("there is room for the requests")?
+    }
+}
+
+/// What comes of the requests that a ring holds, where no more is read.
 fn answered<Rt: Wait, L: Ledgers, K: Kernel<Seat<L>, SpentSeat<L>>>(
     rt: &Rt,
     alloc: Global,
     kernel: &K,
     admission: AdmissionTo<L>,
-    requests: Vec<Request>,
-) -> Result<CameOf, Fail> {
-    let (mut producer, consumer) = RingBuffer::new(alloc, ROOM)?;
-    for request in requests {
-        if producer.push(request).is_err() {
-            Err("there is room for the requests")?;
-        }
-    }
+    ring: Consumer<Request>,
+) -> CameOf
+    requires { received ring ≡ [] }
+{
     let note = Note::new();
     note.end_reading(rt);
     let manner = Manner {
@@ -69,9 +91,32 @@ fn answered<Rt: Wait, L: Ledgers, K: Kernel<Seat<L>, SpentSeat<L>>>(
         flush_fails_at: None,
     };
     let writer = MemoryWriter::new(alloc, manner);
-    Ok(came_of(answer(
-        rt, alloc, consumer, &note, writer, kernel, admission, 0, OpenGate,
-    )))
+    came_of(answer(
+        rt, alloc, ring, &note, writer, kernel, admission, 0, OpenGate,
+    ))
+}
+
+/// A join and so many forks.
+fn join_and_forks(alloc: Global, forks: u32) -> Result<Vec<Request>, AllocError> {
+    let mut requests = Vec::new(alloc);
+    requests.push(Request::Join)?;
+    for _ in 0..forks {
+        requests.push(Request::Call(Call::Fork))?;
+    }
+    Ok(requests)
+}
+
+/// A run without records, under a lock.
+fn lock_of<L: Ledgers>(
+    alloc: Global,
+    limits: Limits,
+    blanks: Blanks,
+) -> Result<SystemLock<L>, AllocError>
+    requires ledgers { blanks ≡ L.names }
+    requires limits { L.limits ≡ Some limits }
+{
+    let (kernel, _trace) = SystemLock::new(alloc, limits, blanks)?;
+    Ok(kernel)
 }
 
 /// What comes of a join and so many forks, under a lock.
@@ -85,13 +130,9 @@ fn forks_answered<Rt: Wait, L: Ledgers>(
     requires ledgers { blanks ≡ L.names }
     requires limits { L.limits ≡ Some limits }
 {
-    let (kernel, _trace) = SystemLock::<L>::new(alloc, limits, blanks)?;
-    let mut requests = Vec::new(alloc);
-    requests.push(Request::Join)?;
-    for _ in 0..forks {
-        requests.push(Request::Call(Call::Fork))?;
-    }
-    answered(rt, alloc, &kernel, kernel.admit(), requests)
+    let (_producer, ring) = ring_of(alloc, join_and_forks(alloc, forks)?)?;
+    let kernel = lock_of::<L>(alloc, limits, blanks)?;
+    Ok(answered(rt, alloc, &kernel, kernel.admit(), ring))
 }
 
 #[test]
@@ -102,47 +143,45 @@ fn all_that_a_ring_holds_is_answered(rt: HostRuntime) -> Result<(), Fail> {
     Ok(())
 }
 
-/// What comes of a join and these requests, in a book of one thread that gives up a call that would wait.
-fn joined_answered<Rt: Wait, L: Ledgers>(
+/// What comes of these requests, in a book of one thread that gives up a call that would wait.
+fn requests_answered<Rt: Wait, L: Ledgers>(
     rt: &Rt,
     alloc: Global,
     limits: Limits,
     blanks: Blanks,
-    more: Vec<Request>,
+    requests: Vec<Request>,
 ) -> Result<CameOf, Fail>
     requires ledgers { blanks ≡ L.names }
     requires limits { L.limits ≡ Some limits }
 {
+    let (_producer, ring) = ring_of(alloc, requests)?;
     let book = Book::<L>::new(alloc, limits, blanks)?;
     let kernel = OneBook::new(alloc, book, Vec::new(alloc));
-    let mut requests = Vec::new(alloc);
-    requests.push(Request::Join)?;
-    for request in more {
-        requests.push(request)?;
-    }
-    answered(rt, alloc, &kernel, kernel.admit(), requests)
+    Ok(answered(rt, alloc, &kernel, kernel.admit(), ring))
 }
 
-/// The calls of a process that waits for the bytes of a pipe which its child could write.
-fn waiting_calls(alloc: Global) -> Result<Vec<Request>, Fail> {
-    let mut requests = Vec::new(alloc);
-    requests.push(Request::Call(Call::Pipe))?;
-    requests.push(Request::Call(Call::Fork))?;
-    requests.push(Request::Call(Call::Read { fd: 0, count: 1 }))?;
-    requests.push(Request::Call(Call::Fork))?;
+/// The requests of a process that joins and waits for the bytes of a pipe which its child could write.
+fn waiting_requests(alloc: Global) -> Result<Vec<Request>, AllocError> {
+    let requests = vec![in alloc;
+        Request::Join,
+        Request::Call(Call::Pipe),
+        Request::Call(Call::Fork),
+        Request::Call(Call::Read { fd: 0, count: 1 }),
+        Request::Call(Call::Fork),
+    ]?;
     Ok(requests)
 }
 
 #[test]
 fn call_that_is_given_up_is_the_last(rt: HostRuntime) -> Result<(), Fail> {
     let limits = Limits::new(100)?;
-    let calls = waiting_calls(rt.alloc())?;
-    let came = joined_answered::<HostRuntime, Brand>(
+    let requests = waiting_requests(rt.alloc())?;
+    let came = requests_answered::<HostRuntime, Brand>(
         &rt,
         rt.alloc(),
         limits,
         Blanks::new(),
-        calls,
+        requests,
     )?;
     assert!(rt; came == (Held::Spent, 4, None));
     Ok(())
@@ -151,9 +190,14 @@ fn call_that_is_given_up_is_the_last(rt: HostRuntime) -> Result<(), Fail> {
 #[test]
 fn request_out_of_place_ends_it(rt: HostRuntime) -> Result<(), Fail> {
     let limits = Limits::new(100)?;
-    let mut more = Vec::new(rt.alloc());
-    more.push(Request::Join)?;
-    let came = joined_answered::<HostRuntime, Brand>(&rt, rt.alloc(), limits, Blanks::new(), more)?;
+    let requests = vec![in rt.alloc(); Request::Join, Request::Join]?;
+    let came = requests_answered::<HostRuntime, Brand>(
+        &rt,
+        rt.alloc(),
+        limits,
+        Blanks::new(),
+        requests,
+    )?;
     assert!(rt; came == (Held::Spent, 1, Some(End::Malformed)));
     Ok(())
 }

@@ -2,5 +2,5 @@
 use Rattle.std.specs.Prelude.{Some}
 use Rattle.run_tests.proofs.tests.answers.call_that_is_given_up_is_the_last.Given as goal
 
-abbrev pub ghosts-joined_answered : goal.ghosts-joined_answered
-ghosts-joined_answered g a = record { names = a.blanks; limits = Some a.limits }
+abbrev pub ghosts-requests_answered : goal.ghosts-requests_answered
+ghosts-requests_answered g a = record { names = a.blanks; limits = Some a.limits }
