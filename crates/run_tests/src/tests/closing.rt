@@ -1,6 +1,7 @@
 //! What a closed run comes to, by its seats.
 
-ghost use Rattle.std.specs.Prelude.{◌≡◌};
+ghost use Rattle.std.specs.Prelude.{◌≡◌, [], IfOk};
+ghost use Rattle.rtrb.specs.Ring.{received};
 
 use byte_ledger::gather::Missing;
 use byte_ledger::ledgers::{Blanks, Ledgers};
@@ -21,6 +22,7 @@ use std::process::Abort;
 use std::sync::Wait;
 use std::test::Fail;
 use std::time::Clock;
+use trace_ring::trace_ring::TraceEnd;
 use trace_writer::memory::{Manner, MemorySink};
 use trace_writer::traced::{TraceFault, Traced};
 use trace_writer::write_trace::write_trace;
@@ -33,49 +35,83 @@ fn joined<L: Ledgers>(alloc: Global, book: &mut Book<L>) -> Result<Seat<L>, Fail
     }
 }
 
-/// Has a process write three bytes into a new file, as two records.
-fn writes<L: Ledgers>(alloc: Global, book: &mut Book<L>, seat: &mut Seat<L>) -> Result<(), Fail> {
+/// Has a process open a new file.
+fn opens<L: Ledgers>(alloc: Global, book: &mut Book<L>, seat: &mut Seat<L>) -> Result<(), Fail> {
     let name = Name::copied(alloc, b"a")?;
     let flags = OpenFlags::WRITE | OpenFlags::CREAT;
-    let bytes = Payload::copied(alloc, b"abc")?;
-    if book.start(alloc, seat, Call::Open { name, flags }).is_err() {
-        return Err("there is room for a file")?;
+    match book.start(alloc, seat, Call::Open { name, flags }) {
+        Ok(_) => Ok(()),
+        Err(_) => Err("there is room for a file")?,
     }
-    if book
-        .start(alloc, seat, Call::Write { fd: 0, bytes })
-        .is_err()
-    {
-        return Err("there is room for the bytes")?;
-    }
-    Ok(())
 }
 
-/// The seats of two processes that exit, one after the other, with room for one more.
-fn exited<L: Ledgers>(
+/// Has a process write three bytes into that file.
+fn writes<L: Ledgers>(alloc: Global, book: &mut Book<L>, seat: &mut Seat<L>) -> Result<(), Fail> {
+    let bytes = Payload::copied(alloc, b"abc")?;
+    match book.start(alloc, seat, Call::Write { fd: 0, bytes }) {
+        Ok(_) => Ok(()),
+        Err(_) => Err("there is room for the bytes")?,
+    }
+}
+
+/// Has a process exit, and keeps its seat.
+fn exits<L: Ledgers>(
+    book: &mut Book<L>,
+    seat: Seat<L>,
+    spent: &mut Vec<SpentSeat<L>>,
+) -> Result<(), Fail> {
+    match book.exit(seat) {
+        Ok(seat) => Ok(spent.push(seat)?),
+        Err(_) => Err("the process is there")?,
+    }
+}
+
+/// Closes a run, and keeps the seat of the house.
+fn closes<L: Ledgers>(book: &mut Book<L>, spent: &mut Vec<SpentSeat<L>>) -> Result<(), Fail> {
+    match book.close_run() {
+        Some(house) => Ok(spent.push(house)?),
+        None => Err("the run is open")?,
+    }
+}
+
+/// Has a process write three bytes into a new file, as two records.
+fn makes_a_file<L: Ledgers>(
     alloc: Global,
     book: &mut Book<L>,
-    seats: [Seat<L>; 2],
-) -> Result<Vec<SpentSeat<L>>, Fail> {
-    let mut spent = Vec::with_capacity(alloc, 3)?;
-    for seat in seats {
-        match book.exit(seat) {
-            Ok(seat) => spent.push(seat)?,
-            Err(_) => return Err("the process is there")?,
-        }
-    }
-    Ok(spent)
+    seat: &mut Seat<L>,
+) -> Result<(), Fail> {
+    opens(alloc, book, seat)?;
+    writes(alloc, book, seat)
+}
+
+/// Has a second process join and exit, and the first make a file in between.
+fn second_comes_and_goes<L: Ledgers>(
+    alloc: Global,
+    book: &mut Book<L>,
+    first: &mut Seat<L>,
+    spent: &mut Vec<SpentSeat<L>>,
+) -> Result<(), Fail> {
+    let second = joined(alloc, book)?;
+    makes_a_file(alloc, book, first)?;
+    exits(book, second, spent)
+}
+
+/// Has two processes join, of which the first writes, and has both exit: records 0 to 5.
+fn come_and_go<L: Ledgers>(
+    alloc: Global,
+    book: &mut Book<L>,
+    spent: &mut Vec<SpentSeat<L>>,
+) -> Result<(), Fail> {
+    let mut first = joined(alloc, book)?;
+    second_comes_and_goes(alloc, book, &mut first, spent)?;
+    exits(book, first, spent)
 }
 
 /// The seats of a run of two processes that is closed: records 0 to 6.
 fn closed<L: Ledgers>(alloc: Global, book: &mut Book<L>) -> Result<Vec<SpentSeat<L>>, Fail> {
-    let mut first = joined(alloc, book)?;
-    let second = joined(alloc, book)?;
-    writes(alloc, book, &mut first)?;
-    let mut seats = exited(alloc, book, [second, first])?;
-    match book.close_run() {
-        Some(house) => seats.push(house)?,
-        None => return Err("the run is open")?,
-    }
+    let mut seats = Vec::with_capacity(alloc, 3)?;
+    come_and_go(alloc, book, &mut seats)?;
+    closes(book, &mut seats)?;
     Ok(seats)
 }
 
@@ -87,29 +123,41 @@ struct ClosedRun<L: Ledgers> {
     traced: Traced,
 }
 
-/// The same, of a book that is closed and whose ring was not read.
-fn traced_run<Rt: Wait + Clock, L: Ledgers>(
-    rt: &Rt,
-    alloc: Global,
-    book: Book<L>,
-    seats: Vec<SpentSeat<L>>,
-) -> Result<ClosedRun<L>, Fail> {
-    let mut book = book;
-    let mut end = match book.trace_end() {
-        Some(end) => end,
-        None => return Err("the end of the ring was not taken")?,
-    };
-    let book = match book.end_trace() {
-        Ok(book) => book,
-        Err(_) => return Err("the run is closed")?,
-    };
+/// What becomes of a trace in memory.
+fn traced_by<Rt: Wait + Clock>(rt: &Rt, alloc: Global, end: TraceEnd) -> Traced
+    requires { received end ≡ [] }
+{
+    let mut end = end;
     let sink = MemorySink::new(alloc, Manner::sound());
     let (_sink, traced) = write_trace(rt, alloc, &mut end, sink);
-    Ok(ClosedRun {
-        book,
-        seats,
-        traced,
-    })
+    traced
+}
+
+/// The end of the ring of a book, which was not taken.
+fn end_of<L: Ledgers>(book: &mut Book<L>) -> Result<TraceEnd, Fail>
+    ensures { IfOk result (λ end. received end ≡ []) }
+{
+    match book.trace_end() {
+        Some(end) => Ok(end),
+        None => Err("the end of the ring was not taken")?,
+    }
+}
+
+/// The closed book of a run that is closed.
+fn ended<L: Ledgers>(book: Book<L>) -> Option<ClosedBook<L>> {
+    book.end_trace().ok()
+}
+
+/// The seats of a run of two processes that is closed, and the end of the ring of its book.
+fn closed_with_its_end<L: Ledgers>(
+    alloc: Global,
+    book: &mut Book<L>,
+) -> Result<(Vec<SpentSeat<L>>, TraceEnd), Fail>
+    ensures { IfOk result (λ both. received both.1 ≡ []) }
+{
+    let seats = closed(alloc, book)?;
+    let end = end_of(book)?;
+    Ok((seats, end))
 }
 
 /// That run of two processes.
@@ -121,9 +169,24 @@ fn closed_run<Rt: Wait + Clock, L: Ledgers>(
     requires { blanks ≡ L.names }
 {
     let mut book = Book::<L>::new(alloc, Limits::new(10)?, blanks)?;
-    match closed(alloc, &mut book) {
-        Ok(seats) => traced_run(rt, alloc, book, seats),
-        Err(fail) => Err(fail),
+    let (seats, end) = closed_with_its_end(alloc, &mut book)?;
+    match ended(book) {
+        Some(book) => Ok(ClosedRun {
+            book,
+            seats,
+            traced: traced_by(rt, alloc, end),
+        }),
+        None => Err("the run is closed")?,
+    }
+}
+
+/// Closes a run, and returns the end of the ring of its book.
+fn only_closed<L: Ledgers>(book: &mut Book<L>) -> Result<TraceEnd, Fail>
+    ensures { IfOk result (λ end. received end ≡ []) }
+{
+    match book.close_run() {
+        Some(_) => end_of(book),
+        None => Err("the run is open")?,
     }
 }
 
@@ -136,11 +199,11 @@ fn traced_of_nothing<Rt: Wait + Clock, L: Ledgers>(
     requires { blanks ≡ L.names }
 {
     let mut book = Book::<L>::new(alloc, Limits::new(10)?, blanks)?;
-    if book.close_run().is_none() {
-        return Err("the run is open")?;
+    let end = only_closed(&mut book)?;
+    match ended(book) {
+        Some(_) => Ok(traced_by(rt, alloc, end)),
+        None => Err("the run is closed")?,
     }
-    let run = traced_run(rt, alloc, book, Vec::new(alloc))?;
-    Ok(run.traced)
 }
 
 /// Whether these are the totals of that run.
@@ -243,6 +306,46 @@ impl HasReceipts for Holder {
     }
 }
 
+/// Adds a receipt, if it is that of this place.
+fn hold_one(held: &mut Vec<Receipt>, receipt: &Receipt, place: u64) -> Result<(), AllocError> {
+    if receipt.place() == place {
+        held.push(receipt.share()?)?;
+    }
+    Ok(())
+}
+
+/// Adds what is the receipt of this place, out of these.
+fn hold_of(held: &mut Vec<Receipt>, receipts: &[Receipt], place: u64) -> Result<(), AllocError> {
+    for receipt in receipts {
+        hold_one(held, receipt, place)?;
+    }
+    Ok(())
+}
+
+/// Adds what is the receipt of this place, out of those of the seats.
+fn hold<L: Ledgers>(
+    held: &mut Vec<Receipt>,
+    seats: &[SpentSeat<L>],
+    place: u64,
+) -> Result<(), AllocError> {
+    for seat in seats {
+        hold_of(held, seat.receipts(), place)?;
+    }
+    Ok(())
+}
+
+/// Adds the receipts of these places, in the order of the places.
+fn hold_all<L: Ledgers>(
+    held: &mut Vec<Receipt>,
+    seats: &[SpentSeat<L>],
+    places: &[u64],
+) -> Result<(), AllocError> {
+    for place in places {
+        hold(held, seats, *place)?;
+    }
+    Ok(())
+}
+
 /// What this process holds: the receipts of these places, out of those of the seats, in the order of the places.
 fn held_of<L: Ledgers>(
     alloc: Global,
@@ -251,15 +354,7 @@ fn held_of<L: Ledgers>(
     places: &[u64],
 ) -> Result<Holder, AllocError> {
     let mut receipts = Vec::new(alloc);
-    for place in places {
-        for seat in seats {
-            for receipt in seat.receipts() {
-                if receipt.place() == *place {
-                    receipts.push(receipt.share()?)?;
-                }
-            }
-        }
-    }
+    hold_all(&mut receipts, seats, places)?;
     Ok(Holder { pid, receipts })
 }
 
@@ -288,14 +383,11 @@ fn least<L: Ledgers>(
 }
 
 /// Receipts that are the records, and some that are not.
-fn least_place_is_told<Rt: Abort + Wait + Clock, L: Ledgers>(
-    rt: &Rt,
+fn all_are_told<L: Ledgers>(
+    rt: &impl Abort,
     alloc: Global,
-    blanks: Blanks,
-) -> Result<(), Fail>
-    requires { blanks ≡ L.names }
-{
-    let mut run = closed_run::<Rt, L>(rt, alloc, blanks)?;
+    run: &ClosedRun<L>,
+) -> Result<(), AllocError> {
     let told: [(&[u64], &[u64], &[u64], Option<u64>); 7] = [
         (&[0, 2, 3, 5], &[1, 4], &[6], None),
         // none holds the receipt of place 3
@@ -312,12 +404,34 @@ fn least_place_is_told<Rt: Abort + Wait + Clock, L: Ledgers>(
         (&[0, 2, 3], &[1, 4, 6], &[5], Some(6)),
     ];
     for (first, second, house, place) in told {
-        assert!(rt; least(alloc, &run, first, second, house)? == place);
+        assert!(rt; least(alloc, run, first, second, house)? == place);
     }
-    // the last record was not received, and a receipt before it is not there either
+    Ok(())
+}
+
+/// The same of a run whose last record was not received, also where a receipt before it is not there either.
+fn last_is_told<L: Ledgers>(
+    rt: &impl Abort,
+    alloc: Global,
+    run: &ClosedRun<L>,
+) -> Result<(), AllocError> {
+    assert!(rt; least(alloc, run, &[0, 2, 3, 5], &[1, 4], &[6])? == Some(6));
+    assert!(rt; least(alloc, run, &[0, 2, 3], &[1, 4], &[6])? == Some(5));
+    Ok(())
+}
+
+/// The same, of the run of two processes.
+fn least_place_is_told<Rt: Abort + Wait + Clock, L: Ledgers>(
+    rt: &Rt,
+    alloc: Global,
+    blanks: Blanks,
+) -> Result<(), Fail>
+    requires { blanks ≡ L.names }
+{
+    let mut run = closed_run::<Rt, L>(rt, alloc, blanks)?;
+    all_are_told(rt, alloc, &run)?;
     run.traced.received.pop();
-    assert!(rt; least(alloc, &run, &[0, 2, 3, 5], &[1, 4], &[6])? == Some(6));
-    assert!(rt; least(alloc, &run, &[0, 2, 3], &[1, 4], &[6])? == Some(5));
+    last_is_told(rt, alloc, &run)?;
     Ok(())
 }
 
