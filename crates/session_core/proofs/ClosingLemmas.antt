@@ -29,7 +29,7 @@ use Rattle.session_core.specs.Served.{IsMisplaced, AnswersFirst, AnswersAll, Ans
 use Rattle.session_core.specs.Proved.Turns.{IsTalking, IsOutOfPlace, HasReceipts, LeavesBy, EndedBy, IsUntoldOpening}
 use Rattle.request_pump.specs.Input.{Begins, AreRequests}
 use Rattle.request_pump.proofs.InputLemmas.{begins_read}
-use Rattle.session_core.specs.Proved.Ends.{LeavesOff, IsAnswered, IsCutOff, IsMet}
+use Rattle.session_core.specs.Proved.Ends.{LeavesOff, IsAnswered, IsCutAhead, IsCutOff, IsMet}
 use Rattle.session_core.specs.Proved.Closing.{end_of, SendsLast, HangsUp, LeavesWith, session_of, LeavesAll}
 use Rattle.session_core.proofs.WaitLemmas.{cut_converses, talked_converses, receipts_more}
 use Rattle.session_core.proofs.CallLemmas.{converses, has_receipts, talk_converses}
@@ -498,6 +498,9 @@ cut_off input base o spent k = record { requests = k.requests; later = k.later; 
 first_cut : (input : List ℕ) (base : Option (List ℕ)) (o : OutputState) (spent : SeatState) → IsCutOff base input o spent → AnswersFirst input o.answers
 first_cut input base o spent k = record { requests = k.requests ++ k.later; begins = k.begins; converses = converses_more k.requests k.later o.answers (cut_converses k.requests o.answers None k.is.cut) }
 
+ahead_off : (input : List ℕ) (base : Option (List ℕ)) (o : OutputState) (spent : SeatState) → IsCutAhead base input o spent → IsCutOff base input o spent
+ahead_off input base o spent h = record { requests = h.requests; later = h.behind ++ h.back ∷ h.later; begins = h.begins; is = h.is }
+
 rests_cut : (input : List ℕ) (base : Option (List ℕ)) (source : LoggedReaderState) (o : OutputState) (spent : SeatState) (cause : LeaveCause) → LeavesOff base input o (over.Lost spent cause) → IsMet source (over.Lost spent cause)
     → Rests input base source o (Ok spent) cause
 rests_cut input base source o spent why.Closed h met = record { holds = h.0.is.holds; talks = first_cut input base o spent h.0; ends = λ (writer : LoggedWriterState). inl (met, inr (h.1, cut_off input base o spent h.0)) }
@@ -505,7 +508,19 @@ rests_cut input base source o spent why.ReadFault h met = record { holds = h.0.i
 rests_cut input base source o spent why.Malformed h met = record { holds = h.0.is.holds; talks = first_cut input base o spent h.0; ends = λ (writer : LoggedWriterState). inr (inr (h.1, cut_off input base o spent h.0)) }
 rests_cut input base source o spent why.RunFull h met = absurd h
 rests_cut input base source o spent why.NoMemory h met = record { holds = h.is.holds; talks = first_cut input base o spent h; ends = λ (writer : LoggedWriterState). tt }
-rests_cut input base source o spent why.Ahead h met = record { holds = h.0.is.holds; talks = first_cut input base o spent h.0; ends = λ (writer : LoggedWriterState). inr (h.1, cut_off input base o spent h.0) }
+rests_cut input base source o spent why.Ahead h met = record {
+  holds = h.is.holds;
+  talks = first_cut input base o spent (ahead_off input base o spent h);
+  ends = λ (writer : LoggedWriterState). inr (record {
+    requests = h.requests;
+    behind = h.behind;
+    back = h.back;
+    later = h.later;
+    begins = h.begins;
+    full = h.full;
+    cut = h.is.cut;
+  });
+}
 
 exited_cut : (input : List ℕ) (base : Option (List ℕ)) (o : OutputState) (spent : SeatState) (cause : LeaveCause) → LeavesOff base input o (over.Lost spent cause) → HasExited spent o.answers
 exited_cut input base o spent why.Closed h = h.0.is.exited
@@ -513,7 +528,7 @@ exited_cut input base o spent why.ReadFault h = h.0.is.exited
 exited_cut input base o spent why.Malformed h = h.0.is.exited
 exited_cut input base o spent why.RunFull h = absurd h
 exited_cut input base o spent why.NoMemory h = h.is.exited
-exited_cut input base o spent why.Ahead h = h.0.is.exited
+exited_cut input base o spent why.Ahead h = h.is.exited
 
 pub lost : (old new : OutputState) (spent : SeatState) (cause : LeaveCause) (wanted : End) → SendsLast old new cause wanted → LeavesAll old new (over.Lost spent cause) (record { seat = Ok spent; end = wanted; last = None })
 lost old new spent cause wanted sent base input source (inl k) met = absurd k.is

@@ -25,7 +25,7 @@ use Rattle.session_core.specs.declared.stage.Over.TheVariants as over
 use Rattle.session_core.specs.declared.told.Told.{Told}
 use Rattle.session_core.specs.Proved.Stages.{Stage, Over}
 use Rattle.session_core.specs.Proved.Output.{OutputState, Holds}
-use Rattle.session_core.specs.Proved.Turns.{IsTalking, OverBy}
+use Rattle.session_core.specs.Proved.Turns.{IsGivenUp, IsTalking, OverBy}
 use Rattle.session_core.specs.Proved.Ends.{IsCutOff, IsMet, IsOver}
 use Rattle.session_core.specs.Proved.Closing.{with_last}
 use Rattle.session_core.specs.Proved.Desk.{EndsAs, LeavesUnwritten, OverOf}
@@ -207,25 +207,36 @@ after_all pump_end.Ahead capacity base input all o source at room h met holds ta
 
 -- ---- a call was given up
 
-after_cut : (found : PumpEnd) (capacity : ℕ) (base : Option (List ℕ)) (input : List ℕ) (all : List Request) (o : OutputState) (source : LoggedReaderState) (seat : SeatState) → REQUESTS_AHEAD ≤ capacity → PushedBy capacity input [] all found
-    → PumpMet source found → IsCutOff base input o seat → IsOver base input o (over.Lost seat (why_of found)) × IsMet source (over.Lost seat (why_of found))
-after_cut pump_end.Closed capacity base input all o source seat room h met cut = (inr (cut, record { requests = h.requests; read = h.read }), met)
-after_cut pump_end.ReadFault capacity base input all o source seat room h met cut = (inr (cut, record { requests = h.requests; read = h.read }), met)
-after_cut pump_end.Malformed capacity base input all o source seat room h met cut = (inr (cut, record { requests = h.requests; told = h.told; fault = h.fault; read = h.read }), tt)
-after_cut pump_end.NoMemory capacity base input all o source seat room h met cut = (inr cut, tt)
-after_cut pump_end.Ahead capacity base input all o source seat room h met cut = (
-  inr (
-    cut,
-    record {
-      requests = h.requests;
-      back = h.back;
-      later = h.later;
-      begins = h.begins;
-      full = subst (λ (l : List Request). REQUESTS_AHEAD ≤ length l) h.is (omega (arith, room, h.full));
-    },
-  ),
-  tt,
-)
+cut_off_at : (found : PumpEnd) (capacity : ℕ) (base : Option (List ℕ)) (input : List ℕ) (all taken later : List Request) (o : OutputState) (seat : SeatState) → PushedBy capacity input [] all found → all ≡ taken ++ later → IsGivenUp base taken o seat
+    → IsCutOff base input o seat
+cut_off_at found capacity base input all taken later o seat h split is =
+    let b = begun found capacity input all h in
+    let joined : all ++ b.extra ≡ taken ++ (later ++ b.extra) = ap (λ (l : List Request). l ++ b.extra) split ∙ append_assoc taken later b.extra in
+    record { requests = taken; later = later ++ b.extra; begins = subst (Begins input) joined b.begins; is = is }
+
+after_cut : (found : PumpEnd) (capacity : ℕ) (base : Option (List ℕ)) (input : List ℕ) (all taken later : List Request) (o : OutputState) (source : LoggedReaderState) (seat : SeatState) → REQUESTS_AHEAD ≤ capacity → PushedBy capacity input [] all found
+    → PumpMet source found → all ≡ taken ++ later → IsGivenUp base taken o seat → IsOver base input o (over.Lost seat (why_of found)) × IsMet source (over.Lost seat (why_of found))
+after_cut pump_end.Closed capacity base input all taken later o source seat room h met split is =
+    (inr (cut_off_at pump_end.Closed capacity base input all taken later o seat h split is, record { requests = h.requests; read = h.read }), met)
+after_cut pump_end.ReadFault capacity base input all taken later o source seat room h met split is =
+    (inr (cut_off_at pump_end.ReadFault capacity base input all taken later o seat h split is, record { requests = h.requests; read = h.read }), met)
+after_cut pump_end.Malformed capacity base input all taken later o source seat room h met split is =
+    (inr (cut_off_at pump_end.Malformed capacity base input all taken later o seat h split is, record { requests = h.requests; told = h.told; fault = h.fault; read = h.read }), tt)
+after_cut pump_end.NoMemory capacity base input all taken later o source seat room h met split is = (inr (cut_off_at pump_end.NoMemory capacity base input all taken later o seat h split is), tt)
+after_cut pump_end.Ahead capacity base input all taken later o source seat room h met split is =
+    let rest = h.back ∷ h.later in
+    let joined : all ++ rest ≡ taken ++ (later ++ rest) = ap (λ (l : List Request). l ++ rest) split ∙ append_assoc taken later rest in (
+      inr (record {
+        requests = taken;
+        behind = later;
+        back = h.back;
+        later = h.later;
+        begins = subst (Begins input) joined (subst (λ (l : List Request). Begins input (l ++ rest)) (sym h.is) h.begins);
+        full = subst (λ (l : List Request). REQUESTS_AHEAD ≤ length l) split (omega (arith, room, h.full));
+        is = is;
+      }),
+      tt,
+    )
 
 -- ---- how a session is over
 
@@ -234,10 +245,8 @@ is_over : (capacity : ℕ) (base : Option (List ℕ)) (input : List ℕ) (p : Pu
 is_over capacity base input p o found room pushed met (inl early) =
     let b = begun p.end_is capacity input (sent p.producer) pushed in early_of base input early.taken early.later b.extra (sent p.producer) o p.reader found early.sent_are b.begins early.is
 is_over capacity base input p o found room pushed met (inr (inr lost)) =
-    let b = begun p.end_is capacity input (sent p.producer) pushed in
-    let joined : sent p.producer ++ b.extra ≡ lost.taken ++ (lost.later ++ b.extra) = ap (λ (l : List Request). l ++ b.extra) lost.sent_are ∙ append_assoc lost.taken lost.later b.extra in
-    let cut : IsCutOff base input o lost.seat = record { requests = lost.taken; later = lost.later ++ b.extra; begins = subst (Begins input) joined b.begins; is = lost.is } in
-    subst (λ (f : Over). IsOver base input o f × IsMet p.reader f) (sym lost.found_is) (after_cut p.end_is capacity base input (sent p.producer) o p.reader lost.seat room pushed met cut)
+    subst (λ (f : Over). IsOver base input o f × IsMet p.reader f) (sym lost.found_is)
+    (after_cut p.end_is capacity base input (sent p.producer) lost.taken lost.later o p.reader lost.seat room pushed met lost.sent_are lost.is)
 is_over capacity base input p o found room pushed met (inr (inl all)) =
     subst (λ (f : Over). IsOver base input o f × IsMet p.reader f) (sym all.is) (after_all p.end_is capacity base input (sent p.producer) o p.reader all.at room pushed met all.holds all.talking)
 

@@ -57,7 +57,7 @@ ComesToEnd base taken s found =
     (input : List ℕ) (later : List Request) (reader : LoggedReaderState) → Begins input (taken ++ later)
     → ComesTo input base (record { reader = Some reader; writer = s.writer; seat = spent_of s.seat_is; answers = s.answers; end_is = found })
 
--- without an end of its own all that was taken is answered, and all answers are written after what the writer held
+-- without an end of its own all that was taken is answered, but for a last call that is given up, and all answers are written after what the writer held
 abbrev pub HasAnswered : (Request → Refusal → Type 0) → (SeatState → Why → Type 0) → Option (List ℕ) → List Request → AnsweredState → Option End → Type 0
 HasAnswered unopened ended base taken s None = AnswersTaken ended taken s.answers s.seat_is × Appends base s.writer.contents (answers_text s.answers)
 HasAnswered unopened ended base taken s (Some found) = ComesToEnd base taken s found × EndSaid unopened ended (spent_of s.seat_is) found

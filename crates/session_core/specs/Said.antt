@@ -25,7 +25,7 @@ abbrev pub SeatSaid : (SeatState → Why → Type 0) → Option SeatState → Wh
 SeatSaid ended None reason = ⊥
 SeatSaid ended (Some spent) reason = SaidEnded ended spent reason
 
--- a session with this seat ends with Foreign or RunFull only where its kernel said so, of this seat or of its opening
+-- a session with this seat ends with Foreign or RunFull only where its kernel said so: of this seat, or that an opening is refused
 abbrev pub EndSaid : (Request → Refusal → Type 0) → (SeatState → Why → Type 0) → Option SeatState → End → Type 0
 EndSaid unopened ended seat end.Closed = Unit {0}
 EndSaid unopened ended seat end.ReadFault = Unit {0}

@@ -56,14 +56,6 @@ pub record HasFault (input : List ℕ) : Type 0 where
   pub fault : IsFault told
   pub read : AreRequests input requests told
 
--- one of their requests found at least as many sent as the ring has room for
-pub record RunsAhead (input : List ℕ) : Type 0 where
-  pub requests : List Request
-  pub back : Request
-  pub later : List Request
-  pub begins : Begins input (requests ++ back ∷ later)
-  pub full : REQUESTS_AHEAD ≤ length requests
-
 -- a request that has no place after these
 abbrev pub IsMisplaced : List Request → Request → Type 0
 IsMisplaced [] request.Join = ⊥
@@ -102,7 +94,7 @@ pub record AnswersToMisplaced (input : List ℕ) (answers : List Told) : Type 0 
   pub answered : AreAnswered requests answers
   pub misplaced : IsMisplaced requests next
 
--- each request is answered before one that found the ring full
+-- each request is answered before one that comes after at least as many as the ring has room for
 pub record AnswersToAhead (input : List ℕ) (answers : List Told) : Type 0 where
   pub requests : List Request
   pub back : Request
@@ -110,6 +102,16 @@ pub record AnswersToAhead (input : List ℕ) (answers : List Told) : Type 0 wher
   pub begins : Begins input (requests ++ back ∷ later)
   pub full : REQUESTS_AHEAD ≤ length requests
   pub answered : AreAnswered requests answers
+
+-- each request is answered before a call that waits and is given up; behind that one comes another, after at least as many as the ring has room for
+pub record AnswersToCutAhead (input : List ℕ) (answers : List Told) : Type 0 where
+  pub requests : List Request
+  pub behind : List Request
+  pub back : Request
+  pub later : List Request
+  pub begins : Begins input (requests ++ (behind ++ back ∷ later))
+  pub full : REQUESTS_AHEAD ≤ length (requests ++ behind)
+  pub cut : IsCut requests answers None
 
 -- each request is answered before a call that waits and is given up
 pub record AnswersToCut (input : List ℕ) (answers : List Told) (given_up : Option Refusal) : Type 0 where
@@ -216,9 +218,9 @@ IsClosed input s = (IsReadToEnd s.reader × AnswersAllOrCut input s.answers) ⊎
 abbrev pub IsFaulty : List ℕ → List Told → Type 0
 IsFaulty input answers = AnswersToFault input answers ⊎ (AnswersToMisplaced input answers ⊎ (HasFault input × AnswersToCut input answers None))
 
--- a request found the ring full
+-- a request came after at least as many as the ring has room for
 abbrev pub IsOverrun : List ℕ → List Told → Type 0
-IsOverrun input answers = AnswersToAhead input answers ⊎ (RunsAhead input × AnswersToCut input answers None)
+IsOverrun input answers = AnswersToAhead input answers ⊎ AnswersToCutAhead input answers
 
 -- the run was full for the opening, or when the call that waited could go on
 abbrev pub IsRunFull : List ℕ → List Told → Type 0

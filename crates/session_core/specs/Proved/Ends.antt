@@ -14,7 +14,7 @@ use Rattle.request_pump.specs.Input.{Begins, AreRequests, IsFault}
 use Rattle.request_pump.specs.declared.pump.TheConstants.{READS_MAX}
 use Rattle.session_core.specs.declared.serve.TheConstants.{REQUESTS_AHEAD}
 use Rattle.session_core.specs.Talk.{Converses}
-use Rattle.session_core.specs.Served.{HasNoFault, HasFault, RunsAhead}
+use Rattle.session_core.specs.Served.{HasNoFault, HasFault}
 use Rattle.session_core.specs.Proved.Turns.{IsTalking, IsGivenUp, HasReceipts, OverBy}
 
 -- a session that is over at one of its requests
@@ -74,6 +74,16 @@ pub record IsCutOff (base : Option (List ℕ)) (input : List ℕ) (o : OutputSta
   pub begins : Begins input (requests ++ later)
   pub is : IsGivenUp base requests o seat
 
+-- the same of a session that found its ring full behind that call
+pub record IsCutAhead (base : Option (List ℕ)) (input : List ℕ) (o : OutputState) (seat : SeatState) : Type 0 where
+  pub requests : List Request
+  pub behind : List Request
+  pub back : Request
+  pub later : List Request
+  pub begins : Begins input (requests ++ (behind ++ back ∷ later))
+  pub full : REQUESTS_AHEAD ≤ length (requests ++ behind)
+  pub is : IsGivenUp base requests o seat
+
 -- why a session leaves off between two requests, or in a call that is given up
 abbrev pub LeavesOff : Option (List ℕ) → List ℕ → OutputState → Over → Type 0
 LeavesOff base input o (over.Leaves at why.Closed) = IsAnswered base input o at
@@ -86,7 +96,7 @@ LeavesOff base input o (over.Lost seat why.Closed) = IsCutOff base input o seat 
 LeavesOff base input o (over.Lost seat why.ReadFault) = IsCutOff base input o seat × HasNoFault input
 LeavesOff base input o (over.Lost seat why.Malformed) = IsCutOff base input o seat × HasFault input
 LeavesOff base input o (over.Lost seat why.NoMemory) = IsCutOff base input o seat
-LeavesOff base input o (over.Lost seat why.Ahead) = IsCutOff base input o seat × RunsAhead input
+LeavesOff base input o (over.Lost seat why.Ahead) = IsCutAhead base input o seat
 LeavesOff base input o other = ⊥
 
 -- a session that is over
