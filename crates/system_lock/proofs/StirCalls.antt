@@ -1,10 +1,10 @@
 -- What each call stirs: its change is slight for that.
-use Rattle.std.proofs.Common.{◌≡◌, ℕ, pos, ◌+◌, ◌-◌, Bool, true, false, not, cond, List, [], Option, None, Some, length, take, refl, eqb, leb, eq-eqb}
+use Rattle.std.proofs.Common.{rules, ◌≡◌, ℕ, pos, ◌+◌, ◌-◌, Bool, true, false, not, cond, List, [], Option, None, Some, length, take, refl, eqb, leb, eq-eqb}
 use Rattle.std.specs.Option.{option_map}
 use Rattle.slots.specs.Slots.{slot}
 use Rattle.process_table.specs.Processes.{is_here, parked_of}
 use Rattle.call_types.specs.declared.call.Call.TheVariants as call
-use Rattle.posix_model.specs.Types.{Call, Errno, Bounds, Parked, PIPE_BUF, EAGAIN, Data, Number}
+use Rattle.posix_model.specs.Types.{Call, Errno, Reply, Bounds, Parked, PIPE_BUF, EAGAIN, Data, Number}
 use Rattle.posix_model.specs.declared.world.World.{World}
 use Rattle.posix_model.specs.declared.opened.OpenDescriptor.{OpenDescriptor}
 use Rattle.posix_model.specs.declared.change.DataSource.{DataSource}
@@ -18,23 +18,18 @@ use Rattle.posix_model.specs.declared.change.FileEdit.TheVariants as on_files
 use Rattle.posix_model.specs.declared.change.TableEdit.TheVariants as on_table
 use Rattle.posix_model.specs.Pages.{Page, no_change, tells, does, refused, first_fault, unless, decided_by, on_open}
 use Rattle.posix_model.specs.Descriptors.{opened, held_in, bytes_of}
-use Rattle.posix_model.specs.Positions.{file_at, bytes_before}
+use Rattle.posix_model.specs.Positions.{file_at}
 use Rattle.posix_model.specs.Bytes.{bytes_at}
 use Rattle.posix_model.specs.Pipes.{pipe_at, held_bytes, room_in, has_reader, has_writer}
 use Rattle.posix_model.specs.Tries.{read_try, broken, write_try, waiting, instead, parks, first_try, next_try}
 use Rattle.posix_model.specs.Read.{read, read_from}
 use Rattle.posix_model.specs.Write.{write, fitting, puts, write_to, write_start}
-use Rattle.posix_model.specs.Pread.{pread}
-use Rattle.posix_model.specs.Pwrite.{pwrite}
-use Rattle.posix_model.specs.Lseek.{lseek}
-use Rattle.posix_model.specs.Ftruncate.{ftruncate}
-use Rattle.posix_model.specs.Fstat.{fstat}
 use Rattle.posix_model.specs.Resume.{read_ready, write_ready, open_ready, try_again, try_on, try_opened, try_parked, resume}
 use Rattle.posix_model.specs.Step.{decided}
 use Rattle.system_lock.specs.Proved.Stirred.{pipe_of, pipe_for, pipe_waited, is_by, is_on, stirred_at, stirred_by}
 use Rattle.system_lock.specs.declared.stirred.Stirred.{Stirred}
 use Rattle.system_lock.specs.declared.stirred.Stirred.TheVariants as stirred
-use Rattle.system_lock.proofs.StirLaws.{FilesSlight, IsSlight}
+use Rattle.system_lock.proofs.StirLaws.{FilesSlight, TableSlight, IsSlight}
 use Rattle.system_lock.proofs.OwnCalls.{Own, call_own}
 
 -- what was decided is slight
@@ -66,6 +61,15 @@ end_slight process (Some o) page all = page_slight (stirred_at process (pipe_at 
 if_slight : (s : Stirred) (b : Bool) (x y : Decided) → Slight s x → Slight s y → Slight s (cond b x y)
 if_slight s true x y h k = h
 if_slight s false x y h k = k
+
+tells_slight : (s : Stirred) (reply : Reply) → Slight s (tells reply)
+tells_slight s reply = nothing_slight s
+
+does_slight : (s : Stirred) (reply : Reply) (files : FileEdit) (table : TableEdit) → FilesSlight s files → TableSlight table → Slight s (does reply files table)
+does_slight s reply files table on slight = record { files = on; process = tt; table = slight }
+
+-- what is decided of the calls that stir nobody is made of these
+ruleset slight_rules = (tells_slight, does_slight, if_slight, open_slight)
 
 -- the edit of a try
 abbrev pub edit_of : Try → FileEdit
@@ -157,14 +161,16 @@ call_slight bounds w process (call.Write fd bytes) =
     slight_at process (pipe_of (opened w process fd)) (decided bounds w process c)
     (end_slight process (opened w process fd) (write bounds w process c bytes)
     (λ o. write_slight bounds w process c (write_start o.description (length (bytes_of w (file_at o)))) bytes o (pipe_at o.description.target)))
-call_slight bounds w process (call.Pread fd start count) = open_slight stirred.Nobody (opened w process fd) (pread w start count) (λ o. nothing_slight stirred.Nobody)
-call_slight bounds w process (call.Pwrite fd start bytes) =
-    open_slight stirred.Nobody (opened w process fd) (pwrite bounds start bytes)
-    (λ o. puts_slight stirred.Nobody bytes (file_at o) (bytes_before start) (fitting bounds (bytes_before start) bytes) on_table.Nothing (nothing_slight stirred.Nobody))
-call_slight bounds w process (call.Lseek fd offset from) = open_slight stirred.Nobody (opened w process fd) (lseek w offset from) (λ o. record { files = tt; process = tt; table = tt })
-call_slight bounds w process (call.Ftruncate fd len) = open_slight stirred.Nobody (opened w process fd) (ftruncate bounds len) (λ o. record { files = tt; process = tt; table = tt })
-call_slight bounds w process (call.Fstat fd) = open_slight stirred.Nobody (opened w process fd) (fstat w) (λ o. nothing_slight stirred.Nobody)
-call_slight bounds w process other = call_own bounds w process other
+call_slight bounds w process (call.Open name flags) = call_own bounds w process (call.Open name flags)
+call_slight bounds w process (call.Close fd) = call_own bounds w process (call.Close fd)
+call_slight bounds w process (call.Dup fd) = call_own bounds w process (call.Dup fd)
+call_slight bounds w process (call.Dup2 fd to) = call_own bounds w process (call.Dup2 fd to)
+call_slight bounds w process call.Pipe = call_own bounds w process call.Pipe
+call_slight bounds w process (call.Mkfifo name) = call_own bounds w process (call.Mkfifo name)
+call_slight bounds w process (call.Link from to) = call_own bounds w process (call.Link from to)
+call_slight bounds w process (call.Unlink name) = call_own bounds w process (call.Unlink name)
+call_slight bounds w process call.Fork = call_own bounds w process call.Fork
+call_slight bounds w process other = search (rules, slight_rules)
 
 -- what a resume comes to, if it comes to anything
 abbrev pub MaybeSlight : Stirred → Option Decided → Type 0

@@ -47,12 +47,16 @@ impl Stirred {
             Call::Read { fd, .. } | Call::Write { fd, .. } => {
                 Stirred::at(process, pipe_of(state.opened(process as usize, *fd)))
             }
-            Call::Pread { .. }
-            | Call::Pwrite { .. }
-            | Call::Lseek { .. }
-            | Call::Ftruncate { .. }
-            | Call::Fstat { .. } => Stirred::Nobody,
-            _ => Stirred::Anybody { process },
+            Call::Open { .. }
+            | Call::Close { .. }
+            | Call::Dup { .. }
+            | Call::Dup2 { .. }
+            | Call::Pipe
+            | Call::Mkfifo { .. }
+            | Call::Link { .. }
+            | Call::Unlink { .. }
+            | Call::Fork => Stirred::Anybody { process },
+            _ => Stirred::Nobody,
         }
     }
 

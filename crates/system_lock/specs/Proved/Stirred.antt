@@ -58,12 +58,16 @@ stirred_at process (Some pipe) = stirred.Around process pipe
 abbrev pub stirred_by : World → ℕ → Call → Stirred
 stirred_by w process (call.Read fd count) = stirred_at process (pipe_of (opened w process fd))
 stirred_by w process (call.Write fd bytes) = stirred_at process (pipe_of (opened w process fd))
-stirred_by w process (call.Pread fd start count) = stirred.Nobody
-stirred_by w process (call.Pwrite fd start bytes) = stirred.Nobody
-stirred_by w process (call.Lseek fd offset from) = stirred.Nobody
-stirred_by w process (call.Ftruncate fd len) = stirred.Nobody
-stirred_by w process (call.Fstat fd) = stirred.Nobody
-stirred_by w process other = stirred.Anybody process
+stirred_by w process (call.Open name flags) = stirred.Anybody process
+stirred_by w process (call.Close fd) = stirred.Anybody process
+stirred_by w process (call.Dup fd) = stirred.Anybody process
+stirred_by w process (call.Dup2 fd to) = stirred.Anybody process
+stirred_by w process call.Pipe = stirred.Anybody process
+stirred_by w process (call.Mkfifo name) = stirred.Anybody process
+stirred_by w process (call.Link from to) = stirred.Anybody process
+stirred_by w process (call.Unlink name) = stirred.Anybody process
+stirred_by w process call.Fork = stirred.Anybody process
+stirred_by w process other = stirred.Nobody
 
 -- whom a call stirs that has this outcome: an error stirs nobody
 abbrev pub stirred_with : Outcome → Stirred → Stirred
