@@ -3,7 +3,6 @@
 
 ghost use Rattle.std.specs.Prelude.{◌≡◌, ◌+◌, ◌≤◌, ◌++◌, ◌∷◌, length};
 ghost use Rattle.std.specs.Int.{w64};
-ghost use Rattle.call_types.specs.CallTable.{parts, fields_length};
 ghost use Rattle.call_types.specs.Writing.{Appends};
 ghost use Rattle.call_types.specs.declared.request.Request.TheVariants as requests;
 ghost use Rattle.frame_codec.specs.declared.answer.Answer.TheVariants as answers;
@@ -16,39 +15,13 @@ ghost use Rattle.frame_codec.specs.Frames.{frame};
 use crate::answer::Answer;
 use crate::begun::HEAD;
 use crate::put::{put_byte, put_u32, put_u64};
-use crate::written_calls::encode_call;
+use crate::written_calls::{encode_call, fields_bytes};
 use crate::written_outcomes::{put_outcome, put_refusal};
 use call_types::act::{Act, Record};
-use call_types::call::Call;
 use call_types::outcome::{Outcome, Reply};
 use call_types::refusal::Refusal;
 use call_types::request::Request;
 use std::alloc::AllocError;
-
-/// How many bytes a call's payload has: its byte, and its fields.
-fn fields_bytes(call: &Call) -> u32
-    ensures exact { result ≡ 1 + fields_length (parts call.now).entry.fields (parts call.now).values }
-    ensures few { result ≤ 65717 }
-{
-    match call {
-        Call::Open { name, .. } => 3 + name.as_slice().len() as u32,
-        Call::Close { .. } => 5,
-        Call::Read { .. } => 9,
-        Call::Write { bytes, .. } => 9 + bytes.len() as u32,
-        Call::Pread { .. } => 17,
-        Call::Pwrite { bytes, .. } => 17 + bytes.len() as u32,
-        Call::Lseek { .. } => 14,
-        Call::Ftruncate { .. } => 13,
-        Call::Dup { .. } => 5,
-        Call::Dup2 { .. } => 9,
-        Call::Pipe => 1,
-        Call::Mkfifo { name } => 2 + name.as_slice().len() as u32,
-        Call::Link { old, new } => { 3 + old.as_slice().len() as u32 + new.as_slice().len() as u32 }
-        Call::Unlink { name } => 2 + name.as_slice().len() as u32,
-        Call::Fstat { .. } => 5,
-        Call::Fork => 1,
-    }
-}
 
 /// How many bytes a request's payload has.
 #[tactic(auto, using(crate::proofs::Lengths::call_length, crate::proofs::Lengths::attach_length))]

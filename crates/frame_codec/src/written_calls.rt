@@ -1,8 +1,9 @@
-//! Each call as the payload of a request, appended to a frame.
+//! Each call as the payload of a request: how many bytes it has, and those appended to a frame.
 #![tactic(auto, using(crate::proofs::Fronts::keeps_after), unfolding(crate::specs::Requests::call_bytes))]
 
-ghost use Rattle.std.specs.Prelude.{◌≡◌, ◌∷◌};
+ghost use Rattle.std.specs.Prelude.{◌≡◌, ◌+◌, ◌≤◌, ◌∷◌};
 ghost use Rattle.std.specs.Int.{w32, cast_unsigned};
+ghost use Rattle.call_types.specs.CallTable.{parts, fields_length};
 ghost use Rattle.call_types.specs.Writing.{Appends};
 ghost use Rattle.call_types.specs.declared.call.Call.TheVariants as calls;
 ghost use Rattle.frame_codec.specs.Fields.{number_bytes, whence_byte};
@@ -15,6 +16,32 @@ use call_types::call::Call;
 use call_types::flags::OpenFlags;
 use call_types::whence::Whence;
 use std::alloc::AllocError;
+
+/// How many bytes a call's payload has: its byte, and its fields.
+#[tactic(auto)]
+pub(crate) fn fields_bytes(call: &Call) -> u32
+    ensures exact { result ≡ 1 + fields_length (parts call.now).entry.fields (parts call.now).values }
+    ensures few { result ≤ 65717 }
+{
+    match call {
+        Call::Open { name, .. } => 3 + name.as_slice().len() as u32,
+        Call::Close { .. } => 5,
+        Call::Read { .. } => 9,
+        Call::Write { bytes, .. } => 9 + bytes.len() as u32,
+        Call::Pread { .. } => 17,
+        Call::Pwrite { bytes, .. } => 17 + bytes.len() as u32,
+        Call::Lseek { .. } => 14,
+        Call::Ftruncate { .. } => 13,
+        Call::Dup { .. } => 5,
+        Call::Dup2 { .. } => 9,
+        Call::Pipe => 1,
+        Call::Mkfifo { name } => 2 + name.as_slice().len() as u32,
+        Call::Link { old, new } => { 3 + old.as_slice().len() as u32 + new.as_slice().len() as u32 }
+        Call::Unlink { name } => 2 + name.as_slice().len() as u32,
+        Call::Fstat { .. } => 5,
+        Call::Fork => 1,
+    }
+}
 
 /// The byte of a base.
 fn base_byte(whence: Whence) -> u8
