@@ -16,11 +16,11 @@ abbrev pub version_1 : Bounds
 version_1 = record { file_size = FILE_SIZE_MAX; pipe_capacity = PIPE_CAPACITY }
 
 -- a trace is legal only where the reader's end was met, and there is a read fault only where the reader is read no more
-abbrev pub IsMet : LoggedReaderState → Result Verdict AuditFault → Type 0
-IsMet reader (Ok (Legal records rest)) = IsAtEnd reader.remaining
-IsMet reader (Ok other) = Unit {0}
-IsMet reader (Err faults.Read) = IsReadNoMore READS_MAX reader.log
-IsMet reader (Err faults.NoMemory) = Unit {0}
+abbrev pub MeetsItsEnd : LoggedReaderState → Result Verdict AuditFault → Type 0
+MeetsItsEnd reader (Ok (Legal records rest)) = IsAtEnd reader.remaining
+MeetsItsEnd reader (Ok other) = Unit {0}
+MeetsItsEnd reader (Err faults.Read) = IsReadNoMore READS_MAX reader.log
+MeetsItsEnd reader (Err faults.NoMemory) = Unit {0}
 
 -- what is answered is the verdict on these bytes, or a fault
 abbrev pub IsAnswer : Bounds → List ℕ → Result Verdict AuditFault → Type 0
@@ -32,4 +32,4 @@ pub record Audits (bounds : Bounds) (from to : LoggedReaderState) (answer : Resu
   pub input : List ℕ
   pub consumes : Consumes from.remaining to.remaining input
   pub answers : IsAnswer bounds input answer
-  pub met : IsMet to answer
+  pub met : MeetsItsEnd to answer

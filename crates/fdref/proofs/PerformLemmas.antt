@@ -1,7 +1,7 @@
 -- A file whose bytes may be known to nobody, and the ends of what reads it.
 use Rattle.std.proofs.Common.{ℕ, List, Option, None, Some, subst}
 use Rattle.audit_core.specs.declared.verdict.Verdict.{Verdict}
-use Rattle.fdref.specs.Audit.{AuditEnds, IsJudged, WritesVerdict}
+use Rattle.fdref.specs.Audit.{AuditEnds, IsVerdictOn, WritesVerdict}
 use Rattle.fdref.specs.Perform.{Has}
 use Rattle.fdref.specs.Show.{OfAll, OfFront, ShowEnds}
 use Rattle.fdref.specs.declared.job_end.JobEnd.{JobEnd}
@@ -10,7 +10,7 @@ use Rattle.fdref.specs.declared.shown.Form.{Form}
 
 -- ---- an audit
 
-unknown_judged : (input : Option (List ℕ)) (verdict : Verdict) → IsJudged input verdict → IsJudged None verdict
+unknown_judged : (input : Option (List ℕ)) (verdict : Verdict) → IsVerdictOn input verdict → IsVerdictOn None verdict
 unknown_judged input verdict j = record { bytes = j.bytes; whole = tt; is_verdict = j.is_verdict }
 
 unknown_verdict : (input old new : Option (List ℕ)) (end : JobEnd) → WritesVerdict input old new end → WritesVerdict None old new end

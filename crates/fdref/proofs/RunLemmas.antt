@@ -15,7 +15,7 @@ use Rattle.script_text.specs.Spellings.{SpellsScript}
 use Rattle.script_text.specs.declared.fault.ScriptFault.TheVariants as faults
 use Rattle.posix_model.specs.History.{legal}
 use Rattle.fdref.specs.Output.{last_line, told_line, told_lines}
-use Rattle.fdref.specs.Replay.{Refuses, Ends}
+use Rattle.fdref.specs.Replay.{Refuses, ReplayEnds}
 use Rattle.fdref.specs.Proved.Running.{RunsNext, RunsOn, Gathers, RunsScript, FailsAs}
 use Rattle.fdref.specs.declared.job_end.JobEnd.{JobEnd}
 
@@ -112,7 +112,7 @@ refused (Some known) fault text spelled same fails =
 -- a run that was not made has written nothing
 pub fails_ends : (limits : Limits) (input old : Option (List ℕ)) (text : List ℕ) (end : JobEnd)
     → ((acts : List ScriptAct) (other : List ℕ) → SpellsScript acts other → script other ≡ Ok acts) → IfSome input (λ known. script text ≡ script known)
-    → FailsAs text end → Ends limits input old old end
-fails_ends limits input old text end spelled same (faults.NoMemory, is, fails) = subst (Ends limits input old old) (sym is) refl
-fails_ends limits input old text end spelled same (faults.TooLong, is, fails) = subst (Ends limits input old old) (sym is) (refused input faults.TooLong text spelled same fails, refl)
-fails_ends limits input old text end spelled same (faults.BadLine line column expected, is, fails) = subst (Ends limits input old old) (sym is) (refused input (faults.BadLine line column expected) text spelled same fails, refl)
+    → FailsAs text end → ReplayEnds limits input old old end
+fails_ends limits input old text end spelled same (faults.NoMemory, is, fails) = subst (ReplayEnds limits input old old) (sym is) refl
+fails_ends limits input old text end spelled same (faults.TooLong, is, fails) = subst (ReplayEnds limits input old old) (sym is) (refused input faults.TooLong text spelled same fails, refl)
+fails_ends limits input old text end spelled same (faults.BadLine line column expected, is, fails) = subst (ReplayEnds limits input old old) (sym is) (refused input (faults.BadLine line column expected) text spelled same fails, refl)

@@ -19,7 +19,7 @@ use Rattle.audit_core.specs.Proved.Laws.{BrokenStays, HeaderGoesOn, HeaderLacks}
 use Rattle.audit_core.specs.Proved.Taking.{IsHeaded, LacksHeader, TakesHeader}
 use Rattle.audit_core.specs.declared.audit.TheConstants.{READ_LENGTH, READS_MAX}
 use Rattle.fdref.specs.Output.{AppendsFront}
-use Rattle.fdref.specs.Show.{BeginsWith, HasFault, IsBroken, IsLeft, IsRead, OfAll, OfFront, ShowEnds, Writes, WritesSome}
+use Rattle.fdref.specs.Show.{BeginsWith, HasFaultyFrame, BreaksAt, IsLeft, IsRead, OfAll, OfFront, ShowEnds, WritesAll, WritesSome}
 use Rattle.fdref.specs.Proved.Showing.{BodyGives, GivesPiece, HasShown, IsFound, IsTaken, ShownState, ShowsPiece, TakesBody, TakesPiece, WritesPiece, WritesPieceFront, end_with, fault_at, fresh_shown, left_over, lines_after}
 use Rattle.fdref.specs.Shown.{LinesState, line_from, lines_from, next_lines, shown_lines}
 use Rattle.fdref.specs.declared.job_end.JobEnd.{JobEnd}
@@ -122,7 +122,7 @@ whole_after met bytes body h whole = h.is ∙ ap (λ (x : List ℕ). x ++ body) 
 
 -- the fault that is told of the bytes after a header
 fault_found : (bytes body : List ℕ) (records : List Record) (told : Progress) (at : ℕ) → bytes ≡ trace_header ++ body → HasEnded SpellsRecord RECORD_LENGTH_MAX body records told → fault_at told ≡ Some at
-    → HasFault bytes records at
+    → HasFaultyFrame bytes records at
 fault_found bytes body records progress.More at is e same = absurd e.fault
 fault_found bytes body records (progress.Malformed n) at is e same = record {
   rest = e.rest;
@@ -195,7 +195,7 @@ found_begins bytes records t (Some at) (inl wrong) = inl wrong.none
 found_begins bytes records t (Some at) (inr fault) = inr (fault.rest, fault.read)
 
 -- what is at fault stays so, whatever comes after it
-broken_on : (bytes more : List ℕ) (records : List Record) (at : ℕ) → BrokenStays → IsBroken bytes records at → IsBroken (bytes ++ more) records at
+broken_on : (bytes more : List ℕ) (records : List Record) (at : ℕ) → BrokenStays → BreaksAt bytes records at → BreaksAt (bytes ++ more) records at
 broken_on bytes more records at law (inl wrong) = inl (record { lacks = law.header bytes more wrong.lacks; none = wrong.none; at_is = wrong.at_is })
 broken_on bytes more records at law (inr broken) =
     inr (record {
@@ -273,13 +273,13 @@ of_all_on (Some known) None bytes P consumes holds on = absurd consumes
 of_all_on (Some known) (Some left) bytes P consumes holds on = record { bytes = bytes ++ left; is = consumes; holds = on left }
 
 -- nothing was read or written
-pub nothing_shown : (form : Form) (input old : Option (List ℕ)) → OfFront input (λ bytes. Writes form old old (λ records. BeginsWith bytes records))
+pub nothing_shown : (form : Form) (input old : Option (List ℕ)) → OfFront input (λ bytes. WritesAll form old old (λ records. BeginsWith bytes records))
 nothing_shown form input old = go input
   where
-    none : Writes form old old (λ records. BeginsWith [] records)
+    none : WritesAll form old old (λ records. BeginsWith [] records)
     none = record { records = []; holds = inl refl; appends = Appends-nil old }
 
-    go : (o : Option (List ℕ)) → OfFront o (λ bytes. Writes form old old (λ records. BeginsWith bytes records))
+    go : (o : Option (List ℕ)) → OfFront o (λ bytes. WritesAll form old old (λ records. BeginsWith bytes records))
     go None = record { bytes = []; more = []; is = tt; holds = none }
     go (Some known) = record { bytes = []; more = known; is = refl; holds = none }
 
@@ -365,9 +365,9 @@ shown_more from mid to was wrote now first old new turns piece h consumes short 
 
 -- where the reader failed, or was read as often as an audit may, and where memory ran out, the pieces before were shown
 so_far_shown : (form : Form) (from mid was now : Option (List ℕ)) (first t : ShownState) (turns : ℕ) → first ≡ fresh_shown form → HasShown from mid was now first t turns
-    → OfFront from (λ bytes. Writes form was now (λ records. BeginsWith bytes records))
+    → OfFront from (λ bytes. WritesAll form was now (λ records. BeginsWith bytes records))
 so_far_shown form from mid was now first t turns fresh h =
-    of_front from mid h.bytes (λ bytes. Writes form was now (λ records. BeginsWith bytes records)) h.consumes (record {
+    of_front from mid h.bytes (λ bytes. WritesAll form was now (λ records. BeginsWith bytes records)) h.consumes (record {
       records = h.records;
       holds = taken_begins h.bytes h.records t h.taken;
       appends = lines_so was now form first h.records fresh h.appends;
@@ -384,7 +384,7 @@ piece_ends form from mid to was wrote now first old new turns piece (ended.Malfo
     let records = h.records ++ w.added in
     let appends = lines_so was now form first records fresh (on_appends was wrote now first old h.records w.added h.lines_are h.appends w.appends) in
     let broken = w.finds h.bytes h.records h.taken in
-    of_all_on from to (h.bytes ++ piece) (λ bytes. Writes form was now (λ rs. IsBroken bytes rs at)) (Consumes-trans from mid to h.bytes piece h.consumes consumes)
+    of_all_on from to (h.bytes ++ piece) (λ bytes. WritesAll form was now (λ rs. BreaksAt bytes rs at)) (Consumes-trans from mid to h.bytes piece h.consumes consumes)
     (record { records = records; holds = broken; appends = appends })
     (λ more. record { records = records; holds = broken_on (h.bytes ++ piece) more records at law broken; appends = appends })
 piece_ends form from mid to was wrote now first old new turns piece ended.CannotWrite law fresh h consumes w =
@@ -394,15 +394,15 @@ piece_ends form from mid to was wrote now first old new turns piece ended.Cannot
       front = subst (λ (t : ShownState). AppendsFront was now (lines_from t.lines (h.records ++ w.added))) fresh (on_front was wrote now first old h.records w.added h.lines_are h.appends w.front);
     })
 piece_ends form from mid to was wrote now first old new turns piece ended.NoMemory law fresh h consumes w =
-    subst (λ (o : Option (List ℕ)). OfFront from (λ bytes. Writes form was o (λ records. BeginsWith bytes records))) (sym w) (so_far_shown form from mid was wrote first old turns fresh h)
+    subst (λ (o : Option (List ℕ)). OfFront from (λ bytes. WritesAll form was o (λ records. BeginsWith bytes records))) (sym w) (so_far_shown form from mid was wrote first old turns fresh h)
 piece_ends form from mid to was wrote now first old new turns piece other law fresh h consumes w = absurd w
 
-end_so : (form : Form) (from was now : Option (List ℕ)) (left : ℕ) → OfAll from (λ bytes. Writes form was now (λ records. IsLeft bytes records left)) → ShowEnds form from was now (end_with left)
+end_so : (form : Form) (from was now : Option (List ℕ)) (left : ℕ) → OfAll from (λ bytes. WritesAll form was now (λ records. IsLeft bytes records left)) → ShowEnds form from was now (end_with left)
 end_so form from was now left all = elim (cases_lt 0 left) [
   | inl some ↦ rw (lt-ltb 0 left some) (some, all)
   | inr none ↦
       let zero : left ≡ 0 = omega (arith, none) in
-      rw (le-ltb 0 left none) (subst (λ (n : ℕ). OfAll from (λ bytes. Writes form was now (λ records. IsLeft bytes records n))) zero all)
+      rw (le-ltb 0 left none) (subst (λ (n : ℕ). OfAll from (λ bytes. WritesAll form was now (λ records. IsLeft bytes records n))) zero all)
 ]
 
 -- all bytes were shown, and what is left over is told
@@ -412,7 +412,7 @@ all_shown form from mid to was now first t turns count left buffer end fresh h g
     let consumes : Consumes mid to [] = subst (λ (n : ℕ). Consumes mid to (take n buffer)) none gives.consumes in
     let consumed : Consumes from to h.bytes = subst (Consumes from to) (append-nil h.bytes) (Consumes-trans from mid to h.bytes [] h.consumes consumes) in
     subst (ShowEnds form from was now) (sym (is ∙ ap end_with left_is))
-    (end_so form from was now (left_over t) (of_all from to h.bytes (λ bytes. Writes form was now (λ records. IsLeft bytes records (left_over t))) consumed (gives.end none) (record {
+    (end_so form from was now (left_over t) (of_all from to h.bytes (λ bytes. WritesAll form was now (λ records. IsLeft bytes records (left_over t))) consumed (gives.end none) (record {
       records = h.records;
       holds = taken_left h.bytes h.records t h.taken;
       appends = lines_so was now form first h.records fresh h.appends;

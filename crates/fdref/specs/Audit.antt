@@ -29,7 +29,7 @@ verdict_end (Illegal place expected) = ended.IllegalTrace
 verdict_end (Malformed at) = ended.MalformedTrace
 
 -- the verdict on all the bytes of a trace, which are the input where that is known
-pub record IsJudged (input : Option (List ℕ)) (verdict : Verdict) : Type 0 where
+pub record IsVerdictOn (input : Option (List ℕ)) (verdict : Verdict) : Type 0 where
   pub bytes : List ℕ
   pub whole : IfSome input (λ known. bytes ≡ known)
   pub is_verdict : IsVerdict version_1 bytes verdict
@@ -37,14 +37,14 @@ pub record IsJudged (input : Option (List ℕ)) (verdict : Verdict) : Type 0 whe
 -- its line was written, and nothing else, and the end is that of this verdict
 pub record WritesVerdict (input old new : Option (List ℕ)) (end : JobEnd) : Type 0 where
   pub verdict : Verdict
-  pub judged : IsJudged input verdict
+  pub judged : IsVerdictOn input verdict
   pub appends : Appends old new (verdict_line verdict)
   pub end_is : end ≡ verdict_end verdict
 
 -- a front of its line was written, and nothing else
 pub record WritesVerdictFront (input old new : Option (List ℕ)) : Type 0 where
   pub verdict : Verdict
-  pub judged : IsJudged input verdict
+  pub judged : IsVerdictOn input verdict
   pub front : AppendsFront old new (verdict_line verdict)
 
 -- what the end of an audit says of what was written

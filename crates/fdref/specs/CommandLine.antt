@@ -88,13 +88,13 @@ abbrev pub text_given : List Text → Text → Option Text
 text_given words option = option_and_then (λ p. first_of option p.1) (subcommand_of fdref_app words)
 
 -- n is what the text writes in decimal
-abbrev pub Writes : Text → ℕ → Type 0
-Writes text n = IsNumeral 10 (without_leading_plus text) × (n ≡ digits_value 10 (without_leading_plus text))
+abbrev pub IsDecimalOf : Text → ℕ → Type 0
+IsDecimalOf text n = IsNumeral 10 (without_leading_plus text) × (n ≡ digits_value 10 (without_leading_plus text))
 
 -- n is the number that the text gives, from 1 to the most
 abbrev pub IsNumber : ℕ → Option Text → ℕ → Type 0
 IsNumber most None n = ⊥
-IsNumber most (Some text) n = Writes text n × (1 ≤ n) × (n ≤ most)
+IsNumber most (Some text) n = IsDecimalOf text n × (1 ≤ n) × (n ≤ most)
 
 -- the text is no such number
 abbrev pub IsNoNumber : ℕ → Option Text → Type 0

@@ -2,7 +2,7 @@
 use Rattle.std.specs.Prelude.{◌≡◌, ◌⊎◌, ℕ, List, Option, None, Some}
 use Rattle.std.specs.String.{string_bytes}
 use Rattle.fdref.specs.Audit.{AuditEnds}
-use Rattle.fdref.specs.Replay.{Ends}
+use Rattle.fdref.specs.Replay.{ReplayEnds}
 use Rattle.call_types.specs.declared.limits.Limits.{Limits}
 use Rattle.fdref.specs.Serve.{Reports, RunAsked, SinkState}
 use Rattle.fdref.specs.Show.{ShowEnds}
@@ -30,12 +30,12 @@ pub record IsServed (limits : Limits) (sessions : ℕ) (old new : Option (List �
   pub reports : Reports asked old new sink end
 
 -- sessions are served, or not
-abbrev pub Serves : Limits → ℕ → Option (List ℕ) → Option (List ℕ) → JobEnd → Type 0
-Serves limits sessions old new end = IsServed limits sessions old new end ⊎ IsUnserved old new end
+abbrev pub ServeEnds : Limits → ℕ → Option (List ℕ) → Option (List ℕ) → JobEnd → Type 0
+ServeEnds limits sessions old new end = IsServed limits sessions old new end ⊎ IsUnserved old new end
 
 -- a script is run on the input, sessions are served and reported, or the trace in a file is judged or shown
 abbrev pub Performs : (List ℕ → Option (List ℕ)) → Job → Option (List ℕ) → Option (List ℕ) → Option (List ℕ) → JobEnd → Type 0
-Performs bytes_at (job.Replay limits) input old new end = Ends limits input old new end
-Performs bytes_at (job.Serve socket sessions limits trace) input old new end = Serves limits sessions old new end
+Performs bytes_at (job.Replay limits) input old new end = ReplayEnds limits input old new end
+Performs bytes_at (job.Serve socket sessions limits trace) input old new end = ServeEnds limits sessions old new end
 Performs bytes_at (job.Audit path) input old new end = AuditEnds (bytes_at (string_bytes path)) old new end
 Performs bytes_at (job.Show path form) input old new end = ShowEnds form (bytes_at (string_bytes path)) old new end

@@ -30,14 +30,14 @@ abbrev pub RunsActs : Limits → List ScriptAct → Option (List ℕ) → Option
 RunsActs limits acts old new = (output : List ℕ) × IsOutput limits acts output × Appends old new output
 
 -- a front of such an output was written, and nothing else
-abbrev pub WritesFront : Limits → List ScriptAct → Option (List ℕ) → Option (List ℕ) → Type 0
-WritesFront limits acts old new = (output : List ℕ) × IsOutput limits acts output × AppendsFront old new output
+abbrev pub WritesPartly : Limits → List ScriptAct → Option (List ℕ) → Option (List ℕ) → Type 0
+WritesPartly limits acts old new = (output : List ℕ) × IsOutput limits acts output × AppendsFront old new output
 
 -- the end that a fault of a script is
-abbrev pub ended_by : ScriptFault → JobEnd
-ended_by (faults.BadLine line column expected) = ended.BadLine line column expected
-ended_by faults.TooLong = ended.TooLong
-ended_by faults.NoMemory = ended.NoMemory
+abbrev pub end_of_fault : ScriptFault → JobEnd
+end_of_fault (faults.BadLine line column expected) = ended.BadLine line column expected
+end_of_fault faults.TooLong = ended.TooLong
+end_of_fault faults.NoMemory = ended.NoMemory
 
 -- the text is a script, and the output of its acts was written, and nothing else
 abbrev pub WritesReplay : Limits → Option (List ℕ) → Option (List ℕ) → List ℕ → Type 0
@@ -45,7 +45,7 @@ WritesReplay limits old new text = (acts : List ScriptAct) × SpellsScript acts 
 
 -- the text is a script, and a front of the output of its acts was written, and nothing else
 abbrev pub WritesReplayFront : Limits → Option (List ℕ) → Option (List ℕ) → List ℕ → Type 0
-WritesReplayFront limits old new text = (acts : List ScriptAct) × SpellsScript acts text × WritesFront limits acts old new
+WritesReplayFront limits old new text = (acts : List ScriptAct) × SpellsScript acts text × WritesPartly limits acts old new
 
 -- the text is no script
 abbrev pub IsNoScript : List ℕ → Type 0
@@ -61,11 +61,11 @@ abbrev pub OfInput : Option (List ℕ) → (List ℕ → Type 0) → Type 0
 OfInput input P = (text : List ℕ) × IfSome input (λ known. text ≡ known) × P text
 
 -- what the end says of the input, where that is known, and of what was written
-abbrev pub Ends : Limits → Option (List ℕ) → Option (List ℕ) → Option (List ℕ) → JobEnd → Type 0
-Ends limits input old new ended.Done = OfInput input (WritesReplay limits old new)
-Ends limits input old new (ended.BadLine line column expected) = IfSome input (Refuses (faults.BadLine line column expected)) × (new ≡ old)
-Ends limits input old new ended.TooLong = IfSome input (Refuses faults.TooLong) × (new ≡ old)
-Ends limits input old new ended.CannotRead = new ≡ old
-Ends limits input old new ended.CannotWrite = OfInput input (WritesReplayFront limits old new)
-Ends limits input old new ended.NoMemory = new ≡ old
-Ends limits input old new other = ⊥
+abbrev pub ReplayEnds : Limits → Option (List ℕ) → Option (List ℕ) → Option (List ℕ) → JobEnd → Type 0
+ReplayEnds limits input old new ended.Done = OfInput input (WritesReplay limits old new)
+ReplayEnds limits input old new (ended.BadLine line column expected) = IfSome input (Refuses (faults.BadLine line column expected)) × (new ≡ old)
+ReplayEnds limits input old new ended.TooLong = IfSome input (Refuses faults.TooLong) × (new ≡ old)
+ReplayEnds limits input old new ended.CannotRead = new ≡ old
+ReplayEnds limits input old new ended.CannotWrite = OfInput input (WritesReplayFront limits old new)
+ReplayEnds limits input old new ended.NoMemory = new ≡ old
+ReplayEnds limits input old new other = ⊥

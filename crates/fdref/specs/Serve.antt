@@ -33,7 +33,7 @@ pub record RunAsked : Type 0 where
   pub sink : SinkState
 
 -- what is told is told of such a run, under a gate that always says yes, whose trace went into the sink and left it so
-pub record IsOf (asked : RunAsked) (sink : SinkState) (told : RunTold) : Type 0 where
+pub record IsToldOf (asked : RunAsked) (sink : SinkState) (told : RunTold) : Type 0 where
   pub always : told.always ≡ true
   pub limits_are : told.limits_are ≡ asked.limits
   pub coming_is : told.coming ≡ asked.coming
@@ -67,17 +67,17 @@ traced_end None lacks = if lacks then ended.NoThread else ended.Done
 
 -- how a run ended whose report is written: that sessions are wanting is told before a fault of its trace, and that before the want of a
 -- thread
-abbrev pub end_of : ℕ → ℕ → Option TraceFault → Bool → JobEnd
-end_of started wanted fault lacks = if nat_lt started wanted then ended.CannotListen else traced_end fault lacks
+abbrev pub end_of_run : ℕ → ℕ → Option TraceFault → Bool → JobEnd
+end_of_run started wanted fault lacks = if nat_lt started wanted then ended.CannotListen else traced_end fault lacks
 
 -- the line reports a run that was asked for, and its trace, which went into the sink and left it so; the run ends so
 pub record IsReport (asked : RunAsked) (sink : SinkState) (line : List ℕ) (end : JobEnd) : Type 0 where
   pub told : RunTold
-  pub is_of : IsOf asked sink told
+  pub is_of : IsToldOf asked sink told
   pub run : IsRun told
   pub few : length told.ends ≤ asked.sessions
   pub line_is : line ≡ report_line (length told.ends) told.records told.taken told.given told.trace.whole
-  pub end_is : end ≡ end_of (length told.ends) asked.sessions told.trace.fault (lacks_a_thread told.ends)
+  pub end_is : end ≡ end_of_run (length told.ends) asked.sessions told.trace.fault (lacks_a_thread told.ends)
 
 -- such a line was written, and nothing else
 pub record WritesReport (asked : RunAsked) (sink : SinkState) (old new : Option (List ℕ)) (end : JobEnd) : Type 0 where

@@ -46,15 +46,15 @@ pub record LacksHeader (bytes : List ℕ) (records : List Record) (at : ℕ) : T
   pub at_is : at ≡ 0
 
 -- bytes with these whole records, and after them a frame at fault; the greatest number stands for the places past it
-pub record HasFault (bytes : List ℕ) (records : List Record) (at : ℕ) : Type 0 where
+pub record HasFaultyFrame (bytes : List ℕ) (records : List Record) (at : ℕ) : Type 0 where
   pub rest : List ℕ
   pub read : IsRead bytes records rest
   pub fault : IsAtFault rest
   pub at_is : at ≡ told_place (length trace_header + length read.text)
 
 -- bytes with a fault at this place, and these whole records before it
-abbrev pub IsBroken : List ℕ → List Record → ℕ → Type 0
-IsBroken bytes records at = LacksHeader bytes records at ⊎ HasFault bytes records at
+abbrev pub BreaksAt : List ℕ → List Record → ℕ → Type 0
+BreaksAt bytes records at = LacksHeader bytes records at ⊎ HasFaultyFrame bytes records at
 
 -- bytes that begin with these records, if there are any
 abbrev pub BeginsWith : List ℕ → List Record → Type 0
@@ -76,7 +76,7 @@ pub record OfAll (input : Option (List ℕ)) (P : List ℕ → Type 0) : Type 0 
   pub holds : P bytes
 
 -- of the records of which this holds the lines were written, and nothing else
-pub record Writes (form : Form) (old new : Option (List ℕ)) (P : List Record → Type 0) : Type 0 where
+pub record WritesAll (form : Form) (old new : Option (List ℕ)) (P : List Record → Type 0) : Type 0 where
   pub records : List Record
   pub holds : P records
   pub appends : Appends old new (shown_lines form records)
@@ -89,10 +89,10 @@ pub record WritesSome (form : Form) (old new : Option (List ℕ)) (P : List Reco
 
 -- what the end says of the input and of what was written
 abbrev pub ShowEnds : Form → Option (List ℕ) → Option (List ℕ) → Option (List ℕ) → JobEnd → Type 0
-ShowEnds form input old new ended.Done = OfAll input (λ bytes. Writes form old new (λ records. IsLeft bytes records 0))
-ShowEnds form input old new (ended.Rest left) = (0 < left) × OfAll input (λ bytes. Writes form old new (λ records. IsLeft bytes records left))
-ShowEnds form input old new (ended.Malformed at) = OfAll input (λ bytes. Writes form old new (λ records. IsBroken bytes records at))
-ShowEnds form input old new ended.CannotRead = OfFront input (λ bytes. Writes form old new (λ records. BeginsWith bytes records))
-ShowEnds form input old new ended.NoMemory = OfFront input (λ bytes. Writes form old new (λ records. BeginsWith bytes records))
+ShowEnds form input old new ended.Done = OfAll input (λ bytes. WritesAll form old new (λ records. IsLeft bytes records 0))
+ShowEnds form input old new (ended.Rest left) = (0 < left) × OfAll input (λ bytes. WritesAll form old new (λ records. IsLeft bytes records left))
+ShowEnds form input old new (ended.Malformed at) = OfAll input (λ bytes. WritesAll form old new (λ records. BreaksAt bytes records at))
+ShowEnds form input old new ended.CannotRead = OfFront input (λ bytes. WritesAll form old new (λ records. BeginsWith bytes records))
+ShowEnds form input old new ended.NoMemory = OfFront input (λ bytes. WritesAll form old new (λ records. BeginsWith bytes records))
 ShowEnds form input old new ended.CannotWrite = OfFront input (λ bytes. WritesSome form old new (λ records. BeginsWith bytes records))
 ShowEnds form input old new other = ⊥

@@ -114,9 +114,9 @@ impl From<AllocError> for JobEnd {
 
 impl From<ScriptFault> for JobEnd {
     ghost use Rattle.std.specs.Prelude.{◌≡◌};
-    ghost use Rattle.fdref.specs.Replay.{ended_by};
+    ghost use Rattle.fdref.specs.Replay.{end_of_fault};
 
-    ghost from_gives = { λ fault ended. ended ≡ ended_by fault };
+    ghost from_gives = { λ fault ended. ended ≡ end_of_fault fault };
 
     fn from(fault: ScriptFault) -> JobEnd {
         match fault {

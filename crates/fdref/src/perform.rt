@@ -2,7 +2,7 @@
 
 ghost use Rattle.std.specs.Prelude.{◌≡◌, ◌+◌, ◌<◌, ◌^◌, true, IfSome};
 ghost use Rattle.fdref.specs.Audit.{AuditEnds};
-ghost use Rattle.fdref.specs.Perform.{Has, Performs, Serves};
+ghost use Rattle.fdref.specs.Perform.{Has, Performs, ServeEnds};
 ghost use Rattle.fdref.specs.Show.{ShowEnds};
 
 use crate::audit_file::audit_file;
@@ -96,7 +96,7 @@ fn serve_at<
 ) -> JobEnd
     requires sound { K.is_sound sink ≡ true }
     requires few { K.failures sink + 1 < 2 ^ 64 }
-    ensures { Serves limits sessions (W.contents writer.old) (W.contents writer.new) result }
+    ensures { ServeEnds limits sessions (W.contents writer.old) (W.contents writer.new) result }
 {
     match listens.listen(path) {
         Some(source) => {
@@ -133,7 +133,7 @@ fn serve_to<
     trace: &str,
     writer: &mut W,
 ) -> JobEnd
-    ensures { Serves limits sessions (W.contents writer.old) (W.contents writer.new) result }
+    ensures { ServeEnds limits sessions (W.contents writer.old) (W.contents writer.new) result }
 {
     match files.create(trace) {
         Some(sink) => serve_at(rt, alloc, listens, path, sessions, limits, sink, writer),

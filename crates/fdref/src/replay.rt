@@ -4,7 +4,7 @@ ghost use Rattle.script_text.specs.ReadingScripts.{script};
 ghost use Rattle.script_text.specs.ReadingResults.{ScriptFails};
 ghost use Rattle.script_text.specs.declared.script.TheConstants.{SCRIPT_MAX};
 ghost use Rattle.logged_streams.specs.Streams.{IsBroken, IsReadNoMore, fresh_log, one_more};
-ghost use Rattle.fdref.specs.Replay.{Ends};
+ghost use Rattle.fdref.specs.Replay.{ReplayEnds};
 ghost use Rattle.fdref.specs.Proved.Reading.{IsMet, ReadsInto};
 ghost use Rattle.fdref.specs.Proved.Running.{Gathers, RunsNext, RunsOn, RunsScript, FailsAs, FailsReading};
 
@@ -202,7 +202,7 @@ pub fn replay<R: Read + Drop, W: Write>(
     writer: &mut W,
     limits: Limits,
 ) -> JobEnd
-    ensures { Ends limits (R.remaining reader) (W.contents writer.old) (W.contents writer.new) result }
+    ensures { ReplayEnds limits (R.remaining reader) (W.contents writer.old) (W.contents writer.new) result }
 {
     spelled_scripts_are_read();
     read_scripts_are_spelled();

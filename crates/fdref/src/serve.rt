@@ -1,8 +1,8 @@
 //! A run of sessions, its trace, and the line that reports it.
 
 ghost use Rattle.std.specs.Prelude.{◌≡◌, ◌+◌, ◌<◌, ◌^◌, Some, true, IfOk, option_map};
-ghost use Rattle.fdref.specs.Serve.{Reports, end_of, is_unstarted, lacks_a_thread, report_line};
-ghost use Rattle.fdref.specs.Proved.Serving.{WritesLine, ended_by};
+ghost use Rattle.fdref.specs.Serve.{Reports, end_of_run, is_unstarted, lacks_a_thread, report_line};
+ghost use Rattle.fdref.specs.Proved.Serving.{WritesLine, end_without_report};
 ghost use Rattle.fdref.specs.declared.job_end.JobEnd.TheVariants as ended;
 
 use crate::job_end::JobEnd;
@@ -74,8 +74,13 @@ fn lacks_a_thread<R: Read, V: Write>(sessions: &[Session<R, V>]) -> bool
 
 /// How a run with a report ended. If several apply: missing sessions first, then a fault of the trace, then a missing
 /// thread.
-fn end_of(started: usize, wanted: usize, fault: Option<TraceFault>, lacks_a_thread: bool) -> JobEnd
-    ensures { result ≡ end_of started wanted fault lacks_a_thread }
+fn end_of_run(
+    started: usize,
+    wanted: usize,
+    fault: Option<TraceFault>,
+    lacks_a_thread: bool,
+) -> JobEnd
+    ensures { result ≡ end_of_run started wanted fault lacks_a_thread }
 {
     if started < wanted {
         return JobEnd::CannotListen;
@@ -88,8 +93,8 @@ fn end_of(started: usize, wanted: usize, fault: Option<TraceFault>, lacks_a_thre
 }
 
 /// The end of a run that gives no report.
-fn ended_by(fault: RunFault) -> JobEnd
-    ensures { result ≡ ended_by fault }
+fn end_without_report(fault: RunFault) -> JobEnd
+    ensures { result ≡ end_without_report fault }
 {
     match fault {
         RunFault::NoMemory => JobEnd::NoMemory,
@@ -106,14 +111,14 @@ fn write_report<R: Read, V: Write, K: Sink, W: Write>(
     wanted: usize,
     writer: &mut W,
 ) -> JobEnd
-    ensures { WritesLine (report_line report.now.sessions report.now.records report.now.bytes_in report.now.bytes_out report.now.traced.whole) (end_of report.now.sessions wanted report.now.traced.fault (lacks_a_thread report.now.ends.items)) (W.contents writer.old) (W.contents writer.new) result }
+    ensures { WritesLine (report_line report.now.sessions report.now.records report.now.bytes_in report.now.bytes_out report.now.traced.whole) (end_of_run report.now.sessions wanted report.now.traced.fault (lacks_a_thread report.now.ends.items)) (W.contents writer.old) (W.contents writer.new) result }
 {
     let line = match line_of(alloc, report) {
         Ok(line) => line,
         Err(_) => return JobEnd::NoMemory,
     };
     match write_lines(writer, line.as_slice()) {
-        Ok(()) => end_of(
+        Ok(()) => end_of_run(
             report.sessions,
             wanted,
             report.traced.fault,
@@ -156,7 +161,7 @@ fn serve_with<
         Ok(report) => report,
         Err(fault) => {
             return Served {
-                end: ended_by(fault),
+                end: end_without_report(fault),
                 sink: None,
             };
         }

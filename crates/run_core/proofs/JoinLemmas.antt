@@ -12,18 +12,18 @@ use Rattle.run_core.specs.Receipts.{held_by}
 use Rattle.run_core.specs.Traced.{TraceTold, IsTold}
 use Rattle.record_book.specs.Book.{BookState}
 use Rattle.call_types.specs.declared.act.Record.{Record}
-use Rattle.run_core.specs.Run.{Connection, Gives, IsBlank, IsOf, IsRun, IsRunOf, ReportedSession, RunTold, ServesConnection, ServesEach, ServesInRun, Streams, at_start, counted_by, streams, with_seat}
+use Rattle.run_core.specs.Run.{Connection, GivesConnections, IsBlank, IsProcessOf, IsRun, IsRunOf, ReportedSession, RunTold, ServesConnection, ServesEach, ServesInRun, Streams, at_start, counted_by, streams, with_seat}
 use Rattle.run_core.specs.Proved.Joining.{HasEnded, IsJoined}
 
 -- ---- what a source gives
 
 -- nothing was given
-pub gives_none : (coming : Option (List Streams)) → Gives coming coming []
+pub gives_none : (coming : Option (List Streams)) → GivesConnections coming coming []
 gives_none None = tt
 gives_none (Some coming) = refl
 
 -- connections were given, and then others
-gives_more : (a b c : Option (List Streams)) (first next : List Streams) → Gives a b first → Gives b c next → Gives a c (first ++ next)
+gives_more : (a b c : Option (List Streams)) (first next : List Streams) → GivesConnections a b first → GivesConnections b c next → GivesConnections a c (first ++ next)
 gives_more None b c first next p q = tt
 gives_more (Some x) None c first next p q = absurd p
 gives_more (Some x) (Some y) None first next p q = absurd q
@@ -31,11 +31,11 @@ gives_more (Some x) (Some y) (Some z) first next p q = p ∙ ap (λ l. first ++ 
 
 -- one thread more was started, for the connection that was given next
 pub gives_next : {T : Type 0} (connection : T → Streams) (a b c : Option (List Streams)) (items new_items : List T) (t : T)
-    → Gives a b (map connection items) → Gives b c (connection t ∷ []) → new_items ≡ items ++ t ∷ [] → Gives a c (map connection new_items)
+    → GivesConnections a b (map connection items) → GivesConnections b c (connection t ∷ []) → new_items ≡ items ++ t ∷ [] → GivesConnections a c (map connection new_items)
 gives_next {T} connection a b c items new_items t first next more =
     let all = gives_more a b c (map connection items) (connection t ∷ []) first next in
-    let told = subst (λ (given : List Streams). Gives a c given) (sym (map-append connection items (t ∷ []))) all in
-    subst (λ (ts : List T). Gives a c (map connection ts)) (sym more) told
+    let told = subst (λ (given : List Streams). GivesConnections a c given) (sym (map-append connection items (t ∷ []))) all in
+    subst (λ (ts : List T). GivesConnections a c (map connection ts)) (sym more) told
 
 -- ---- what was joined
 
@@ -86,7 +86,7 @@ joined_none always (one ∷ more) shares none also = absurd cc
 
 pub joined_next : {T : Type 0} (always : Bool) (reader writer : T → Option (List ℕ)) (yielded : List T) (thread : T)
     (sessions new_sessions : List ReportedSession) (shares new_shares : List Counted) (seat : Option SeatState) (s : ReportedSession) (served : SessionState)
-    → IsJoined always (map (λ t. streams (reader t) (writer t)) yielded) sessions shares → IsOf seat s.process → IsBlank (writer thread) → with_seat seat s ≡ served → ServesInRun always (reader thread) (writer thread) served
+    → IsJoined always (map (λ t. streams (reader t) (writer t)) yielded) sessions shares → IsProcessOf seat s.process → IsBlank (writer thread) → with_seat seat s ≡ served → ServesInRun always (reader thread) (writer thread) served
     → new_sessions ≡ sessions ++ s ∷ [] → new_shares ≡ shares ++ shares_of seat
     → IsJoined always (map (λ t. streams (reader t) (writer t)) (yielded ++ thread ∷ [])) new_sessions new_shares
 joined_next {T} always reader writer yielded thread sessions new_sessions shares new_shares seat s served h of blank same serves more shares_more =
@@ -118,7 +118,7 @@ run_of told limits book house ends shares received trace those got traced within
     let of_those = subst (λ (es : List ReportedSession). IsRunOf told.limits_are told.records told.taken told.given book house (counted_by ended.joined.connections) (map (λ s. held_by s.process) es) received) (sym those) counted in
     record {
       connections = ended.joined.connections;
-      gives = subst (λ (ts : List Streams). Gives told.coming told.later ts) (sym ended.joined.told_are) ended.gives;
+      gives = subst (λ (ts : List Streams). GivesConnections told.coming told.later ts) (sym ended.joined.told_are) ended.gives;
       each = subst (λ (es : List ReportedSession). ServesEach told.always ended.joined.connections es) (sym those) ended.joined.each;
       before = ended.before;
       book = book;

@@ -29,8 +29,8 @@ abbrev pub held_in : SeatState → Held
 held_in s = record { pid = s.pid; receipts = s.receipts }
 
 -- this is the process of this seat, if there is one
-abbrev pub IsOf : Option SeatState → Option Held → Type 0
-IsOf seat process = process ≡ option_map held_in seat
+abbrev pub IsProcessOf : Option SeatState → Option Held → Type 0
+IsProcessOf seat process = process ≡ option_map held_in seat
 
 -- a session of a report: a session that is over, with its process in place of its seat
 pub record ReportedSession : Type 0 where
@@ -56,10 +56,10 @@ streams reader writer = record { reader = reader; writer = writer }
 
 -- what the connections hold that a source has still to give, where it is known: those that it gave were the next of them, in order, and
 -- the others are still to come
-abbrev pub Gives : Option (List Streams) → Option (List Streams) → List Streams → Type 0
-Gives None new next = Unit {0}
-Gives (Some coming) None next = ⊥
-Gives (Some coming) (Some later) next = coming ≡ next ++ later
+abbrev pub GivesConnections : Option (List Streams) → Option (List Streams) → List Streams → Type 0
+GivesConnections None new next = Unit {0}
+GivesConnections (Some coming) None next = ⊥
+GivesConnections (Some coming) (Some later) next = coming ≡ next ++ later
 
 -- nothing was written yet, where it is known what was
 abbrev pub is_blank : Option (List ℕ) → Bool
@@ -90,7 +90,7 @@ at_start c = streams c.from c.base
 -- a session of a report served this connection, from the first byte of its reader on and with a writer that held nothing, under a gate
 -- that always says yes or under any other; its process is that of the connection's seat
 pub record ServesConnection (always : Bool) (c : Connection) (session : ReportedSession) : Type 0 where
-  pub process_is : IsOf c.seat session.process
+  pub process_is : IsProcessOf c.seat session.process
   pub blank : IsBlank c.base
   pub serves : ServesInRun always c.from c.base (with_seat c.seat session)
 
@@ -168,7 +168,7 @@ pub record RunTold : Type 0 where
 -- these records
 pub record IsRun (told : RunTold) : Type 0 where
   pub connections : List Connection
-  pub gives : Gives told.coming told.later (map at_start connections)
+  pub gives : GivesConnections told.coming told.later (map at_start connections)
   pub each : ServesEach told.always connections told.ends
   pub before : BookState
   pub book : BookState

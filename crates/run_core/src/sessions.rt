@@ -7,7 +7,7 @@ ghost use Rattle.rtrb.specs.Ring.{received};
 ghost use Rattle.run_core.specs.Judged.{IsJudged};
 ghost use Rattle.run_core.specs.Proved.Laws.{FlagsDecideAll};
 ghost use Rattle.run_core.specs.Receipts.{held_by};
-ghost use Rattle.run_core.specs.Run.{IsRun, IsRunOf, IsBlank, IsOf, FailsIfFewer, Gives, ServesInRun, streams, with_seat};
+ghost use Rattle.run_core.specs.Run.{IsRun, IsRunOf, IsBlank, IsProcessOf, FailsIfFewer, GivesConnections, ServesInRun, streams, with_seat};
 ghost use Rattle.run_core.specs.Proved.Joining.{HasEnded, IsJoined};
 ghost use Rattle.run_core.specs.declared.report.RunFault.TheVariants as run_fault;
 ghost use Rattle.run_core.specs.declared.sessions.Shortage.TheVariants as shortage;
@@ -158,7 +158,7 @@ fn next_session<
     requires accepted { S.accepted source.old + 1 < 2 ^ 64 }
     ensures failures { OnOk result (S.failures source.new ≡ S.failures source.old) }
     ensures accepted { OnOk result (S.accepted source.new ≡ S.accepted source.old + 1) }
-    ensures next { IfOk result (λ thread. Gives (S.coming source.old) (S.coming source.new) (streams (S.Reader.Read.remaining thread.promise.reader.value) (S.Writer.Write.contents thread.promise.writer.value) ∷ [])) }
+    ensures next { IfOk result (λ thread. GivesConnections (S.coming source.old) (S.coming source.new) (streams (S.Reader.Read.remaining thread.promise.reader.value) (S.Writer.Write.contents thread.promise.writer.value) ∷ [])) }
     ensures no_connection { IfErr result (λ why. why ≡ shortage.NoConnection → (S.failures source.new ≡ S.failures source.old + 1) × (S.accepted source.new ≡ S.accepted source.old) × (S.coming source.new ≡ S.coming source.old)) }
     ensures no_thread { IfErr result (λ why. why ≡ shortage.NoThread → S.failures source.new ≡ S.failures source.old) }
 {
@@ -203,7 +203,7 @@ fn start_all<
     ensures failures { result.no_thread ≡ false → FailsIfFewer (vec_len result.running) sessions (S.failures source.old) (S.failures source.new) }
     ensures accepted { result.no_thread ≡ false → S.accepted source.new ≡ S.accepted source.old + vec_len result.running }
     ensures lost { result.no_thread ≡ true → S.failures source.new ≡ S.failures source.old }
-    ensures gives { result.no_thread ≡ false → Gives (S.coming source.old) (S.coming source.new) (map (λ thread. streams (S.Reader.Read.remaining thread.promise.reader.value) (S.Writer.Write.contents thread.promise.writer.value)) result.running.items) }
+    ensures gives { result.no_thread ≡ false → GivesConnections (S.coming source.old) (S.coming source.new) (map (λ thread. streams (S.Reader.Read.remaining thread.promise.reader.value) (S.Writer.Write.contents thread.promise.writer.value)) result.running.items) }
 {
     let mut running = room;
     for session in 0..sessions {
@@ -240,7 +240,7 @@ struct Parted<R: Read, W: Write, L: Ledgers> {
 fn part<R: Read + Drop, W: Write + Drop, L: Ledgers>(
     served: Served<R, W, L>,
 ) -> (Session<R, W>, Option<Shares<L>>)
-    ensures process { IsOf served.seat result.0.process }
+    ensures process { IsProcessOf served.seat result.0.process }
     ensures shares { result.1 ≡ option_map (λ s. s.counted) served.seat }
     ensures session { with_seat served.seat result.0 ≡ served }
 {

@@ -1,7 +1,7 @@
 //! Where the connections of a run come from.
 
 ghost use Rattle.std.specs.Prelude.{◌≡◌, ◌+◌, ◌<◌, ◌^◌, ◌∷◌, [], ℕ, OnOk, OnErr, IfOk};
-ghost use Rattle.run_core.specs.Run.{Gives, IsBlank, streams};
+ghost use Rattle.run_core.specs.Run.{GivesConnections, IsBlank, streams};
 
 use session_core::connection::Connection;
 use std::io::{Read, Write};
@@ -33,7 +33,7 @@ pub trait Source {
         requires failures { failures self.old + 1 < 2 ^ 64 }
         requires accepted { accepted self.old + 1 < 2 ^ 64 }
         ensures ok { OnOk result ((failures self.new ≡ failures self.old) × (accepted self.new ≡ accepted self.old + 1)) }
-        ensures next { IfOk result (λ connection. Gives (coming self.old) (coming self.new) (streams (Self.Reader.Read.remaining connection.0) (Self.Writer.Write.contents connection.1) ∷ [])) }
+        ensures next { IfOk result (λ connection. GivesConnections (coming self.old) (coming self.new) (streams (Self.Reader.Read.remaining connection.0) (Self.Writer.Write.contents connection.1) ∷ [])) }
         ensures blank { IfOk result (λ connection. IsBlank (Self.Writer.Write.contents connection.1)) }
         ensures err { OnErr result ((failures self.new ≡ failures self.old + 1) × (accepted self.new ≡ accepted self.old) × (coming self.new ≡ coming self.old)) };
 

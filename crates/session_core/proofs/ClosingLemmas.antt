@@ -11,7 +11,7 @@ use Rattle.call_types.specs.declared.request.Request.TheVariants as request
 use Rattle.frame_codec.specs.declared.decoder.Progress.{Progress}
 use Rattle.frame_codec.specs.declared.decoder.Progress.TheVariants as progress
 use Rattle.record_book.specs.Seat.{Receipted, SeatState}
-use Rattle.system_lock.specs.Kernel.{Exits, IsNoError}
+use Rattle.system_lock.specs.Kernel.{HasItsExit, IsNoError}
 use Rattle.session_core.specs.declared.end.End.{End}
 use Rattle.session_core.specs.declared.end.End.TheVariants as end
 use Rattle.session_core.specs.declared.told.Told.{Told}
@@ -145,7 +145,7 @@ no_seat input end.NoMemory answers o h = h
 no_seat input end.Foreign answers o h = absurd o
 no_seat input end.NoThread answers o h = absurd o
 
-exited : (old spent : SeatState) (answers : List Told) → Exits old spent → old.receipts ≡ receipts_of answers → IsGranted old.receipts → HasExited spent answers
+exited : (old spent : SeatState) (answers : List Told) → HasItsExit old spent → old.receipts ≡ receipts_of answers → IsGranted old.receipts → HasExited spent answers
 exited old spent answers h e granted = record {
   exit = h.0;
   receipts = h.1.receives.receipts ∙ ap (λ (l : List Receipted). l ++ h.0 ∷ []) e;

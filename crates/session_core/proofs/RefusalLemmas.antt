@@ -7,7 +7,7 @@ use Rattle.call_types.specs.declared.refusal.Refusal.TheVariants as refusal
 use Rattle.call_types.specs.declared.request.Request.{Request}
 use Rattle.call_types.specs.declared.request.Request.TheVariants as request
 use Rattle.record_book.specs.Seat.{Receipted, SeatState}
-use Rattle.system_lock.specs.Kernel.{IsOpening}
+use Rattle.system_lock.specs.Kernel.{AsksForASeat}
 use Rattle.system_lock.specs.declared.kernel.Why.{Why}
 use Rattle.system_lock.specs.declared.kernel.Why.TheVariants as ended_why
 use Rattle.session_core.specs.declared.told.Told.{Told}
@@ -102,13 +102,13 @@ given_up_put Said old new so found (inl put) are said = put_said Said old new (t
 given_up_put Said old new so found (inr none) are said = same_said Said old new none.1 are
 
 is_refused : (unopened : Request → Refusal → Type 0) (refused : SeatState → Call → Refusal → Type 0) (ended : SeatState → Why → Type 0) (earlier : List Request) (before : List Told) (next : Request)
-    (so : Refusal) → IsOpening next → OpeningRefused unopened earlier before next so → NextRefused unopened refused ended earlier before next so
+    (so : Refusal) → AsksForASeat next → OpeningRefused unopened earlier before next so → NextRefused unopened refused ended earlier before next so
 is_refused unopened refused ended earlier before request.Join so opens h = h
 is_refused unopened refused ended earlier before (request.Attach process) so opens h = h
 is_refused unopened refused ended earlier before (request.Call call) so opens h = absurd opens
 
 pub opening_refused : (unopened : Request → Refusal → Type 0) (refused : SeatState → Call → Refusal → Type 0) (ended : SeatState → Why → Type 0) (handled : List Request) (next : Request)
-    (so : Refusal) (old new : OutputState) (found : LeaveCause) → IsOpening next → unopened next so → PutsGivenUp old new so found → handled ≡ [] → old.answers ≡ []
+    (so : Refusal) (old new : OutputState) (found : LeaveCause) → AsksForASeat next → unopened next so → PutsGivenUp old new so found → handled ≡ [] → old.answers ≡ []
     → AreSaid (RefusalSaid unopened refused ended (handled ++ next ∷ [])) new.answers
 opening_refused unopened refused ended handled next so old new found opens said put none empty =
     given_up_put (RefusalSaid unopened refused ended (handled ++ next ∷ [])) old new so found put (empty_said (RefusalSaid unopened refused ended (handled ++ next ∷ [])) old.answers empty)

@@ -7,7 +7,7 @@ use Rattle.call_types.specs.declared.request.Request.{Request}
 use Rattle.call_types.specs.declared.request.Request.TheVariants as request
 use Rattle.record_book.specs.Seat.{Receipted, SeatState}
 use Rattle.record_book.specs.declared.opening.Opened.TheVariants as opened
-use Rattle.system_lock.specs.Kernel.{IsOpening, IsWanting, IsError, OpensFor}
+use Rattle.system_lock.specs.Kernel.{AsksForASeat, IsWanting, IsError, OpensFor}
 use Rattle.system_lock.specs.Proved.Reasons.{OpensBy}
 use Rattle.session_core.specs.declared.told.Told.{Told}
 use Rattle.session_core.specs.declared.told.Told.TheVariants as told
@@ -125,7 +125,7 @@ refusal_untold admission next seat old new h e base handled holds talking = (h.0
 
 -- ---- openings that are not recorded
 
-is_unopened : (next : Request) (handled : List Request) (old new : OutputState) (refusal : Refusal) → IsOpening next → IsWanting refusal → handled ≡ [] → old.answers ≡ [] → Puts old new (told.Refused refusal) → IsUnopened (handled ++ next ∷ []) new.answers refusal
+is_unopened : (next : Request) (handled : List Request) (old new : OutputState) (refusal : Refusal) → AsksForASeat next → IsWanting refusal → handled ≡ [] → old.answers ≡ [] → Puts old new (told.Refused refusal) → IsUnopened (handled ++ next ∷ []) new.answers refusal
 is_unopened next handled old new refusal is_opening wants none empty put = record {
   opening = next;
   requests_are = ap (λ (l : List Request). l ++ next ∷ []) none;
@@ -150,7 +150,7 @@ refused_by admission base next handled o refusal.Waiting found e holds h = absur
 refused_by admission base next handled o refusal.NotHere found e holds h = absurd e
 refused_by admission base next handled o (refusal.Foreign seen len) found e holds h = absurd e
 
-pub unopened : (admission back : Unit {0}) (next : Request) (old new : OutputState) (refusal : Refusal) (found : LeaveCause) → IsOpening next → PutsGivenUp old new refusal found → TakesUp (stage.Opening admission) next old new (turn.Over (over.Leaves (stage.Opening back) found))
+pub unopened : (admission back : Unit {0}) (next : Request) (old new : OutputState) (refusal : Refusal) (found : LeaveCause) → AsksForASeat next → PutsGivenUp old new refusal found → TakesUp (stage.Opening admission) next old new (turn.Over (over.Leaves (stage.Opening back) found))
 unopened admission back next old new refusal found is_opening (inl h) base handled holds talking =
     refused_by back base next handled new refusal found h.0 (h.1.holds base holds) (is_unopened next handled old new refusal is_opening (wanting refusal found h.0) talking.0 talking.1 h.1)
 unopened admission back next old new refusal found is_opening (inr h) base handled holds talking =

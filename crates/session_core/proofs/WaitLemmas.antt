@@ -12,7 +12,7 @@ use Rattle.call_types.specs.declared.request.Request.{Request}
 use Rattle.call_types.specs.declared.request.Request.TheVariants as request
 use Rattle.posix_model.specs.Step.{EndsOrGoesOn}
 use Rattle.record_book.specs.Seat.{Receipted, SeatState}
-use Rattle.system_lock.specs.Kernel.{Adds, Exits, IsWanting}
+use Rattle.system_lock.specs.Kernel.{Adds, HasItsExit, IsWanting}
 use Rattle.session_core.specs.declared.told.Told.{Told}
 use Rattle.session_core.specs.declared.told.Told.TheVariants as told
 use Rattle.session_core.specs.declared.stage.Stage.TheVariants as stage
@@ -113,7 +113,7 @@ waits_no_more handled old new call receipt w act_is ends e =
 
 -- ---- it is given up
 
-exits_with : (seat spent : SeatState) (old new : List Told) → Exits seat spent → IsGranted seat.receipts → seat.receipts ≡ receipts_of old → receipts_of new ≡ receipts_of old → HasExited spent new
+exits_with : (seat spent : SeatState) (old new : List Told) → HasItsExit seat spent → IsGranted seat.receipts → seat.receipts ≡ receipts_of old → receipts_of new ≡ receipts_of old → HasExited spent new
 exits_with seat spent old new h granted e same = record {
   exit = h.0;
   receipts = h.1.receives.receipts ∙ ap (λ (l : List Receipted). l ++ h.0 ∷ []) (e ∙ sym same);
@@ -136,7 +136,7 @@ ended_with base requests o spent refusal.Waiting found e holds exited cut = absu
 ended_with base requests o spent refusal.NotHere found e holds exited cut = absurd e
 ended_with base requests o spent (refusal.Foreign seen len) found e holds exited cut = absurd e
 
-pub ended_by : (base : Option (List ℕ)) (handled : List Request) (call : Call) (seat spent : SeatState) (old new : OutputState) (refusal : Refusal) (found : LeaveCause) → PutsGivenUp old new refusal found → IsWaitingAt base handled call seat old → Exits seat spent
+pub ended_by : (base : Option (List ℕ)) (handled : List Request) (call : Call) (seat spent : SeatState) (old new : OutputState) (refusal : Refusal) (found : LeaveCause) → PutsGivenUp old new refusal found → IsWaitingAt base handled call seat old → HasItsExit seat spent
     → EndedBy base (handled ++ request.Call call ∷ []) new spent found
 ended_by base handled call seat spent old new refusal found (inl h) w exits =
     ended_with base (handled ++ request.Call call ∷ []) new spent refusal found h.0 (h.1.holds base w.holds)
@@ -150,7 +150,7 @@ ended_by base handled call seat spent old new refusal found (inr h) w exits =
       (None, subst (λ (l : List Told). IsCut (handled ++ request.Call call ∷ []) l None) (sym same) (cut_now handled old.answers call w.waits)),
     )
 
-pub lost_by : (base : Option (List ℕ)) (handled : List Request) (call : Call) (seat spent : SeatState) (o : OutputState) → o.unsent ≡ [] → IsWaitingAt base handled call seat o → Exits seat spent → IsGivenUp base (handled ++ request.Call call ∷ []) o spent
+pub lost_by : (base : Option (List ℕ)) (handled : List Request) (call : Call) (seat spent : SeatState) (o : OutputState) → o.unsent ≡ [] → IsWaitingAt base handled call seat o → HasItsExit seat spent → IsGivenUp base (handled ++ request.Call call ∷ []) o spent
 lost_by base handled call seat spent o sent w exits = record { holds = w.holds; sent = sent; exited = exits_with seat spent o.answers o.answers exits w.granted w.receipts refl; cut = cut_now handled o.answers call w.waits }
 
 pub foreign_by : (base : Option (List ℕ)) (handled : List Request) (call : Call) (seat spent : SeatState) (o : OutputState) → IsWaitingAt base handled call seat o → spent ≡ seat → OverBy base handled (request.Call call) o (over.Foreign spent)

@@ -9,7 +9,7 @@ use Rattle.call_types.specs.declared.request.Request.TheVariants as request
 use Rattle.frame_codec.specs.declared.decoder.Progress.{Progress}
 use Rattle.frame_codec.specs.declared.decoder.Progress.TheVariants as progress
 use Rattle.record_book.specs.Seat.{Receipted, SeatState}
-use Rattle.system_lock.specs.Kernel.{IsOpening, IsError, IsNoError}
+use Rattle.system_lock.specs.Kernel.{AsksForASeat, IsError, IsNoError}
 use Rattle.logged_streams.specs.declared.stream_log.TheConstants.{INTERRUPTIONS_MAX}
 use Rattle.request_pump.specs.Input.{Begins, AreRequests, IsFault}
 use Rattle.request_pump.specs.declared.pump.TheConstants.{READS_MAX}
@@ -61,7 +61,7 @@ abbrev pub IsMisplaced : List Request → Request → Type 0
 IsMisplaced [] request.Join = ⊥
 IsMisplaced [] (request.Attach process) = ⊥
 IsMisplaced [] (request.Call call) = Unit {0}
-IsMisplaced (one ∷ more) next = IsOpening next
+IsMisplaced (one ∷ more) next = AsksForASeat next
 
 -- ---- what was answered
 
@@ -211,8 +211,8 @@ abbrev pub AnswersAllOrCut : List ℕ → List Told → Type 0
 AnswersAllOrCut input answers = AnswersAll input answers ⊎ (HasNoFault input × AnswersToCut input answers None)
 
 -- the reader is at its end, or the opening is refused
-abbrev pub IsClosed : List ℕ → SessionState → Type 0
-IsClosed input s = (IsReadToEnd s.reader × AnswersAllOrCut input s.answers) ⊎ IsTurnedAway s.seat s.answers
+abbrev pub IsClosedAtTheEnd : List ℕ → SessionState → Type 0
+IsClosedAtTheEnd input s = (IsReadToEnd s.reader × AnswersAllOrCut input s.answers) ⊎ IsTurnedAway s.seat s.answers
 
 -- the bytes have a fault, or a request out of place
 abbrev pub IsFaulty : List ℕ → List Told → Type 0
@@ -232,7 +232,7 @@ IsUnstarted input s = (input ≡ []) × (s.seat ≡ None) × (s.answers ≡ [])
 
 -- why a session ends. Nothing is said here of want of memory, and of a seat that the kernel does not know
 abbrev pub EndsFor : List ℕ → SessionState → End → Type 0
-EndsFor input s end.Closed = IsClosed input s
+EndsFor input s end.Closed = IsClosedAtTheEnd input s
 EndsFor input s end.ReadFault = IsReadNoMore READS_MAX (reads_of s.reader) × AnswersAllOrCut input s.answers
 EndsFor input s (end.WriteFault sent) = IsWrittenNoMore s.writer.log
 EndsFor input s end.Malformed = IsFaulty input s.answers

@@ -9,7 +9,7 @@ use Rattle.call_types.specs.declared.refusal.Refusal.{Refusal}
 use Rattle.call_types.specs.declared.request.Request.{Request}
 use Rattle.call_types.specs.declared.request.Request.TheVariants as request
 use Rattle.record_book.specs.Seat.{Receipted}
-use Rattle.system_lock.specs.Kernel.{IsOpening, IsWanting}
+use Rattle.system_lock.specs.Kernel.{AsksForASeat, IsWanting}
 use Rattle.session_core.specs.declared.told.Told.{Told}
 use Rattle.session_core.specs.declared.told.Told.TheVariants as told
 
@@ -151,7 +151,7 @@ pub record IsCut (handled : List Request) (answers : List Told) (given_up : Opti
 pub record IsUnopened (handled : List Request) (answers : List Told) (refusal : Refusal) : Type 0 where
   pub opening : Request
   pub requests_are : handled ≡ opening ∷ []
-  pub is_opening : IsOpening opening
+  pub is_opening : AsksForASeat opening
   pub answers_are : answers ≡ told.Refused refusal ∷ []
   pub wants : IsWanting refusal
 

@@ -4,7 +4,7 @@ ghost use Rattle.std.specs.Prelude.{◌≡◌, ◌∷◌, [], OnOk, OnErr};
 ghost use Rattle.call_types.specs.declared.request.Request.TheVariants as request;
 ghost use Rattle.session_core.specs.declared.stage.Stage.TheVariants as stage;
 ghost use Rattle.session_core.specs.Proved.Turns.{TakesUp, PutsFirst, PutsGivenUp, IsOne, WaitsOnce, GivesUp, TellsWhy, TurnSays, WaitSays, goes_on};
-ghost use Rattle.system_lock.specs.Kernel.{IsOpening, IsWanting, IsWhyFinished, FinishesBy, SaysEnded};
+ghost use Rattle.system_lock.specs.Kernel.{AsksForASeat, IsWanting, IsWhyFinished, FinishesBy, SaysEnded};
 ghost use Rattle.session_core.specs.Proved.Saying.{TurnSaid};
 ghost use Rattle.session_core.specs.Refusals.{RefusalSaid};
 
@@ -61,7 +61,7 @@ fn take_opening<Rt: Wait, W: Write, G: Gate, L: Ledgers, K: Kernel<Seat<L>, Spen
     admission: AdmissionTo<L>,
     request: Request,
 ) -> TurnOf<L>
-    requires { IsOpening request }
+    requires { AsksForASeat request }
     ensures takes { TakesUp (stage.Opening admission) request output.old output.new result }
     ensures said { TurnSaid K.not_opened K.ended result }
     ensures refusals { TurnSays (RefusalSaid K.not_opened K.refused K.ended) (stage.Opening admission) (request ∷ []) output.old output.new }

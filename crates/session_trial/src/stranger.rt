@@ -1,7 +1,7 @@
 //! A kernel that does not know its seats any more.
 
 ghost use Rattle.std.specs.Prelude.{◌≡◌, ⊤, IfErr};
-ghost use Rattle.system_lock.specs.Kernel.{FinishesBy, HangsUpBy, IsOpening, OpensAs, SaysEnded, itself};
+ghost use Rattle.system_lock.specs.Kernel.{FinishesBy, HangsUpBy, AsksForASeat, OpensAs, SaysEnded, itself};
 
 use byte_ledger::ledgers::Ledgers;
 use byte_ledger::tallies::Sums;
@@ -76,7 +76,7 @@ impl<L: Ledgers> Kernel<Seat<L>, SpentSeat<L>> for Stranger<L> {
         admission: AdmissionTo<L>,
         request: Request,
     ) -> Result<OpenedIn<L>, NotOpenedIn<L>>
-        requires { IsOpening request }
+        requires { AsksForASeat request }
         ensures opens { OpensAs itself itself request result }
         ensures refused { IfErr result (λ _. ⊤) }
     {

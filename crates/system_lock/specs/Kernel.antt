@@ -35,10 +35,10 @@ abbrev pub itself : SeatState → SeatState
 itself s = s
 
 -- a request that opens a session
-abbrev pub IsOpening : Request → Type 0
-IsOpening request.Join = Unit {0}
-IsOpening (request.Attach process) = Unit {0}
-IsOpening (request.Call call) = ⊥
+abbrev pub AsksForASeat : Request → Type 0
+AsksForASeat request.Join = Unit {0}
+AsksForASeat (request.Attach process) = Unit {0}
+AsksForASeat (request.Call call) = ⊥
 
 -- a record of the seat's process and of this act, which is no older than what the seat had seen; the seat has its receipt
 pub record Adds (old new : SeatState) (act : Act) (receipt : Receipted) : Type 0 where
@@ -91,16 +91,16 @@ CallsBy old new call (Ok receipt) = Adds old new (act.Call call) receipt × Ends
 CallsBy old new call (Err refusal) = new ≡ old
 
 -- the exit of the seat's process is recorded
-abbrev pub Exits : SeatState → SeatState → Type 0
-Exits old spent = (receipt : Receipted) × Adds old spent act.Exit receipt
+abbrev pub HasItsExit : SeatState → SeatState → Type 0
+HasItsExit old spent = (receipt : Receipted) × Adds old spent act.Exit receipt
 
 -- how a process ends: by its exit, but where the kernel knows no such seat
 abbrev pub EndsBy : SeatState → SeatState → Why → Type 0
 EndsBy old spent why.Foreign = spent ≡ old
-EndsBy old spent why.HungUp = Exits old spent
-EndsBy old spent why.NoMemory = Exits old spent
-EndsBy old spent why.RunFull = Exits old spent
-EndsBy old spent why.Lost = Exits old spent
+EndsBy old spent why.HungUp = HasItsExit old spent
+EndsBy old spent why.NoMemory = HasItsExit old spent
+EndsBy old spent why.RunFull = HasItsExit old spent
+EndsBy old spent why.Lost = HasItsExit old spent
 
 -- why a call that waits may end its process
 abbrev pub IsWhyFinished : Why → Type 0

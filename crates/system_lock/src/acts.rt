@@ -1,6 +1,6 @@
 //! The acts of a kernel on a book that is at hand.
 
-ghost use Rattle.system_lock.specs.Kernel.{IsOpening, CallsBy};
+ghost use Rattle.system_lock.specs.Kernel.{AsksForASeat, CallsBy};
 ghost use Rattle.system_lock.specs.Proved.Reasons.{OpensBy, IsReason, EndsByReason};
 ghost use Rattle.system_lock.specs.Proved.Acts.{TriesBy};
 ghost use Rattle.system_lock.specs.Proved.Events.{OpensIn, CallsIn, ExitsIn, TriesIn, StillIsDue, GivesNoneUp};
@@ -23,7 +23,7 @@ pub(crate) fn open<L: Ledgers>(
     alloc: Global,
     request: Request,
 ) -> Result<OpenedIn<L>, Refusal>
-    requires { IsOpening request }
+    requires { AsksForASeat request }
     ensures opens { OpensBy request result }
     ensures event { OpensIn book.old book.new request result }
 {

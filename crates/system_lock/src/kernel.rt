@@ -74,7 +74,7 @@ pub trait Kernel<S: AsSeat, P: AsSeat> {
     ghost use Rattle.call_types.specs.declared.request.Request.{Request};
     ghost use Rattle.record_book.specs.Seat.{SeatState};
     ghost use Rattle.system_lock.specs.declared.kernel.Why.{Why};
-    ghost use Rattle.system_lock.specs.Kernel.{IsOpening, OpensAs, CallsBy, FinishesAs, HangsUpAs, SaysEnded};
+    ghost use Rattle.system_lock.specs.Kernel.{AsksForASeat, OpensAs, CallsBy, FinishesAs, HangsUpAs, SaysEnded};
 
     // The kernel refused this opening so, and did not record it. Where the kernel is not known, only `open` tells this.
     ghost not_opened: { Request → Refusal → Type 0 };
@@ -94,7 +94,7 @@ pub trait Kernel<S: AsSeat, P: AsSeat> {
         admission: Admission<S>,
         request: Request,
     ) -> Result<Opened<S, P>, NotOpened<Admission<S>>>
-        requires { IsOpening request }
+        requires { AsksForASeat request }
         ensures opens { OpensAs S.as_seat P.as_seat request result }
         ensures refused { IfErr result (λ back. not_opened request back.refusal) };
 

@@ -2,7 +2,7 @@
 
 ghost use Rattle.std.specs.Prelude.{◌≡◌, [], Some, IfErr, IfOk};
 ghost use Rattle.rtrb.specs.Ring.{received};
-ghost use Rattle.system_lock.specs.Kernel.{FinishesBy, HangsUpBy, IsOpening, OpensAs, SaysEnded, itself};
+ghost use Rattle.system_lock.specs.Kernel.{FinishesBy, HangsUpBy, AsksForASeat, OpensAs, SaysEnded, itself};
 ghost use Rattle.system_lock.specs.Says.{IsEnded, IsNotOpened};
 
 use crate::acts::Tried;
@@ -80,7 +80,7 @@ impl<L: Ledgers> Kernel<Seat<L>, SpentSeat<L>> for SystemLock<L> {
         admission: AdmissionTo<L>,
         request: Request,
     ) -> Result<OpenedIn<L>, NotOpenedIn<L>>
-        requires { IsOpening request }
+        requires { AsksForASeat request }
         ensures opens { OpensAs itself itself request result }
         ensures refused { IfErr result (λ back. IsNotOpened request back.refusal) }
     {

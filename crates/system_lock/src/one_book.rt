@@ -1,7 +1,7 @@
 //! A kernel for one thread, for tests. Where a call would wait, prepared acts of other processes are run first.
 
 ghost use Rattle.std.specs.Prelude.{⊤, IfErr};
-ghost use Rattle.system_lock.specs.Kernel.{FinishesBy, HangsUpBy, IsOpening, OpensAs, SaysEnded, itself};
+ghost use Rattle.system_lock.specs.Kernel.{FinishesBy, HangsUpBy, AsksForASeat, OpensAs, SaysEnded, itself};
 
 use crate::acts;
 use crate::acts::Tried;
@@ -89,7 +89,7 @@ impl<L: Ledgers> Kernel<Seat<L>, SpentSeat<L>> for OneBook<L> {
         admission: AdmissionTo<L>,
         request: Request,
     ) -> Result<OpenedIn<L>, NotOpenedIn<L>>
-        requires { IsOpening request }
+        requires { AsksForASeat request }
         ensures opens { OpensAs itself itself request result }
         ensures refused { IfErr result (λ _. ⊤) }
     {

@@ -3,7 +3,7 @@
 ghost use Rattle.std.specs.Prelude.{◌≡◌, [], None, Some, false, true, All, IfOk};
 ghost use Rattle.rtrb.specs.Ring.{received};
 ghost use Rattle.record_book.specs.Refusals.{resume_refusal, is_ready_in};
-ghost use Rattle.system_lock.specs.Kernel.{IsOpening, CallsBy, HangsUpBy};
+ghost use Rattle.system_lock.specs.Kernel.{AsksForASeat, CallsBy, HangsUpBy};
 ghost use Rattle.system_lock.specs.Proved.Reasons.{OpensBy, IsReason, EndsByReason};
 ghost use Rattle.system_lock.specs.Proved.Acts.{TriesBy};
 ghost use Rattle.system_lock.specs.System.{is_live_in, is_among, AreDistinct, AreLive, AreUnmarked};
@@ -113,7 +113,7 @@ impl<L: Ledgers> System<L> {
         bells: &Bells,
         request: Request,
     ) -> Result<OpenedIn<L>, Refusal>
-        requires { IsOpening request }
+        requires { AsksForASeat request }
         ensures opens { OpensBy request result }
         ensures event { OpensIn self.old.book_is self.new.book_is request result }
         ensures asleep { self.new.asleep_are ≡ still_asleep self.new.book_is self.old.asleep_are }

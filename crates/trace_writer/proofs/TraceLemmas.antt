@@ -13,7 +13,7 @@ use Rattle.frame_codec.specs.Records.{record_bytes}
 use Rattle.frame_codec.specs.Trace.{trace_header, frames_of, text, whole_in}
 use Rattle.logged_streams.specs.Streams.{WritesFront}
 use Rattle.trace_writer.specs.Proved.TracerState.{Writes}
-use Rattle.trace_writer.specs.Traces.{Tells}
+use Rattle.trace_writer.specs.Traces.{CountsFailures}
 use Rattle.trace_writer.specs.Proved.Tracing.{MakesFrame}
 use Rattle.trace_writer.specs.declared.traced.TraceFault.{TraceFault}
 use Rattle.trace_writer.specs.declared.traced.TraceFault.TheVariants as faults
@@ -28,13 +28,13 @@ text_push rs r = ap (λ (l : List ℕ). trace_header ++ l) (frames_push rs r) �
 -- ---- what the sink counts
 
 -- what a sink counts is the same where memory runs out
-counts_none : (before after : ℕ) → after ≡ before → Tells (Some faults.NoMemory) before after
+counts_none : (before after : ℕ) → after ≡ before → CountsFailures (Some faults.NoMemory) before after
 counts_none before after e = (omega arith, omega arith)
 
-made_tells : (fault fault' : Option TraceFault) (before after : ℕ) → (fault' ≡ fault) ⊎ ((fault ≡ None) × (fault' ≡ Some faults.NoMemory)) → Tells fault before after → Tells fault' before after
-made_tells fault fault' before after (inl e) t = subst (λ f. Tells f before after) (sym e) t
+made_tells : (fault fault' : Option TraceFault) (before after : ℕ) → (fault' ≡ fault) ⊎ ((fault ≡ None) × (fault' ≡ Some faults.NoMemory)) → CountsFailures fault before after → CountsFailures fault' before after
+made_tells fault fault' before after (inl e) t = subst (λ f. CountsFailures f before after) (sym e) t
 made_tells fault fault' before after (inr e) t =
-    subst (λ f. Tells f before after) (sym e.1) (counts_none before after (subst (λ f. Tells f before after) e.0 t))
+    subst (λ f. CountsFailures f before after) (sym e.1) (counts_none before after (subst (λ f. CountsFailures f before after) e.0 t))
 
 made_unsynced : (fault fault' : Option TraceFault) → (fault' ≡ fault) ⊎ ((fault ≡ None) × (fault' ≡ Some faults.NoMemory)) → (fault ≡ Some faults.Sync → ⊥) → fault' ≡ Some faults.Sync → ⊥
 made_unsynced fault fault' (inl e) never is = never (sym e ∙ is)
@@ -69,9 +69,9 @@ writes_first base before unsent fault sound begun few still = record {
     first_unsynced (inl h) is = let no : None ≡ Some faults.Sync = sym h.0 ∙ is in cc
     first_unsynced (inr e) is = let no : Some faults.NoMemory ≡ Some faults.Sync = sym e ∙ is in cc
 
-    first_tells : (fault ≡ None) × (unsent ≡ trace_header) ⊎ (fault ≡ Some faults.NoMemory) → Tells fault before before
-    first_tells (inl h) = subst (λ f. Tells f before before) (sym h.0) refl
-    first_tells (inr e) = subst (λ f. Tells f before before) (sym e) (counts_none before before refl)
+    first_tells : (fault ≡ None) × (unsent ≡ trace_header) ⊎ (fault ≡ Some faults.NoMemory) → CountsFailures fault before before
+    first_tells (inl h) = subst (λ f. CountsFailures f before before) (sym h.0) refl
+    first_tells (inr e) = subst (λ f. CountsFailures f before before) (sym e) (counts_none before before refl)
 
 -- ---- a record more
 
@@ -119,7 +119,7 @@ writes_few base now now' before after unsent written rs fault torn sound count w
 
 -- a front of what was not written was
 fronted : (base now now' : Option (List ℕ)) (before after after' : ℕ) (unsent : List ℕ) (written : ℕ) (rs : List Record) (fault fault' : Option TraceFault) (torn sound sound' : Bool) (count : ℕ)
-    → Writes base now before after unsent written rs fault torn sound → fault ≡ None → WritesFront now now' unsent count → (fault' ≡ None → [] ≡ drop count unsent) → (fault' ≡ Some faults.Sync → ⊥) → Tells fault' before after'
+    → Writes base now before after unsent written rs fault torn sound → fault ≡ None → WritesFront now now' unsent count → (fault' ≡ None → [] ≡ drop count unsent) → (fault' ≡ Some faults.Sync → ⊥) → CountsFailures fault' before after'
     → (fault' ≡ None → sound' ≡ true) → Writes base now' before after' [] (written + count) rs fault' torn sound'
 fronted base now now' before after after' unsent written rs fault fault' torn sound sound' count w none f all never tells still = record {
   front = w.front ++ take count unsent;
@@ -147,14 +147,14 @@ pub flushed : (base now now' : Option (List ℕ)) (before after after' : ℕ) (u
 flushed base now now' before after after' unsent written rs fault torn sound sound' count w none f whole same still =
     fronted base now now' before after after' unsent written rs fault fault torn sound sound' count w none f
     (λ _. sym (ap (λ (n : ℕ). drop n unsent) whole ∙ drop-length unsent)) w.never_synced
-    (subst (λ (n : ℕ). Tells fault before n) (sym same) w.tells) (λ _. still)
+    (subst (λ (n : ℕ). CountsFailures fault before n) (sym same) w.tells) (λ _. still)
 
 -- the sink failed in the middle
 pub broken : (base now now' : Option (List ℕ)) (before after after' : ℕ) (unsent : List ℕ) (written : ℕ) (rs : List Record) (fault : Option TraceFault) (torn sound sound' : Bool) (count : ℕ)
     → Writes base now before after unsent written rs fault torn sound → fault ≡ None → WritesFront now now' unsent count → after' ≡ after + 1
     → Writes base now' before after' [] (written + count) rs (Some faults.Write) torn sound'
 broken base now now' before after after' unsent written rs fault torn sound sound' count w none f more =
-    let was : after ≡ before = subst (λ f. Tells f before after) none w.tells in
+    let was : after ≡ before = subst (λ f. CountsFailures f before after) none w.tells in
     fronted base now now' before after after' unsent written rs fault (Some faults.Write) torn sound sound' count w none f (λ e. absurd (cc)) (λ e. cc) (more ∙ ap (λ (n : ℕ). n + 1) was) (λ e. absurd (cc))
 
 -- ---- what is whole

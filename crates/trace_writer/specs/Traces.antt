@@ -7,11 +7,11 @@ use Rattle.trace_writer.specs.declared.traced.TraceFault.{TraceFault}
 use Rattle.trace_writer.specs.declared.traced.TraceFault.TheVariants as faults
 
 -- how many failures a sink counts, where this went wrong and so many were counted before (own)
-abbrev pub Tells : Option TraceFault → ℕ → ℕ → Type 0
-Tells None before after = after ≡ before
-Tells (Some faults.Write) before after = after ≡ before + 1
-Tells (Some faults.Sync) before after = after ≡ before + 1
-Tells (Some faults.NoMemory) before after = (before ≤ after) × (after ≤ before + 1)
+abbrev pub CountsFailures : Option TraceFault → ℕ → ℕ → Type 0
+CountsFailures None before after = after ≡ before
+CountsFailures (Some faults.Write) before after = after ≡ before + 1
+CountsFailures (Some faults.Sync) before after = after ≡ before + 1
+CountsFailures (Some faults.NoMemory) before after = (before ≤ after) × (after ≤ before + 1)
 
 -- What became of a trace: so many bytes of the text of the records were added to what the sink held, its first ones, and so many records
 -- are whole in them. They are all, and were synced, where nothing went wrong; where only the sync failed, they are all. What went wrong
@@ -25,10 +25,10 @@ pub record IsTrace (base now : Option (List ℕ)) (before after : ℕ) (is_synce
   pub whole_is : whole ≡ whole_in received (bytes - length trace_header)
   pub all : fault ≡ None → (rest ≡ []) × (is_synced ≡ true)
   pub unsynced : fault ≡ Some faults.Sync → rest ≡ []
-  pub tells : Tells fault before after
+  pub tells : CountsFailures fault before after
 
 -- of what came out of the ring all was received, unless memory ran out (own)
-pub record Receives (got received : List Record) (fault : Option TraceFault) : Type 0 where
+pub record IsReceived (got received : List Record) (fault : Option TraceFault) : Type 0 where
   pub dropped : List Record
   pub is : got ≡ received ++ dropped
   pub whole : (fault ≡ Some faults.NoMemory → ⊥) → dropped ≡ []

@@ -3,7 +3,7 @@
 ghost use Rattle.std.specs.Prelude.{◌≡◌, ◌+◌, ◌<◌, ◌^◌, [], true, map, length};
 ghost use Rattle.std.specs.Arc.{arc_value};
 ghost use Rattle.rtrb.specs.Ring.{received, known_items};
-ghost use Rattle.trace_writer.specs.Traces.{Receives, IsTrace};
+ghost use Rattle.trace_writer.specs.Traces.{IsReceived, IsTrace};
 ghost use Rattle.trace_writer.specs.Proved.Tracing.{Follows, GoesOn};
 
 use crate::sink::Sink;
@@ -56,7 +56,7 @@ pub fn write_trace<R: Wait + Clock, S: Sink>(
     requires sound { S.is_sound sink ≡ true }
     requires few { S.failures sink + 1 < 2 ^ 64 }
     ensures trace { IsTrace (S.contents sink) (S.contents result.0) (S.failures sink) (S.failures result.0) (S.is_synced result.0) result.1.whole result.1.bytes result.1.fault (map arc_value result.1.received.items) }
-    ensures receives { Receives (map arc_value (received ring.new)) (map arc_value result.1.received.items) result.1.fault }
+    ensures receives { IsReceived (map arc_value (received ring.new)) (map arc_value result.1.received.items) result.1.fault }
     ensures empty { length (known_items ring.new) ≡ 0 }
 {
     let mut tracer = Tracer::new(alloc, sink);

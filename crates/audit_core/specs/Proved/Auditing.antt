@@ -9,7 +9,7 @@ use Rattle.audit_core.specs.Verdict.{IsVerdict}
 use Rattle.audit_core.specs.declared.audit.AuditFault.{AuditFault}
 use Rattle.audit_core.specs.declared.audit.TheConstants.{READ_LENGTH}
 use Rattle.audit_core.specs.declared.verdict.Verdict.{Verdict}
-use Rattle.audit_core.specs.Audited.{IsMet}
+use Rattle.audit_core.specs.Audited.{MeetsItsEnd}
 
 -- an audit goes on while its reader may be read
 abbrev pub MayRead : LoggedReaderState → Result (Option Verdict) AuditFault → Type 0
@@ -20,8 +20,8 @@ MayRead reader (Err fault) = Unit {0}
 -- what came of these bytes, where the reader stands so: nothing yet, or an answer
 abbrev pub ReadBy : Bounds → List ℕ → LoggedReaderState → TraceState → Result (Option Verdict) AuditFault → Type 0
 ReadBy bounds input reader trace (Ok None) = IsTaking bounds input trace
-ReadBy bounds input reader trace (Ok (Some verdict)) = IsVerdict bounds input verdict × IsMet reader (Ok verdict)
-ReadBy bounds input reader trace (Err fault) = IsMet reader (Err fault)
+ReadBy bounds input reader trace (Ok (Some verdict)) = IsVerdict bounds input verdict × MeetsItsEnd reader (Ok verdict)
+ReadBy bounds input reader trace (Err fault) = MeetsItsEnd reader (Err fault)
 
 -- one read, and what came of it
 pub record ReadsOn (from to : LoggedReaderState) (old new : TraceState) (found : Result (Option Verdict) AuditFault) : Type 0 where

@@ -11,7 +11,7 @@ use Rattle.record_book.specs.Runs.{RunTells, GoesOn, Seats}
 use Rattle.record_book.specs.declared.run.ScriptAnswer.{ScriptAnswer}
 use Rattle.fdref.specs.Output.{last_line, told_line, told_lines}
 use Rattle.fdref.specs.declared.job_end.JobEnd.{JobEnd}
-use Rattle.fdref.specs.Replay.{IsOutput, ended_by}
+use Rattle.fdref.specs.Replay.{IsOutput, end_of_fault}
 
 -- one act more was run, and its lines stand after the others
 pub record RunsNext (old new : BookState) (seats after : Seats) (act : ScriptAct) (lines more : List ℕ) : Type 0 where
@@ -46,7 +46,7 @@ RunsScript limits text output = (acts : List ScriptAct) × (script text ≡ Ok a
 
 -- the end says why what was read gave no output: by its fault, or for want of memory
 abbrev pub FailsReading : Result (List ScriptAct) ScriptFault → JobEnd → Type 0
-FailsReading read end = (fault : ScriptFault) × (end ≡ ended_by fault) × ScriptFails fault read
+FailsReading read end = (fault : ScriptFault) × (end ≡ end_of_fault fault) × ScriptFails fault read
 
 -- the same of a text
 abbrev pub FailsAs : List ℕ → JobEnd → Type 0

@@ -9,11 +9,11 @@ use Rattle.fdref.specs.declared.job_end.JobEnd.{JobEnd}
 use Rattle.fdref.specs.declared.job_end.JobEnd.TheVariants as ended
 
 -- how a run ended that gave no report
-abbrev pub ended_by : RunFault → JobEnd
-ended_by fault.NoMemory = ended.NoMemory
-ended_by fault.NoThread = ended.NoThread
-ended_by fault.Missing = ended.MissingShare
-ended_by (fault.Disagree place) = ended.Disagree place
+abbrev pub end_without_report : RunFault → JobEnd
+end_without_report fault.NoMemory = ended.NoMemory
+end_without_report fault.NoThread = ended.NoThread
+end_without_report fault.Missing = ended.MissingShare
+end_without_report (fault.Disagree place) = ended.Disagree place
 
 -- a line was written, and the job ends so; or a front of the line was written, or memory ran out before
 abbrev pub WritesLine : List ℕ → JobEnd → Option (List ℕ) → Option (List ℕ) → JobEnd → Type 0

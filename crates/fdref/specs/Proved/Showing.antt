@@ -16,7 +16,7 @@ use Rattle.fdref.specs.Shown.{LinesState, first_lines, lines_from, next_lines}
 use Rattle.fdref.specs.declared.job_end.JobEnd.{JobEnd}
 use Rattle.fdref.specs.declared.job_end.JobEnd.TheVariants as ended
 use Rattle.fdref.specs.declared.shown.Form.{Form}
-use Rattle.fdref.specs.Show.{IsBroken, BeginsWith}
+use Rattle.fdref.specs.Show.{BreaksAt, BeginsWith}
 
 -- a piece of so many bytes was read, none only at the end
 pub record GivesPiece (old new : Option (List ℕ)) (buffer : List ℕ) (count : ℕ) : Type 0 where
@@ -74,7 +74,7 @@ pub record TakesBody (piece : List ℕ) (old new : ShownState) (text more : List
 -- what is found in bytes
 abbrev pub IsFound : List ℕ → List Record → ShownState → Option ℕ → Type 0
 IsFound bytes records new None = IsTaken bytes records new
-IsFound bytes records new (Some at) = IsBroken bytes records at
+IsFound bytes records new (Some at) = BreaksAt bytes records at
 
 -- a piece more, after whatever bytes without a fault
 pub record TakesPiece (piece : List ℕ) (old new : ShownState) (text more : List ℕ) (found : Option ℕ) : Type 0 where

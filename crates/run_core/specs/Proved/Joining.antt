@@ -4,7 +4,7 @@ use Rattle.record_book.specs.Seat.{SeatState}
 use Rattle.call_types.specs.declared.limits.Limits.{Limits}
 use Rattle.record_book.specs.Book.{BookState}
 use Rattle.byte_ledger.specs.Counted.{Counted}
-use Rattle.run_core.specs.Run.{ReportedSession, Streams, Gives, Connection, at_start, ServesEach, counted_by, IsClosing}
+use Rattle.run_core.specs.Run.{ReportedSession, Streams, GivesConnections, Connection, at_start, ServesEach, counted_by, IsClosing}
 
 -- the sessions that connections of these streams were served by, in order, and the shares of all their seats
 pub record IsJoined (always : Bool) (told : List Streams) (sessions : List ReportedSession) (shares : List Counted) : Type 0 where
@@ -20,4 +20,4 @@ pub record HasEnded (always : Bool) (limits : Option Limits) (coming later : Opt
   pub closing : IsClosing before book house
   pub told : List Streams
   pub joined : IsJoined always told ends shares
-  pub gives : Gives coming later told
+  pub gives : GivesConnections coming later told

@@ -1,7 +1,7 @@
 //! What becomes of a call that waits when the connection of its process is lost.
 
 ghost use Rattle.std.specs.Prelude.{◌≡◌, Some};
-ghost use Rattle.system_lock.specs.Kernel.{IsOpening};
+ghost use Rattle.system_lock.specs.Kernel.{AsksForASeat};
 
 use byte_ledger::ledgers::{Blanks, Ledgers};
 use call_types::act::Act;
@@ -53,7 +53,7 @@ fn opened<Rt: Wait, L: Ledgers>(
     kernel: &SystemLock<L>,
     request: Request,
 ) -> Option<Seat<L>>
-    requires { IsOpening request }
+    requires { AsksForASeat request }
 {
     match kernel.open(rt, kernel.admit(), request) {
         Ok(opened) => seated(opened),

@@ -2,7 +2,7 @@
 use Rattle.std.specs.Prelude.{◌≡◌, ◌≤◌, ℕ, ◌⊎◌, List, [], ◌∷◌, ◌++◌, Option, None, Some, Result, Ok, Err}
 use Rattle.std.specs.Result.{result_ok}
 use Rattle.record_book.specs.Seat.{Receipted, SeatState}
-use Rattle.system_lock.specs.Kernel.{Exits}
+use Rattle.system_lock.specs.Kernel.{HasItsExit}
 use Rattle.session_core.specs.declared.end.End.{End}
 use Rattle.session_core.specs.declared.end.End.TheVariants as end
 use Rattle.session_core.specs.declared.told.Told.{Told}
@@ -33,7 +33,7 @@ SendsLast old new why found = (SendsAll old new × (found ≡ end_of why)) ⊎ (
 
 -- the exit of a process is recorded, and its session has the wanted end; or the kernel does not know the seat
 abbrev pub HangsUp : SeatState → End → SeatState → End → Type 0
-HangsUp old wanted spent found = (Exits old spent × (found ≡ wanted)) ⊎ ((spent ≡ old) × (found ≡ end.Foreign))
+HangsUp old wanted spent found = (HasItsExit old spent × (found ≡ wanted)) ⊎ ((spent ≡ old) × (found ≡ end.Foreign))
 
 -- the same of a session that may have no process
 abbrev pub LeavesWith : Stage → End → Result SeatState (Unit {0}) → End → Type 0

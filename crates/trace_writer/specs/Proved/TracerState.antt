@@ -5,7 +5,7 @@ use Rattle.call_types.specs.declared.act.Record.{Record}
 use Rattle.call_types.specs.declared.limits.TheConstants.{RECORDS_MAX}
 use Rattle.frame_codec.specs.declared.encode.TheConstants.{RECORD_FRAME_MAX}
 use Rattle.frame_codec.specs.Trace.{trace_header, text}
-use Rattle.trace_writer.specs.Traces.{Tells}
+use Rattle.trace_writer.specs.Traces.{CountsFailures}
 use Rattle.trace_writer.specs.declared.traced.TraceFault.{TraceFault}
 use Rattle.trace_writer.specs.declared.traced.TraceFault.TheVariants as faults
 
@@ -28,7 +28,7 @@ pub record Writes (base now : Option (List ℕ)) (before after : ℕ) (unsent : 
   pub written_is : written ≡ length front
   pub unsent_is : fault ≡ None → unsent ≡ rest
   pub never_synced : fault ≡ Some faults.Sync → ⊥
-  pub tells : Tells fault before after
+  pub tells : CountsFailures fault before after
   pub torn : is_torn ≡ true → fault ≡ Some faults.NoMemory
   pub long : fault ≡ None → length (text received) ≤ length trace_header + RECORD_FRAME_MAX * length received
   pub few : length received ≤ RECORDS_MAX
