@@ -1,5 +1,5 @@
 -- What a session ends for is what its kernel said.
-use Rattle.std.proofs.Common.{◌≡◌, Option, None, Some, Result, Ok, Err, inl, inr, refl, sym, subst}
+use Rattle.std.proofs.Common.{◌≡◌, Option, Some, Result, Ok, Err, inl, inr, refl, sym, subst}
 use Rattle.call_types.specs.declared.refusal.Refusal.{Refusal}
 use Rattle.call_types.specs.declared.refusal.Refusal.TheVariants as refusal
 use Rattle.call_types.specs.declared.request.Request.{Request}
@@ -99,19 +99,6 @@ closed_said unopened ended seat old new found sends = sent_end unopened ended se
 
 pub foreign_said : (unopened : Request → Refusal → Type 0) (ended : SeatState → Why → Type 0) (is : Over) (seat : SeatState) → is ≡ over.Foreign seat → OverSaid unopened ended is → EndSaid unopened ended (Some seat) end.Foreign
 foreign_said unopened ended is seat same said = subst (OverSaid unopened ended) same said
-
--- what no seat was told of holds of each seat
-pub said_of_any : (unopened : Request → Refusal → Type 0) (ended : SeatState → Why → Type 0) (seat : Option SeatState) (found : End) → EndSaid unopened ended None found → EndSaid unopened ended seat found
-said_of_any unopened ended seat end.Closed said = tt
-said_of_any unopened ended seat end.ReadFault said = tt
-said_of_any unopened ended seat (end.WriteFault sent) said = tt
-said_of_any unopened ended seat end.Malformed said = tt
-said_of_any unopened ended seat end.Ahead said = tt
-said_of_any unopened ended seat end.RunFull (inl said) = inl said
-said_of_any unopened ended seat end.RunFull (inr none) = absurd none
-said_of_any unopened ended seat end.NoMemory said = tt
-said_of_any unopened ended seat end.Foreign said = absurd said
-said_of_any unopened ended seat end.NoThread said = tt
 
 -- a session that leaves off keeps its seat
 hung : (seat : SeatState) (wanted : End) (told : Result SeatState (Unit {0})) (left : LeftSession) → left.seat ≡ told → LeavesWith (stage.Ready seat) wanted told left.end → HangsUpSeat seat left
