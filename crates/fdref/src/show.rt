@@ -18,12 +18,10 @@ use frame_codec::decoder::{Decoder, Progress};
 use frame_codec::frame_kind::Records;
 use frame_codec::laws::pieces_go_on;
 use frame_codec::trace::TRACE_HEADER;
+use logged_streams::stream_log::INTERRUPTIONS_MAX;
 use std::alloc::{AllocError, Global};
 use std::io::{ErrorKind, Read, Write};
 use std::marker::Model;
-
-/// How many interruptions in a row are a fault.
-const INTERRUPTIONS_MAX: u32 = 16;
 
 /// Reads a piece of a trace: how many bytes it has, none at the end.
 fn read_piece<R: Read>(reader: &mut R, buffer: &mut [u8]) -> Result<usize, JobEnd>
