@@ -107,30 +107,47 @@ fn whole_in_front(bytes: u64) -> u64 {
     }
 }
 
-#[test]
-fn trace_is_written_at_once_and_synced(rt: HostRuntime) -> Result<(), Fail> {
-    let (sink, traced) = traced_by(&rt, rt.alloc(), Manner::sound())?;
-    assert_eq!(rt; sink.bytes(), TRACE.as_slice());
-    assert_eq!(rt; sink.writes(), 1);
-    assert_eq!(rt; sink.failures(), 0);
-    assert_eq!(rt; traced.whole, 3);
-    assert_eq!(rt; traced.bytes, 54);
-    assert_eq!(rt; traced.fault, None);
+/// Whether a sink has these bytes after so many writes and failures, and so many whole records, with this fault, are told of them. All
+/// three records were received.
+fn is_traced(
+    rt: &impl Abort,
+    ended: &(MemorySink, Traced),
+    bytes: &[u8],
+    writes: u64,
+    failures: u64,
+    whole: u64,
+    fault: Option<TraceFault>,
+) -> Result<(), Fail> {
+    let (sink, traced) = ended;
+    assert_eq!(rt; sink.bytes(), bytes);
+    assert_eq!(rt; sink.writes(), writes);
+    assert_eq!(rt; sink.failures(), failures);
+    assert_eq!(rt; traced.whole, whole);
+    assert_eq!(rt; traced.bytes, bytes.len() as u64);
+    assert_eq!(rt; traced.fault, fault);
     assert_eq!(rt; traced.received.len(), 3);
     Ok(())
 }
 
 #[test]
-fn long_records_are_written_while_others_come(rt: HostRuntime) -> Result<(), Fail> {
-    let alloc = rt.alloc();
-    let (first, second, third) = (
-        long_record(alloc)?,
-        long_record(alloc)?,
-        long_record(alloc)?,
-    );
+fn trace_is_written_at_once_and_synced(rt: HostRuntime) -> Result<(), Fail> {
+    let ended = traced_by(&rt, rt.alloc(), Manner::sound())?;
+    is_traced(&rt, &ended, TRACE.as_slice(), 1, 0, 3, None)
+}
+
+/// What becomes of three long records in a sink over memory that is sound.
+fn long_traced<R: Wait + Clock>(rt: &R, alloc: Global) -> Result<(MemorySink, Traced), Fail> {
+    let first = long_record(alloc)?;
+    let second = long_record(alloc)?;
+    let third = long_record(alloc)?;
     let mut end = ring_of(alloc, first, second, third)?;
     let sink = MemorySink::new(alloc, Manner::sound());
-    let (sink, traced) = write_trace(&rt, alloc, &mut end, sink);
+    Ok(write_trace(rt, alloc, &mut end, sink))
+}
+
+/// Whether three long records are whole after three writes.
+fn is_long(rt: &impl Abort, ended: &(MemorySink, Traced)) -> Result<(), Fail> {
+    let (sink, traced) = ended;
     assert_eq!(rt; sink.writes(), 3);
     assert_eq!(rt; traced.whole, 3);
     assert_eq!(rt; traced.bytes, 8 + 3 * 65_562);
@@ -139,58 +156,75 @@ fn long_records_are_written_while_others_come(rt: HostRuntime) -> Result<(), Fai
 }
 
 #[test]
+fn long_records_are_written_while_others_come(rt: HostRuntime) -> Result<(), Fail> {
+    let ended = long_traced(&rt, rt.alloc())?;
+    is_long(&rt, &ended)
+}
+
+#[test]
 fn sink_takes_thirty_bytes_and_fails(rt: HostRuntime) -> Result<(), Fail> {
-    let (sink, traced) = traced_by(&rt, rt.alloc(), Manner::failing_at(2, 30))?;
-    assert_eq!(rt; sink.bytes(), &TRACE[..30]);
-    assert_eq!(rt; sink.writes(), 2);
-    assert_eq!(rt; sink.failures(), 1);
-    assert_eq!(rt; traced.whole, 1);
-    assert_eq!(rt; traced.bytes, 30);
-    assert_eq!(rt; traced.fault, Some(TraceFault::Write));
-    assert_eq!(rt; traced.received.len(), 3);
-    Ok(())
+    let ended = traced_by(&rt, rt.alloc(), Manner::failing_at(2, 30))?;
+    is_traced(&rt, &ended, &TRACE[..30], 2, 1, 1, Some(TraceFault::Write))
+}
+
+/// The trace in a sink that takes byte by byte, and fails after so many, which are not all.
+fn fails_after<R: Wait + Clock + Abort>(rt: &R, alloc: Global, taken: u64) -> Result<(), Fail>
+    requires { taken < 54 }
+{
+    let ended = traced_by(rt, alloc, Manner::failing_at(taken + 1, 1))?;
+    let front = &TRACE[..taken as usize];
+    let fault = Some(TraceFault::Write);
+    is_traced(
+        rt,
+        &ended,
+        front,
+        taken + 1,
+        1,
+        whole_in_front(taken),
+        fault,
+    )
 }
 
 #[test]
 fn sink_fails_at_each_byte(rt: HostRuntime) -> Result<(), Fail> {
     for taken in 0u64..54 {
-        let (sink, traced) = traced_by(&rt, rt.alloc(), Manner::failing_at(taken + 1, 1))?;
-        assert_eq!(rt; sink.bytes(), &TRACE[..taken as usize]);
-        assert_eq!(rt; sink.writes(), taken + 1);
-        assert_eq!(rt; traced.whole, whole_in_front(taken));
-        assert_eq!(rt; traced.bytes, taken);
-        assert_eq!(rt; traced.fault, Some(TraceFault::Write));
-        assert_eq!(rt; traced.received.len(), 3);
+        fails_after(&rt, rt.alloc(), taken)?;
     }
-    let (sink, traced) = traced_by(&rt, rt.alloc(), Manner::failing_at(55, 1))?;
-    assert_eq!(rt; sink.bytes(), TRACE.as_slice());
-    assert_eq!(rt; sink.writes(), 54);
-    assert_eq!(rt; traced.whole, 3);
-    assert_eq!(rt; traced.fault, None);
-    Ok(())
+    let ended = traced_by(&rt, rt.alloc(), Manner::failing_at(55, 1))?;
+    is_traced(&rt, &ended, TRACE.as_slice(), 54, 0, 3, None)
 }
 
 #[test]
 fn sink_refuses_everything(rt: HostRuntime) -> Result<(), Fail> {
-    let (sink, traced) = traced_by(&rt, rt.alloc(), Manner::refusing())?;
-    assert_eq!(rt; sink.bytes().len(), 0);
-    assert_eq!(rt; sink.writes(), 1);
-    assert_eq!(rt; traced.whole, 0);
-    assert_eq!(rt; traced.bytes, 0);
-    assert_eq!(rt; traced.fault, Some(TraceFault::Write));
-    assert_eq!(rt; traced.received.len(), 3);
-    Ok(())
+    let ended = traced_by(&rt, rt.alloc(), Manner::refusing())?;
+    is_traced(&rt, &ended, &[], 1, 1, 0, Some(TraceFault::Write))
 }
 
 #[test]
 fn sink_fails_to_sync(rt: HostRuntime) -> Result<(), Fail> {
-    let (sink, traced) = traced_by(&rt, rt.alloc(), Manner::unsyncable())?;
-    assert_eq!(rt; sink.bytes(), TRACE.as_slice());
-    assert_eq!(rt; sink.failures(), 1);
-    assert_eq!(rt; traced.whole, 3);
-    assert_eq!(rt; traced.bytes, 54);
-    assert_eq!(rt; traced.fault, Some(TraceFault::Sync));
-    assert_eq!(rt; traced.received.len(), 3);
+    let ended = traced_by(&rt, rt.alloc(), Manner::unsyncable())?;
+    is_traced(
+        &rt,
+        &ended,
+        TRACE.as_slice(),
+        1,
+        1,
+        3,
+        Some(TraceFault::Sync),
+    )
+}
+
+/// Whether so many whole records and bytes, with this fault, are told of a trace.
+fn tells(
+    rt: &impl Abort,
+    traced: &Traced,
+    whole: u64,
+    bytes: u64,
+    fault: Option<TraceFault>,
+) -> Result<(), Fail> {
+    assert_eq!(rt; traced.whole, whole);
+    assert_eq!(rt; traced.bytes, bytes);
+    assert_eq!(rt; traced.fault, fault);
     Ok(())
 }
 
@@ -198,18 +232,12 @@ fn sink_fails_to_sync(rt: HostRuntime) -> Result<(), Fail> {
 fn full_device_takes_no_byte(rt: HostRuntime) -> Result<(), Fail> {
     let file = OpenOptions::new().write(true).open(&rt, "/dev/full")?;
     let traced = traced_in(&rt, rt.alloc(), FileSink::new(file))?;
-    assert_eq!(rt; traced.whole, 0);
-    assert_eq!(rt; traced.bytes, 0);
-    assert_eq!(rt; traced.fault, Some(TraceFault::Write));
-    Ok(())
+    tells(&rt, &traced, 0, 0, Some(TraceFault::Write))
 }
 
 #[test]
 fn null_device_takes_all_and_is_not_synced(rt: HostRuntime) -> Result<(), Fail> {
     let file = OpenOptions::new().write(true).open(&rt, "/dev/null")?;
     let traced = traced_in(&rt, rt.alloc(), FileSink::new(file))?;
-    assert_eq!(rt; traced.whole, 3);
-    assert_eq!(rt; traced.bytes, 54);
-    assert_eq!(rt; traced.fault, Some(TraceFault::Sync));
-    Ok(())
+    tells(&rt, &traced, 3, 54, Some(TraceFault::Sync))
 }
