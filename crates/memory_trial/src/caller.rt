@@ -70,6 +70,23 @@ fn told<'a>(
     }
 }
 
+/// What is told of a resume.
+fn resumed<'a>(
+    actor: u32,
+    act: &'a ScriptAct,
+    resumed: Result<Resumed, Refusal>,
+) -> ScriptAnswer<'a> {
+    match resumed {
+        Ok(Resumed::Recorded(receipt)) => ScriptAnswer::Recorded(receipt),
+        Ok(Resumed::Still) => ScriptAnswer::Still { actor, act },
+        Err(refusal) => ScriptAnswer::Refused {
+            actor,
+            act,
+            refusal,
+        },
+    }
+}
+
 /// What is told of a closing.
 fn close<'a, L: Ledgers>(book: &mut Book<L>, act: &'a ScriptAct) -> ScriptAnswer<'a> {
     match book.close_run() {
@@ -207,14 +224,11 @@ impl<L: Ledgers> Caller<L> {
             ScriptAct::Call { process, call } => {
                 told(*process, act, self.call(alloc, book, *process, call))
             }
-            ScriptAct::Resume { process } => match self.resume(alloc, book, *process) {
-                Ok(Resumed::Recorded(receipt)) => Ok(ScriptAnswer::Recorded(receipt)),
-                Ok(Resumed::Still) => Ok(ScriptAnswer::Still {
-                    actor: *process,
-                    act,
-                }),
-                Err(refusal) => told(*process, act, Err(Unrecorded::Refused(refusal))),
-            },
+            ScriptAct::Resume { process } => Ok(resumed(
+                *process,
+                act,
+                self.resume(alloc, book, *process),
+            )),
             ScriptAct::Exit { process } => told(*process, act, self.exit(book, *process)),
             ScriptAct::CloseRun => Ok(close(book, act)),
         }

@@ -67,6 +67,31 @@ impl<L: Ledgers> Run<L> {
         })
     }
 
+    /// Whether an act for which memory was wanting may be given again: it takes memory, and left all as it was before.
+    fn may_be_given_again(&self, act: &ScriptAct, before: &Stand) -> Result<(), TrialFault> {
+        if is_end(act) {
+            return Err(TrialFault::EndRefused { act: self.acts });
+        }
+        if Stand::of(&self.book, &self.giver) != *before {
+            return Err(TrialFault::Changed { act: self.acts });
+        }
+        Ok(())
+    }
+
+    /// Gives an act to the book once more.
+    fn give_again<'a>(
+        &mut self,
+        alloc: Global,
+        act: &'a ScriptAct,
+    ) -> Result<ScriptAnswer<'a>, TrialFault> {
+        self.again = self.again.saturating_add(1);
+        let told = self.giver.give(alloc, &mut self.book, act)?;
+        if is_wanting(&told) {
+            return Err(TrialFault::RefusedTwice { act: self.acts });
+        }
+        Ok(told)
+    }
+
     /// Gives an act to the book; where memory is wanting, it must have left all as it was, and is given again.
     fn give<'a>(
         &mut self,
@@ -78,18 +103,9 @@ impl<L: Ledgers> Run<L> {
         if !is_wanting(&told) {
             return Ok(told);
         }
-        if is_end(act) {
-            return Err(TrialFault::EndRefused { act: self.acts });
-        }
-        if Stand::of(&self.book, &self.giver) != before {
-            return Err(TrialFault::Changed { act: self.acts });
-        }
-        self.again = self.again.saturating_add(1);
-        let told = self.giver.give(alloc, &mut self.book, act)?;
-        if is_wanting(&told) {
-            return Err(TrialFault::RefusedTwice { act: self.acts });
-        }
-        Ok(told)
+        drop(told);
+        self.may_be_given_again(act, &before)?;
+        self.give_again(alloc, act)
     }
 
     /// Gives the next act to the book, and gathers its lines.
@@ -124,6 +140,20 @@ fn give_all<L: Ledgers>(
     Ok(())
 }
 
+/// Gives the acts of a script to the book of a run, and gathers its lines and the line of totals.
+fn run_script<L: Ledgers>(alloc: Global, text: &[u8], run: &mut Run<L>) -> Result<(), TrialFault> {
+    let mut script = Script::new(text)?;
+    give_all(alloc, &mut script, run)?;
+    let counts = run.book.counts();
+    write_totals(
+        &mut run.lines,
+        counts.records,
+        counts.bytes_in,
+        counts.bytes_out,
+    )?;
+    Ok(())
+}
+
 /// The run of the script that a reader gives, counted by these ledgers, whose acts are given in this way.
 pub(crate) fn tried<R: Read + Drop, L: Ledgers>(
     alloc: Global,
@@ -135,16 +165,8 @@ pub(crate) fn tried<R: Read + Drop, L: Ledgers>(
     requires { blanks ≡ L.names }
 {
     let text = read_text(alloc, reader)?;
-    let mut script = Script::new(text.as_slice())?;
     let mut run = Run::<L>::new(alloc, way, limits, blanks)?;
-    give_all(alloc, &mut script, &mut run)?;
-    let counts = run.book.counts();
-    write_totals(
-        &mut run.lines,
-        counts.records,
-        counts.bytes_in,
-        counts.bytes_out,
-    )?;
+    run_script(alloc, text.as_slice(), &mut run)?;
     Ok(Ran {
         lines: run.lines,
         again: run.again,
