@@ -1,8 +1,8 @@
 """A run of two sessions over memory, by a program that is refused its allocations in turn.
 
 Each session joins and asks about a descriptor that is not open. A gate holds the answer at place 0 back until an answer
-of the other session was let through. With nothing refused there are two joins, two calls, two exits and the closing,
-and each session gives two answers.
+of the other session was let through. With nothing refused there are two joins, two calls, two exits and the closing, and
+each session gives two answers.
 """
 
 import collections
@@ -35,10 +35,6 @@ NO_RECORD, NO_SESSION, NO_WRITE, NO_TRACE = "a call refused", "a session ended",
 NO_READER = "a thread that reads not started"
 HELD = "a session held back"
 ENDS += [NO_RECORD, NO_SESSION, NO_WRITE, NO_TRACE, NO_READER, HELD]
-
-# A run that was made again, and how often one is made at most.
-AGAIN = "made again"
-TRIES = 5
 
 NOTHING_SENT = "WriteFault { sent: 0 }"
 
@@ -84,12 +80,6 @@ def records_of(end: End) -> range:
     return range(0, 4)
 
 
-def is_impatient(report: Report) -> bool:
-    """Whether an answer is held back for good although all of the other session's were let through: these came late."""
-    one, other = report.ends
-    return (one.is_held and other.how == "Closed") or (other.is_held and one.how == "Closed")
-
-
 def is_right(report: Report) -> None:
     """A report whose numbers go together."""
     counts = [records_of(end) for end in report.ends]
@@ -99,10 +89,10 @@ def is_right(report: Report) -> None:
     if report.fault is None:
         same(report.records, report.traced)
     require(report.traced <= report.records, f"{report.traced} records in the trace, of {report.records}")
-    require(not is_impatient(report), "an answer is held back though all of the other session's were let through")
-    for end in report.ends:
+    for end, other in zip(report.ends, reversed(report.ends), strict=True):
         if end.is_held:
             same(NOTHING_SENT, end.how)
+            require(other.how != "Closed", "an answer is held back though all of the other session's were let through")
 
 
 def faults_of(report: Report) -> list[str]:
@@ -125,29 +115,15 @@ class Runs:
         self.ways: collections.Counter[str] = collections.Counter()
         self.allocations = 0
 
-    def report(self, first: int, last: int) -> Report | list[str]:
-        """What one run with these allocations refused tells, or how it ended without a report."""
+    def run(self, first: int, last: int) -> list[str]:
+        """One run with its allocations from `first` to `last` refused: how it ended."""
         ran, self.allocations = self.refuser.run(self.words, b"", first, last)
         if ran == NO_MEMORY:
             return ["no memory"]
         if ran == NO_THREAD:
             return ["no thread"]
         require(ran.status == 0 and not ran.stderr, ran.said())
-        return report_in(ran.stdout.decode())
-
-    def run(self, first: int, last: int) -> list[str]:
-        """One run with its allocations from `first` to `last` refused: how it ended.
-
-        The gate is asked so many times and not so long, and on a busy machine the other session's thread may get no
-        processor meanwhile. Such a run is made again.
-        """
-        for _ in range(TRIES):
-            report = self.report(first, last)
-            if isinstance(report, list):
-                return report
-            if not is_impatient(report):
-                break
-            self.ways[AGAIN] += 1
+        report = report_in(ran.stdout.decode())
         is_right(report)
         self.ways[HELD] += any(end.is_held for end in report.ends)
         return faults_of(report) or ["a whole report"]
