@@ -80,7 +80,7 @@ pub enum Call {
 }
 
 impl Call {
-    ghost use Rattle.std.specs.Prelude.{◌≡◌};
+    ghost use Rattle.std.specs.Prelude.{◌≡◌, ◌↔◌, true};
     ghost use Rattle.std.specs.Option.{option_copied};
     ghost use Rattle.call_types.specs.CallTable.{payload_of};
 
@@ -122,6 +122,39 @@ impl Call {
                 let _bytes = name.as_slice();
             }
             _ => {}
+        }
+    }
+
+    /// Whether this is the same call as another, with the same arguments.
+    pub fn is_same(&self, other: &Call) -> bool
+        ensures { (result ≡ true) ↔ (self.now ≡ other.now) }
+    {
+        match self {
+            Call::Open { name, flags } =>
+                matches!(other, Call::Open { name: n, flags: f } if name.is_same(n) && *flags == *f),
+            Call::Close { fd } => matches!(other, Call::Close { fd: f } if *fd == *f),
+            Call::Read { fd, count } =>
+                matches!(other, Call::Read { fd: f, count: c } if *fd == *f && *count == *c),
+            Call::Write { fd, bytes } =>
+                matches!(other, Call::Write { fd: f, bytes: b } if *fd == *f && bytes.is_same(b)),
+            Call::Pread { fd, start, count } =>
+                matches!(other, Call::Pread { fd: f, start: s, count: c } if *fd == *f && *start == *s && *count == *c),
+            Call::Pwrite { fd, start, bytes } =>
+                matches!(other, Call::Pwrite { fd: f, start: s, bytes: b } if *fd == *f && *start == *s && bytes.is_same(b)),
+            Call::Lseek { fd, offset, whence } =>
+                matches!(other, Call::Lseek { fd: f, offset: o, whence: w } if *fd == *f && *offset == *o && *whence == *w),
+            Call::Ftruncate { fd, len } =>
+                matches!(other, Call::Ftruncate { fd: f, len: l } if *fd == *f && *len == *l),
+            Call::Dup { fd } => matches!(other, Call::Dup { fd: f } if *fd == *f),
+            Call::Dup2 { fd, to } =>
+                matches!(other, Call::Dup2 { fd: f, to: t } if *fd == *f && *to == *t),
+            Call::Pipe => matches!(other, Call::Pipe),
+            Call::Mkfifo { name } => matches!(other, Call::Mkfifo { name: n } if name.is_same(n)),
+            Call::Link { old, new } =>
+                matches!(other, Call::Link { old: o, new: n } if old.is_same(o) && new.is_same(n)),
+            Call::Unlink { name } => matches!(other, Call::Unlink { name: n } if name.is_same(n)),
+            Call::Fstat { fd } => matches!(other, Call::Fstat { fd: f } if *fd == *f),
+            Call::Fork => matches!(other, Call::Fork),
         }
     }
 }
