@@ -1,4 +1,4 @@
--- What acts come to is sound: a lemma for each call that does not wait.
+-- What acts come to is sound: lemmas of calls that do not wait.
 use Rattle.std.proofs.Common.{rules, ◌≡◌, ◌∙◌, ℕ, zero, suc, replicate, ℤ, pos, negsuc, nat_abs, ◌+◌, ◌-◌, ◌<◌, ◌≤◌, ◌≢◌, Bool, true, false, not, ◌&&◌, ◌||◌, cond, List, [], ◌∷◌, ◌++◌, Option, None, Some, length, length-set, set, refl, ap, sym, subst, arith, leb, ltb, eqb}
 use Rattle.std.specs.Option.{option_map, is_some, is_none, unwrap_or}
 use Rattle.std.specs.List.{All}
@@ -29,7 +29,6 @@ use Rattle.posix_model.specs.Close.{close}
 use Rattle.posix_model.specs.Read.{read_faults, gives}
 use Rattle.posix_model.specs.Write.{is_past_limit, write_faults, write_file, fitting}
 use Rattle.posix_model.specs.Pwrite.{pwrite_faults, pwrite}
-use Rattle.posix_model.specs.Lseek.{lseek_faults, lseek_to}
 use Rattle.posix_model.specs.Ftruncate.{ftruncate_faults, ftruncate}
 use Rattle.posix_model.specs.Dup.{dup}
 use Rattle.posix_model.specs.Dup2.{is_no_descriptor, dup2}
@@ -119,7 +118,7 @@ opened_stands w p (pos fd) o h = open_in w p fd (slot w.processes p) o refl h
 opened_stands w p (negsuc n) o h = cc
 
 -- the offset that a call on a descriptor moves is that of its own description
-own_offset : (w : World) (p : ℕ) (fd : ℤ) (o : OpenDescriptor) (n : ℕ) → opened w p fd ≡ Some o → Some o.number ≡ Some n → number_of w p fd ≡ Some n
+pub own_offset : (w : World) (p : ℕ) (fd : ℤ) (o : OpenDescriptor) (n : ℕ) → opened w p fd ≡ Some o → Some o.number ≡ Some n → number_of w p fd ≡ Some n
 own_offset w p fd o n is h = ap (option_map (λ x. x.number)) is ∙ h
 
 -- the file of a descriptor that is open on a regular one is there
@@ -254,28 +253,6 @@ sound_pwrite bounds w p fd start bytes o is free =
       within_files = put.1;
       within_table = λ _ _. tt;
     })
-
--- a place that is not before the start of a file, and not past the greatest offset
-sought_within : (to : ℤ) (o : OpenDescriptor) → first_fault (lseek_faults to o) ≡ None → nat_abs to ≤ OFFSET_MAX
-sought_within (pos n) o free = not_below OFFSET_MAX n (unmet (lseek_faults (pos n) o) free (ltb OFFSET_MAX n) (search rules))
-sought_within (negsuc n) o free = let none = unmet (lseek_faults (negsuc n) o) free true (search rules) in cc
-
-pub sound_lseek : (bounds : Bounds) (w : World) (p : ℕ) (fd offset : ℤ) (from : Whence) (to : ℤ) (o : OpenDescriptor) → opened w p fd ≡ Some o → first_fault (lseek_faults to o) ≡ None →
-    Answers bounds w p (call.Lseek fd offset from) (lseek_to to o).effect
-sound_lseek bounds w p fd offset from to o is free = record {
-  refusal = λ _ _ h. cc;
-  processes = as_before w refl refl refl refl;
-  own = λ n h. own_offset w p fd o n is h;
-  files = λ _. record { files = λ _. refl; table = refl };
-  pipes = λ _. record { files = refl; made = refl; opened = refl };
-  brief = λ _. omega arith;
-  few = omega arith;
-  proper = λ _. record { files = tt; process = tt; table = tt };
-  fits = λ _. record { files = tt; process = tt; table = ap is_some (opened_stands w p fd o is).description_is; alone = λ h. cc; goes_alone = λ h. cc };
-  puts = tt;
-  within_files = tt;
-  within_table = λ _ _. sought_within to o free;
-}
 
 pub sound_ftruncate : (bounds : Bounds) (w : World) (p : ℕ) (fd len : ℤ) (o : OpenDescriptor) → IsOpenAt w p o → first_fault (ftruncate_faults bounds len o) ≡ None →
     Answers bounds w p (call.Ftruncate fd len) (ftruncate bounds len o).effect

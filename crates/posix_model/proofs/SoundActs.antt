@@ -1,5 +1,5 @@
 -- What acts come to is sound: one case for each call and act.
-use Rattle.std.proofs.Common.{rules, ◌≡◌, ℕ, pos, ◌≤◌, Bool, true, false, not, ◌&&◌, cond, Option, None, Some, length, refl, subst, arith, eqb, ltb}
+use Rattle.std.proofs.Common.{rules, ◌≡◌, ℕ, ℤ, pos, negsuc, nat_abs, ◌≤◌, Bool, true, false, not, ◌&&◌, cond, Option, None, Some, length, refl, ap, subst, arith, eqb, ltb}
 use Rattle.std.specs.Prelude.{◌+ℤ◌}
 use Rattle.std.specs.Option.{is_some}
 use Rattle.call_types.specs.declared.act.TheConstants.{HOUSE}
@@ -8,7 +8,7 @@ use Rattle.call_types.specs.declared.call.Call.TheVariants as call
 use Rattle.call_types.specs.Names.{file_of}
 use Rattle.slots.specs.Slots.{slot}
 use Rattle.process_table.specs.Processes.{free_table, copied_table, awaits}
-use Rattle.posix_model.specs.Types.{Act, Bounds, World, Process, ProcessEdit, Decided, TRANSFER_MAX, Replied, Data, Done, StatReply}
+use Rattle.posix_model.specs.Types.{Act, Bounds, World, Process, ProcessEdit, Decided, OpenDescriptor, Whence, OFFSET_MAX, TRANSFER_MAX, Replied, Data, Done, StatReply}
 use Rattle.posix_model.specs.Bytes.{bytes_at}
 use Rattle.posix_model.specs.Proved.Whole.{IsWhole}
 use Rattle.posix_model.specs.Kept.{IsThere}
@@ -16,14 +16,14 @@ use Rattle.posix_model.specs.Descriptors.{opened, bytes_of}
 use Rattle.posix_model.specs.Positions.{bytes_before, file_at}
 use Rattle.posix_model.specs.Pipes.{pipe_at}
 use Rattle.posix_model.specs.Proved.Fits.{ProcessFits, ProcessProper}
-use Rattle.posix_model.specs.Pages.{acts, decided_by}
+use Rattle.posix_model.specs.Pages.{first_fault, acts, decided_by}
 use Rattle.posix_model.specs.Open.{open_file}
 use Rattle.posix_model.specs.Close.{close}
 use Rattle.posix_model.specs.Read.{read}
 use Rattle.posix_model.specs.Write.{write_start, write}
 use Rattle.posix_model.specs.Pread.{pread_faults, pread}
 use Rattle.posix_model.specs.Pwrite.{pwrite}
-use Rattle.posix_model.specs.Lseek.{base_of, lseek}
+use Rattle.posix_model.specs.Lseek.{base_of, lseek_faults, lseek_to, lseek}
 use Rattle.posix_model.specs.Ftruncate.{ftruncate}
 use Rattle.posix_model.specs.Dup.{dup}
 use Rattle.posix_model.specs.Dup2.{dup2}
@@ -40,8 +40,31 @@ use Rattle.posix_model.specs.Turns.{took}
 use Rattle.posix_model.specs.Proved.Sound.{data_of, IsTold, Sound, CallsAreSound, ActsAreSound}
 use Rattle.posix_model.specs.declared.change.ProcessEdit.TheVariants as on_process
 use Rattle.posix_model.proofs.PageLaws.{page_has, on_open_has, unmet}
-use Rattle.posix_model.proofs.Sound.{Answers, as_before, sound_tells, sound_refused, opened_stands, not_false, not_below, read_few, sound_close, sound_pwrite, sound_lseek, sound_ftruncate, sound_dup, sound_dup2, can_open, sound_open, sound_pipe, sound_mkfifo, sound_link, sound_unlink, sound_adds, free_can, copied_can}
+use Rattle.posix_model.proofs.Sound.{Answers, as_before, sound_tells, sound_refused, opened_stands, own_offset, not_false, not_below, read_few, sound_close, sound_pwrite, sound_ftruncate, sound_dup, sound_dup2, can_open, sound_open, sound_pipe, sound_mkfifo, sound_link, sound_unlink, sound_adds, free_can, copied_can}
 use Rattle.posix_model.proofs.SoundTries.{sound_read, sound_write, sound_resume}
+
+-- a place that is not before the start of a file, and not past the greatest offset
+sought_within : (to : ℤ) (o : OpenDescriptor) → first_fault (lseek_faults to o) ≡ None → nat_abs to ≤ OFFSET_MAX
+sought_within (pos n) o free = not_below OFFSET_MAX n (unmet (lseek_faults (pos n) o) free (ltb OFFSET_MAX n) (search rules))
+sought_within (negsuc n) o free = let none = unmet (lseek_faults (negsuc n) o) free true (search rules) in cc
+
+-- what lseek comes to sets the offset of the descriptor's own description, within all offsets
+sound_lseek : (bounds : Bounds) (w : World) (p : ℕ) (fd offset : ℤ) (from : Whence) (to : ℤ) (o : OpenDescriptor) → opened w p fd ≡ Some o → first_fault (lseek_faults to o) ≡ None →
+    Answers bounds w p (call.Lseek fd offset from) (lseek_to to o).effect
+sound_lseek bounds w p fd offset from to o is free = record {
+  refusal = λ _ _ h. cc;
+  processes = as_before w refl refl refl refl;
+  own = λ n h. own_offset w p fd o n is h;
+  files = λ _. record { files = λ _. refl; table = refl };
+  pipes = λ _. record { files = refl; made = refl; opened = refl };
+  brief = λ _. omega arith;
+  few = omega arith;
+  proper = λ _. record { files = tt; process = tt; table = tt };
+  fits = λ _. record { files = tt; process = tt; table = ap is_some (opened_stands w p fd o is).description_is; alone = λ h. cc; goes_alone = λ h. cc };
+  puts = tt;
+  within_files = tt;
+  within_table = λ _ _. sought_within to o free;
+}
 
 -- one case for each call
 pub calls_are_sound : CallsAreSound
