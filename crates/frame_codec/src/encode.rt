@@ -1,8 +1,7 @@
 //! Requests, answers and records as whole frames. A frame's length stands before its payload, so it is counted first.
 #![tactic(auto, using(crate::proofs::Fronts::keeps_after), unfolding(crate::specs::Fields::number_bytes))]
 
-ghost use Rattle.std.specs.Prelude.{◌≡◌, ◌+◌, ◌≤◌, ◌++◌, ◌∷◌, length};
-ghost use Rattle.std.specs.Int.{w64};
+ghost use Rattle.std.specs.Prelude.{◌≡◌, ◌+◌, ◌≤◌, length};
 ghost use Rattle.call_types.specs.Writing.{Appends};
 ghost use Rattle.call_types.specs.declared.request.Request.TheVariants as requests;
 ghost use Rattle.frame_codec.specs.declared.answer.Answer.TheVariants as answers;
@@ -14,8 +13,8 @@ ghost use Rattle.frame_codec.specs.Frames.{frame};
 
 use crate::answer::Answer;
 use crate::begun::HEAD;
+use crate::calls::{encode_call, fields_bytes};
 use crate::put::{put_byte, put_u32, put_u64};
-use crate::written_calls::{encode_call, fields_bytes};
 use crate::written_outcomes::{put_outcome, put_refusal};
 use call_types::act::{Act, Record};
 use call_types::outcome::{Outcome, Reply};

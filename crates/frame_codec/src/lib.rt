@@ -4,7 +4,7 @@
 pub mod answer;
 mod answers;
 mod begun;
-mod calls;
+pub mod calls;
 pub mod decoder;
 pub mod encode;
 pub mod fault;
@@ -16,5 +16,4 @@ mod put;
 mod records;
 mod requests;
 pub mod trace;
-pub mod written_calls;
 pub mod written_outcomes;

@@ -1,7 +1,7 @@
 //! Numbers and counted bytes, appended to a frame.
 #![tactic(auto, using(crate::proofs::Fronts::keeps), unfolding(crate::specs::Fields::number_bytes))]
 
-ghost use Rattle.std.specs.Prelude.{◌≡◌, ◌<◌, ◌^◌, ◌∷◌, [], length, replicate};
+ghost use Rattle.std.specs.Prelude.{◌<◌, ◌^◌, ◌∷◌, [], length, replicate};
 ghost use Rattle.std.specs.Int.{w32, w64, cast_unsigned};
 ghost use Rattle.call_types.specs.Proved.Stored.{span_bytes};
 ghost use Rattle.call_types.specs.Writing.{Appends};

@@ -1,7 +1,7 @@
 use Rattle.std.proofs.Common.{◌+◌, ℕ, length, ap, arith}
 use Rattle.call_types.specs.CallTable.{parts, fields_length}
 use Rattle.call_types.specs.declared.call.Call.{Call}
-use Rattle.frame_codec.proofs.written_calls.fields_bytes.Goals as goal
+use Rattle.frame_codec.proofs.calls.fields_bytes.Goals as goal
 
 abbrev taken : Call → ℕ
 taken call = 1 + fields_length (parts call).entry.fields (parts call).values
