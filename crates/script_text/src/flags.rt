@@ -3,7 +3,7 @@
 ghost use Rattle.std.specs.Prelude.{◌≡◌, ◌≤◌, ◌++◌, bit_or, length};
 ghost use Rattle.std.specs.Option.{option_map};
 ghost use Rattle.script_text.specs.Lines.{mode_word, suffix, flags_word};
-ghost use Rattle.script_text.specs.ReadingFlags.{flags_of, after_mode, with_suffix};
+ghost use Rattle.script_text.specs.ReadingFlags.{flags_of, after_r, after_mode, with_suffix};
 ghost use Rattle.script_text.specs.Proved.Room.{HasRoom, UsesRoom};
 
 use crate::put::put;
@@ -48,16 +48,22 @@ fn mode_and_suffixes(mode: OpenFlags, rest: &[u8]) -> Option<OpenFlags>
     rest.is_empty().then_some(flags)
 }
 
+/// The flags of a word, by what follows its `r`.
+fn after_r(rest: &[u8]) -> Option<OpenFlags>
+    ensures { option_map (λ flags. flags.0) result ≡ after_r rest.now }
+{
+    match rest {
+        [b'w', rest @ ..] => mode_and_suffixes(with_flag(OpenFlags::READ, OpenFlags::WRITE), rest),
+        _ => mode_and_suffixes(OpenFlags::READ, rest),
+    }
+}
+
 /// The flags that a word spells.
 pub(crate) fn flags_value(word: &[u8]) -> Option<OpenFlags>
     ensures { option_map (λ flags. flags.0) result ≡ flags_of word.now }
 {
     match word {
-        [b'r', b'w', rest @ ..] => mode_and_suffixes(
-            with_flag(OpenFlags::READ, OpenFlags::WRITE),
-            rest,
-        ),
-        [b'r', rest @ ..] => mode_and_suffixes(OpenFlags::READ, rest),
+        [b'r', rest @ ..] => after_r(rest),
         [b'w', rest @ ..] => mode_and_suffixes(OpenFlags::WRITE, rest),
         [b'-', rest @ ..] => mode_and_suffixes(OpenFlags::empty(), rest),
         _ => None,

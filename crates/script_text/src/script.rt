@@ -1,6 +1,6 @@
 //! Reading a script, act by act.
 
-ghost use Rattle.std.specs.Prelude.{◌≡◌, ◌<◌, ◌∷◌, [], List, true, is_some, IfOk};
+ghost use Rattle.std.specs.Prelude.{◌≡◌, ◌<◌, ◌∷◌, [], true, is_some, IfOk};
 ghost use Rattle.script_text.specs.ReadingCalls.{reading};
 ghost use Rattle.script_text.specs.ReadingScripts.{numbered};
 ghost use Rattle.call_types.specs.declared.act.ScriptAct.{ScriptAct};
