@@ -153,11 +153,24 @@ fn frame_at_fault_is_told_by_its_place(rt: HostRuntime) -> Result<(), Fail> {
         said_after(alloc, &[0, 0, 0, 6, 0, 0, 0, 0, 5, 1])?,
         Said::Malformed(54)
     );
-    // The house closes the run; once it is closed, nobody does so again.
-    let closing = [0, 0, 0, 6, 255, 255, 255, 255, 5, 1];
-    assert_eq!(rt; said_after(alloc, &closing)?, Said::Legal(4, 0));
-    let mut twice = Vec::from_slice(alloc, closing.as_slice())?;
-    twice.extend_from_slice(closing.as_slice())?;
+    Ok(())
+}
+
+/// The frame in which the house closes the run.
+const CLOSING: [u8; 10] = [0, 0, 0, 6, 255, 255, 255, 255, 5, 1];
+
+/// That frame twice.
+fn closed_twice(alloc: Global) -> Result<Vec<u8>, AllocError> {
+    let mut twice = Vec::from_slice(alloc, CLOSING.as_slice())?;
+    twice.extend_from_slice(CLOSING.as_slice())?;
+    Ok(twice)
+}
+
+#[test]
+fn run_is_closed_once(rt: HostRuntime) -> Result<(), Fail> {
+    let alloc = rt.alloc();
+    assert_eq!(rt; said_after(alloc, CLOSING.as_slice())?, Said::Legal(4, 0));
+    let twice = closed_twice(alloc)?;
     assert_eq!(rt; said_after(alloc, twice.as_slice())?, Said::Nothing(4));
     Ok(())
 }
@@ -228,16 +241,19 @@ fn trace_is_read_in_any_pieces(rt: HostRuntime) -> Result<(), Fail> {
 }
 
 #[test]
-fn reads_are_counted(rt: HostRuntime) -> Result<(), Fail> {
+fn reads_are_counted(rt: HostRuntime) {
     let mut reader = LoggedReader::new(SlowReader::new(99, 15));
     assert!(rt; audit(rt.alloc(), &mut reader).is_ok());
     assert_eq!(rt; reader.log().calls(), 55 * 16);
     assert_eq!(rt; reader.log().interruptions(), 0);
     assert!(rt; !reader.log().has_failed());
     assert_eq!(rt; reader.into_parts().0.given, 54);
+}
+
+#[test]
+fn read_that_fails_is_counted(rt: HostRuntime) {
     let mut reader = LoggedReader::new(SlowReader::new(0, 0));
     assert!(rt; audit(rt.alloc(), &mut reader).is_err());
     assert_eq!(rt; reader.log().calls(), 1);
     assert!(rt; reader.log().has_failed());
-    Ok(())
 }

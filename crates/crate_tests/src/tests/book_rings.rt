@@ -65,64 +65,76 @@ fn sums<L: Ledgers>(book: &ClosedBook<L>) -> (u64, u64, u64) {
 }
 
 /// Whether the book of the script is closed, and all its records come out of its ring.
-fn is_traced<L: Ledgers>(book: Book<L>, end: &mut TraceEnd) -> bool {
-    match book.end_trace() {
-        Ok(closed) => sums(&closed) == (8, 3, 2) && closed.len() == 8 && has_all(end, &closed),
+fn is_traced<L: Ledgers>(ended: &Result<ClosedBook<L>, Book<L>>, end: &mut TraceEnd) -> bool {
+    match ended {
+        Ok(closed) => sums(closed) == (8, 3, 2) && closed.len() == 8 && has_all(end, closed),
         Err(_) => false,
     }
 }
 
-/// Runs the script in a book whose reading end is taken.
-fn traces_all<L: Ledgers>(rt: &impl Abort, alloc: Global, book: Book<L>) -> Result<(), Fail> {
-    let mut book = book;
-    match book.trace_end() {
-        Some(mut end) => {
-            run(alloc, &mut book)?;
-            assert!(rt; is_traced(book, &mut end));
-        }
-        None => Err("the reading end is there")?,
-    }
-    Ok(())
-}
-
-/// The same, in a new book.
-fn traces<L: Ledgers>(rt: &impl Abort, alloc: Global, blanks: Blanks) -> Result<(), Fail>
-    requires { blanks ≡ L.names }
-{
-    let book = Book::<L>::new(alloc, Limits::new(20)?, blanks)?;
-    traces_all(rt, alloc, book)
-}
-
-#[test]
-fn records_come_out_of_the_ring_in_their_order(rt: HostRuntime) -> Result<(), Fail> {
-    traces::<Brand>(&rt, rt.alloc(), Blanks::new())
-}
-
-/// Whether the reading end of a book is given once.
-fn gives_its_end_once<L: Ledgers>(book: &mut Book<L>) -> bool {
-    book.trace_end().is_some() && book.trace_end().is_none() && book.trace_end().is_none()
-}
-
 /// Whether the book of a run that is open, with one record, is given back.
-fn is_given_back<L: Ledgers>(book: Book<L>) -> bool {
-    match book.end_trace() {
+fn is_given_back<L: Ledgers>(ended: &Result<ClosedBook<L>, Book<L>>) -> bool {
+    match ended {
         Ok(_) => false,
         Err(book) => book.counts().records == 1,
     }
 }
 
-/// The reading end and the end of the trace, in a new book.
-fn stays_open<L: Ledgers>(rt: &impl Abort, alloc: Global, blanks: Blanks) -> Result<(), Fail>
+/// The reading end of a new book, which is given once.
+fn taken_end<L: Ledgers>(rt: &impl Abort, book: &mut Book<L>) -> Result<TraceEnd, Fail> {
+    match book.trace_end() {
+        Some(end) => {
+            assert!(rt; book.trace_end().is_none() && book.trace_end().is_none());
+            Ok(end)
+        }
+        None => Err("the reading end is there")?,
+    }
+}
+
+/// Runs the script to its closing, or only a join, and returns the reading end, which is taken before.
+fn gone_on<L: Ledgers>(
+    rt: &impl Abort,
+    alloc: Global,
+    book: &mut Book<L>,
+    closes: bool,
+) -> Result<TraceEnd, Fail> {
+    let end = taken_end(rt, book)?;
+    if closes {
+        run(alloc, book)?;
+    } else if book.join(alloc).is_err() {
+        return Err("there is room for a process")?;
+    }
+    Ok(end)
+}
+
+/// What a new book has at the end of its trace, whether its run is closed or not.
+fn ends<L: Ledgers>(
+    rt: &impl Abort,
+    alloc: Global,
+    blanks: Blanks,
+    closes: bool,
+) -> Result<(), Fail>
     requires { blanks ≡ L.names }
 {
     let mut book = Book::<L>::new(alloc, Limits::new(20)?, blanks)?;
-    assert!(rt; gives_its_end_once(&mut book));
-    assert!(rt; book.join(alloc).is_ok());
-    assert!(rt; is_given_back(book));
+    let mut end = gone_on(rt, alloc, &mut book, closes)?;
+    let ended = book.end_trace();
+    assert!(rt;
+        if closes {
+            is_traced(&ended, &mut end)
+        } else {
+            is_given_back(&ended)
+        }
+    );
     Ok(())
 }
 
 #[test]
+fn records_come_out_of_the_ring_in_their_order(rt: HostRuntime) -> Result<(), Fail> {
+    ends::<Brand>(&rt, rt.alloc(), Blanks::new(), true)
+}
+
+#[test]
 fn reading_end_is_given_once_and_an_open_run_keeps_its_book(rt: HostRuntime) -> Result<(), Fail> {
-    stays_open::<Brand>(&rt, rt.alloc(), Blanks::new())
+    ends::<Brand>(&rt, rt.alloc(), Blanks::new(), false)
 }

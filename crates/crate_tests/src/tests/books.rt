@@ -138,23 +138,6 @@ fn counts_what_it_did<L: Ledgers>(
     Ok(())
 }
 
-/// The same, in a new book.
-fn counts_in_a_new_book<L: Ledgers>(
-    rt: &impl Abort,
-    alloc: Global,
-    blanks: Blanks,
-) -> Result<(), Fail>
-    requires { blanks ≡ L.names }
-{
-    let mut book = Book::<L>::new(alloc, Limits::new(10)?, blanks)?;
-    counts_what_it_did(rt, alloc, &mut book)
-}
-
-#[test]
-fn state_is_counted_as_it_goes(rt: HostRuntime) -> Result<(), Fail> {
-    counts_in_a_new_book::<Brand>(&rt, rt.alloc(), Blanks::new())
-}
-
 /// Whether the process of a seat makes so many children.
 fn forks<L: Ledgers>(alloc: Global, book: &mut Book<L>, seat: &mut Seat<L>, children: u32) -> bool {
     (0..children).all(|_| book.start(alloc, seat, Call::Fork).is_ok())
@@ -180,22 +163,9 @@ fn is_told_of_more<L: Ledgers>(
     Ok(())
 }
 
-/// The same, in a new book.
-fn is_of_one_book<L: Ledgers>(rt: &impl Abort, alloc: Global, blanks: Blanks) -> Result<(), Fail>
-    requires { blanks ≡ L.names }
-{
-    let mut book = Book::<L>::new(alloc, Limits::new(10)?, blanks)?;
-    is_told_of_more(rt, alloc, &mut book)
-}
-
-#[test]
-fn seat_has_its_receipts_and_is_of_one_book(rt: HostRuntime) -> Result<(), Fail> {
-    is_of_one_book::<Brand>(&rt, rt.alloc(), Blanks::new())
-}
-
 /// Whether the book refuses the exit of a seat that has seen 3 records, and gives that seat back.
 fn gives_back<L: Ledgers>(book: &mut Book<L>, seat: Seat<L>) -> bool {
-    match book.exit(seat) {
+    match &book.exit(seat) {
         Ok(_) => false,
         Err(unspent) => {
             unspent.refusal == Refusal::Foreign { seen: 3, len: 1 }
@@ -218,26 +188,9 @@ fn refuses_the_exit<L: Ledgers>(
     Ok(())
 }
 
-/// The same, in a new book.
-fn gives_the_seat_back<L: Ledgers>(
-    rt: &impl Abort,
-    alloc: Global,
-    blanks: Blanks,
-) -> Result<(), Fail>
-    requires { blanks ≡ L.names }
-{
-    let mut book = Book::<L>::new(alloc, Limits::new(10)?, blanks)?;
-    refuses_the_exit(rt, alloc, &mut book)
-}
-
-#[test]
-fn exit_in_another_book_gives_the_seat_back(rt: HostRuntime) -> Result<(), Fail> {
-    gives_the_seat_back::<Brand>(&rt, rt.alloc(), Blanks::new())
-}
-
 /// Whether a second attach of process 1 is recorded as refused, at place 3.
 fn is_attached_once<L: Ledgers>(alloc: Global, book: &mut Book<L>) -> bool {
-    match book.attach(alloc, 1) {
+    match &book.attach(alloc, 1) {
         Ok(Opened::Refused(spent)) => match spent.receipts() {
             [only] => (spent.pid(), spent.seen()) == (1, 4) && is_error(only, 3, Errno::ESRCH),
             _ => false,
@@ -248,7 +201,7 @@ fn is_attached_once<L: Ledgers>(alloc: Global, book: &mut Book<L>) -> bool {
 
 /// Whether the exit of process 1 is recorded at place 4.
 fn ends<L: Ledgers>(book: &mut Book<L>, child: Seat<L>) -> bool {
-    match book.exit(child) {
+    match &book.exit(child) {
         Ok(spent) => match spent.receipts() {
             [_attach, exit] => (spent.pid(), spent.seen()) == (1, 5) && is_exit(exit, 4, 1),
             _ => false,
@@ -272,22 +225,9 @@ fn attaches_a_child<L: Ledgers>(
     Ok(())
 }
 
-/// The same, in a new book.
-fn attaches_once<L: Ledgers>(rt: &impl Abort, alloc: Global, blanks: Blanks) -> Result<(), Fail>
-    requires { blanks ≡ L.names }
-{
-    let mut book = Book::<L>::new(alloc, Limits::new(20)?, blanks)?;
-    attaches_a_child(rt, alloc, &mut book)
-}
-
-#[test]
-fn child_is_attached_once_and_ends(rt: HostRuntime) -> Result<(), Fail> {
-    attaches_once::<Brand>(&rt, rt.alloc(), Blanks::new())
-}
-
 /// Whether the closing ends processes 1 and 3, which have no connection, and stands at place 7.
 fn ends_one_and_three<L: Ledgers>(book: &mut Book<L>) -> bool {
-    match book.close_run() {
+    match &book.close_run() {
         Some(house) => match house.receipts() {
             [first, second, last] => {
                 (house.pid(), house.seen()) == (HOUSE, 8)
@@ -316,15 +256,69 @@ fn ends_two_of_three<L: Ledgers>(
     Ok(())
 }
 
-/// The same, in a new book.
-fn ends_orphans<L: Ledgers>(rt: &impl Abort, alloc: Global, blanks: Blanks) -> Result<(), Fail>
+/// What is tried in a new book.
+#[derive(Clone, Copy)]
+enum Trial {
+    Counts,
+    ForeignCall,
+    ForeignExit,
+    Attach,
+    Closing,
+}
+
+/// Tries it in a book.
+fn tried<L: Ledgers>(
+    rt: &impl Abort,
+    alloc: Global,
+    book: &mut Book<L>,
+    trial: Trial,
+) -> Result<(), Fail> {
+    match trial {
+        Trial::Counts => counts_what_it_did(rt, alloc, book),
+        Trial::ForeignCall => is_told_of_more(rt, alloc, book),
+        Trial::ForeignExit => refuses_the_exit(rt, alloc, book),
+        Trial::Attach => attaches_a_child(rt, alloc, book),
+        Trial::Closing => ends_two_of_three(rt, alloc, book),
+    }
+}
+
+/// Tries it in a new book.
+fn in_a_new_book<L: Ledgers>(
+    rt: &impl Abort,
+    alloc: Global,
+    blanks: Blanks,
+    trial: Trial,
+) -> Result<(), Fail>
     requires { blanks ≡ L.names }
 {
-    let mut book = Book::<L>::new(alloc, Limits::new(20)?, blanks)?;
-    ends_two_of_three(rt, alloc, &mut book)
+    // A match, since `?` would move the book three times more.
+    match Book::<L>::new(alloc, Limits::new(20)?, blanks) {
+        Ok(mut book) => tried(rt, alloc, &mut book, trial),
+        Err(error) => Err(Fail::from(error)),
+    }
+}
+
+#[test]
+fn state_is_counted_as_it_goes(rt: HostRuntime) -> Result<(), Fail> {
+    in_a_new_book::<Brand>(&rt, rt.alloc(), Blanks::new(), Trial::Counts)
+}
+
+#[test]
+fn seat_has_its_receipts_and_is_of_one_book(rt: HostRuntime) -> Result<(), Fail> {
+    in_a_new_book::<Brand>(&rt, rt.alloc(), Blanks::new(), Trial::ForeignCall)
+}
+
+#[test]
+fn exit_in_another_book_gives_the_seat_back(rt: HostRuntime) -> Result<(), Fail> {
+    in_a_new_book::<Brand>(&rt, rt.alloc(), Blanks::new(), Trial::ForeignExit)
+}
+
+#[test]
+fn child_is_attached_once_and_ends(rt: HostRuntime) -> Result<(), Fail> {
+    in_a_new_book::<Brand>(&rt, rt.alloc(), Blanks::new(), Trial::Attach)
 }
 
 #[test]
 fn closing_ends_the_children_without_a_connection(rt: HostRuntime) -> Result<(), Fail> {
-    ends_orphans::<Brand>(&rt, rt.alloc(), Blanks::new())
+    in_a_new_book::<Brand>(&rt, rt.alloc(), Blanks::new(), Trial::Closing)
 }

@@ -5,9 +5,8 @@ ghost use Rattle.std.specs.Prelude.{◌≡◌};
 use byte_ledger::gather::Missing;
 use byte_ledger::ledgers::{Blanks, Ledgers};
 use byte_ledger::tallies::{Shares, Sums, Tallies};
-use std::alloc::Global;
+use std::alloc::{AllocError, Global};
 use std::marker::Brand;
-use std::process::Abort;
 use std::test::Fail;
 
 /// Tallies of which two shares were opened, 3 bytes in counted through the first and 4 through the second.
@@ -22,41 +21,37 @@ fn three_and_four<L: Ledgers>(blanks: Blanks) -> (Tallies<L>, Shares<L>, Shares<
     (tallies, first, second)
 }
 
-/// Both shares have the sum.
-fn both_have_the_sum<L: Ledgers>(rt: &impl Abort, alloc: Global, blanks: Blanks) -> Result<(), Fail>
+/// What these tallies have of both shares, or of the first alone.
+fn gathered<L: Ledgers>(
+    alloc: Global,
+    blanks: Blanks,
+    both: bool,
+) -> Result<Result<Sums, Missing>, AllocError>
     requires { blanks ≡ L.names }
 {
-    let (tallies, first, second) = three_and_four::<L>(blanks);
     let mut shares = Vec::with_capacity(alloc, 2)?;
-    shares.push(second)?;
-    shares.push(first)?;
+    let (tallies, first, second) = three_and_four::<L>(blanks);
+    if both {
+        shares.push_reserved(second);
+    }
+    shares.push_reserved(first);
+    Ok(tallies.gather(shares))
+}
+
+#[test]
+fn two_shares_have_the_sum(rt: HostRuntime) -> Result<(), Fail> {
     let sums = Sums {
         records: 2,
         bytes_in: 7,
         bytes_out: 0,
     };
-    assert!(rt; tallies.gather(shares) == Ok(sums));
-    Ok(())
-}
-
-#[test]
-fn two_shares_have_the_sum(rt: HostRuntime) -> Result<(), Fail> {
-    both_have_the_sum::<Brand>(&rt, rt.alloc(), Blanks::new())
-}
-
-/// One share of two is missed.
-fn one_is_missed<L: Ledgers>(rt: &impl Abort, alloc: Global, blanks: Blanks) -> Result<(), Fail>
-    requires { blanks ≡ L.names }
-{
-    let (tallies, first, _second) = three_and_four::<L>(blanks);
-    let mut shares = Vec::with_capacity(alloc, 1)?;
-    shares.push(first)?;
-    let missing = Missing { held: 1, opened: 2 };
-    assert!(rt; tallies.gather(shares) == Err(missing));
+    assert!(rt; gathered::<Brand>(rt.alloc(), Blanks::new(), true)? == Ok(sums));
     Ok(())
 }
 
 #[test]
 fn one_share_of_two_is_missed(rt: HostRuntime) -> Result<(), Fail> {
-    one_is_missed::<Brand>(&rt, rt.alloc(), Blanks::new())
+    let missing = Missing { held: 1, opened: 2 };
+    assert!(rt; gathered::<Brand>(rt.alloc(), Blanks::new(), false)? == Err(missing));
+    Ok(())
 }

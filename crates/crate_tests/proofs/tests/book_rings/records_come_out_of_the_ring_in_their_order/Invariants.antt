@@ -2,5 +2,5 @@
 use Rattle.std.specs.Prelude.{None}
 use Rattle.crate_tests.proofs.tests.book_rings.records_come_out_of_the_ring_in_their_order.Given as goal
 
-abbrev pub ghosts-traces : goal.ghosts-traces
-ghosts-traces g a = record { names = a.blanks; limits = None }
+abbrev pub ghosts-ends : goal.ghosts-ends
+ghosts-ends g a = record { names = a.blanks; limits = None }

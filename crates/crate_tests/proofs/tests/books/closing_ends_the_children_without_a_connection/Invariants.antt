@@ -2,5 +2,5 @@
 use Rattle.std.specs.Prelude.{None}
 use Rattle.crate_tests.proofs.tests.books.closing_ends_the_children_without_a_connection.Given as goal
 
-abbrev pub ghosts-ends_orphans : goal.ghosts-ends_orphans
-ghosts-ends_orphans g a = record { names = a.blanks; limits = None }
+abbrev pub ghosts-in_a_new_book : goal.ghosts-in_a_new_book
+ghosts-in_a_new_book g a = record { names = a.blanks; limits = None }

@@ -2,5 +2,5 @@
 use Rattle.std.specs.Prelude.{None}
 use Rattle.crate_tests.proofs.tests.books.exit_in_another_book_gives_the_seat_back.Given as goal
 
-abbrev pub ghosts-gives_the_seat_back : goal.ghosts-gives_the_seat_back
-ghosts-gives_the_seat_back g a = record { names = a.blanks; limits = None }
+abbrev pub ghosts-in_a_new_book : goal.ghosts-in_a_new_book
+ghosts-in_a_new_book g a = record { names = a.blanks; limits = None }

@@ -2,5 +2,5 @@
 use Rattle.std.specs.Prelude.{None}
 use Rattle.crate_tests.proofs.tests.books.seat_has_its_receipts_and_is_of_one_book.Given as goal
 
-abbrev pub ghosts-is_of_one_book : goal.ghosts-is_of_one_book
-ghosts-is_of_one_book g a = record { names = a.blanks; limits = None }
+abbrev pub ghosts-in_a_new_book : goal.ghosts-in_a_new_book
+ghosts-in_a_new_book g a = record { names = a.blanks; limits = None }

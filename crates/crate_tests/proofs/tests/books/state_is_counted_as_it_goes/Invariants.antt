@@ -2,5 +2,5 @@
 use Rattle.std.specs.Prelude.{None}
 use Rattle.crate_tests.proofs.tests.books.state_is_counted_as_it_goes.Given as goal
 
-abbrev pub ghosts-counts_in_a_new_book : goal.ghosts-counts_in_a_new_book
-ghosts-counts_in_a_new_book g a = record { names = a.blanks; limits = None }
+abbrev pub ghosts-in_a_new_book : goal.ghosts-in_a_new_book
+ghosts-in_a_new_book g a = record { names = a.blanks; limits = None }

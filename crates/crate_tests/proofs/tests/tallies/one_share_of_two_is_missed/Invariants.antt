@@ -2,5 +2,5 @@
 use Rattle.std.specs.Prelude.{None}
 use Rattle.crate_tests.proofs.tests.tallies.one_share_of_two_is_missed.Given as goal
 
-abbrev pub ghosts-one_is_missed : goal.ghosts-one_is_missed
-ghosts-one_is_missed g a = record { names = a.blanks; limits = None }
+abbrev pub ghosts-gathered : goal.ghosts-gathered
+ghosts-gathered g a = record { names = a.blanks; limits = None }
