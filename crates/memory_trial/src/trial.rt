@@ -33,7 +33,7 @@ fn is_end(act: &ScriptAct) -> bool {
     matches!(act, ScriptAct::Exit { .. } | ScriptAct::CloseRun)
 }
 
-/// A run that is over.
+/// What is printed of a run.
 #[derive(Drop)]
 pub(crate) struct Ran {
     /// The lines of what was told.
@@ -47,10 +47,8 @@ pub(crate) struct Ran {
 struct Run<L: Ledgers> {
     book: Book<L>,
     giver: Giver<L>,
-    lines: Vec<u8>,
     /// How many acts were given.
     acts: u64,
-    again: u64,
 }
 
 impl<L: Ledgers> Run<L> {
@@ -58,12 +56,12 @@ impl<L: Ledgers> Run<L> {
     fn new(alloc: Global, way: Way, limits: Limits, blanks: Blanks) -> Result<Self, AllocError>
         requires { blanks ≡ L.names }
     {
+        let giver = Giver::new(alloc, way)?;
+        let book = Book::new(alloc, limits, blanks)?;
         Ok(Run {
-            book: Book::new(alloc, limits, blanks)?,
-            giver: Giver::new(alloc, way)?,
-            lines: Vec::new(alloc),
+            book,
+            giver,
             acts: 0,
-            again: 0,
         })
     }
 
@@ -83,8 +81,9 @@ impl<L: Ledgers> Run<L> {
         &mut self,
         alloc: Global,
         act: &'a ScriptAct,
+        again: &mut u64,
     ) -> Result<ScriptAnswer<'a>, TrialFault> {
-        self.again = self.again.saturating_add(1);
+        *again = again.saturating_add(1);
         let told = self.giver.give(alloc, &mut self.book, act)?;
         if is_wanting(&told) {
             return Err(TrialFault::RefusedTwice { act: self.acts });
@@ -97,6 +96,7 @@ impl<L: Ledgers> Run<L> {
         &mut self,
         alloc: Global,
         act: &'a ScriptAct,
+        again: &mut u64,
     ) -> Result<ScriptAnswer<'a>, TrialFault> {
         let before = Stand::of(&self.book, &self.giver);
         let told = self.giver.give(alloc, &mut self.book, act)?;
@@ -105,14 +105,19 @@ impl<L: Ledgers> Run<L> {
         }
         drop(told);
         self.may_be_given_again(act, &before)?;
-        self.give_again(alloc, act)
+        self.give_again(alloc, act, again)
     }
 
     /// Gives the next act to the book, and gathers its lines.
-    fn give_next(&mut self, alloc: Global, act: ScriptAct) -> Result<(), TrialFault> {
+    fn give_next(
+        &mut self,
+        alloc: Global,
+        act: ScriptAct,
+        ran: &mut Ran,
+    ) -> Result<(), TrialFault> {
         self.acts = self.acts.saturating_add(1);
-        let told = self.give(alloc, &act)?;
-        gather(&mut self.lines, &told)?;
+        let told = self.give(alloc, &act, &mut ran.again)?;
+        gather(&mut ran.lines, &told)?;
         Ok(())
     }
 }
@@ -133,25 +138,49 @@ fn give_all<L: Ledgers>(
     alloc: Global,
     script: &mut Script<'_>,
     run: &mut Run<L>,
+    ran: &mut Ran,
 ) -> Result<(), TrialFault> {
     while let Some(act) = script.next_act(alloc)? {
-        run.give_next(alloc, act)?;
+        run.give_next(alloc, act, ran)?;
     }
     Ok(())
 }
 
 /// Gives the acts of a script to the book of a run, and gathers its lines and the line of totals.
-fn run_script<L: Ledgers>(alloc: Global, text: &[u8], run: &mut Run<L>) -> Result<(), TrialFault> {
+fn run_script<L: Ledgers>(
+    alloc: Global,
+    text: &[u8],
+    run: &mut Run<L>,
+    ran: &mut Ran,
+) -> Result<(), TrialFault> {
     let mut script = Script::new(text)?;
-    give_all(alloc, &mut script, run)?;
+    give_all(alloc, &mut script, run, ran)?;
     let counts = run.book.counts();
     write_totals(
-        &mut run.lines,
+        &mut ran.lines,
         counts.records,
         counts.bytes_in,
         counts.bytes_out,
     )?;
     Ok(())
+}
+
+/// Runs a script, counted by these ledgers, whose acts are given in this way.
+fn run_text<L: Ledgers>(
+    alloc: Global,
+    text: &[u8],
+    way: Way,
+    limits: Limits,
+    blanks: Blanks,
+    ran: &mut Ran,
+) -> Result<(), TrialFault>
+    requires { blanks ≡ L.names }
+{
+    // A match, since `?` would move the run three times more.
+    match Run::<L>::new(alloc, way, limits, blanks) {
+        Ok(mut run) => run_script(alloc, text, &mut run, ran),
+        Err(error) => Err(TrialFault::from(error)),
+    }
 }
 
 /// The run of the script that a reader gives, counted by these ledgers, whose acts are given in this way.
@@ -165,10 +194,10 @@ pub(crate) fn tried<R: Read + Drop, L: Ledgers>(
     requires { blanks ≡ L.names }
 {
     let text = read_text(alloc, reader)?;
-    let mut run = Run::<L>::new(alloc, way, limits, blanks)?;
-    run_script(alloc, text.as_slice(), &mut run)?;
-    Ok(Ran {
-        lines: run.lines,
-        again: run.again,
-    })
+    let mut ran = Ran {
+        lines: Vec::new(alloc),
+        again: 0,
+    };
+    run_text::<L>(alloc, text.as_slice(), way, limits, blanks, &mut ran)?;
+    Ok(ran)
 }
