@@ -6,7 +6,7 @@ use Rattle.std.specs.Io.KnownBytes.{Consumes}
 use Rattle.call_types.specs.declared.limits.Bounds.{Bounds}
 use Rattle.audit_core.specs.Audited.{Audits}
 use Rattle.audit_core.specs.Proved.Auditing.{MayRead, ReadBy, ReadsOn, HasRead}
-use Rattle.logged_streams.specs.Streams.{LogState, LoggedReaderState, fresh_log, ReadsOnce, noted, one_more}
+use Rattle.logged_streams.specs.Streams.{LogState, LoggedReaderState, fresh_log, ReadsOnce, one_more}
 use Rattle.logged_streams.specs.declared.stream_log.Gave.TheVariants as gave
 use Rattle.audit_core.specs.Proved.Taking.{TraceState, fresh_trace, IsTaking, IsFound, TakesPiece}
 use Rattle.audit_core.specs.declared.audit.AuditFault.{AuditFault}

@@ -1,6 +1,6 @@
 //! A trace, shown as its bytes come: the lines of its whole records, and what is left over.
 
-ghost use Rattle.std.specs.Prelude.{◌≡◌, ◌+◌, ◌≤◌, ◌<◌, ◌^◌, ◌++◌, length, IfOk, IfErr, OnErr};
+ghost use Rattle.std.specs.Prelude.{◌≡◌, ◌+◌, ◌≤◌, ◌<◌, ◌^◌, length, IfOk, IfErr, OnErr};
 ghost use Rattle.std.specs.Io.KnownBytes.{Keeps};
 ghost use Rattle.audit_core.specs.declared.audit.TheConstants.{READ_LENGTH};
 ghost use Rattle.frame_codec.specs.Trace.{trace_header};

@@ -1,5 +1,5 @@
 -- Chunks of rows: those that are added without a byte, the one that is edited, and copies.
-use Rattle.std.proofs.Common.{◌≡◌, ◌≢◌, ℕ, zero, suc, ◌+◌, ◌-◌, ◌≤◌, ◌<◌, ◌/◌, ◌%◌, ◌∙◌, List, [], ◌∷◌, ◌++◌, false, ◌==◌, length, get_or, slice_set, refl, ap, sym, arith, inl, inr}
+use Rattle.std.proofs.Common.{◌≡◌, ◌≢◌, ℕ, zero, suc, ◌+◌, ◌-◌, ◌<◌, ◌/◌, ◌%◌, ◌∙◌, List, [], ◌∷◌, ◌++◌, false, ◌==◌, length, get_or, slice_set, refl, ap, sym, arith, inl, inr}
 use Rattle.std.specs.List.{AllZip}
 use Rattle.std.proofs.lemmas.Bool.{cases_lt, cases_eq}
 use Rattle.std.proofs.lemmas.Bool.Decides.{nat_tests}

@@ -1,4 +1,4 @@
-ghost use Rattle.std.specs.Prelude.{◌≡◌, ℕ, ◌+◌, ◌≤◌, ◌<◌, ◌^◌, [], ◌++◌, length, take, vec_len, vec_capacity, IfOk, IfSome, OnOk, IsOk};
+ghost use Rattle.std.specs.Prelude.{◌≡◌, ◌+◌, ◌≤◌, ◌<◌, ◌^◌, [], ◌++◌, length, take, vec_len, vec_capacity, IfOk, IfSome, OnOk, IsOk};
 ghost use Rattle.call_types.specs.Proved.Stored.{span_bytes};
 ghost use Rattle.posix_model.specs.Bytes.{splice, bytes_at, padded_to};
 ghost use Rattle.file_extents.specs.Proved.Contents.{HasRoom, KeepsRoom};

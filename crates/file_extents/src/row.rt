@@ -1,4 +1,4 @@
-ghost use Rattle.std.specs.Prelude.{◌≡◌, ℕ, ◌+◌, ◌≤◌, ◌<◌, [], ◌++◌, length, take, vec_len, vec_capacity, OnOk, IsOk, IfSome, List};
+ghost use Rattle.std.specs.Prelude.{◌≡◌, ℕ, ◌+◌, ◌≤◌, ◌<◌, [], ◌++◌, length, vec_len, vec_capacity, OnOk, IsOk, IfSome, List};
 ghost use Rattle.call_types.specs.Proved.Stored.{span_bytes};
 ghost use Rattle.file_extents.specs.Proved.Chunks.{ChunkState, chunk_in, window, HasPlaces, Keeps, Edits, Cuts};
 

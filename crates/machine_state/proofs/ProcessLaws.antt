@@ -1,5 +1,5 @@
 -- Processes that come, change and go.
-use Rattle.std.proofs.Common.{◌≡◌, ℕ, zero, suc, ◌≤◌, ◌<◌, ◌+◌, ◌-◌, ◌∙◌, Bool, true, false, List, [], ◌∷◌, ◌++◌, Option, None, Some, length, set, refl, ap, sym, arith}
+use Rattle.std.proofs.Common.{◌≡◌, ℕ, zero, suc, ◌≤◌, ◌<◌, ◌+◌, ◌-◌, ◌∙◌, Bool, true, List, [], ◌∷◌, ◌++◌, Option, None, Some, length, set, refl, ap, sym, arith}
 use Rattle.std.specs.Prelude.{is_some}
 use Rattle.call_types.specs.declared.limits.TheConstants.{OPEN_MAX, PROCESSES_MAX}
 use Rattle.slots.specs.Slots.{slot, live, edited}

@@ -1,10 +1,9 @@
 //! The closing of a run whose sessions have ended: their receipts are compared with its records, and what they counted is gathered.
 
-ghost use Rattle.std.specs.Prelude.{◌≡◌, ◌+◌, ◌≤◌, ◌++◌, ◌∷◌, ℕ, [], map, true, None, Some, length, vec_len, vec_capacity, OnOk, IfOk, IfErr};
+ghost use Rattle.std.specs.Prelude.{◌≡◌, ◌+◌, ◌++◌, ◌∷◌, ℕ, [], map, None, Some, length, vec_len, OnOk, IfOk, IfErr};
 ghost use Rattle.std.specs.Arc.{arc_value};
 ghost use Rattle.posix_model.specs.History.{legal};
 ghost use Rattle.posix_model.specs.Turns.{bytes_in, bytes_out};
-ghost use Rattle.record_book.specs.Book.{world_now};
 ghost use Rattle.run_core.specs.declared.report.RunFault.TheVariants as run_fault;
 ghost use Rattle.run_core.specs.Proved.Laws.{FlagsDecideAll};
 ghost use Rattle.run_core.specs.Run.{AreAll, ClosesFor, IsClosing, IsGathered, IsLeast, IsRunOf, held_in};

@@ -1,6 +1,6 @@
 //! The answers of a session, and their way to its writer.
 
-ghost use Rattle.std.specs.Prelude.{◌≡◌, ◌<◌, ◌≤◌, ℕ, true, false, List, [], Option, length, OnOk, OnErr, IfOk, IfErr};
+ghost use Rattle.std.specs.Prelude.{◌≡◌, ◌<◌, ◌≤◌, true, false, [], Option, length, OnOk, OnErr, IfOk, IfErr};
 ghost use Rattle.session_core.specs.declared.told.Told.TheVariants as told;
 ghost use Rattle.session_core.specs.Proved.Output.{fresh_output, Passes, Puts, Flushes, SendsAll, FailsToSend};
 ghost use Rattle.session_core.specs.Proved.Closing.{IsTaken};

@@ -1,5 +1,5 @@
 -- Chunks of a file by number, of which those that are not there have no byte.
-use Rattle.std.specs.Prelude.{◌≡◌, ℕ, ◌+◌, ◌≤◌, ◌<◌, ◌==◌, ◌/◌, ◌%◌, List, [], length, if◌then◌else◌, take, slice_index_or}
+use Rattle.std.specs.Prelude.{◌≡◌, ℕ, ◌≤◌, ◌<◌, ◌==◌, ◌/◌, ◌%◌, List, [], if◌then◌else◌, take, slice_index_or}
 use Rattle.posix_model.specs.Bytes.{padded_to, bytes_at, splice}
 
 -- the bytes of a chunk, and the place where its room begins and the one where it ends (own)

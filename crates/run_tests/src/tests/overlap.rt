@@ -1,6 +1,6 @@
 //! Sessions of one run go on side by side, each answer is written once its gate lets it through, and no lock is held meanwhile.
 
-ghost use Rattle.std.specs.Prelude.{◌≡◌, ◌≤◌, ◌+◌, ◌<◌, ◌^◌, All, Some, length, IfOk};
+ghost use Rattle.std.specs.Prelude.{◌≡◌, ◌≤◌, ◌+◌, ◌<◌, All, Some, length, IfOk};
 ghost use Rattle.run_core.specs.Run.{IsBlank};
 
 use byte_ledger::ledgers::{Blanks, Ledgers};

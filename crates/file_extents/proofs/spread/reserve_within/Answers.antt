@@ -1,4 +1,3 @@
-use Rattle.std.proofs.Common.{arith}
 use Rattle.file_extents.proofs.Rooms.{room_there}
 use Rattle.file_extents.proofs.spread.reserve_within.Goals as goal
 

@@ -1,4 +1,4 @@
-use Rattle.std.proofs.Common.{None, take, get_or, length-take-le, refl, sym, arith, ◌∙◌}
+use Rattle.std.proofs.Common.{None, take, length-take-le, refl, sym, arith, ◌∙◌}
 use Rattle.std.proofs.lemmas.List.{take_more, get_or_default}
 use Rattle.machine_state.proofs.UseLaws.{there_uses, most_uses, uses_push}
 use Rattle.machine_state.proofs.entries.hold_entries.Goals as goal

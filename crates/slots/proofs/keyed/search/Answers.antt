@@ -1,4 +1,4 @@
-use Rattle.std.proofs.Common.{◌≡◌, ◌∙◌, refl, sym, ap, inl, inr, arith, length}
+use Rattle.std.proofs.Common.{◌∙◌, refl, ap, inl, inr, arith, length}
 use Rattle.slab.proofs.SlabLemmas.{Contains-cons, Contains-cons_cases, Contains-entries}
 use Rattle.slots.proofs.KeyLaws.{found_nowhere}
 use Rattle.slots.proofs.keyed.search.Goals as goal

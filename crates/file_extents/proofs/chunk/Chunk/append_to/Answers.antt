@@ -1,4 +1,4 @@
-use Rattle.std.proofs.Common.{◌≡◌, ◌-◌, ◌∙◌, List, ℕ, ◌++◌, length, min, replicate, ap, refl, arith}
+use Rattle.std.proofs.Common.{◌≡◌, ◌-◌, ◌∙◌, ◌++◌, length, min, replicate, ap, refl, arith}
 use Rattle.posix_model.specs.Bytes.{bytes_at}
 use Rattle.file_extents.proofs.Pieces.{appended}
 use Rattle.file_extents.proofs.chunk.Chunk.append_to.Goals as goal

@@ -1,6 +1,6 @@
 use Rattle.std.proofs.Common.{◌∙◌, refl, sym, ap, arith}
 use Rattle.slots.specs.Proved.Uses.{uses_at}
-use Rattle.slots.proofs.KeyLaws.{slot_slots, stands_at, edited_numbered, slots_edited, removed_numbered, slots_removed, slots_absent}
+use Rattle.slots.proofs.KeyLaws.{slot_slots, stands_at, edited_numbered, slots_edited, slots_removed, slots_absent}
 use Rattle.slots.proofs.UseLaws.{more_left, none_left}
 use Rattle.slots.proofs.used.Keyed+Used+T.drop_use.Goals as goal
 
