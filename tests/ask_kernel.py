@@ -230,6 +230,13 @@ def signal_leaves_nothing(bench: Bench, number: int) -> None:
         bench.is_clean()
 
 
+@case("killed at any moment")
+def kills_leave_nothing(bench: Bench) -> None:
+    """A driver that is killed at any moment leaves no process and no folder."""
+    if IS_LINUX:
+        bench.is_killed_often(b"join\np0 pipe\np0 fork\np1 attach\np1 read 0 1\np0 read 0 1\n")
+
+
 @case("a process that is killed", signal.SIGKILL, 6, b"was ended from outside\n")
 @case("a process that is stopped", signal.SIGSTOP, 7, b"neither answered nor slept for ten seconds\n")
 def outside_is_told(bench: Bench, number: int, status: int, text: bytes) -> None:

@@ -267,10 +267,12 @@ def begun(bench: Bench, script: bytes, *words: str) -> subprocess.Popen[bytes]:
     return process
 
 
+RAN_BY_TWO = b"join\np0 pipe\np0 fork\np1 attach\nrace\np0 read 0 1\np1 read 0 1\n"
+
+
 def waiting(bench: Bench) -> subprocess.Popen[bytes]:
     """The driver, once it is there with its guard and with two processes that wait for long."""
-    script = b"join\np0 pipe\np0 fork\np1 attach\nrace\np0 read 0 1\np1 read 0 1\n"
-    process = begun(bench, script, "--wait", "10000")
+    process = begun(bench, RAN_BY_TWO, "--wait", "10000")
     until = time.monotonic() + SECONDS
     while len(bench.processes()) != 4:
         require(time.monotonic() < until, "the processes do not come")
@@ -326,6 +328,7 @@ def end_cases(bench: Bench) -> Iterator[Case]:
     if IS_LINUX:
         for number in (signal.SIGTERM, signal.SIGINT, signal.SIGHUP, signal.SIGKILL):
             yield f"signal {number}", partial(signal_leaves_nothing, bench, number)
+        yield "killed at any moment", partial(bench.is_killed_often, RAN_BY_TWO)
         yield "a process that is killed", partial(loss_is_told, bench)
     yield "an output that is closed", partial(closed_output_ends, bench)
 

@@ -67,9 +67,8 @@ struct answer {
 
 /* `data` are the bytes of the act that was read last; the names of a script are made in `names` of the folder. */
 static unsigned char data[DATA_MOST];
-static int sees_sleep, wait_ms = 20, guard_end = -1, highest;
-static char folder[PATH_MAX];
-static pid_t group;
+static int sees_sleep, wait_ms = 20, guard_end = -1, guard_told = -1, highest;
+static pid_t driver, group;
 static const int ending[] = {SIGINT, SIGTERM, SIGHUP};
 static volatile sig_atomic_t caught;
 
@@ -365,18 +364,21 @@ static void set_answer(const struct act *act, long long value, struct answer *an
     answer->size = value > 0 && calls[act->call].gives == 'b' ? (size_t)value : 0;
 }
 
-/* Begins a process that joins: it has nothing open, and is in the folder of the names. */
+/* Begins a process that joins: it has nothing open, and is in the folder of the names. One that came into the group
+   too late to be ended with it sees that the driver is gone. */
 static void begin_process(void)
 {
     for (int fd = 0; fd <= highest; fd++)
         close(fd);
     for (int at = 0; at < 3; at++)
         signal(ending[at], SIG_DFL);
-    must(setpgid(0, group) == 0 && chdir("names") == 0);
+    must(setpgid(0, group) == 0 && getppid() == driver && chdir("names") == 0);
     LIMIT(RLIMIT_FSIZE, FILE_BYTES);
 }
 
 /* ---- the folder and the guard */
+
+static void nap(void) { nanosleep(&(struct timespec){0, 100000}, NULL); }
 
 static int remove_one(const char *path, const struct stat *file, int type, struct FTW *place)
 {
@@ -386,14 +388,6 @@ static int remove_one(const char *path, const struct stat *file, int type, struc
 
 /* Removes a folder with all that is in it. */
 static void remove_folder(const char *path) { nftw(path, remove_one, 4, FTW_DEPTH | FTW_PHYS); }
-
-/* Makes the folder, and goes there. */
-static void make_folder(const char *dir)
-{
-    char name[] = DRIVER "-XXXXXX";
-    need(chdir(dir) == 0 && mkdtemp(name) && chdir(name) == 0, dir);
-    need(getcwd(folder, sizeof folder) && mkdir("names", 0700) == 0, name);
-}
 
 /* Where SIGCHLD is ignored, nobody has to wait for a process that ends. */
 static void set_signals(void)
@@ -407,7 +401,75 @@ static void set_signals(void)
     signal(SIGCHLD, SIG_IGN);
 }
 
-/* Frees all but the standard descriptors, and makes the folder. */
+/* What the guard tells of the folder that it makes: its name, or why there is none. */
+struct made {
+    int error;
+    char name[sizeof DRIVER "-XXXXXX"];
+};
+
+/* The guard, which leads the group of the script's processes. It makes the folder, so that there is none without a
+   guard. When this program is gone, however that is, or has closed its end, it ends the group, and a process outside of
+   that removes the folder: nobody makes names in it then. `told` stays open until all is done. */
+static void guard(int end, int told)
+{
+    struct made made = {0, DRIVER "-XXXXXX"};
+    pid_t cleaner;
+    char byte;
+    setpgid(0, 0);
+    for (int fd = 0; fd <= highest; fd++)
+        if (fd != end && fd != told && fd != STDERR_FILENO)
+            close(fd);
+    if (!mkdtemp(made.name) || chdir(made.name) != 0)
+        made.error = errno;
+    if (write(told, &made, sizeof made) == sizeof made)
+        while (read(end, &byte, 1) < 0)
+            continue;
+    cleaner = fork();
+    setpgid(cleaner > 0 ? cleaner : 0, 0);
+    if (cleaner > 0)
+        kill(0, SIGKILL);
+    if (made.error == 0 && chdir("..") == 0) {
+        for (int naps = 0; access(made.name, F_OK) == 0 && naps < 10 * PATIENCE; naps++) {
+            remove_folder(made.name);
+            nap();
+        }
+    }
+    kill(0, SIGKILL);
+}
+
+/* Starts the guard, and goes into the folder that it makes. */
+static void start_guard(const char *dir)
+{
+    struct made made;
+    int ends[2], told[2];
+    ssize_t size;
+    need(chdir(dir) == 0, dir);
+    need(pipe(ends) == 0 && (guard_end = lifted(ends[1])) >= 0, "pipe");
+    need(pipe(told) == 0 && (guard_told = lifted(told[0])) >= 0, "pipe");
+    group = fork();
+    if (group == 0)
+        guard(ends[0], told[1]);
+    close(ends[0]);
+    close(told[1]);
+    need(group > 0, "fork");
+    setpgid(group, group);
+    while ((size = read(guard_told, &made, sizeof made)) < 0 && errno == EINTR)
+        continue;
+    errno = size == sizeof made ? made.error : ECHILD;
+    need(errno == 0, dir);
+    need(chdir(made.name) == 0 && mkdir("names", 0700) == 0, made.name);
+}
+
+/* Has the guard end the group and remove the folder, and waits until it has. */
+static void end_group(void)
+{
+    char byte;
+    close(guard_end);
+    while (read(guard_told, &byte, 1) < 0 && errno == EINTR)
+        continue;
+}
+
+/* Frees all but the standard descriptors, and makes the folder with its guard. */
 static void begin_driver(const char *dir)
 {
     limit_files(RLIM_INFINITY);
@@ -415,28 +477,8 @@ static void begin_driver(const char *dir)
         close(given);
     set_signals();
     umask(077);
-    make_folder(dir);
-}
-
-/* Starts the leader of the group of the script's processes. When this program is gone, however that is, it ends
-   them. */
-static void start_guard(void)
-{
-    char byte;
-    int ends[2];
-    need(pipe(ends) == 0 && (guard_end = lifted(ends[1])) >= 0, "pipe");
-    need((group = fork()) >= 0, "fork");
-    setpgid(group, group);
-    for (int fd = 0; group == 0 && fd <= highest; fd++)
-        if (fd != ends[0] && fd != STDERR_FILENO)
-            close(fd);
-    while (group == 0 && read(ends[0], &byte, 1) < 0)
-        continue;
-    if (group == 0) {
-        remove_folder(folder);
-        kill(0, SIGKILL);
-    }
-    close(ends[0]);
+    driver = getpid();
+    start_guard(dir);
 }
 
 /* ---- what can be seen of a process */
@@ -466,8 +508,6 @@ static char state_of(pid_t pid, long *switches)
         return 0;
     return state == 'S' && !is_off ? 'R' : state;
 }
-
-static void nap(void) { nanosleep(&(struct timespec){0, 100000}, NULL); }
 
 /* Finds out whether it is seen here that a process sleeps: the guard does. */
 static void find_sight(void)

@@ -155,17 +155,18 @@ static void open_listener(void)
     need(listen(listener, 1) == 0, "socket");
 }
 
-/* Ends all processes of the script, and waits until they are gone. */
+/* Ends all processes of the script, also one that is not in the group yet, and waits until they are gone. */
 static void clean_up(void)
 {
-    if (group > 0)
-        kill(-group, SIGKILL);
-    for (unsigned long at = 0; at < process_count; at++)
-        if (processes[at].is_live)
+    if (group <= 0)
+        return;
+    end_group();
+    for (unsigned long at = 0; at < process_count; at++) {
+        if (processes[at].is_live) {
+            kill(processes[at].pid, SIGKILL);
             await_end(processes[at].pid);
-    if (group > 0)
-        await_end(group);
-    remove_folder(folder);
+        }
+    }
     group = 0;
 }
 
@@ -396,7 +397,6 @@ int main(int count, char **words)
     wait_ms = ms ? (int)ms : wait_ms;
     begin_driver(dir);
     open_listener();
-    start_guard();
     if (!ms)
         find_sight();
     run_script();

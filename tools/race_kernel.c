@@ -74,18 +74,18 @@ static unsigned long long seed, shuffle;
 static long long begun;
 static int is_pinned;
 
-/* Ends all processes of the script, and waits until they are gone. */
+/* Ends all processes of the script, also one that is not in the group yet, and waits until they are gone. */
 static void clean_up(void)
 {
-    if (group > 0)
-        kill(-group, SIGKILL);
-    for (unsigned long at = 0; group > 0 && at < process_count; at++)
-        if (common->pids[at] > 0)
+    if (group <= 0)
+        return;
+    end_group();
+    for (unsigned long at = 0; at < process_count; at++) {
+        if (common->pids[at] > 0) {
+            kill(common->pids[at], SIGKILL);
             await_end(common->pids[at]);
-    if (group > 0)
-        await_end(group);
-    if (*folder)
-        remove_folder(folder);
+        }
+    }
     group = 0;
 }
 
@@ -635,7 +635,6 @@ int main(int count, char **words)
     read_script();
     make_common();
     begin_driver(dir);
-    start_guard();
     find_sight();
     for (long long round = 0; round < rounds; round++)
         run_round((unsigned long long)round);

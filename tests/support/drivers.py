@@ -11,6 +11,9 @@ from support.places import TOOLS
 from support.running import SECONDS, CannotRun, Ran, run
 
 IS_LINUX = sys.platform.startswith("linux")
+# How often a driver is killed, and how late at most.
+KILLS = 200
+KILLED_SECONDS = 0.06
 # What tools/ask_kernel.c says of a line that it cannot read.
 NOT_AN_ACT = b"not an act; fdref replay tells the column and what could stand there"
 
@@ -44,6 +47,15 @@ class Driver:
         done = run(self.asks(*words), script)
         self.is_clean()
         return done
+
+    def is_killed_often(self, script: bytes) -> None:
+        """A driver that is killed at any moment of its work on a script leaves nothing."""
+        for kill in range(KILLS):
+            with subprocess.Popen(self.asks(), stdin=subprocess.PIPE, stdout=subprocess.DEVNULL) as process:
+                with contextlib.suppress(subprocess.TimeoutExpired):
+                    process.communicate(script, timeout=KILLED_SECONDS * kill / KILLS)
+                process.kill()
+        self.is_clean()
 
     def processes(self) -> dict[int, str]:
         """The processes that run the driver's program, each with its working folder."""
