@@ -36,11 +36,13 @@ use Rattle.posix_model.specs.declared.change.TableEdit.TheVariants as on_table
 use Rattle.plain_world.specs.Proved.FileLaws.{OpenOn, WritePuts, PwritePuts, WriteMoves, WriteTakesAll, WriteAppends, IsRead, ReadGives, PreadGives, ReadMoves, SeekTells, SeekMoves, PreadKeepsWorld, NothingRead, NothingWritten, NothingPwritten, PwriteKeepsOffsets, with_append, with_appending, PwriteSameUnderAppend, OwnFileAlone, FilesStay, PipesStay, ActsLeaveFiles, ActsLeavePipes, FtruncateLeavesResized, FtruncateKeepsOffsets}
 use Rattle.plain_world.specs.Proved.Calls.{IsNoError}
 use Rattle.plain_world.specs.Proved.DescriptorLaws.{AccessIsNeeded}
-use Rattle.plain_world.proofs.PageLemmas.{on_open_has, opened_has, if_has}
+use Rattle.posix_model.proofs.PageLaws.{if_has}
+use Rattle.plain_world.proofs.PageLemmas.{on_open_has, opened_has}
 use Rattle.plain_world.proofs.ChangeLemmas.{files_after_table, same_files, files_same, pipes_same}
 use Rattle.plain_world.proofs.BytesLaws.{added_at_end, is_read}
 use Rattle.plain_world.proofs.OpenedLemmas.{opened_stands}
-use Rattle.plain_world.proofs.SlotLemmas.{slot_set_there, slot_edited}
+use Rattle.posix_model.proofs.SlotLaws.{slot_set_there}
+use Rattle.plain_world.proofs.SlotLemmas.{slot_edited}
 
 pub pread_keeps_world : PreadKeepsWorld
 pread_keeps_world bounds w process fd start count = on_open_has (λ d. changed w [] d.change ≡ w) (opened w process fd) (pread w start count) (λ _. refl) (λ _ _. refl)

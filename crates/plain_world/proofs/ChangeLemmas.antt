@@ -14,7 +14,8 @@ use Rattle.posix_model.specs.declared.change.FileEdit.TheVariants as on_files
 use Rattle.posix_model.specs.declared.change.ProcessEdit.TheVariants as on_process
 use Rattle.posix_model.specs.declared.change.TableEdit.TheVariants as on_table
 use Rattle.plain_world.specs.Proved.FileLaws.{SameFiles}
-use Rattle.plain_world.proofs.SlotLemmas.{slot_pushed, other_slot}
+use Rattle.posix_model.proofs.SlotLaws.{slot_pushed}
+use Rattle.plain_world.proofs.SlotLemmas.{other_slot}
 
 -- an edit of files leaves descriptions and processes
 pub files_leave : (w : World) (bytes : List ℕ) (e : FileEdit) → ((with_files w bytes e).descriptions ≡ w.descriptions) × ((with_files w bytes e).processes ≡ w.processes)

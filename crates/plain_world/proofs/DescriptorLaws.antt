@@ -30,11 +30,13 @@ use Rattle.posix_model.specs.declared.change.FileEdit.TheVariants as on_files
 use Rattle.posix_model.specs.declared.change.ProcessEdit.TheVariants as on_process
 use Rattle.posix_model.specs.declared.change.TableEdit.TheVariants as on_table
 use Rattle.plain_world.specs.Proved.DescriptorLaws.{OpenGivesLowest, CloseCloses, NotOpenIsBad, ProcessesAreApart}
-use Rattle.plain_world.proofs.PageLemmas.{page_has, on_open_has, if_has}
+use Rattle.posix_model.proofs.PageLaws.{page_has, if_has}
+use Rattle.plain_world.proofs.PageLemmas.{on_open_has}
 use Rattle.plain_world.proofs.OpenedLemmas.{IsOpenAt, opened_stands}
 use Rattle.plain_world.proofs.ChangeLemmas.{files_leave}
 use Rattle.plain_world.proofs.OpenLaws.{open_describes}
-use Rattle.plain_world.proofs.SlotLemmas.{slot_pushed, slot_edited, slot_freed, other_slot}
+use Rattle.posix_model.proofs.SlotLaws.{slot_pushed}
+use Rattle.plain_world.proofs.SlotLemmas.{slot_edited, slot_freed, other_slot}
 
 pub open_gives_lowest : OpenGivesLowest
 open_gives_lowest bounds w p name flags no_error = (open_describes bounds w p name flags no_error).gives

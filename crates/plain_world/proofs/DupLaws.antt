@@ -17,7 +17,8 @@ use Rattle.posix_model.specs.declared.change.FileEdit.TheVariants as on_files
 use Rattle.posix_model.specs.declared.change.TableEdit.TheVariants as on_table
 use Rattle.plain_world.specs.Proved.Types.{World, Process, OpenDescriptor, OPEN_MAX, EMFILE, Replied, Number}
 use Rattle.plain_world.specs.Proved.DescriptorLaws.{Leads, DupLeads, Dup2Leads, Dup2KeepsEqual}
-use Rattle.plain_world.proofs.PageLemmas.{open_free_has, if_has}
+use Rattle.posix_model.proofs.PageLaws.{if_has}
+use Rattle.plain_world.proofs.PageLemmas.{open_free_has}
 use Rattle.plain_world.proofs.OpenedLemmas.{opened_stands}
 use Rattle.plain_world.proofs.StepLaws.{lowest_is_least}
 use Rattle.plain_world.proofs.SlotLemmas.{slot_edited}

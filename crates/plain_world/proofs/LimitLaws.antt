@@ -34,7 +34,10 @@ use Rattle.posix_model.specs.declared.change.FileEdit.TheVariants as on_files
 use Rattle.posix_model.specs.declared.change.ProcessEdit.TheVariants as on_process
 use Rattle.posix_model.specs.declared.change.TableEdit.TheVariants as on_table
 use Rattle.plain_world.specs.Proved.Laws.{StepKeepsLimits, LimitsHold}
-use Rattle.plain_world.proofs.PageLemmas.{page_has, where_may, step_parts, stepped_or_not}
+use Rattle.posix_model.proofs.PageLaws.{page_has}
+use Rattle.posix_model.proofs.SweepLaws.{step_parts}
+use Rattle.posix_model.proofs.HistoryLaws.{stepped_or_not}
+use Rattle.plain_world.proofs.PageLemmas.{where_may}
 use Rattle.plain_world.proofs.ChangeLemmas.{files_leave, same_descriptions}
 use Rattle.plain_world.proofs.SlotLemmas.{at_set, at_push, stood}
 

@@ -18,7 +18,8 @@ use Rattle.posix_model.specs.declared.change.FileEdit.TheVariants as on_files
 use Rattle.posix_model.specs.declared.change.TableEdit.TheVariants as on_table
 use Rattle.plain_world.specs.Proved.Types.{World, Replied, Done}
 use Rattle.plain_world.specs.Proved.NameLaws.{Linked, Unlinked, LinkNames, UnlinkNames}
-use Rattle.plain_world.proofs.PageLemmas.{page_has, no_fault_after}
+use Rattle.posix_model.proofs.PageLaws.{page_has}
+use Rattle.plain_world.proofs.PageLemmas.{no_fault_after}
 
 -- a value is equal to itself in a total order
 ties : (name : List ℕ) → eq_by_cmp (slice_cmp nat_cmp) name name ≡ true

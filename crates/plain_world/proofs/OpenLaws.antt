@@ -25,10 +25,12 @@ use Rattle.plain_world.specs.Proved.Calls.{IsNoError, WaitsWith, GivesDescriptor
 use Rattle.plain_world.specs.Proved.FileLaws.{target_on, Opens, OpensLowest, OpenDescribes, IsForAsked, OpenIsForAsked, ExclOpensNew, EmptiesFile, TruncOpenEmpties, OpenKeepsFiles, OpenKeepsOthers, OpenMakesEmpty}
 use Rattle.plain_world.specs.Proved.PipeLaws.{FifoOpensOneWay}
 use Rattle.plain_world.proofs.NameLaws.{named_file}
-use Rattle.plain_world.proofs.PageLemmas.{page_has, if_has, no_fault_after}
+use Rattle.posix_model.proofs.PageLaws.{page_has, if_has}
+use Rattle.plain_world.proofs.PageLemmas.{no_fault_after}
 use Rattle.plain_world.proofs.ChangeLemmas.{files_leave}
 use Rattle.plain_world.proofs.StepLaws.{lowest_is_least}
-use Rattle.plain_world.proofs.SlotLemmas.{slot_at_end, slot_set_there, slot_edited, other_slot}
+use Rattle.posix_model.proofs.SlotLaws.{slot_at_end, slot_set_there}
+use Rattle.plain_world.proofs.SlotLemmas.{slot_edited, other_slot}
 
 -- what an open without a fault finds, and the room that there is for it
 later_clear : (w : World) (p : ℕ) (name : List ℕ) (flags : OpenFlags) (found : Option ℕ) → first_fault (open_faults w p name flags found) ≡ None →

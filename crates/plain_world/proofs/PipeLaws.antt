@@ -37,10 +37,14 @@ use Rattle.posix_model.specs.declared.change.Try.TheVariants.{Ends, Waits}
 use Rattle.plain_world.specs.Proved.Types.{Call, Errno, OpenFlags, Bounds, World, Process, Parked, DataSource, Mode, File, Fifo, OpenDescriptor, FileEdit, Decided, Try, EAGAIN, Number, Error}
 use Rattle.plain_world.specs.Proved.Calls.{IsNoError}
 use Rattle.plain_world.specs.Proved.PipeLaws.{CountsOpening, FifoCountsOpenings, OpensEmpty, ReopenedIsEmpty, ExitTakesBackNothing, HoldsAfter, WriteLosesNothing, ResumedWriteLosesNothing, WholeOrNone, SmallWriteIsWhole, UnparkedIsNotReady, UnparkedIsNotResumed}
-use Rattle.plain_world.proofs.PageLemmas.{page_has, on_open_has, opened_has, if_has, where_may, step_parts}
+use Rattle.posix_model.proofs.PageLaws.{page_has, if_has}
+use Rattle.posix_model.proofs.SoundTries.{try_has}
+use Rattle.posix_model.proofs.SweepLaws.{step_parts}
+use Rattle.plain_world.proofs.PageLemmas.{on_open_has, opened_has, where_may}
 use Rattle.plain_world.proofs.ChangeLemmas.{pipes_after}
 use Rattle.plain_world.proofs.OpenLaws.{has_free, fifo_opens_one_way, opened_leads, still_lowest}
-use Rattle.plain_world.proofs.SlotLemmas.{slot_at_end, slot_edited}
+use Rattle.posix_model.proofs.SlotLaws.{slot_at_end}
+use Rattle.plain_world.proofs.SlotLemmas.{slot_edited}
 
 exit_pipes : SweepLeaves → (w : World) (p pipe : ℕ) →
     let v = (stepped w [] (exit p)).world in slot v.pipes pipe ≡ cond (is_open v.descriptions pipe) (slot w.pipes pipe) None
@@ -101,11 +105,6 @@ first_loses_none p c o (Waits n edit) none =
     (λ _. if_has LosesNone (eqb n 0) (refused EAGAIN) (does (Number n) edit on_table.Nothing) (λ _. record { files = refl; made = refl; opened_none = refl })
     (λ _. record { files = none; made = refl; opened_none = refl }))
     (λ _. record { files = none; made = refl; opened_none = refl })
-
--- what holds of both tries holds of the one that is chosen
-try_has : (Has : Try → Type 0) (b : Bool) (x y : Try) → (b ≡ true → Has x) → (b ≡ false → Has y) → Has (cond b x y)
-try_has Has true x y h k = h refl
-try_has Has false x y h k = k refl
 
 write_takes_none : (bounds : Bounds) (w : World) (pipe : ℕ) (from : DataSource) (len moved : ℕ) → takes_none (edit_of (write_try bounds w pipe from len moved)) ≡ true
 write_takes_none bounds w pipe from len moved =

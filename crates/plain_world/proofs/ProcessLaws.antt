@@ -19,9 +19,12 @@ use Rattle.posix_model.specs.Proved.Laws.{SweepLeaves}
 use Rattle.plain_world.specs.Proved.Types.{World, Process, OpenDescriptor, Replied, Number, Done, EAGAIN}
 use Rattle.plain_world.specs.Proved.Calls.{before_sweep}
 use Rattle.plain_world.specs.Proved.ProcessLaws.{Forks, ForkCopies, ForkShares, FullForkRefused, description_at, SharedIsSeen, AfterExit, ExitFrees, ClosingCloses, ClosedOnce}
-use Rattle.plain_world.proofs.PageLemmas.{page_has, where_may, step_parts}
+use Rattle.posix_model.proofs.PageLaws.{page_has}
+use Rattle.posix_model.proofs.SweepLaws.{step_parts}
+use Rattle.plain_world.proofs.PageLemmas.{where_may}
 use Rattle.plain_world.proofs.OpenedLemmas.{IsOpenAt, opened_stands}
-use Rattle.plain_world.proofs.SlotLemmas.{slot_pushed, slot_at_end, slot_edited, slot_freed}
+use Rattle.posix_model.proofs.SlotLaws.{slot_pushed, slot_at_end}
+use Rattle.plain_world.proofs.SlotLemmas.{slot_edited, slot_freed}
 
 -- the descriptors of a child of a live process
 copied_there : (parent : Option Process) → is_some parent ≡ true → copied_table parent ≡ table_of parent

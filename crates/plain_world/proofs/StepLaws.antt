@@ -18,7 +18,8 @@ use Rattle.posix_model.specs.Proved.Laws.{HistorySettles, SweepLeaves}
 use Rattle.posix_model.specs.History.{empty_world, after, world_of, world_from, legal_from}
 use Rattle.posix_model.specs.Turns.{took}
 use Rattle.plain_world.specs.Proved.Laws.{RefusedStepKeepsWorld, RefusedNextKeepsWorld, Joins, JoinAdds, FullJoinRefused, LowestIsLeast, NoLowestIsFull, OffsetsAreApart, OffsetsStayApart, TakesFew, LegalIsAnswered, AnsweredIsLegal}
-use Rattle.plain_world.proofs.PageLemmas.{where_may, step_parts}
+use Rattle.posix_model.proofs.SweepLaws.{step_parts}
+use Rattle.plain_world.proofs.PageLemmas.{where_may}
 use Rattle.plain_world.proofs.ChangeLemmas.{offset_stays}
 use Rattle.plain_world.proofs.SlotLemmas.{stood}
 
