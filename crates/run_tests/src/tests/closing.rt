@@ -1,6 +1,6 @@
 //! What a closed run comes to, by its seats.
 
-ghost use Rattle.std.specs.Prelude.{◌≡◌, [], IfOk};
+ghost use Rattle.std.specs.Prelude.{◌≡◌, [], IfOk, IfSome};
 ghost use Rattle.rtrb.specs.Ring.{received};
 
 use byte_ledger::gather::Missing;
@@ -148,6 +148,11 @@ fn ended<L: Ledgers>(book: Book<L>) -> Option<ClosedBook<L>> {
     book.end_trace().ok()
 }
 
+/// Whether this is the book of a run that is closed. Nothing more comes into its ring.
+fn is_ended<L: Ledgers>(book: Book<L>) -> bool {
+    ended(book).is_some()
+}
+
 /// The seats of a run of two processes that is closed, and the end of the ring of its book.
 fn closed_with_its_end<L: Ledgers>(
     alloc: Global,
@@ -160,6 +165,27 @@ fn closed_with_its_end<L: Ledgers>(
     Ok((seats, end))
 }
 
+/// A run with its closed book, its seats and what became of its trace, whose ring has this end.
+fn with_its_trace<Rt: Wait + Clock, L: Ledgers>(
+    rt: &Rt,
+    alloc: Global,
+    book: Option<ClosedBook<L>>,
+    seats: Vec<SpentSeat<L>>,
+    end: TraceEnd,
+) -> Result<ClosedRun<L>, Fail>
+    requires { received end ≡ [] }
+{
+    let traced = traced_by(rt, alloc, end);
+    match book {
+        Some(book) => Ok(ClosedRun {
+            book,
+            seats,
+            traced,
+        }),
+        None => Err("the run is closed")?,
+    }
+}
+
 /// That run of two processes.
 fn closed_run<Rt: Wait + Clock, L: Ledgers>(
     rt: &Rt,
@@ -169,24 +195,19 @@ fn closed_run<Rt: Wait + Clock, L: Ledgers>(
     requires { blanks ≡ L.names }
 {
     let mut book = Book::<L>::new(alloc, Limits::new(10)?, blanks)?;
-    let (seats, end) = closed_with_its_end(alloc, &mut book)?;
-    match ended(book) {
-        Some(book) => Ok(ClosedRun {
-            book,
-            seats,
-            traced: traced_by(rt, alloc, end),
-        }),
-        None => Err("the run is closed")?,
-    }
+    let both = closed_with_its_end(alloc, &mut book);
+    let book = ended(book);
+    let (seats, end) = both?;
+    with_its_trace(rt, alloc, book, seats, end)
 }
 
-/// Closes a run, and returns the end of the ring of its book.
-fn only_closed<L: Ledgers>(book: &mut Book<L>) -> Result<TraceEnd, Fail>
-    ensures { IfOk result (λ end. received end ≡ []) }
+/// Closes a run that is open, and returns the end of the ring of its book, if that was not taken.
+fn only_closed<L: Ledgers>(book: &mut Book<L>) -> Option<TraceEnd>
+    ensures { IfSome result (λ end. received end ≡ []) }
 {
     match book.close_run() {
-        Some(_) => end_of(book),
-        None => Err("the run is open")?,
+        Some(_) => book.trace_end(),
+        None => None,
     }
 }
 
@@ -199,10 +220,10 @@ fn traced_of_nothing<Rt: Wait + Clock, L: Ledgers>(
     requires { blanks ≡ L.names }
 {
     let mut book = Book::<L>::new(alloc, Limits::new(10)?, blanks)?;
-    let end = only_closed(&mut book)?;
-    match ended(book) {
-        Some(_) => Ok(traced_by(rt, alloc, end)),
-        None => Err("the run is closed")?,
+    let end = only_closed(&mut book);
+    match (is_ended(book), end) {
+        (true, Some(end)) => Ok(traced_by(rt, alloc, end)),
+        _ => Err("the run is closed")?,
     }
 }
 
