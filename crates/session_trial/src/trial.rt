@@ -4,10 +4,12 @@ ghost use Rattle.std.specs.Prelude.{◌≡◌};
 
 use crate::job::Job;
 use crate::shown::{put_log, put_number, put_word, put_written};
-use crate::stranger::Stranger;
+use crate::stranger::{Forgets, Stranger};
 use crate::trial_fault::TrialFault;
 use byte_ledger::ledgers::{Blanks, Ledgers};
 use byte_ledger::tallies::Sums;
+use call_types::act::ScriptAct;
+use call_types::limits::Limits;
 use logged_streams::reader::LoggedReader;
 use record_book::book::Book;
 use record_book::seat::SpentSeat;
@@ -83,7 +85,7 @@ fn lines_of<L: Ledgers>(
     alloc: Global,
     served: &Served<MemoryReader, MemoryWriter, L>,
     counts: Sums,
-) -> Result<Vec<u8>, AllocError> {
+) -> Result<Vec<u8>, TrialFault> {
     let mut lines = Vec::new(alloc);
     put_served(&mut lines, served)?;
     write_totals(
@@ -95,6 +97,39 @@ fn lines_of<L: Ledgers>(
     Ok(lines)
 }
 
+/// A kernel of a new book, counted by these ledgers, that forgets so much and runs these acts when a call first waits.
+fn kernel_of<L: Ledgers>(
+    alloc: Global,
+    limits: Limits,
+    forgets: Forgets,
+    acts: Vec<ScriptAct>,
+    blanks: Blanks,
+) -> Result<Stranger<L>, AllocError>
+    requires { blanks ≡ L.names }
+{
+    // A match, since `?` would move the book three times more.
+    match Book::<L>::new(alloc, limits, blanks) {
+        Ok(book) => Ok(Stranger::new(OneBook::new(alloc, book, acts), forgets)),
+        Err(error) => Err(error),
+    }
+}
+
+/// Such a kernel, which can be shared.
+fn shared_kernel<L: Ledgers + Send + Sync + 'static>(
+    alloc: Global,
+    limits: Limits,
+    forgets: Forgets,
+    acts: Vec<ScriptAct>,
+    blanks: Blanks,
+) -> Result<Arc<Stranger<L>>, AllocError>
+    requires { blanks ≡ L.names }
+{
+    match kernel_of::<L>(alloc, limits, forgets, acts, blanks) {
+        Ok(kernel) => Arc::new(alloc, kernel).map_err(AllocError::from),
+        Err(error) => Err(error),
+    }
+}
+
 /// The lines of what comes of a session, counted by these ledgers.
 pub(crate) fn tried<
     Rt: Threads + Wait + Copy + Drop + Send + Sync + 'static,
@@ -102,13 +137,11 @@ pub(crate) fn tried<
 >(rt: Rt, alloc: Global, job: Job, input: Vec<u8>, blanks: Blanks) -> Result<Vec<u8>, TrialFault>
     requires { blanks ≡ L.names }
 {
-    let book = Book::<L>::new(alloc, job.limits, blanks)?;
-    let book = OneBook::new(alloc, book, job.acts);
-    let kernel = Arc::new(alloc, Stranger::new(book, job.forgets)).map_err(AllocError::from)?;
+    let kernel = shared_kernel::<L>(alloc, job.limits, job.forgets, job.acts, blanks)?;
     let shared = Arc::try_clone(&kernel)?;
     let reader = MemoryReader::new(input, job.reads);
     let writer = MemoryWriter::new(alloc, job.writes);
     let admission = kernel.admit();
     let served = serve(rt, alloc, reader, writer, shared, admission, 0, OpenGate);
-    Ok(lines_of(alloc, &served, kernel.counts(&rt))?)
+    lines_of(alloc, &served, kernel.counts(&rt))
 }
