@@ -107,6 +107,24 @@ fn gone_on<L: Ledgers>(
     Ok(end)
 }
 
+/// Tells why a book did not go on to the end of its trace, or looks whether it is as it should be there.
+fn ends_well<L: Ledgers>(
+    rt: &impl Abort,
+    ended: &Result<ClosedBook<L>, Book<L>>,
+    end: Result<TraceEnd, Fail>,
+    closes: bool,
+) -> Result<(), Fail> {
+    let mut end = end?;
+    assert!(rt;
+        if closes {
+            is_traced(ended, &mut end)
+        } else {
+            is_given_back(ended)
+        }
+    );
+    Ok(())
+}
+
 /// What a new book has at the end of its trace, whether its run is closed or not.
 fn ends<L: Ledgers>(
     rt: &impl Abort,
@@ -116,17 +134,14 @@ fn ends<L: Ledgers>(
 ) -> Result<(), Fail>
     requires { blanks ≡ L.names }
 {
-    let mut book = Book::<L>::new(alloc, Limits::new(20)?, blanks)?;
-    let mut end = gone_on(rt, alloc, &mut book, closes)?;
-    let ended = book.end_trace();
-    assert!(rt;
-        if closes {
-            is_traced(&ended, &mut end)
-        } else {
-            is_given_back(&ended)
+    // No `?` once there is a book, since each would drop it once more; whether it went on as it should is told at the end.
+    match Book::<L>::new(alloc, Limits::new(20)?, blanks) {
+        Ok(mut book) => {
+            let end = gone_on(rt, alloc, &mut book, closes);
+            ends_well(rt, &book.end_trace(), end, closes)
         }
-    );
-    Ok(())
+        Err(error) => Err(Fail::from(error)),
+    }
 }
 
 #[test]
