@@ -1,6 +1,6 @@
 //! The desk of a session: what answers its requests, whichever of its two threads holds it.
 
-ghost use Rattle.std.specs.Prelude.{◌≡◌, ◌∷◌, ◌++◌, ℕ, List, Option, [], length};
+ghost use Rattle.std.specs.Prelude.{◌≡◌, ◌∷◌, ◌++◌, ℕ, List, Option, Some, [], length};
 ghost use Rattle.rtrb.specs.Ring.{received, known_items, SameConsumer};
 ghost use Rattle.call_types.specs.declared.request.Request.{Request};
 ghost use Rattle.session_core.specs.Proved.Desk.{TurnStands, StandsBy, StandsOn, SendsOn, SentIfOn, SentIfReady, IsReady, LeftBy, EndsOn, comes_to};
@@ -210,6 +210,24 @@ pub(crate) fn wait_on<
     stand(rt, output, kernel, turn)
 }
 
+/// Waits until a call goes on, where one waits.
+fn wait_ready<
+    Rt: Wait,
+    W: Write + Connection,
+    G: Gate,
+    L: Ledgers,
+    K: Kernel<Seat<L>, SpentSeat<L>>,
+>(rt: &Rt, kernel: &K, output: &mut Output<W, G>, standing: StandingOf<L>) -> StandingOf<L>
+    ensures { (taken : List Request) → StandsOn K.not_opened K.refused K.ended taken output.old standing taken output.new result }
+{
+    match standing {
+        Standing::Waits(seat) => wait_on(rt, kernel, output, seat),
+        Standing::Ready(stage) => Standing::Ready(stage),
+        Standing::Lost(seat) => Standing::Lost(seat),
+        Standing::Left(left) => Standing::Left(left),
+    }
+}
+
 /// Whether no process is opened yet.
 fn is_opening<S, A>(stage: &Stage<S, A>) -> bool {
     match stage {
@@ -322,6 +340,16 @@ fn comes_to<L: Ledgers>(standing: &StandingOf<L>) -> Attended
     }
 }
 
+/// Puts back where a session stands, and says what its desk has come to.
+fn put_back<L: Ledgers>(place: &mut Option<StandingOf<L>>, standing: StandingOf<L>) -> Attended
+    ensures place { place.new ≡ Some standing }
+    ensures attended { result ≡ comes_to standing }
+{
+    let attended = comes_to(&standing);
+    drop(place.replace(standing));
+    attended
+}
+
 impl<D: Naming, W: Write + Connection, G: Gate, L: Ledgers, K: Kernel<Seat<L>, SpentSeat<L>>> Desk<
     D,
     W,
@@ -365,9 +393,7 @@ impl<D: Naming, W: Write + Connection, G: Gate, L: Ledgers, K: Kernel<Seat<L>, S
             &mut self.output,
             standing,
         );
-        let attended = comes_to(&standing);
-        self.standing = Some(standing);
-        attended
+        put_back(&mut self.standing, standing)
     }
 
     /// Answers what the ring holds, up to a call that waits, and writes it.
@@ -386,9 +412,7 @@ impl<D: Naming, W: Write + Connection, G: Gate, L: Ledgers, K: Kernel<Seat<L>, S
             standing,
         );
         let standing = send_ready(rt, kernel, &mut self.output, standing);
-        let attended = comes_to(&standing);
-        self.standing = Some(standing);
-        attended
+        put_back(&mut self.standing, standing)
     }
 
     /// Writes what is answered and waits until a call goes on, where one waits.
@@ -396,10 +420,7 @@ impl<D: Naming, W: Write + Connection, G: Gate, L: Ledgers, K: Kernel<Seat<L>, S
         let Some(standing) = self.standing.take() else {
             unreachable!()
         };
-        let standing = match standing {
-            Standing::Waits(seat) => wait_on(rt, kernel, &mut self.output, seat),
-            other => other,
-        };
-        self.standing = Some(standing);
+        let standing = wait_ready(rt, kernel, &mut self.output, standing);
+        put_back(&mut self.standing, standing);
     }
 }

@@ -131,38 +131,72 @@ fn serve_named<
     ensures said { EndSaid K.not_opened K.ended result.seat result.end_is }
     ensures given_up { CutSaid K.ended result.seat result.answers result.end_is }
 {
-    let (shared, other) = match shared_twice::<D, W, G, L, K>(alloc, kernel) {
-        Ok(shared) => shared,
-        Err(_) => return unstarted(alloc, Some(reader), output, admission, End::NoMemory),
-    };
+    match shared_twice::<Rt, D, W, G, L, K>(rt, alloc, kernel) {
+        Ok((shared, helper)) => serve_shared(
+            rt, alloc, reader, output, &*shared, helper, admission, producer, consumer,
+        ),
+        Err(_) => unstarted(alloc, Some(reader), output, admission, End::NoMemory),
+    }
+}
+
+/// Serves the session of two threads that share this: the helper is for the one that reads.
+fn serve_shared<
+    Rt: Threads + Wait + Copy + Drop + Send + Sync + 'static,
+    R: Read + Send + Drop + 'static,
+    D: Naming + Send + Sync + 'static,
+    W: Write + Connection + Send + Drop + 'static,
+    G: Gate + Send + 'static,
+    L: Ledgers + Send + Sync + 'static,
+    K: Kernel<Seat<L>, SpentSeat<L>> + Send + Sync + Drop + 'static,
+>(
+    rt: Rt,
+    alloc: Global,
+    reader: R,
+    output: Output<W, G>,
+    shared: &Shared<D, W, G, L, K>,
+    helper: Helper<Rt, D, W, G, L, K>,
+    admission: AdmissionTo<L>,
+    producer: Producer<Request>,
+    consumer: Consumer<Request>,
+) -> Served<R, W, L>
+    requires ring { D.ring ≡ Some consumer }
+    requires base { output ≡ fresh_output D.base }
+    requires pair { IsPair producer consumer }
+    requires fresh { (received consumer ≡ []) × (sent producer ≡ []) }
+    requires room { producer_capacity producer ≡ REQUESTS_AHEAD }
+    ensures serves { ServesUnder K.not_opened K.refused K.ended G.is_open (R.remaining reader) D.base result }
+    ensures said { EndSaid K.not_opened K.ended result.seat result.end_is }
+    ensures given_up { CutSaid K.ended result.seat result.answers result.end_is }
+{
     // the thread that reads finds the desk locked until it is there
     let mut place = shared.desk.lock(&rt);
-    let helper = Helper { rt, shared: other };
     match start_reading(rt, alloc, reader, producer, helper) {
         Some(thread) => {
-            *place = Some(Desk::new(consumer, output, admission));
+            drop(place.replace(Desk::new(consumer, output, admission)));
             drop(place);
             shared.attend(&rt);
-            leave_rest(&rt, &*shared, thread.join(&rt))
+            leave_rest(&rt, shared, thread.join(&rt))
         }
         None => unstarted(alloc, None, output, admission, End::NoThread),
     }
 }
 
-/// What two threads share, for each of them.
+/// What two threads share, for the one that waits, and the helper of the one that reads.
 fn shared_twice<
+    Rt: Wait + Drop,
     D: Naming,
     W: Write + Connection + Drop,
     G: Gate,
     L: Ledgers,
     K: Kernel<Seat<L>, SpentSeat<L>> + Drop,
 >(
+    rt: Rt,
     alloc: Global,
     kernel: Arc<K>,
-) -> Result<(Arc<Shared<D, W, G, L, K>>, Arc<Shared<D, W, G, L, K>>), AllocError> {
+) -> Result<(Arc<Shared<D, W, G, L, K>>, Helper<Rt, D, W, G, L, K>), AllocError> {
     let shared = Arc::new(alloc, Shared::new(kernel))?;
     let other = Arc::try_clone(&shared)?;
-    Ok((shared, other))
+    Ok((shared, Helper { rt, shared: other }))
 }
 
 /// Why a session leaves off whose requests are all answered.

@@ -56,10 +56,15 @@ impl<
         }
     }
 
+    /// Takes the desk away, if it is there.
+    fn take_away<Rt: Wait>(&self, rt: &Rt) -> Option<Desk<D, W, G, L, K>> {
+        self.desk.lock(rt).take()
+    }
+
     /// Takes the desk. It waits until it is there.
     pub(crate) fn take_desk<Rt: Wait>(&self, rt: &Rt) -> Desk<D, W, G, L, K> {
         for _ in rt.forever() {
-            match self.desk.lock(rt).take() {
+            match self.take_away(rt) {
                 Some(desk) => return desk,
                 None => thread::yield_now(),
             }
@@ -95,10 +100,9 @@ impl<
 
     /// Takes the desk away, waits until its call goes on, and puts it back.
     fn wait_out<Rt: Wait>(&self, rt: &Rt) {
-        let taken = self.desk.lock(rt).take();
-        if let Some(mut desk) = taken {
+        if let Some(mut desk) = self.take_away(rt) {
             desk.wait(rt, &*self.kernel);
-            *self.desk.lock(rt) = Some(desk);
+            drop(self.desk.lock(rt).replace(desk));
         }
     }
 

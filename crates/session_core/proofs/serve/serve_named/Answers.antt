@@ -13,24 +13,3 @@ returns-in-Err-clause-said g c = subst (λ (s : SessionState). EndSaid g.K.Kerne
 
 pub returns-in-Err-clause-given_up : goal.returns-in-Err-clause-given_up
 returns-in-Err-clause-given_up g c = subst (λ (s : SessionState). CutSaid g.K.Kernel.ended s.seat s.answers s.end_is) (sym (c.unstarted.ensures g.D.Naming.base c.requires.base)) (laws.unserved_open g.K.Kernel.ended [])
-
-pub returns-in-None-clause-serves : goal.returns-in-None-clause-serves
-returns-in-None-clause-serves g c = subst (ServesUnder g.K.Kernel.not_opened g.K.Kernel.refused g.K.Kernel.ended g.G.Gate.is_open (g.R.Read.remaining c.args.reader) g.D.Naming.base) (sym (c.unstarted-in-None.ensures g.D.Naming.base c.requires.base)) (laws.unstarted g.K.Kernel.not_opened g.K.Kernel.refused g.K.Kernel.ended g.G.Gate.is_open (g.R.Read.remaining c.args.reader) g.D.Naming.base)
-
-pub returns-in-None-clause-said : goal.returns-in-None-clause-said
-returns-in-None-clause-said g c = subst (λ (s : SessionState). EndSaid g.K.Kernel.not_opened g.K.Kernel.ended s.seat s.end_is) (sym (c.unstarted-in-None.ensures g.D.Naming.base c.requires.base)) tt
-
-pub returns-in-None-clause-given_up : goal.returns-in-None-clause-given_up
-returns-in-None-clause-given_up g c = subst (λ (s : SessionState). CutSaid g.K.Kernel.ended s.seat s.answers s.end_is) (sym (c.unstarted-in-None.ensures g.D.Naming.base c.requires.base)) (laws.unstarted_open g.K.Kernel.ended [])
-
-pub returns-in-Some-clause-serves : goal.returns-in-Some-clause-serves
-returns-in-Some-clause-serves g c =
-    let fresh = laws.fresh_ring c.args.producer c.requires.fresh.1 c.requires.room in
-    let pumps = laws.pumps_of (g.R.Read.remaining c.args.reader) _ c.args.producer _ c.join.result c.in-Some.ensures.0 c.in-Some.ensures.1 c.join.ensures.1 in
-    laws.served g.K.Kernel.not_opened g.K.Kernel.refused g.K.Kernel.ended g.G.Gate.is_open (g.R.Read.remaining c.args.reader) g.D.Naming.base c.args.producer c.join.result c.leave_rest.result fresh pumps c.leave_rest.ensures
-
-pub returns-in-Some-clause-given_up : goal.returns-in-Some-clause-given_up
-returns-in-Some-clause-given_up g c =
-    let fresh = laws.fresh_ring c.args.producer c.requires.fresh.1 c.requires.room in
-    let pumps = laws.pumps_of (g.R.Read.remaining c.args.reader) _ c.args.producer _ c.join.result c.in-Some.ensures.0 c.in-Some.ensures.1 c.join.ensures.1 in
-    laws.given_up g.K.Kernel.not_opened g.K.Kernel.refused g.K.Kernel.ended g.G.Gate.is_open (g.R.Read.remaining c.args.reader) g.D.Naming.base c.args.producer c.join.result c.leave_rest.result fresh pumps c.leave_rest.ensures

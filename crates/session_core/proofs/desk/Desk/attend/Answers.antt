@@ -7,7 +7,8 @@ use Rattle.session_core.proofs.desk.Desk.attend.Goals as goal
 pub invariant_of-self : goal.invariant_of-self
 invariant_of-self g c = (
   laws.ring_kept g.D.Naming.ring c.self.inside.consumer c.take_ready-standing.new.consumer c.self.invariant.0 c.take_ready-standing.ensures.ring,
-  c.send_ready-standing.ensures.stands (received c.take_ready-standing.new.consumer) g.D.Naming.base
+  subst (StandsThere g.K.Kernel.not_opened g.K.Kernel.refused g.K.Kernel.ended g.D.Naming.base (received c.take_ready-standing.new.consumer) c.send_ready-standing.new.output) (sym c.put_back.ensures.place)
+      (c.send_ready-standing.ensures.stands (received c.take_ready-standing.new.consumer) g.D.Naming.base
       (c.take_ready-standing.ensures.stands g.D.Naming.base
-      (subst (StandsThere g.K.Kernel.not_opened g.K.Kernel.refused g.K.Kernel.ended g.D.Naming.base (received c.self.inside.consumer) c.self.inside.output) (sym c.in-Some.ensures.value) c.self.invariant.1)),
+      (subst (StandsThere g.K.Kernel.not_opened g.K.Kernel.refused g.K.Kernel.ended g.D.Naming.base (received c.self.inside.consumer) c.self.inside.output) (sym c.in-Some.ensures.value) c.self.invariant.1))),
 )
