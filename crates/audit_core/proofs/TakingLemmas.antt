@@ -15,7 +15,8 @@ use Rattle.audit_core.specs.Proved.Taking.{TraceState, fresh_trace, IsTaking, Is
 use Rattle.audit_core.specs.declared.verdict.Verdict.{Verdict}
 use Rattle.audit_core.specs.declared.verdict.Verdict.TheVariants.{Legal, Illegal, Malformed}
 use Rattle.audit_core.proofs.JudgeLemmas.{none_judged}
-use Rattle.audit_core.proofs.TraceLemmas.{order, few_records, are_frames, begins_so}
+use Rattle.slots.proofs.SlotLaws.{order}
+use Rattle.audit_core.proofs.TraceLemmas.{few_records, are_frames, begins_so}
 
 nil_of : (xs : List ℕ) → length xs ≡ 0 → xs ≡ []
 nil_of [] e = refl

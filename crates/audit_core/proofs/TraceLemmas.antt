@@ -1,6 +1,5 @@
 -- The text of records, and what a piece more of a trace tells.
 use Rattle.std.proofs.Common.{◌≡◌, ◌∙◌, ℕ, ◌+◌, ◌-◌, ◌^◌, ◌<◌, ◌≤◌, ◌⊎◌, inl, inr, min, List, [], ◌∷◌, ◌++◌, Option, length, refl, sym, ap, subst, arith, append_assoc, length-append}
-use Rattle.std.proofs.lemmas.Bool.{cases_order}
 use Rattle.call_types.specs.declared.act.Record.{Record}
 use Rattle.call_types.specs.declared.limits.Bounds.{Bounds}
 use Rattle.call_types.specs.declared.limits.TheConstants.{RECORD_LENGTH_MAX}
@@ -17,13 +16,6 @@ use Rattle.audit_core.specs.Proved.Judging.{JudgeState, HasJudged, JudgesAll}
 use Rattle.audit_core.specs.Trace.{HasFrame, HaveFrames, Begins, IsAtFault}
 use Rattle.audit_core.specs.Verdict.{BreaksAt, IsIllegal, IsMalformedAt}
 use Rattle.audit_core.specs.declared.judge.Judged.TheVariants as judged
-
--- one number is below another, or it is not
-pub order : (k i : ℕ) → (k < i) ⊎ (i ≤ k)
-order k i = elim (cases_order k i) [
-  | inl same ↦ inr (omega (arith, same))
-  | inr apart ↦ elim apart [ inl below ↦ inl below | inr above ↦ inr (omega (arith, above)) ]
-]
 
 pub header_long : length trace_header ≡ 8
 header_long = refl

@@ -16,7 +16,8 @@ use Rattle.audit_core.specs.Proved.Laws.{LegalFront, LegalHaveFrames, WrittenIsL
 use Rattle.audit_core.specs.Trace.{HasFrame, HaveFrames, IsUnfinished}
 use Rattle.audit_core.specs.Verdict.{IsVerdict}
 use Rattle.audit_core.specs.declared.verdict.Verdict.TheVariants.{Legal}
-use Rattle.audit_core.proofs.TraceLemmas.{order, frame_long}
+use Rattle.slots.proofs.SlotLaws.{order}
+use Rattle.audit_core.proofs.TraceLemmas.{frame_long}
 
 -- ---- fronts of lists
 
