@@ -1,9 +1,12 @@
 //! The closing of a run whose sessions have ended: their receipts are compared with its records, and what they counted is gathered.
 
-ghost use Rattle.std.specs.Prelude.{◌≡◌, ◌+◌, ◌++◌, ◌∷◌, ℕ, [], map, None, Some, length, vec_len, OnOk, IfOk, IfErr};
+ghost use Rattle.std.specs.Prelude.{◌≡◌, ◌+◌, ◌++◌, ◌∷◌, ℕ, List, [], true, map, None, Some, length, vec_len, OnOk, IfOk, IfErr};
 ghost use Rattle.std.specs.Arc.{arc_value};
 ghost use Rattle.posix_model.specs.History.{legal};
 ghost use Rattle.posix_model.specs.Turns.{bytes_in, bytes_out};
+ghost use Rattle.call_types.specs.declared.act.Record.{Record};
+ghost use Rattle.record_book.specs.Book.{world_now};
+ghost use Rattle.record_book.specs.Counting.{seats_given};
 ghost use Rattle.run_core.specs.declared.report.RunFault.TheVariants as run_fault;
 ghost use Rattle.run_core.specs.Proved.Laws.{FlagsDecideAll};
 ghost use Rattle.run_core.specs.Run.{AreAll, ClosesFor, IsClosing, IsGathered, IsLeast, IsRunOf, held_in};
@@ -126,30 +129,29 @@ fn compare_seats<L: Ledgers>(
     Ok(least)
 }
 
-/// Seats that were compared with the records of their book, and parted.
-#[derive(Drop)]
-struct Checked<L: Ledgers> {
-    /// The least place that does not agree, if there is one.
-    least: Option<u64>,
-    parted: Parted<L>,
-}
-
-/// Compares the receipts of seats, and what was received, with the records of their book, and parts the seats.
-fn compare_and_part<L: Ledgers>(
+/// Brings all seats of a run together: the sums of what they counted, and their receipts. Where seats are missing, that is the fault.
+fn gather_seats<L: Ledgers>(
     alloc: Global,
-    book: &ClosedBook<L>,
+    book: ClosedBook<L>,
     seats: Vec<SpentSeat<L>>,
-    received: &[Arc<Record>],
-) -> Result<Checked<L>, AllocError>
-    ensures agree { IfOk result (λ told. told.least ≡ None → AreAll book.now.history (map held_in seats.items) (map arc_value received.now)) }
-    ensures least { IfOk result (λ told. (place : ℕ) → told.least ≡ Some place → IsLeast book.now.history (map held_in seats.items) (map arc_value received.now) place) }
-    ensures receipts { IfOk result (λ told. map (λ r. r.items) told.parted.receipts.items ≡ map (λ s. s.receipts) seats.items) }
-    ensures all { IfOk result (λ told. vec_len told.parted.shares ≡ length seats.items) }
-    ensures counted { IfOk result (λ told. told.parted.shares.items ≡ map (λ s. s.counted) seats.items) }
+) -> Result<Totals, CloseFault>
+    ensures records { IfOk result (λ totals. totals.records ≡ length book.history) }
+    ensures bytes_in { IfOk result (λ totals. totals.bytes_in ≡ bytes_in book.limits.bounds book.history) }
+    ensures bytes_out { IfOk result (λ totals. totals.bytes_out ≡ bytes_out book.limits.bounds book.history) }
+    ensures gathered { IfOk result (λ totals. IsGathered book (map (λ s. s.counted) seats.items) totals.records totals.bytes_in totals.bytes_out) }
+    ensures receipts { IfOk result (λ totals. map (λ r. r.items) totals.receipts.items ≡ map (λ s. s.receipts) seats.items) }
+    ensures all { OnOk result (length seats.items ≡ seats_given book) }
+    ensures fault { IfErr result (λ fault. (received : List Record) → ClosesFor book seats.items received fault) }
 {
-    let least = compare_seats(alloc, book, seats.as_slice(), received)?;
     let parted = part(alloc, seats)?;
-    Ok(Checked { least, parted })
+    let Parted { receipts, shares } = parted;
+    let sums = book.gather(shares)?;
+    Ok(Totals {
+        records: sums.records,
+        bytes_in: sums.bytes_in,
+        bytes_out: sums.bytes_out,
+        receipts,
+    })
 }
 
 /// Brings all seats of a run together: the sums of what they counted, and their receipts. The seat of the house, which closed the run, is
@@ -172,21 +174,18 @@ pub fn close_run<L: Ledgers>(
     ensures received { OnOk result (map arc_value traced.now.received.items ≡ book.history) }
     ensures fault { IfErr result (ClosesFor book seats.items (map arc_value traced.now.received.items)) }
 {
-    let checked = compare_and_part(alloc, &book, seats, traced.received.as_slice())?;
-    let Checked { least, parted } = checked;
-    let Parted { receipts, shares } = parted;
-    let sums = book.gather(shares)?;
-    if least.is_some() && is_torn(traced, sums.records) {
+    let received = traced.received.as_slice();
+    let least = compare_seats(alloc, &book, seats.as_slice(), received);
+    // This takes the book and the seats, so no way out has to drop them. A fault of the comparison is told first.
+    let totals = gather_seats(alloc, book, seats);
+    let least = least?;
+    let totals = totals?;
+    if least.is_some() && is_torn(traced, totals.records) {
         return Err(CloseFault::NoMemory);
     }
     match least {
         Some(place) => Err(CloseFault::Disagree { place }),
-        None => Ok(Totals {
-            records: sums.records,
-            bytes_in: sums.bytes_in,
-            bytes_out: sums.bytes_out,
-            receipts,
-        }),
+        None => Ok(totals),
     }
 }
 
@@ -197,6 +196,17 @@ pub(crate) struct Closed<L: Ledgers> {
     pub(crate) house: SpentSeat<L>,
 }
 
+/// Ends what the trace thread of a closed run is to receive.
+fn end_trace<L: Ledgers>(book: Book<L>) -> ClosedBook<L>
+    requires { (world_now book).closed ≡ true }
+    ensures { result ≡ book }
+{
+    match book.end_trace() {
+        Ok(book) => book,
+        Err(_) => unreachable!(),
+    }
+}
+
 /// Closes a run, whose house has no receipt yet, and ends what the trace thread is to receive. Also where that fails nothing more comes
 /// to the trace thread.
 pub(crate) fn close<L: Ledgers>(book: Book<L>) -> Result<Closed<L>, RunFault>
@@ -205,48 +215,66 @@ pub(crate) fn close<L: Ledgers>(book: Book<L>) -> Result<Closed<L>, RunFault>
     ensures fault { IfErr result (λ fault. fault ≡ run_fault.NoThread → ⊥) }
 {
     let mut book = book;
-    let house = match book.close_run() {
-        Some(house) => house,
-        None => return Err(RunFault::Missing),
-    };
-    match book.end_trace() {
-        Ok(book) => Ok(Closed { book, house }),
-        Err(_) => unreachable!(),
+    let house = book.close_run();
+    let book = end_trace(book);
+    match house {
+        Some(house) => Ok(Closed { book, house }),
+        None => Err(RunFault::Missing),
     }
 }
 
-/// What the records of a run were compared with.
-#[derive(Drop)]
-struct Compared<L: Ledgers> {
-    /// The least place that does not agree, if there is one.
-    least: Option<u64>,
-    /// The shares of all seats, those of the house as the last.
-    shares: Vec<Shares<L>>,
-}
-
-/// Compares the records of a run with the receipts of these holders and of the house, and with what was received. The shares of the house
-/// are put after the others.
+/// Compares the records of a closed run with the receipts of these holders and of the house, and with what was received: the least place
+/// that does not agree, if there is one.
 fn compare_with_house<L: Ledgers, T: HasReceipts>(
     alloc: Global,
-    book: &ClosedBook<L>,
-    house: SpentSeat<L>,
+    closed: &Closed<L>,
     holders: &[T],
-    shares: Vec<Shares<L>>,
     received: &[Arc<Record>],
-) -> Result<Compared<L>, RunFault>
-    ensures is_legal { OnOk result (legal book.now.limits.bounds book.now.history) }
-    ensures all { IfOk result (λ told. told.least ≡ None → AreAll book.now.history (map T.held holders.now ++ held_in house ∷ []) (map arc_value received.now)) }
-    ensures decided { IfOk result (λ told. told.least ≡ None → FlagsDecideAll (map arc_value received.now)) }
-    ensures shares { IfOk result (λ told. told.shares.items ≡ shares.items ++ house.counted ∷ []) }
-    ensures fault { IfErr result (λ fault. fault ≡ run_fault.NoThread → ⊥) }
+) -> Result<Option<u64>, AllocError>
+    ensures is_legal { OnOk result (legal closed.now.book.limits.bounds closed.now.book.history) }
+    ensures all { IfOk result (λ least. least ≡ None → AreAll closed.now.book.history (map T.held holders.now ++ held_in closed.now.house ∷ []) (map arc_value received.now)) }
+    ensures decided { IfOk result (λ least. least ≡ None → FlagsDecideAll (map arc_value received.now)) }
+{
+    let least = compare(
+        alloc,
+        &closed.book,
+        holders,
+        slice::from_ref(&closed.house),
+        received,
+    )?;
+    Ok(least)
+}
+
+/// These shares, and those of the house as the last.
+fn with_house<L: Ledgers>(
+    house: SpentSeat<L>,
+    shares: Vec<Shares<L>>,
+) -> Result<Vec<Shares<L>>, AllocError>
+    ensures { IfOk result (λ all. all.items ≡ shares.items ++ house.counted ∷ []) }
 {
     let mut shares = shares;
-    let least = compare(alloc, book, holders, slice::from_ref(&house), received)?;
     let (_receipts, counted) = house.into_parts();
     if shares.push(counted).is_err() {
-        return Err(RunFault::NoMemory);
+        return Err(AllocError);
     }
-    Ok(Compared { least, shares })
+    Ok(shares)
+}
+
+/// Gathers these shares and those of the house: the number of the records of a closed run, and of the bytes that they took and gave.
+fn gather_with_house<L: Ledgers>(
+    closed: Closed<L>,
+    shares: Vec<Shares<L>>,
+) -> Result<Sums, RunFault>
+    ensures records { IfOk result (λ sums. sums.records ≡ length closed.book.history) }
+    ensures bytes_in { IfOk result (λ sums. sums.bytes_in ≡ bytes_in closed.book.limits.bounds closed.book.history) }
+    ensures bytes_out { IfOk result (λ sums. sums.bytes_out ≡ bytes_out closed.book.limits.bounds closed.book.history) }
+    ensures gathered { IfOk result (λ sums. IsGathered closed.book (shares.items ++ closed.house.counted ∷ []) sums.records sums.bytes_in sums.bytes_out) }
+    ensures fault { IfErr result (λ fault. fault ≡ run_fault.NoThread → ⊥) }
+{
+    let Closed { book, house } = closed;
+    let shares = with_house(house, shares)?;
+    let sums = book.gather(shares)?;
+    Ok(sums)
 }
 
 /// Ends a run that is closed and whose seats are parted into holders of their receipts and shares. It compares the receipts with the
@@ -262,11 +290,12 @@ pub(crate) fn end_run<L: Ledgers, T: HasReceipts>(
     ensures decided { OnOk result (FlagsDecideAll (map arc_value traced.now.received.items)) }
     ensures fault { IfErr result (λ fault. fault ≡ run_fault.NoThread → ⊥) }
 {
-    let Closed { book, house } = closed;
     let received = traced.received.as_slice();
-    let compared = compare_with_house(alloc, &book, house, holders, shares, received)?;
-    let Compared { least, shares } = compared;
-    let sums = book.gather(shares)?;
+    let least = compare_with_house(alloc, &closed, holders, received);
+    // This takes the run and the shares, so no way out has to drop them. A fault of the comparison is told first.
+    let sums = gather_with_house(closed, shares);
+    let least = least?;
+    let sums = sums?;
     if least.is_some() && is_torn(traced, sums.records) {
         return Err(RunFault::NoMemory);
     }

@@ -1,22 +1,30 @@
-use Rattle.std.proofs.Common.{List, ◌∙◌, map, ap, subst, sym}
+use Rattle.std.proofs.Common.{List, map, ap, subst}
+use Rattle.std.proofs.lemmas.Result.{err_from_is_err_and}
 use Rattle.std.specs.Arc.{arc_value}
 use Rattle.call_types.specs.declared.act.Record.{Record}
+use Rattle.record_book.specs.Seat.{SeatState}
 use Rattle.run_core.specs.Run.{AreAll, IsLeast, held_in}
 use Rattle.run_core.proofs.ReceiptLemmas.{received_all}
 use Rattle.run_core.proofs.closing.close_run.Goals as goal
 
 pub returns-in-None-clause-all : goal.returns-in-None-clause-all
 returns-in-None-clause-all g c =
-    subst (λ (received : List Record). AreAll c.args.book.history (map held_in c.args.seats.items) received) (ap (map arc_value) c.as_slice.ensures.value) (c.in_ok-checked.ensures.agree c.in-None.is)
+    let of_seats = subst (λ (seats : List SeatState). AreAll c.args.book.history (map held_in seats) (map arc_value c.as_slice-received.result.now)) c.as_slice.ensures.value (c.in_ok-least.ensures.all c.in-None.is) in
+    subst (λ (received : List Record). AreAll c.args.book.history (map held_in c.args.seats.items) received) (ap (map arc_value) c.as_slice-received.ensures.value) of_seats
 
 pub returns-in-None-clause-received : goal.returns-in-None-clause-received
 returns-in-None-clause-received g c =
-    received_all c.args.book.history (map held_in c.args.seats.items) (map arc_value c.args.traced.now.received.items)
-    (subst (λ (received : List Record). AreAll c.args.book.history (map held_in c.args.seats.items) received) (ap (map arc_value) c.as_slice.ensures.value) (c.in_ok-checked.ensures.agree c.in-None.is))
+    received_all c.args.book.history (map held_in c.args.seats.items) (map arc_value c.args.traced.now.received.items) (returns-in-None-clause-all g c)
 
 pub returns-in-Some-clause-fault : goal.returns-in-Some-clause-fault
 returns-in-Some-clause-fault g c =
-    let whole = sym c.in_ok-checked.ensures.all ∙ (c.in_ok-checked.checked.parted.shares.ok.0 ∙ c.in_ok-sums.ensures.all) in (
-      whole,
-      subst (λ (received : List Record). IsLeast c.args.book.history (map held_in c.args.seats.items) received c.in-Some.place) (ap (map arc_value) c.as_slice.ensures.value) (c.in_ok-checked.ensures.least c.in-Some.place c.in-Some.is),
+    let place = c.in-Some.place in
+    let of_seats = subst (λ (seats : List SeatState). IsLeast c.args.book.history (map held_in seats) (map arc_value c.as_slice-received.result.now) place) c.as_slice.ensures.value (c.in_ok-least.ensures.least place c.in-Some.is) in (
+      c.in_ok-totals.ensures.all,
+      subst (λ (received : List Record). IsLeast c.args.book.history (map held_in c.args.seats.items) received place) (ap (map arc_value) c.as_slice-received.ensures.value) of_seats,
     )
+
+pub returns-in_err-totals-clause-fault : goal.returns-in_err-totals-clause-fault
+returns-in_err-totals-clause-fault g c =
+    let p = err_from_is_err_and c.from_residual-in_err-totals.result c.from_residual-in_err-totals.ensures.1 in
+    rw (p.1, p.2) (c.in_err-totals.ensures.fault (map arc_value c.args.traced.now.received.items))

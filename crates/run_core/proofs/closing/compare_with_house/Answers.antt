@@ -8,7 +8,8 @@ use Rattle.run_core.proofs.closing.compare_with_house.Goals as goal
 pub returns-clause-all : goal.returns-clause-all
 returns-clause-all g c =
     let held = map g.T.HasReceipts.held c.args.holders.now in
-    λ none. all_agree c.args.book.now.history (held ++ map held_in c.from_ref.result.now) _ (map arc_value c.args.received.now) c.in_ok-least.least (with_house held c.from_ref.result.now c.args.house c.from_ref.ensures.value) none c.in_ok-least.ensures.agree
+    let house = c.from_ref.result.now in
+    λ none. all_agree c.args.closed.now.book.history (held ++ map held_in house) _ (map arc_value c.args.received.now) c.in_ok-least.least (with_house held house c.args.closed.now.house c.from_ref.ensures.value) none c.in_ok-least.ensures.agree
 
 pub returns-clause-decided : goal.returns-clause-decided
 returns-clause-decided g c = λ none p. c.in_ok-least.ensures.decided p (subst (IsBefore p) (sym none) tt)

@@ -12,17 +12,17 @@ returns-in-None-clause-run g c =
     let history = c.args.closed.book.history in
     let held = map g.T.HasReceipts.held c.args.holders.now ++ held_in c.args.closed.house ∷ [] in
     let received = map arc_value c.args.traced.now.received.items in
-    let all : AreAll history held received = subst (λ (rs : List Record). AreAll history held rs) (ap (map arc_value) c.as_slice-received.ensures.value) (c.in_ok-compared.ensures.all c.in-None.is) in
+    let all : AreAll history held received = subst (λ (rs : List Record). AreAll history held rs) (ap (map arc_value) c.as_slice-received.ensures.value) (c.in_ok-least.ensures.all c.in-None.is) in
     record {
       limits_are = refl;
-      is_legal = c.in_ok-compared.ensures.is_legal;
+      is_legal = c.in_ok-least.ensures.is_legal;
       records_are = sums.records;
       taken_is = sums.bytes_in;
       given_is = sums.bytes_out;
-      gathered = rw (← c.in_ok-compared.ensures.shares) (record { whole = sums.all; records_are = sums.shares_records; taken_is = sums.shares_bytes_in; given_is = sums.shares_bytes_out });
+      gathered = sums.gathered;
       all = all;
       received_are = received_all history held received all;
     }
 
 pub returns-in-None-clause-decided : goal.returns-in-None-clause-decided
-returns-in-None-clause-decided g c = subst FlagsDecideAll (ap (map arc_value) c.as_slice-received.ensures.value) (c.in_ok-compared.ensures.decided c.in-None.is)
+returns-in-None-clause-decided g c = subst FlagsDecideAll (ap (map arc_value) c.as_slice-received.ensures.value) (c.in_ok-least.ensures.decided c.in-None.is)
