@@ -4,6 +4,7 @@ ghost use Rattle.std.specs.Prelude.{◌≡◌, ◌≤◌, ◌<◌, ◌+◌, ◌^
 ghost use Rattle.std.specs.Option.{option_map};
 ghost use Rattle.std.specs.Arc.{arc_value};
 ghost use Rattle.rtrb.specs.Ring.{received};
+ghost use Rattle.call_types.specs.declared.limits.Limits.{Limits};
 ghost use Rattle.run_core.specs.Judged.{IsJudged};
 ghost use Rattle.run_core.specs.Proved.Laws.{FlagsDecideAll};
 ghost use Rattle.run_core.specs.Receipts.{held_by};
@@ -16,7 +17,7 @@ use crate::closing::{Closed, close, end_run, unshared};
 use crate::laws::runs_are_judged;
 use crate::report::{Process, Report, RunFault, Session};
 use crate::source::Source;
-use crate::tracing::{Done, start_trace};
+use crate::tracing::{Done, Traces, start_trace};
 use byte_ledger::ledgers::{Blanks, Ledgers};
 use byte_ledger::tallies::Shares;
 use call_types::limits::Limits;
@@ -418,6 +419,43 @@ fn report_of<R: Read + Drop, W: Write + Drop, L: Ledgers, K: Sink + Drop>(
     })
 }
 
+/// Serves so many sessions while their trace goes on, then waits until it is written, and compares and gathers what they left. The sink
+/// is the one by which the trace was started. In any case no thread goes on then.
+fn serve_traced<
+    Rt: Threads + Wait + Clock + Copy + Drop + Send + Sync + 'static,
+    S: Source + Send + 'static,
+    G: Gate + Send + Sync + 'static,
+    L: Ledgers + Send + Sync + 'static,
+    K: Sink + Send + Drop + 'static,
+>(
+    rt: Rt,
+    alloc: Global,
+    shared: Shared<G, L>,
+    source: &mut S,
+    sessions: usize,
+    rooms: Rooms<S::Reader, S::Writer, G, L>,
+    traces: Traces<K>,
+) -> Result<Report<S::Reader, S::Writer, K>, RunFault>
+    requires failures { S.failures source.old + 1 < 2 ^ 64 }
+    requires accepted { S.accepted source.old + sessions < 2 ^ 64 }
+    requires running { (vec_len rooms.running ≡ 0) × (sessions ≤ vec_capacity rooms.running) }
+    requires ends { (vec_len rooms.ends.sessions ≡ 0) × (sessions ≤ vec_capacity rooms.ends.sessions) }
+    requires shares { (vec_len rooms.ends.shares ≡ 0) × (sessions ≤ vec_capacity rooms.ends.shares) }
+    ensures failures { IfOk result (λ report. FailsIfFewer report.sessions sessions (S.failures source.old) (S.failures source.new)) }
+    ensures accepted { IfOk result (λ report. S.accepted source.new ≡ S.accepted source.old + report.sessions) }
+    ensures few { IfOk result (λ report. (report.sessions ≡ vec_len report.ends) × (report.sessions ≤ sessions)) }
+    ensures run { (limits : Limits) → L.limits ≡ Some limits → IfOk result (λ report. IsRun (record { always = G.is_open; limits_are = limits; coming = S.coming source.old; later = S.coming source.new; records = report.records; taken = report.bytes_in; given = report.bytes_out; ends = report.ends.items; received = map arc_value report.traced.received.items; trace = record { base = K.contents traces.thread.promise.sink.value; now = K.contents report.sink; before = K.failures traces.thread.promise.sink.value; after = K.failures report.sink; is_synced = K.is_synced report.sink; whole = report.traced.whole; bytes = report.traced.bytes; fault = report.traced.fault } })) }
+    ensures judged { (limits : Limits) → L.limits ≡ Some limits → IfOk result (λ report. IsJudged limits.bounds (K.contents traces.thread.promise.sink.value) (K.contents report.sink) report.traced.whole report.traced.bytes) }
+    ensures lost { IfErr result (λ fault. fault ≡ run_fault.NoThread → S.failures source.new ≡ S.failures source.old) }
+{
+    runs_are_judged();
+    let ended = serve_all(rt, alloc, shared, source, sessions, rooms);
+    let done = traces.join(&rt);
+    let ended = ended?;
+    let report = report_of(alloc, ended, done)?;
+    Ok(report)
+}
+
 /// Runs so many sessions, each in a thread of its own, and a thread beside them that writes the trace into a sink. An answer is written
 /// once the gate lets it through. When all sessions have ended, the run is closed, what their seats counted is gathered, and receipts,
 /// records and what the trace thread received are compared. Where accepting fails, the sessions before are served to their end, and the
@@ -452,16 +490,10 @@ pub fn run_sessions<
     ensures judged { IfOk result (λ report. IsJudged limits.bounds (K.contents sink) (K.contents report.sink) report.traced.whole report.traced.bytes) }
     ensures lost { IfErr result (λ fault. fault ≡ run_fault.NoThread → S.failures source.new ≡ S.failures source.old) }
 {
-    runs_are_judged();
     let rooms = rooms_for(alloc, sessions)?;
     let (shared, end) = shared_by::<G, L>(alloc, limits, blanks, gate)?;
-    let traces = match start_trace(rt, alloc, end, sink) {
-        Some(traces) => traces,
-        None => return Err(RunFault::NoThread),
-    };
-    let ended = serve_all(rt, alloc, shared, source, sessions, rooms);
-    let done = traces.join(&rt);
-    let ended = ended?;
-    let report = report_of(alloc, ended, done)?;
-    Ok(report)
+    match start_trace(rt, alloc, end, sink) {
+        Some(traces) => serve_traced(rt, alloc, shared, source, sessions, rooms, traces),
+        None => Err(RunFault::NoThread),
+    }
 }

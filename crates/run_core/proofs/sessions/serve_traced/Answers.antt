@@ -1,0 +1,54 @@
+use Rattle.std.proofs.Common.{map, subst, sym}
+use Rattle.std.specs.Arc.{arc_value}
+use Rattle.trace_writer.specs.declared.traced.Traced.{Traced}
+use Rattle.run_core.specs.Proved.Laws.{FlagsDecideAll}
+use Rattle.run_core.proofs.JoinLemmas.{run_of}
+use Rattle.run_core.proofs.sessions.serve_traced.Goals as goal
+
+pub returns-clause-run : goal.returns-clause-run
+returns-clause-run g c = λ limits within.
+    let report = c.in_ok-report.report in
+    let done = c.join-done.result in
+    let told = c.in_ok-report.ensures in
+    run_of
+    (record {
+      always = g.G.Gate.is_open;
+      limits_are = limits;
+      coming = g.S.Source.coming c.args.source.now;
+      later = g.S.Source.coming c.serve_all-ended.new.source;
+      records = report.records;
+      taken = report.bytes_in;
+      given = report.bytes_out;
+      ends = report.ends.items;
+      received = map arc_value report.traced.received.items;
+      trace = record {
+        base = g.K.Sink.contents c.args.traces.thread.promise.sink.value;
+        now = g.K.Sink.contents report.sink;
+        before = g.K.Sink.failures c.args.traces.thread.promise.sink.value;
+        after = g.K.Sink.failures report.sink;
+        is_synced = g.K.Sink.is_synced report.sink;
+        whole = report.traced.whole;
+        bytes = report.traced.bytes;
+        fault = report.traced.fault;
+      };
+    })
+    g.L.Ledgers.limits c.in_ok-ended.ended.closed.book c.in_ok-ended.ended.closed.house c.in_ok-ended.ended.parted.sessions.items c.in_ok-ended.ended.parted.shares.items (map arc_value done.traced.received.items)
+    (record {
+      base = g.K.Sink.contents c.args.traces.thread.promise.sink.value;
+      now = g.K.Sink.contents done.sink;
+      before = g.K.Sink.failures c.args.traces.thread.promise.sink.value;
+      after = g.K.Sink.failures done.sink;
+      is_synced = g.K.Sink.is_synced done.sink;
+      whole = done.traced.whole;
+      bytes = done.traced.bytes;
+      fault = done.traced.fault;
+    })
+    (let same = told.ends.0 in cc) (let same = told.trace.0 in cc)
+    (let traced = told.trace.0 in let sink = told.trace.1 in cc)
+    within c.in_ok-ended.ensures.ended told.run c.join-done.ensures
+
+pub returns-clause-judged : goal.returns-clause-judged
+returns-clause-judged g c = λ limits within.
+    let told = c.in_ok-report.ensures in
+    let decided = subst (λ (traced : Traced). FlagsDecideAll (map arc_value traced.received.items)) (sym told.trace.0) told.decided in
+    c.runs_are_judged.ensures _ (returns-clause-run g c limits within) decided
