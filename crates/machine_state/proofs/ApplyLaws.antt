@@ -16,7 +16,8 @@ use Rattle.file_table.specs.Proved.Files.{openings}
 use Rattle.machine_state.specs.Proved.Targets.{EndsAreTheirs}
 use Rattle.machine_state.specs.Proved.Held.{Held}
 use Rattle.machine_state.specs.Proved.Room.{HasTableRoom}
-use Rattle.machine_state.proofs.SlotLaws.{same_or_not, slot_set, slot_added}
+use Rattle.slots.proofs.SlotLaws.{same_or_not}
+use Rattle.machine_state.proofs.SlotLaws.{slot_set, slot_added}
 
 -- a FIFO on the same pipe, opened as often, or none
 pub record SameFifo (old new : Option Fifo) : Type 0 where

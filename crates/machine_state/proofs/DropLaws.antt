@@ -29,7 +29,8 @@ use Rattle.machine_state.specs.Proved.Pipes.{open_ends, pipe_slots}
 use Rattle.file_table.specs.Proved.Files.{unnamed, file_in, file_slot, file_slots, forgetful, forgetful_body, other_pipe, links_at}
 use Rattle.machine_state.specs.Proved.Held.{Stored, world_in}
 use Rattle.machine_state.specs.Proved.Consistent.{IsConsistent}
-use Rattle.machine_state.proofs.SlotLaws.{one, same_or_not, other_number, is_itself}
+use Rattle.slots.proofs.SlotLaws.{same_or_not, other_number, is_itself}
+use Rattle.machine_state.proofs.SlotLaws.{one}
 use Rattle.machine_state.proofs.UseLaws.{Counted, slot_values, there_values, counted_more, values_more, counted_edited, values_edited, positive, StaysUsed, Goes, LosesUse, loses_use}
 use Rattle.machine_state.proofs.FileLaws.{Files, slot_files, file_slots_set, files_same, files_edited, known, open_stays}
 use Rattle.machine_state.proofs.EndLaws.{Takes, takes, open_of, some_of, closed_of, pipes_closed, pipes_released, has_end, loses_end}

@@ -19,7 +19,8 @@ use Rattle.machine_state.specs.Proved.Uses.{with_use, without_use}
 use Rattle.pipe_table.specs.Proved.Pipes.{readers_at, writers_at, edited_ring, endless, with_end, without_end, HasEnd, HasEndAt}
 use Rattle.machine_state.specs.Proved.Pipes.{is_end, open_ends, pipe_slots, with_end_at, counted_less}
 use Rattle.machine_state.specs.Proved.Targets.{pipes_left}
-use Rattle.machine_state.proofs.SlotLaws.{one, is_itself, each_set, each_added, each_edited}
+use Rattle.slots.proofs.SlotLaws.{is_itself}
+use Rattle.machine_state.proofs.SlotLaws.{one, each_set, each_added, each_edited}
 use Rattle.machine_state.proofs.UseLaws.{Counted, slot_values, there_values, there_edited, counted_as, counted_more, values_more, counted_added, values_added, length_values, counted_edited, values_edited, full, positive, StaysUsed, Goes, LosesUse, loses_use}
 use Rattle.machine_state.proofs.PipeLaws.{Pipes, pipe_slots_set, pipes_same, ring_with, ring_without}
 use Rattle.machine_state.proofs.LinkLaws.{Tallies, tallies_more, tallies_fewer, tallies_kept, tallies_added, tallies_less}

@@ -6,7 +6,8 @@ use Rattle.slots.specs.Slots.{slot, edited}
 use Rattle.slots.specs.Proved.Uses.{values_in}
 use Rattle.machine_state.specs.Proved.Types.{Used}
 use Rattle.machine_state.specs.Proved.Uses.{without_use}
-use Rattle.machine_state.proofs.SlotLaws.{one, same_or_not, is_itself, slot_set, slot_added, set_none}
+use Rattle.slots.proofs.SlotLaws.{same_or_not, is_itself}
+use Rattle.machine_state.proofs.SlotLaws.{one, slot_set, slot_added, set_none}
 use Rattle.machine_state.proofs.UseLaws.{StaysUsed, Goes}
 
 -- each stored number is that of a total

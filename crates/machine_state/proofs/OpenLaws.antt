@@ -25,7 +25,8 @@ use Rattle.machine_state.specs.Proved.Pipes.{open_ends, with_end_at, pipe_slot, 
 use Rattle.file_table.specs.Proved.Files.{file_in, opened_stored, opened_body}
 use Rattle.machine_state.specs.Proved.Held.{Stored, world_in}
 use Rattle.machine_state.specs.Proved.Consistent.{IsConsistent}
-use Rattle.machine_state.proofs.SlotLaws.{one, is_itself, slot_set, slot_added}
+use Rattle.slots.proofs.SlotLaws.{is_itself}
+use Rattle.machine_state.proofs.SlotLaws.{one, slot_set, slot_added}
 use Rattle.machine_state.proofs.UseLaws.{counted_more, values_more, counted_added, values_added, length_values, positive}
 use Rattle.machine_state.proofs.FileLaws.{slot_files, regular_there, files_there, files_edited}
 use Rattle.machine_state.proofs.PipeLaws.{Pipes, ring_with, pipes_there}

@@ -1,33 +1,17 @@
-use Rattle.std.proofs.Common.{◌≡◌, ◌≢◌, ℕ, zero, suc, ◌<◌, ◌∙◌, Bool, true, false, cond, List, [], ◌∷◌, ◌++◌, Option, None, Some, length, length-append, set, refl, ap, sym, subst, arith, ◌⊎◌, inl, inr, eqb, eq-eqb}
+use Rattle.std.proofs.Common.{◌≡◌, ℕ, zero, suc, ◌<◌, ◌∙◌, Bool, true, cond, List, [], ◌∷◌, ◌++◌, Option, None, Some, length, length-append, set, refl, ap, sym, subst, arith, inl, inr, eqb, eq-eqb}
 use Rattle.std.specs.Prelude.{is_some}
 use Rattle.std.proofs.lemmas.Bool.{cases_order}
-use Rattle.std.proofs.lemmas.Bool.Decides.{eqb_tells}
 use Rattle.std.proofs.lemmas.List.{get_or-set_same, get_or-set_other, set-get_or}
 use Rattle.std.proofs.Math.ListN.{get_or-append, get_or-eq_default}
 use Rattle.std.proofs.Math.Seq.{get_or-append_seam}
 use Rattle.slots.specs.Slots.{slot, edited}
+use Rattle.slots.proofs.SlotLaws.{same_or_not, other_number}
 use Rattle.std.specs.Option.{option_map}
 use Rattle.posix_model.specs.Proved.Whole.{EachThere}
 
 -- one where a test passes, else nothing
 abbrev pub one : Bool → ℕ
 one b = cond b 1 0
-
--- equal or not
-pub same_or_not : (m n : ℕ) → ((m ≡ n) × (eqb m n ≡ true)) ⊎ ((m ≢ n) × (eqb m n ≡ false))
-same_or_not m n = elim (eqb_tells m n) [
-  | inl same ↦ inl (same.1, same.0)
-  | inr other ↦ inr (other.1, other.0)
-]
-
-pub other_number : (m n : ℕ) → m ≢ n → eqb n m ≡ false
-other_number m n apart = elim (same_or_not n m) [
-  | inl same ↦ absurd (apart (sym same.0))
-  | inr other ↦ other.1
-]
-
-pub is_itself : (n : ℕ) → eqb n n ≡ true
-is_itself n = eq-eqb n n refl
 
 module _ {T : Type 0} where
   -- what is there is below the end

@@ -20,7 +20,8 @@ use Rattle.machine_state.specs.Proved.Pipes.{is_end, open_ends}
 use Rattle.file_table.specs.Proved.Files.{named, file_in, edited_body, edited_bytes, links_at}
 use Rattle.machine_state.specs.Proved.Held.{Stored, world_in}
 use Rattle.machine_state.specs.Proved.Consistent.{IsConsistent}
-use Rattle.machine_state.proofs.SlotLaws.{one, same_or_not, slot_set, slot_added, set_none, each_edited}
+use Rattle.slots.proofs.SlotLaws.{same_or_not}
+use Rattle.machine_state.proofs.SlotLaws.{one, slot_set, slot_added, set_none, each_edited}
 use Rattle.machine_state.proofs.UseLaws.{Counted, slot_values, there_edited, there_values, counted_as, counted_more, values_more, counted_added, values_added, length_values, counted_edited, values_edited}
 use Rattle.machine_state.proofs.FileLaws.{Files, slot_files, files_there, files_same, known, known_open, open_stays}
 use Rattle.machine_state.proofs.PipeLaws.{pipes_there, pipes_edited, held_there}

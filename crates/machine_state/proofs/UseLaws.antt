@@ -12,7 +12,8 @@ use Rattle.posix_model.specs.Counts.{refers}
 use Rattle.machine_state.specs.Proved.Types.{Used}
 use Rattle.slots.specs.Proved.Uses.{uses_at, value_at, values_in, used_once, one_more, one_less, with_value}
 use Rattle.machine_state.specs.Proved.Uses.{with_use, with_uses, without_use, lost}
-use Rattle.machine_state.proofs.SlotLaws.{one, same_or_not, is_itself, slot_set, slot_added, set_none}
+use Rattle.slots.proofs.SlotLaws.{same_or_not, is_itself}
+use Rattle.machine_state.proofs.SlotLaws.{one, slot_set, slot_added, set_none}
 
 -- a count is that of a total, and what is there is used
 pub record Tells {T : Type 0} (x : Option (Used T)) (total : ℕ) : Type 0 where
