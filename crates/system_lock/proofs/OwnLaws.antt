@@ -26,7 +26,7 @@ use Rattle.posix_model.specs.Proved.Laws.{SweepLeaves}
 use Rattle.posix_model.specs.Proved.Whole.{IsWhole}
 use Rattle.posix_model.specs.Resume.{try_on, try_opened, try_parked, is_ready}
 use Rattle.system_lock.specs.Proved.Stirred.{pipe_of, pipe_for, pipe_waited}
-use Rattle.system_lock.proofs.StirLaws.{set_other}
+use Rattle.posix_model.proofs.SlotLaws.{set_other}
 
 -- what a process waits with: its call, and its descriptors
 record Waiter : Type 0 where

@@ -35,6 +35,7 @@ use Rattle.posix_model.specs.Proved.Whole.{is_regular_file}
 use Rattle.posix_model.specs.Proved.Fits.{FilesFit, Fits}
 use Rattle.posix_model.specs.Tries.{write_try}
 use Rattle.posix_model.specs.Resume.{read_ready, write_ready, fifo_of, open_ready, try_again, try_on, try_opened, try_parked}
+use Rattle.posix_model.proofs.SlotLaws.{test_set, set_other}
 use Rattle.system_lock.specs.Proved.Stirred.{pipe_of, pipe_for, pipe_waited, is_by, is_on, is_on_its, Spares}
 use Rattle.system_lock.specs.declared.stirred.Stirred.{Stirred}
 
@@ -86,27 +87,11 @@ alike_twice s u v w a b = record {
   links = λ f. b.links f ∙ a.links f;
 }
 
--- a place is written, and is as it was in this respect: so are all places
-test_set : {T K : Type 0} (p : Option T → K) (xs : List (Option T)) (m : ℕ) (y : Option T) (n : ℕ) → p y ≡ p (slot xs m) → p (slot (set xs m y) n) ≡ p (slot xs n)
-test_set p [] m y n e = refl
-test_set p (x ∷ xs) zero y zero e = e
-test_set p (x ∷ xs) zero y (suc n) e = refl
-test_set p (x ∷ xs) (suc m) y zero e = refl
-test_set p (x ∷ xs) (suc m) y (suc n) e = test_set p xs m y n e
-
--- and so is their sum
+-- a place is written with what counts the same: the sum stays
 sum_set : {T : Type 0} (f : Option T → ℕ) (xs : List (Option T)) (m : ℕ) (y : Option T) → f y ≡ f (slot xs m) → sum_by f (set xs m y) ≡ sum_by f xs
 sum_set f [] m y e = refl
 sum_set f (x ∷ xs) zero y e = omega (arith, e, sum_by-cons f x xs, sum_by-cons f y xs)
 sum_set f (x ∷ xs) (suc m) y e = omega (arith, sum_set f xs m y e, sum_by-cons f x xs, sum_by-cons f x (set xs m y))
-
--- the other places are as they were
-pub set_other : {T : Type 0} (xs : List (Option T)) (n m : ℕ) (y : Option T) → n ≢ m → slot (set xs n y) m ≡ slot xs m
-set_other [] n m y apart = refl
-set_other (x ∷ xs) zero zero y apart = absurd (apart refl)
-set_other (x ∷ xs) zero (suc m) y apart = refl
-set_other (x ∷ xs) (suc n) zero y apart = refl
-set_other (x ∷ xs) (suc n) (suc m) y apart = set_other xs n m y (λ same. apart (ap suc same))
 
 -- what passes a test is not what fails it
 apart_by : (t : ℕ → Bool) (n m : ℕ) → t n ≡ true → t m ≡ false → n ≢ m
