@@ -1,5 +1,5 @@
 -- A book with one more record counts it.
-use Rattle.std.proofs.Common.{◌≡◌, ◌∙◌, ℕ, ◌+◌, ◌≤◌, ◌||◌, Bool, true, false, cond, List, [], ◌∷◌, ◌++◌, Option, None, Some, length, refl, ap, sym, arith, length-append}
+use Rattle.std.proofs.Common.{◌≡◌, ◌∙◌, ℕ, ◌+◌, ◌≤◌, ◌<◌, ◌||◌, Bool, true, false, cond, List, [], ◌∷◌, ◌++◌, Option, None, Some, length, refl, ap, sym, arith, length-append}
 use Rattle.std.specs.Prelude.{is_some}
 use Rattle.std.specs.Option.{option_map, option_map_or}
 use Rattle.call_types.specs.declared.limits.Bounds.{Bounds}
@@ -7,6 +7,7 @@ use Rattle.call_types.specs.declared.limits.TheConstants.{GIVEN_BYTES_MAX}
 use Rattle.call_types.specs.declared.act.Act.{Act}
 use Rattle.call_types.specs.declared.act.Record.{Record}
 use Rattle.call_types.specs.declared.outcome.Outcome.{Outcome}
+use Rattle.slots.specs.Slots.{live}
 use Rattle.posix_model.specs.Step.{Stepped, step}
 use Rattle.posix_model.specs.Proved.Sound.{closes}
 use Rattle.posix_model.specs.Proved.Laws.{StepPlansProcesses}
@@ -108,6 +109,20 @@ counts_appended planned old new t t' house actor a receipt bytes_in bytes_out is
       opened = opened ∙ ap (λ n. t.opened + n) (sym seats);
       closing = omega (arith, flag, seats, one);
     }) (is.house_is ∙ ap (λ h. option_map (λ receipts. only_records (length receipts)) h) (sym appends.house))
+
+-- a run that is open keeps a record for its closing
+one_left : (closed : Bool) (n : ℕ) → 1 ≤ cond closed n (n + 1) + cond closed 1 0
+one_left true n = omega arith
+one_left false n = omega arith
+
+-- before one more record there are shares for fewer than a million seats
+pub few_opened : StepPlansProcesses → (old new : BookState) (t : TalliesState) (house : Option Counted) (actor : ℕ) (a : Act) (receipt : Receipted) → IsCounted old t house
+    → Appends old new actor a receipt → closes a ≡ false → length new.history + exits_left (world_now new) ≤ 1000000 → t.opened < 1000000
+few_opened planned old new t house actor a receipt is appends stays short =
+    let same : (world_now new).closed ≡ (world_now old).closed = closed_after planned old new actor a receipt appends ∙ ap (λ b. b || (world_now old).closed) stays in
+    let flag : closed_as new ≡ closed_as old = ap (λ b. cond b 1 0) same in
+    let count : length new.history ≡ length old.history + 1 = ap length appends.history ∙ length-append old.history (receipt.record_is ∷ []) in
+    omega (arith, is.opened, is.few_seats, flag, count, short, one_left (world_now new).closed (live (world_now new).processes))
 
 -- the house of an open run has shares
 pub has_shares : (house : Option (List Receipted)) (shares : Option Counted) → shares ≡ option_map (λ receipts. only_records (length receipts)) house → is_some house ≡ true → shares ≡ None → ⊥

@@ -1,19 +1,61 @@
 //! Records of the process of a seat, counted by the seat's shares.
 
-ghost use Rattle.std.specs.Prelude.{◌≡◌, false, IfOk, OnErr};
+ghost use Rattle.std.specs.Prelude.{◌≡◌, ◌<◌, ◌≤◌, ◌+◌, ◌^◌, ◌∷◌, [], false, vec_capacity, IfOk, OnErr};
+ghost use Rattle.byte_ledger.specs.Counted.{counted_more};
 ghost use Rattle.posix_model.specs.Proved.Sound.{ended, closes};
 ghost use Rattle.record_book.specs.Book.{Records};
 ghost use Rattle.record_book.specs.Openings.{IsOpening};
-ghost use Rattle.record_book.specs.Counting.{seats_of};
+ghost use Rattle.record_book.specs.Counting.{seats_of, only_records};
 ghost use Rattle.record_book.specs.Proved.Planned.{IsPlanned};
 
+use crate::append::Appended;
 use crate::book::Book;
 use crate::seat::{Receipt, Seat};
 use byte_ledger::ledgers::Ledgers;
+use byte_ledger::tallies::Tallies;
 use call_types::act::Act;
 use posix_model::change::Decided;
 use posix_model::laws::processes_are_counted;
 use std::alloc::{AllocError, Global};
+
+/// Opens the seat of a process, whose first record was appended: it counts it, and has its receipt. Returns the seat and, beside it,
+/// its receipt.
+fn open_seat<L: Ledgers>(
+    tallies: &mut Tallies<L>,
+    receipts: Vec<Receipt>,
+    pid: u32,
+    appended: Appended,
+) -> (Seat<L>, Receipt)
+    requires few { tallies.old.opened < 1000000 }
+    requires records { tallies.old.counted.records + 1 < 2 ^ 64 }
+    requires bytes_in { tallies.old.counted.bytes_in + appended.bytes_in < 2 ^ 64 }
+    requires bytes_out { tallies.old.counted.bytes_out + appended.bytes_out < 2 ^ 64 }
+    requires place { appended.receipt.place + 1 < 2 ^ 64 }
+    requires empty { receipts.items ≡ [] }
+    requires room { 2 ≤ vec_capacity receipts }
+    ensures tallies { tallies.new ≡ record { opened = tallies.old.opened + 1; counted = counted_more appended.bytes_in appended.bytes_out tallies.old.counted } }
+    ensures seat { result.0 ≡ record { pid = pid; seen = appended.receipt.place + 1; receipts = appended.shared ∷ []; counted = counted_more appended.bytes_in appended.bytes_out (only_records 0) } }
+    ensures receipt { result.1 ≡ appended.receipt }
+{
+    let Appended {
+        receipt,
+        shared,
+        bytes_in,
+        bytes_out,
+    } = appended;
+    let mut shares = tallies.open_shares();
+    tallies.count(&mut shares, bytes_in, bytes_out);
+    let seen = receipt.place() + 1;
+    let mut receipts = receipts;
+    receipts.push_reserved(shared);
+    let seat = Seat {
+        pid,
+        seen,
+        receipts,
+        shares,
+    };
+    (seat, receipt)
+}
 
 impl<L: Ledgers> Book<L> {
     /// Appends the record of a planned act of a seat's process. The act opens no seat, ends no process and does not close the run.
@@ -64,21 +106,13 @@ impl<L: Ledgers> Book<L> {
         ensures ok { IfOk result (λ opened. IsOpening self.old self.new actor act opened.0 opened.1) }
         ensures err { OnErr result (self.new ≡ self.old) }
     {
-        let mut receipts = Vec::with_capacity(alloc, 2)?;
-        let appended = self.journal.append(alloc, actor, act, decided)?;
+        let receipts = Vec::with_capacity(alloc, 2)?;
+        let appended = match self.journal.append(alloc, actor, act, decided) {
+            Ok(appended) => appended,
+            Err(error) => return Err(error),
+        };
         processes_are_counted();
         self.journal.is_run();
-        let mut shares = self.tallies.open_shares();
-        self.tallies
-            .count(&mut shares, appended.bytes_in, appended.bytes_out);
-        let seen = appended.receipt.place() + 1;
-        receipts.push_reserved(appended.shared);
-        let seat = Seat {
-            pid: actor,
-            seen,
-            receipts,
-            shares,
-        };
-        Ok((seat, appended.receipt))
+        Ok(open_seat(&mut self.tallies, receipts, actor, appended))
     }
 }
