@@ -1,13 +1,18 @@
 //! The ring by which the records of a book reach its trace.
 
-ghost use Rattle.std.specs.Prelude.{◌≡◌, [], false, true, IfOk, IfErr, IfSome, IfNone};
+ghost use Rattle.std.specs.Prelude.{◌≡◌, ◌≤◌, ◌+◌, [], false, true, map, length, IfOk, IfErr, IfSome, IfNone};
+ghost use Rattle.std.specs.Arc.{arc_value};
 ghost use Rattle.rtrb.specs.Ring.{received};
-ghost use Rattle.record_book.specs.Book.{world_now};
+ghost use Rattle.posix_model.specs.History.{legal};
+ghost use Rattle.record_book.specs.Book.{world_now, exits_left, closed_book};
 
 use crate::book::Book;
 use crate::closed::ClosedBook;
 use crate::journal::Journal;
 use byte_ledger::ledgers::Ledgers;
+use call_types::act::Record;
+use call_types::limits::Limits;
+use std::sync::Arc;
 use trace_ring::trace_ring::{TraceEnd, TraceRing};
 
 impl Journal {
@@ -26,6 +31,23 @@ impl Journal {
         ensures taken { self.new ≡ record self.old { is_traced = true } }
     {
         self.history.take_end()
+    }
+
+    /// Finishes the ring of the journal of a closed run. Returns its limits, its records, and whether the reading end of the ring
+    /// was taken.
+    fn end(self) -> (Limits, Vec<Arc<Record>>, bool)
+        requires { (world_now self).closed ≡ true }
+        ensures ended { closed_book result.0 (map arc_value result.1.items) result.2 ≡ self }
+        ensures is_legal { legal self.limits.bounds self.history }
+        ensures reserve { length self.history + exits_left (world_now self) ≤ self.limits.records }
+    {
+        let Journal {
+            limits,
+            history,
+            ..
+        } = self;
+        let (records, is_traced) = history.end();
+        (limits, records, is_traced)
     }
 }
 
@@ -53,25 +75,28 @@ impl<L: Ledgers> Book<L> {
         ensures ok { IfOk result (λ closed. ((world_now self).closed ≡ true) × (closed ≡ self)) }
         ensures err { IfErr result (λ book. ((world_now self).closed ≡ false) × (book ≡ self)) }
     {
-        if !self.journal.is_closed() {
-            return Err(self);
+        if self.journal.is_closed() {
+            return Ok(self.into_closed());
         }
+        Err(self)
+    }
+
+    /// The book of a run that is closed, as one in which nothing can be recorded. It finishes the ring.
+    fn into_closed(self) -> ClosedBook<L>
+        requires { (world_now self).closed ≡ true }
+        ensures { result ≡ self }
+    {
         let Book {
             journal,
             tallies,
             ..
         } = self;
-        let Journal {
-            limits,
-            history,
-            ..
-        } = journal;
-        let (records, is_traced) = history.end();
-        Ok(ClosedBook {
+        let (limits, records, is_traced) = journal.end();
+        ClosedBook {
             limits,
             records,
             is_traced,
             tallies,
-        })
+        }
     }
 }
