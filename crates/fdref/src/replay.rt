@@ -172,6 +172,16 @@ fn gather_lines<L: Ledgers>(
     Ok(lines)
 }
 
+/// Gives an outcome back, and lets go of a value: leaks it where the outcome is a success, and drops it where it is none.
+fn leaked_if_ok<T: Drop, U, E>(value: T, outcome: Result<U, E>) -> Result<U, E>
+    ensures { result ≡ outcome }
+{
+    if outcome.is_ok() {
+        forget(value);
+    }
+    outcome
+}
+
 /// Runs the acts of a script in a new book as they are read, and gathers its output. Where it succeeds, the book is leaked, and not dropped one record after another.
 fn run_script<L: Ledgers>(
     alloc: Global,
@@ -185,12 +195,8 @@ fn run_script<L: Ledgers>(
 {
     let mut script = Script::new(text)?;
     let mut book = Book::<L>::new(alloc, limits, blanks)?;
-    let lines = match gather_lines(alloc, &mut script, &mut book, 2 * text.len()) {
-        Ok(lines) => lines,
-        Err(ended) => return Err(ended),
-    };
-    forget(book);
-    Ok(lines)
+    let gathered = gather_lines(alloc, &mut script, &mut book, 2 * text.len());
+    leaked_if_ok(book, gathered)
 }
 
 /// Reads a script, runs its acts in their order in a new book, and writes a line for each record and each act that is
