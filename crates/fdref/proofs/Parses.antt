@@ -1,15 +1,16 @@
 -- From what `clap` says of a parse to what this program says of its words.
 use Rattle.std.proofs.Common.{◌≡◌, ◌∙◌, ◌⊎◌, ◌||◌, ◌&&◌, ℕ, Bool, true, false, not, cond, List, [], ◌∷◌, Option, Some, None, is_some, refl, sym, ap, ap₂, subst, arith, slice_index, inl, inr, codes, option_map, option_and_then}
-use Rattle.std.specs.Prelude.{Box, ⊤}
+use Rattle.std.specs.Prelude.{Box, IfOk, IsOkAnd, Result, Ok, Err, ◌++◌, ⊤}
 use Rattle.std.specs.List.{list_any}
 use Rattle.std.specs.Box.{box_value}
 use Rattle.std.specs.Option.{option_map_or}
+use Rattle.std.specs.declared.alloc.AllocError.{AllocError}
 use Rattle.clap.specs.Faults.{check_fault, entered_fault, level_fault}
 use Rattle.clap.specs.Kinds.{check_kinds}
 use Rattle.clap.specs.Simple.{App, Shape, argument_words, built, built_leaf, entered, filled, help_rule, inherited, label_of, marked_built, names_of, rows_at, version_rule, with_index, with_leaf_noted}
 use Rattle.clap.specs.Takes.{is_given}
 use Rattle.clap.specs.Walk.{Row, Rule, Text, answers_to, nothing_held, rows_after, rows_of, stop_after}
-use Rattle.clap.specs.Words.{AddsArg, AddsSubcommand, app_of, fault_of, first_of, first_value, found_of, kind_of, rule_of, with_rule, with_subcommand, subcommand_name_of, subcommand_of, subcommand_rows, subcommand_rows_of, HasKind, IsAmong}
+use Rattle.clap.specs.Words.{AddsArg, AddsInTurn, AddsSubcommand, app_of, fault_of, first_of, first_value, found_of, kind_of, rule_of, with_rule, with_subcommand, subcommand_name_of, subcommand_of, subcommand_rows, subcommand_rows_of, HasKind, IsAmong}
 use Rattle.clap.specs.declared.builder.arg.Arg.{Arg}
 use Rattle.clap.specs.declared.builder.command.Command.{Command}
 use Rattle.clap.specs.declared.builder.command.Command.TheViews.{out-Command as fields_of}
@@ -21,7 +22,7 @@ use Rattle.clap.specs.declared.error.Error.{Error}
 use Rattle.clap.specs.declared.error.kind.ErrorKind.TheVariants as kind
 use Rattle.clap.proofs.WalkLemmas.{first_value-rows}
 use Rattle.fdref.specs.CommandLine.{Asks, Deserves, Given, IsJobOf, IsMistake, IsOutOfRange, IsRequest, audit_app, fdref_app, file_rule, flag_rule, name_given, replay_app, required_rule, serve_app, show_app, text_given}
-use Rattle.fdref.specs.Proved.Parsing.{GivesAll, GivesFile, IsFaultOf, IsParse, RefusesNumber}
+use Rattle.fdref.specs.Proved.Parsing.{GivesAll, GivesFile, HaveApps, HaveRules, IsFaultOf, IsParse, RefusesNumber}
 use Rattle.fdref.specs.declared.job.Job.{Job}
 use Rattle.fdref.specs.declared.job.JobFault.{JobFault}
 use Rattle.fdref.specs.declared.job.JobFault.TheVariants.{Usage, Shown, NoMemory}
@@ -323,20 +324,78 @@ show_given words m inner parse is rows = (has words m inner (codes "show") parse
 
 -- ---- a command with one option more
 
-pub added_app : (old new : Command) (a : Arg) (app : App) (r : Rule) → AddsArg old a new → a.global ≡ false → app_of old ≡ app → rule_of a ≡ r
+added_app : (old new : Command) (a : Arg) (app : App) (r : Rule) → AddsArg old a new → a.global ≡ false → app_of old ≡ app → rule_of a ≡ r
     → app_of new ≡ with_rule app r
 added_app old new a app r added local e f = added.shape local ∙ ap₂ with_rule e f
 
-pub added_local : (old new : Command) (a : Arg) → AddsArg old a new → a.global ≡ false → (fields_of old).has_globals ≡ false
+added_local : (old new : Command) (a : Arg) → AddsArg old a new → a.global ≡ false → (fields_of old).has_globals ≡ false
     → (fields_of new).has_globals ≡ false
 added_local old new a added local e = added.globals ∙ ap₂ (λ x y. x || y) e local
 
+-- ---- a command with a list of options more
+
+abbrev with_rules : App → List Rule → App
+with_rules app [] = app
+with_rules app (r ∷ rules) = with_rules (with_rule app r) rules
+
+pub all_added_app : (args : List Arg) (rules : List Rule) (old new : Command) (app : App) → HaveRules args rules → AddsInTurn AddsArg old args new → app_of old ≡ app
+    → app_of new ≡ with_rules app rules
+all_added_app [] [] old new app have same e = ap app_of (sym same) ∙ e
+all_added_app [] (r ∷ rules) old new app have same e = absurd have
+all_added_app (a ∷ args) [] old new app have added e = absurd have
+all_added_app (a ∷ args) (r ∷ rules) old new app have added e =
+    all_added_app args rules added.0 new (with_rule app r) have.2 added.2 (added_app old added.0 a app r added.1 have.1 e have.0)
+
+pub all_added_local : (args : List Arg) (rules : List Rule) (old new : Command) → HaveRules args rules → AddsInTurn AddsArg old args new → (fields_of old).has_globals ≡ false
+    → (fields_of new).has_globals ≡ false
+all_added_local [] [] old new have same e = ap (λ (c : Command). (fields_of c).has_globals) (sym same) ∙ e
+all_added_local [] (r ∷ rules) old new have same e = absurd have
+all_added_local (a ∷ args) [] old new have added e = absurd have
+all_added_local (a ∷ args) (r ∷ rules) old new have added e =
+    all_added_local args rules added.0 new have.2 added.2 (added_local old added.0 a added.1 have.1 e)
+
 -- ---- a command with one subcommand more
 
-pub subcommand_app : (old sub new : Command) (app below : App) → AddsSubcommand old sub new → (fields_of sub).has_globals ≡ false → app_of old ≡ app → app_of sub ≡ below
+subcommand_app : (old sub new : Command) (app below : App) → AddsSubcommand old sub new → (fields_of sub).has_globals ≡ false → app_of old ≡ app → app_of sub ≡ below
     → app_of new ≡ with_subcommand app below.top
 subcommand_app old sub new app below added local e f = added.shape local ∙ ap₂ with_subcommand e (ap (λ (a : App). a.top) f)
 
-pub subcommand_local : (old sub new : Command) → AddsSubcommand old sub new → (fields_of sub).has_globals ≡ false → (fields_of old).has_globals ≡ false
+subcommand_local : (old sub new : Command) → AddsSubcommand old sub new → (fields_of sub).has_globals ≡ false → (fields_of old).has_globals ≡ false
     → (fields_of new).has_globals ≡ false
 subcommand_local old sub new added local e = added.globals ∙ ap₂ (λ x y. x || y) e local
+
+-- ---- a command with a list of subcommands more
+
+abbrev with_subcommands : App → List App → App
+with_subcommands app [] = app
+with_subcommands app (a ∷ apps) = with_subcommands (with_subcommand app a.top) apps
+
+pub all_subcommands_app : (commands : List Command) (apps : List App) (old new : Command) (app : App) → HaveApps commands apps → AddsInTurn AddsSubcommand old commands new → app_of old ≡ app
+    → app_of new ≡ with_subcommands app apps
+all_subcommands_app [] [] old new app have same e = ap app_of (sym same) ∙ e
+all_subcommands_app [] (a ∷ apps) old new app have same e = absurd have
+all_subcommands_app (c ∷ commands) [] old new app have added e = absurd have
+all_subcommands_app (c ∷ commands) (a ∷ apps) old new app have added e =
+    all_subcommands_app commands apps added.0 new (with_subcommand app a.top) have.2 added.2 (subcommand_app old c added.0 app a added.1 have.1 e have.0)
+
+pub all_subcommands_local : (commands : List Command) (apps : List App) (old new : Command) → HaveApps commands apps → AddsInTurn AddsSubcommand old commands new → (fields_of old).has_globals ≡ false
+    → (fields_of new).has_globals ≡ false
+all_subcommands_local [] [] old new have same e = ap (λ (c : Command). (fields_of c).has_globals) (sym same) ∙ e
+all_subcommands_local [] (a ∷ apps) old new have same e = absurd have
+all_subcommands_local (c ∷ commands) [] old new have added e = absurd have
+all_subcommands_local (c ∷ commands) (a ∷ apps) old new have added e =
+    all_subcommands_local commands apps added.0 new have.2 added.2 (subcommand_local old c added.0 added.1 have.1 e)
+
+-- ---- a list with one subcommand more
+
+have_one_more : (commands : List Command) (apps : List App) (c : Command) (a : App) → HaveApps commands apps → app_of c ≡ a → (fields_of c).has_globals ≡ false
+    → HaveApps (commands ++ c ∷ []) (apps ++ a ∷ [])
+have_one_more [] [] c a have is local = (is, local, tt)
+have_one_more [] (b ∷ apps) c a have is local = absurd have
+have_one_more (d ∷ commands) [] c a have is local = absurd have
+have_one_more (d ∷ commands) (b ∷ apps) c a have is local = (have.0, have.1, have_one_more commands apps c a have.2 is local)
+
+pub have_made : (made : Result Command AllocError) (old new : List Command) (apps : List App) (a : App) → IsOkAnd made (λ c. new ≡ old ++ c ∷ []) → IfOk made (λ c. app_of c ≡ a)
+    → IfOk made (λ c. (fields_of c).has_globals ≡ false) → HaveApps old apps → HaveApps new (apps ++ a ∷ [])
+have_made (Ok c) old new apps a pushed is local have = subst (λ l. HaveApps l (apps ++ a ∷ [])) (sym pushed) (have_one_more old apps c a have is local)
+have_made (Err e) old new apps a pushed is local have = absurd pushed

@@ -1,10 +1,10 @@
 //! What the words of a command line ask for.
-ghost use Rattle.std.specs.Prelude.{◌≡◌, ◌∷◌, [], IfOk, IfErr, IfSome, map, codes, is_some, option_map, true, false};
+ghost use Rattle.std.specs.Prelude.{◌≡◌, ◌∷◌, ◌++◌, [], IfOk, IfErr, IfSome, IsOkAnd, OnOk, map, codes, is_some, option_map, true, false};
 ghost use Rattle.fdref.specs.declared.shown.Form.TheVariants as form;
-ghost use Rattle.clap.specs.Words.{app_of, found_of, first_value, fault_of, kind_of, rule_of};
+ghost use Rattle.clap.specs.Words.{app_of, found_of, first_value, fault_of, kind_of, new_app, rule_of};
 ghost use Rattle.clap.specs.declared.builder.command.Command.TheViews.{out-Command as fields_of};
-ghost use Rattle.fdref.specs.CommandLine.{Asks, Deserves, IsJobOf, IsNoNumber, IsNoRecords, IsNumber, IsRecords, SaysNotText, audit_app, fdref_app, file_rule, flag_rule, form_of, line, name_given, option_rule, replay_app, required_rule, serve_app, show_app, standard, status_of, text_given};
-ghost use Rattle.fdref.specs.Proved.Parsing.{GivesAll, GivesFile, IsFaultOf, IsParse, RefusesNumber, served, shown};
+ghost use Rattle.fdref.specs.CommandLine.{Asks, Deserves, IsJobOf, IsNoNumber, IsNoRecords, IsNumber, IsRecords, SaysNotText, audit_app, bare_app, fdref_app, file_rule, flag_rule, form_of, line, name_given, option_rule, replay_app, required_rule, serve_app, show_app, standard, status_of, text_given};
+ghost use Rattle.fdref.specs.Proved.Parsing.{GivesAll, GivesFile, HaveApps, HaveRules, IsFaultOf, IsParse, RefusesNumber, served, shown};
 
 use crate::shown::Form;
 use call_types::limits::{Limits, RECORDS_MAX};
@@ -175,17 +175,62 @@ fn file_arg<'a>(alloc: Global) -> Arg<'a>
         .help("The file that has the trace")
 }
 
+/// These items in a list.
+fn list_of<T: Drop, const N: usize>(alloc: Global, items: [T; N]) -> Result<Vec<T>, AllocError>
+    ensures { IfOk result (λ list. list.items ≡ items) }
+{
+    Ok(Vec::from_array(alloc, items)?)
+}
+
+/// Appends to a list what was made, if memory did not run out for it.
+fn push_made<T: Drop>(list: &mut Vec<T>, made: Result<T, AllocError>) -> Result<(), AllocError>
+    ensures { OnOk result (IsOkAnd made (λ item. list.new.items ≡ list.old.items ++ item ∷ [])) }
+{
+    list.push(made?)?;
+    Ok(())
+}
+
+/// A command of this name that has these texts in its help, and takes nothing.
+fn described_command<'a>(
+    alloc: Global,
+    name: &'a str,
+    about: &'a str,
+    after_help: &'a str,
+) -> Command<'a>
+    ensures app { app_of result ≡ new_app name.entry.now }
+    ensures local { (fields_of result).has_globals ≡ false }
+{
+    Command::new(alloc, name)
+        .about(about)
+        .after_help(after_help)
+}
+
 /// The subcommand `replay`.
 fn replay_command<'a>(alloc: Global) -> Result<Command<'a>, AllocError>
     ensures app { IfOk result (λ c. app_of c ≡ replay_app) }
     ensures local { IfOk result (λ c. (fields_of c).has_globals ≡ false) }
 {
-    Command::new(alloc, "replay")
-        .about("Runs the script on standard input and prints a line for each record")
-        .after_help(REPLAY_HELP)
-        .arg(option_arg(alloc, "records", "N").help(
-            "Records that the run may have, 1 to 1000000 [default: 10000]",
-        ))
+    let about = "Runs the script on standard input and prints a line for each record";
+    let help = "Records that the run may have, 1 to 1000000 [default: 10000]";
+    let records = option_arg(alloc, "records", "N").help(help);
+    described_command(alloc, "replay", about, REPLAY_HELP).arg(records)
+}
+
+/// The options of `serve`.
+fn serve_args<'a>(alloc: Global) -> Result<Vec<Arg<'a>>, AllocError>
+    ensures { IfOk result (λ args. HaveRules args.items serve_app.top.rules) }
+{
+    let socket = "Where the Unix socket is made; nothing may be there";
+    let sessions = "Connections that are accepted, 1 to 64; each is one process";
+    let records = "Records that the run may have, 1 to 1000000";
+    let trace = "The file that the trace is written to; one that is there is emptied";
+    let args = [
+        required_arg(alloc, "socket", "PATH", socket),
+        required_arg(alloc, "sessions", "N", sessions),
+        required_arg(alloc, "records", "N", records),
+        required_arg(alloc, "trace", "FILE", trace),
+    ];
+    list_of(alloc, args)
 }
 
 /// The subcommand `serve`.
@@ -193,19 +238,10 @@ fn serve_command<'a>(alloc: Global) -> Result<Command<'a>, AllocError>
     ensures app { IfOk result (λ c. app_of c ≡ serve_app) }
     ensures local { IfOk result (λ c. (fields_of c).has_globals ≡ false) }
 {
-    let socket = "Where the Unix socket is made; nothing may be there";
-    let sessions = "Connections that are accepted, 1 to 64; each is one process";
-    let records = "Records that the run may have, 1 to 1000000";
-    let trace = "The file that the trace is written to; one that is there is emptied";
-    Command::new(alloc, "serve")
-        .about(
-            "Answers requests over a Unix socket and prints a report when all sessions have ended",
-        )
-        .after_help(SERVE_HELP)
-        .arg(required_arg(alloc, "socket", "PATH", socket))?
-        .arg(required_arg(alloc, "sessions", "N", sessions))?
-        .arg(required_arg(alloc, "records", "N", records))?
-        .arg(required_arg(alloc, "trace", "FILE", trace))
+    let about =
+        "Answers requests over a Unix socket and prints a report when all sessions have ended";
+    let args = serve_args(alloc)?;
+    described_command(alloc, "serve", about, SERVE_HELP).args(args)
 }
 
 /// The subcommand `audit`.
@@ -213,10 +249,8 @@ fn audit_command<'a>(alloc: Global) -> Result<Command<'a>, AllocError>
     ensures app { IfOk result (λ c. app_of c ≡ audit_app) }
     ensures local { IfOk result (λ c. (fields_of c).has_globals ≡ false) }
 {
-    Command::new(alloc, "audit")
-        .about("Prints whether each record of a trace is what the model gives")
-        .after_help(AUDIT_HELP)
-        .arg(file_arg(alloc))
+    let about = "Prints whether each record of a trace is what the model gives";
+    described_command(alloc, "audit", about, AUDIT_HELP).arg(file_arg(alloc))
 }
 
 /// The subcommand `show`.
@@ -224,12 +258,34 @@ fn show_command<'a>(alloc: Global) -> Result<Command<'a>, AllocError>
     ensures app { IfOk result (λ c. app_of c ≡ show_app) }
     ensures local { IfOk result (λ c. (fields_of c).has_globals ≡ false) }
 {
+    let about = "Prints a line for each record of a trace, and judges none";
     let acts = "Print the lines of a script that asks for the same acts";
-    Command::new(alloc, "show")
-        .about("Prints a line for each record of a trace, and judges none")
-        .after_help(SHOW_HELP)
-        .arg(flag_arg(alloc, "acts", acts))?
-        .arg(file_arg(alloc))
+    let args = list_of(alloc, [flag_arg(alloc, "acts", acts), file_arg(alloc)])?;
+    described_command(alloc, "show", about, SHOW_HELP).args(args)
+}
+
+/// Puts the four subcommands into a list that is empty.
+fn push_subcommands<'a>(alloc: Global, commands: &mut Vec<Command<'a>>) -> Result<(), AllocError>
+    requires { commands.old.items ≡ [] }
+    ensures { OnOk result (HaveApps commands.new.items (replay_app ∷ serve_app ∷ audit_app ∷ show_app ∷ [])) }
+{
+    push_made(commands, replay_command(alloc))?;
+    push_made(commands, serve_command(alloc))?;
+    push_made(commands, audit_command(alloc))?;
+    push_made(commands, show_command(alloc))
+}
+
+/// The command line of the program with no subcommand yet.
+fn bare_command<'a>(alloc: Global) -> Command<'a>
+    ensures app { app_of result ≡ bare_app }
+    ensures local { (fields_of result).has_globals ≡ false }
+{
+    let about = "A machine-checked reference for POSIX file descriptors";
+    described_command(alloc, "fdref", about, FDREF_HELP)
+        .version("0.1.0")
+        .propagate_version(true)
+        .subcommand_required(true)
+        .disable_help_subcommand(true)
 }
 
 /// The command line of the program.
@@ -237,17 +293,9 @@ fn fdref_command<'a>(alloc: Global) -> Result<Command<'a>, AllocError>
     ensures app { IfOk result (λ c. app_of c ≡ fdref_app) }
     ensures local { IfOk result (λ c. (fields_of c).has_globals ≡ false) }
 {
-    Command::new(alloc, "fdref")
-        .version("0.1.0")
-        .about("A machine-checked reference for POSIX file descriptors")
-        .after_help(FDREF_HELP)
-        .propagate_version(true)
-        .subcommand_required(true)
-        .disable_help_subcommand(true)
-        .subcommand(replay_command(alloc)?)?
-        .subcommand(serve_command(alloc)?)?
-        .subcommand(audit_command(alloc)?)?
-        .subcommand(show_command(alloc)?)
+    let mut commands = Vec::new(alloc);
+    push_subcommands(alloc, &mut commands)?;
+    bare_command(alloc).subcommands(commands)
 }
 
 /// The error of a subcommand whose option has a text that is no number from 1 to the most.

@@ -1,6 +1,9 @@
 -- How words are read (own).
-use Rattle.std.specs.Prelude.{◌≡◌, ◌≢◌, ◌∷◌, List, [], Option, true, codes, is_some, ⊤}
-use Rattle.clap.specs.Words.{Text, fault_of, kind_of, subcommand_of, subcommand_rows_of}
+use Rattle.std.specs.Prelude.{◌≡◌, ◌≢◌, ◌∷◌, List, [], Option, false, true, codes, is_some, ⊤}
+use Rattle.clap.specs.Words.{App, Rule, Text, app_of, fault_of, kind_of, rule_of, subcommand_of, subcommand_rows_of}
+use Rattle.clap.specs.declared.builder.arg.Arg.{Arg}
+use Rattle.clap.specs.declared.builder.command.Command.{Command}
+use Rattle.clap.specs.declared.builder.command.Command.TheViews.{out-Command as fields_of}
 use Rattle.clap.specs.declared.parser.matches.ArgMatches.{ArgMatches}
 use Rattle.clap.specs.declared.error.Error.{Error}
 use Rattle.clap.specs.declared.error.kind.ErrorKind.TheVariants as kind
@@ -24,6 +27,22 @@ GivesAll given = (is_some (given (codes "socket")) ≡ true) × (is_some (given 
 -- the file of an audit, or of a trace to be shown, is given
 abbrev pub GivesFile : Given → Type 0
 GivesFile given = is_some (given (codes "file")) ≡ true
+
+-- ---- what a command is made of
+
+-- the arguments have these rules, and none of them is global
+abbrev pub HaveRules : List Arg → List Rule → Type 0
+HaveRules [] [] = ⊤
+HaveRules [] (r ∷ rules) = ⊥
+HaveRules (a ∷ args) [] = ⊥
+HaveRules (a ∷ args) (r ∷ rules) = (rule_of a ≡ r) × (a.global ≡ false) × HaveRules args rules
+
+-- the commands are these apps, and none of them has a global argument
+abbrev pub HaveApps : List Command → List App → Type 0
+HaveApps [] [] = ⊤
+HaveApps [] (a ∷ apps) = ⊥
+HaveApps (c ∷ commands) [] = ⊥
+HaveApps (c ∷ commands) (a ∷ apps) = (app_of c ≡ a) × ((fields_of c).has_globals ≡ false) × HaveApps commands apps
 
 -- ---- what the program makes of them
 

@@ -1,18 +1,20 @@
-use Rattle.std.proofs.Common.{◌≡◌, false, rules, codes}
+use Rattle.std.proofs.Common.{[], ◌∷◌, sym, subst}
 use Rattle.std.proofs.lemmas.Result.{IfOk-weaker}
-use Rattle.clap.specs.Words.{app_of, new_app}
-use Rattle.clap.specs.declared.builder.command.Command.TheViews.{out-Command as fields_of}
-use Rattle.fdref.proofs.Parses.{added_app, added_local}
+use Rattle.fdref.specs.CommandLine.{show_app}
+use Rattle.fdref.specs.Proved.Parsing.{HaveRules}
+use Rattle.fdref.proofs.Parses.{all_added_app, all_added_local}
 use Rattle.fdref.proofs.job.show_command.Goals as goal
 
 pub returns-clause-app : goal.returns-clause-app
 returns-clause-app c =
-    let start : app_of c.after_help.result ≡ new_app (codes "show") = search rules in
-    let first = added_app _ _ _ _ _ c.in_ok-arg.ensures c.flag_arg.ensures.local start c.flag_arg.ensures.rule in
-    IfOk-weaker c.arg-2.result _ _ (λ r added. added_app _ r _ _ _ added c.file_arg.ensures.local first c.file_arg.ensures.rule) c.arg-2.ensures
+    let all : HaveRules (c.flag_arg.result ∷ c.file_arg.result ∷ []) show_app.top.rules =
+    (c.flag_arg.ensures.rule, c.flag_arg.ensures.local, (c.file_arg.ensures.rule, c.file_arg.ensures.local, tt)) in
+    let have = subst (λ l. HaveRules l show_app.top.rules) (sym c.in_ok-args.ensures) all in
+    IfOk-weaker c.args-2.result _ _ (λ r added. all_added_app _ _ _ r _ have added c.described_command.ensures.app) c.args-2.ensures
 
 pub returns-clause-local : goal.returns-clause-local
 returns-clause-local c =
-    let start : (fields_of c.after_help.result).has_globals ≡ false = search rules in
-    let first = added_local _ _ _ c.in_ok-arg.ensures c.flag_arg.ensures.local start in
-    IfOk-weaker c.arg-2.result _ _ (λ r added. added_local _ r _ added c.file_arg.ensures.local first) c.arg-2.ensures
+    let all : HaveRules (c.flag_arg.result ∷ c.file_arg.result ∷ []) show_app.top.rules =
+    (c.flag_arg.ensures.rule, c.flag_arg.ensures.local, (c.file_arg.ensures.rule, c.file_arg.ensures.local, tt)) in
+    let have = subst (λ l. HaveRules l show_app.top.rules) (sym c.in_ok-args.ensures) all in
+    IfOk-weaker c.args-2.result _ _ (λ r added. all_added_local _ _ _ r have added c.described_command.ensures.local) c.args-2.ensures
