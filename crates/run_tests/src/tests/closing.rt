@@ -441,6 +441,17 @@ fn last_is_told<L: Ledgers>(
     Ok(())
 }
 
+/// The same of a run that is whole, and then of one whose last record was not received.
+fn both_are_told<L: Ledgers>(
+    rt: &impl Abort,
+    alloc: Global,
+    run: &mut ClosedRun<L>,
+) -> Result<(), AllocError> {
+    all_are_told(rt, alloc, run)?;
+    run.traced.received.pop();
+    last_is_told(rt, alloc, run)
+}
+
 /// The same, of the run of two processes.
 fn least_place_is_told<Rt: Abort + Wait + Clock, L: Ledgers>(
     rt: &Rt,
@@ -450,10 +461,9 @@ fn least_place_is_told<Rt: Abort + Wait + Clock, L: Ledgers>(
     requires { blanks ≡ L.names }
 {
     let mut run = closed_run::<Rt, L>(rt, alloc, blanks)?;
-    all_are_told(rt, alloc, &run)?;
-    run.traced.received.pop();
-    last_is_told(rt, alloc, &run)?;
-    Ok(())
+    let told = both_are_told(rt, alloc, &mut run);
+    drop(run);
+    Ok(told?)
 }
 
 #[test]

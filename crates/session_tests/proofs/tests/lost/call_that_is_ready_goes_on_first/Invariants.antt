@@ -1,6 +1,6 @@
 -- The ledgers of the run are those that the call makes, and its limits those that it is given.
 use Rattle.std.specs.Prelude.{Some}
-use Rattle.run_tests.proofs.tests.lost.call_that_is_ready_goes_on_first.Given as goal
+use Rattle.session_tests.proofs.tests.lost.call_that_is_ready_goes_on_first.Given as goal
 
 abbrev pub ghosts-goes_on_first : goal.ghosts-goes_on_first
 ghosts-goes_on_first g a = record { names = a.blanks; limits = Some a.limits }

@@ -1,6 +1,6 @@
 -- The ledgers of the run are those that the call makes, and its limits those that it is given.
 use Rattle.std.specs.Prelude.{Some}
-use Rattle.run_tests.proofs.tests.lost.call_of_a_lost_process_is_given_up.Given as goal
+use Rattle.session_tests.proofs.tests.lost.call_of_a_lost_process_is_given_up.Given as goal
 
 abbrev pub ghosts-gives_up_at_once : goal.ghosts-gives_up_at_once
 ghosts-gives_up_at_once g a = record { names = a.blanks; limits = Some a.limits }

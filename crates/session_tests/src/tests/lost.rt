@@ -171,6 +171,12 @@ fn is_at_rest<L: Ledgers>(system: &System<L>) -> bool {
     none_sleeps(system) && none_is_lost(system)
 }
 
+/// Whether nobody sleeps and nobody is lost when the kernel is closed.
+fn ends_at_rest<L: Ledgers>(kernel: SystemLock<L>) -> bool {
+    let system = kernel.take();
+    is_at_rest(&system)
+}
+
 /// Whether a call is given up whose process is lost before it would sleep, and a second word of that changes nothing.
 fn gives_up_at_once<Rt: Wait, L: Ledgers>(
     rt: &Rt,
@@ -182,8 +188,9 @@ fn gives_up_at_once<Rt: Wait, L: Ledgers>(
     requires limits { L.limits ≡ Some limits }
 {
     let kernel = kernel_of::<L>(alloc, limits, blanks)?;
-    let is_given_up = is_given_up_awake(rt, &kernel)?;
-    Ok(is_given_up && is_at_rest(&kernel.take()))
+    let is_given_up = is_given_up_awake(rt, &kernel);
+    let is_at_rest = ends_at_rest(kernel);
+    Ok(is_given_up? && is_at_rest)
 }
 
 #[test]
