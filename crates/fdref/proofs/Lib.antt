@@ -1,9 +1,2 @@
-pub mod Parses
-pub mod RequiredOptions
-pub mod OutputLemmas
-pub mod ReplayLemmas
-pub mod RunLemmas
-pub mod AuditLemmas
-pub mod ShowLemmas
 pub mod PerformLemmas
 mod ServeLemmas

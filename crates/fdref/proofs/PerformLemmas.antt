@@ -1,12 +1,12 @@
 -- A file whose bytes may be known to nobody, and the ends of what reads it.
 use Rattle.std.proofs.Common.{ℕ, List, Option, None, Some, subst}
 use Rattle.audit_core.specs.declared.verdict.Verdict.{Verdict}
-use Rattle.fdref.specs.Audit.{AuditEnds, IsVerdictOn, WritesVerdict}
+use Rattle.job_core.specs.Audit.{AuditEnds, IsVerdictOn, WritesVerdict}
 use Rattle.fdref.specs.Perform.{Has}
-use Rattle.fdref.specs.Show.{OfAll, OfFront, ShowEnds}
-use Rattle.fdref.specs.declared.job_end.JobEnd.{JobEnd}
-use Rattle.fdref.specs.declared.job_end.JobEnd.TheVariants as ended
-use Rattle.fdref.specs.declared.shown.Form.{Form}
+use Rattle.job_core.specs.Show.{OfAll, OfFront, ShowEnds}
+use Rattle.job_core.specs.declared.job_end.JobEnd.{JobEnd}
+use Rattle.job_core.specs.declared.job_end.JobEnd.TheVariants as ended
+use Rattle.job_core.specs.declared.shown.Form.{Form}
 
 -- ---- an audit
 

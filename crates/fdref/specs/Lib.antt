@@ -1,10 +1,3 @@
-pub mod CommandLine
-pub mod JobEnds
-pub mod Output
-pub mod Replay
 pub mod Serve
-pub mod Audit
-pub mod Shown
-pub mod Show
 pub mod Perform
 pub mod Proved

@@ -1,15 +1,15 @@
 -- What a job reads and writes, and what its end says (own).
 use Rattle.std.specs.Prelude.{◌≡◌, ◌⊎◌, ℕ, List, Option, None, Some}
 use Rattle.std.specs.String.{string_bytes}
-use Rattle.fdref.specs.Audit.{AuditEnds}
-use Rattle.fdref.specs.Replay.{ReplayEnds}
+use Rattle.job_core.specs.Audit.{AuditEnds}
+use Rattle.job_core.specs.Replay.{ReplayEnds}
 use Rattle.call_types.specs.declared.limits.Limits.{Limits}
 use Rattle.fdref.specs.Serve.{Reports, RunAsked, SinkState}
-use Rattle.fdref.specs.Show.{ShowEnds}
-use Rattle.fdref.specs.declared.job.Job.{Job}
-use Rattle.fdref.specs.declared.job.Job.TheVariants as job
-use Rattle.fdref.specs.declared.job_end.JobEnd.{JobEnd}
-use Rattle.fdref.specs.declared.job_end.JobEnd.TheVariants as ended
+use Rattle.job_core.specs.Show.{ShowEnds}
+use Rattle.job_core.specs.declared.job.Job.{Job}
+use Rattle.job_core.specs.declared.job.Job.TheVariants as job
+use Rattle.job_core.specs.declared.job_end.JobEnd.{JobEnd}
+use Rattle.job_core.specs.declared.job_end.JobEnd.TheVariants as ended
 
 -- a file that is read gives what it has, where that is known
 abbrev pub Has : Option (List ℕ) → Option (List ℕ) → Type 0

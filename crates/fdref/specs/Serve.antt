@@ -8,9 +8,9 @@ use Rattle.run_core.specs.declared.report.RunFault.TheVariants as fault
 use Rattle.session_core.specs.declared.end.End.{End}
 use Rattle.session_core.specs.declared.end.End.TheVariants as end
 use Rattle.trace_writer.specs.declared.traced.TraceFault.{TraceFault}
-use Rattle.fdref.specs.Output.{AppendsFront}
-use Rattle.fdref.specs.declared.job_end.JobEnd.{JobEnd}
-use Rattle.fdref.specs.declared.job_end.JobEnd.TheVariants as ended
+use Rattle.job_core.specs.Output.{AppendsFront}
+use Rattle.job_core.specs.declared.job_end.JobEnd.{JobEnd}
+use Rattle.job_core.specs.declared.job_end.JobEnd.TheVariants as ended
 
 -- the line that reports a run: how many sessions were started, the totals of its book, and how many records are whole in its trace
 abbrev pub report_line : ℕ → ℕ → ℕ → ℕ → ℕ → List ℕ

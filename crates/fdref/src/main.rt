@@ -1,26 +1,19 @@
 //! The program `fdref`.
 #![tactic(auto)]
 
-mod audit_file;
 mod files;
-mod job;
-mod job_end;
 mod listener;
-mod output;
 mod perform;
-mod replay;
 mod serve;
-mod show;
-mod shown;
 
 ghost use Rattle.std.specs.Prelude.{◌≡◌};
 ghost use Rattle.std.specs.Process.{exit_status};
-ghost use Rattle.fdref.specs.CommandLine.{status_of};
-ghost use Rattle.fdref.specs.JobEnds.{ended_status};
+ghost use Rattle.job_core.specs.CommandLine.{status_of};
+ghost use Rattle.job_core.specs.JobEnds.{ended_status};
 
 use files::SystemFiles;
-use job::{Job, JobFault, job_of, not_text};
-use job_end::JobEnd;
+use job_core::job::{Job, JobFault, job_of, not_text};
+use job_core::job_end::JobEnd;
 use listener::Sockets;
 use perform::perform;
 use std::io;

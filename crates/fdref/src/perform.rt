@@ -1,18 +1,18 @@
 //! A job, done.
 
 ghost use Rattle.std.specs.Prelude.{◌≡◌, ◌+◌, ◌<◌, ◌^◌, true, IfSome};
-ghost use Rattle.fdref.specs.Audit.{AuditEnds};
+ghost use Rattle.job_core.specs.Audit.{AuditEnds};
 ghost use Rattle.fdref.specs.Perform.{Has, Performs, ServeEnds};
-ghost use Rattle.fdref.specs.Show.{ShowEnds};
+ghost use Rattle.job_core.specs.Show.{ShowEnds};
 
-use crate::audit_file::audit_file;
-use crate::job::Job;
-use crate::job_end::JobEnd;
-use crate::replay::replay;
 use crate::serve::serve_on;
-use crate::show::show;
-use crate::shown::Form;
 use call_types::limits::Limits;
+use job_core::audit_file::audit_file;
+use job_core::job::Job;
+use job_core::job_end::JobEnd;
+use job_core::replay::replay;
+use job_core::show::show;
+use job_core::shown::Form;
 use run_core::source::Source;
 use std::alloc::Global;
 use std::io::{Read, Write};

@@ -3,12 +3,12 @@
 ghost use Rattle.std.specs.Prelude.{◌≡◌, ◌+◌, ◌<◌, ◌^◌, Some, true, IfOk, option_map};
 ghost use Rattle.fdref.specs.Serve.{Reports, end_of_run, is_unstarted, lacks_a_thread, report_line};
 ghost use Rattle.fdref.specs.Proved.Serving.{WritesLine, end_without_report};
-ghost use Rattle.fdref.specs.declared.job_end.JobEnd.TheVariants as ended;
+ghost use Rattle.job_core.specs.declared.job_end.JobEnd.TheVariants as ended;
 
-use crate::job_end::JobEnd;
-use crate::output::write_lines;
 use byte_ledger::ledgers::{Blanks, Ledgers};
 use call_types::limits::Limits;
+use job_core::job_end::JobEnd;
+use job_core::output::write_lines;
 use run_core::report::{Report, RunFault, Session};
 use run_core::sessions::run_sessions;
 use run_core::source::Source;

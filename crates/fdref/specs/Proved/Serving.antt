@@ -4,9 +4,9 @@ use Rattle.std.specs.Io.KnownBytes.{Appends}
 use Rattle.run_core.specs.declared.report.RunFault.{RunFault}
 use Rattle.run_core.specs.declared.report.RunFault.TheVariants as fault
 use Rattle.session_core.specs.declared.end.End.TheVariants as end
-use Rattle.fdref.specs.Output.{AppendsFront}
-use Rattle.fdref.specs.declared.job_end.JobEnd.{JobEnd}
-use Rattle.fdref.specs.declared.job_end.JobEnd.TheVariants as ended
+use Rattle.job_core.specs.Output.{AppendsFront}
+use Rattle.job_core.specs.declared.job_end.JobEnd.{JobEnd}
+use Rattle.job_core.specs.declared.job_end.JobEnd.TheVariants as ended
 
 -- how a run ended that gave no report
 abbrev pub end_without_report : RunFault → JobEnd

@@ -1,5 +1,5 @@
 use Rattle.fdref.proofs.PerformLemmas.{show_of}
-use Rattle.fdref.proofs.ShowLemmas.{nothing_shown}
+use Rattle.job_core.proofs.ShowLemmas.{nothing_shown}
 use Rattle.fdref.proofs.perform.show_at.Goals as goal
 
 pub returns-in-Some : goal.returns-in-Some

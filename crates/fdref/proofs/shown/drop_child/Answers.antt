@@ -1,7 +1,0 @@
-use Rattle.std.proofs.Common.{rules}
-use Rattle.std.proofs.lemmas.Fn.{filter_same}
-use Rattle.fdref.specs.Shown.{is_other}
-use Rattle.fdref.proofs.shown.drop_child.Goals as goal
-
-pub returns : goal.returns
-returns c = filter_same _ (λ process. is_other process c.args.gone) _ (λ x b f' k. search rules) _ _ c.retain.ensures.filtered

@@ -1,0 +1,7 @@
+pub mod Parses
+pub mod RequiredOptions
+pub mod OutputLemmas
+pub mod ReplayLemmas
+pub mod RunLemmas
+pub mod AuditLemmas
+pub mod ShowLemmas

@@ -1,0 +1,92 @@
+-- Each line computes.
+use Rattle.std.proofs.Common.{refl}
+use Rattle.clap.proofs.OnLiterals.{clap_on_literals}
+use Rattle.job_core.proofs.job.lines_read.Goals as goal
+
+pub returns-clause-plain : goal.returns-clause-plain
+unfolding clap_on_literals
+returns-clause-plain c = (refl, refl)
+
+pub returns-clause-apart : goal.returns-clause-apart
+unfolding clap_on_literals
+returns-clause-apart c = (refl, refl)
+
+pub returns-clause-joined : goal.returns-clause-joined
+unfolding clap_on_literals
+returns-clause-joined c = (refl, refl)
+
+pub returns-clause-missing : goal.returns-clause-missing
+unfolding clap_on_literals
+returns-clause-missing c = refl
+
+pub returns-clause-help : goal.returns-clause-help
+unfolding clap_on_literals
+returns-clause-help c = refl
+
+pub returns-clause-version : goal.returns-clause-version
+unfolding clap_on_literals
+returns-clause-version c = refl
+
+pub returns-clause-surplus : goal.returns-clause-surplus
+unfolding clap_on_literals
+returns-clause-surplus c = refl
+
+pub returns-clause-twice : goal.returns-clause-twice
+unfolding clap_on_literals
+returns-clause-twice c = refl
+
+pub returns-clause-serve : goal.returns-clause-serve
+unfolding clap_on_literals
+returns-clause-serve c = (refl, refl)
+
+pub returns-clause-socket : goal.returns-clause-socket
+unfolding clap_on_literals
+returns-clause-socket c = refl
+
+pub returns-clause-sessions : goal.returns-clause-sessions
+unfolding clap_on_literals
+returns-clause-sessions c = refl
+
+pub returns-clause-records : goal.returns-clause-records
+unfolding clap_on_literals
+returns-clause-records c = refl
+
+pub returns-clause-incomplete : goal.returns-clause-incomplete
+unfolding clap_on_literals
+returns-clause-incomplete c = refl
+
+pub returns-clause-audit : goal.returns-clause-audit
+unfolding clap_on_literals
+returns-clause-audit c = (refl, refl)
+
+pub returns-clause-file : goal.returns-clause-file
+unfolding clap_on_literals
+returns-clause-file c = refl
+
+pub returns-clause-no_file : goal.returns-clause-no_file
+unfolding clap_on_literals
+returns-clause-no_file c = refl
+
+pub returns-clause-two_files : goal.returns-clause-two_files
+unfolding clap_on_literals
+returns-clause-two_files c = refl
+
+pub returns-clause-show : goal.returns-clause-show
+unfolding clap_on_literals
+returns-clause-show c = (refl, refl)
+
+pub returns-clause-acts : goal.returns-clause-acts
+unfolding clap_on_literals
+returns-clause-acts c = (refl, refl)
+
+pub returns-clause-records_alone : goal.returns-clause-records_alone
+unfolding clap_on_literals
+returns-clause-records_alone c = refl
+
+pub returns-clause-trace : goal.returns-clause-trace
+unfolding clap_on_literals
+returns-clause-trace c = refl
+
+pub returns-clause-traceless : goal.returns-clause-traceless
+unfolding clap_on_literals
+returns-clause-traceless c = refl

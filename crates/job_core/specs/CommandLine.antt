@@ -1,0 +1,190 @@
+-- What the words of a command line ask of the program (own).
+use Rattle.std.specs.Prelude.{◌≡◌, ◌≤◌, ◌⊎◌, ◌∷◌, ℕ, List, [], Option, Some, None, true, codes, option_map, option_and_then, ⊤, if◌then◌else◌}
+use Rattle.std.specs.String.{string_bytes}
+use Rattle.std.specs.Str.{bytes_eq}
+use Rattle.std.specs.Str.Parse.{IsNumeral, digits_value, without_leading_plus}
+use Rattle.clap.specs.Words.{App, IsAmong, Rule, Text, fault_of, first_of, kind_of, new_app, new_rule, subcommand_of, with_rule, with_subcommand}
+use Rattle.clap.specs.declared.builder.action.ArgAction.TheVariants.{SetTrue}
+use Rattle.clap.specs.declared.error.kind.ErrorKind.{ErrorKind}
+use Rattle.clap.specs.declared.error.kind.ErrorKind.TheVariants as kind
+use Rattle.call_types.specs.declared.limits.Bounds.{Bounds}
+use Rattle.call_types.specs.declared.limits.Limits.{Limits}
+use Rattle.call_types.specs.declared.limits.TheConstants.{RECORDS_MAX, FILE_SIZE_MAX, PIPE_CAPACITY}
+use Rattle.job_core.specs.declared.job.Job.{Job}
+use Rattle.job_core.specs.declared.job.Job.TheVariants.{Replay, Serve, Audit, Show}
+use Rattle.job_core.specs.declared.shown.Form.{Form}
+use Rattle.job_core.specs.declared.shown.Form.TheVariants as form
+use Rattle.job_core.specs.declared.job.JobFault.{JobFault}
+use Rattle.job_core.specs.declared.job.JobFault.TheVariants.{Usage, Shown, NoMemory}
+use Rattle.job_core.specs.declared.job.TheConstants.{SESSIONS_MAX}
+
+-- ---- what the program takes
+
+-- an option that is named so, and takes one value
+abbrev pub option_rule : Text → Rule
+option_rule id = record (new_rule id) { long = Some id; value_names = 1 }
+
+-- the same, where it has to be given
+abbrev pub required_rule : Text → Rule
+required_rule id = record (option_rule id) { required = true }
+
+-- an option that is named so, and takes none
+abbrev pub flag_rule : Text → Rule
+flag_rule id = record (new_rule id) { long = Some id; action = Some SetTrue }
+
+-- a file, which stands by itself and has to be given
+abbrev pub file_rule : Rule
+file_rule = record (new_rule (codes "file")) { value_names = 1; required = true }
+
+-- the subcommand `replay`, with its one option
+abbrev pub replay_app : App
+replay_app = with_rule (new_app (codes "replay")) (option_rule (codes "records"))
+
+-- the subcommand `serve`, with its four options
+abbrev pub serve_app : App
+serve_app = with_rule
+    (with_rule
+    (with_rule (with_rule (new_app (codes "serve")) (required_rule (codes "socket"))) (required_rule (codes "sessions")))
+    (required_rule (codes "records")))
+    (required_rule (codes "trace"))
+
+-- the subcommand `audit`, with its file
+abbrev pub audit_app : App
+audit_app = with_rule (new_app (codes "audit")) file_rule
+
+-- the subcommand `show`, with its one option and its file
+abbrev pub show_app : App
+show_app = with_rule (with_rule (new_app (codes "show")) (flag_rule (codes "acts"))) file_rule
+
+-- the program's settings: it has a version, wants a subcommand, and has none named `help`
+abbrev pub bare_app : App
+bare_app = record (new_app (codes "fdref")) {
+  top = record (new_app (codes "fdref")).top {
+    has_version = true;
+    propagate_version = true;
+    subcommand_required = true;
+    disable_help_subcommand = true;
+  };
+}
+
+-- the whole command line of the program
+abbrev pub fdref_app : App
+fdref_app = with_subcommand
+    (with_subcommand (with_subcommand (with_subcommand bare_app replay_app.top) serve_app.top) audit_app.top)
+    show_app.top
+
+-- ---- what the words give
+
+-- the words of a command line, with the program's name before them
+abbrev pub line : List Text → List Text
+line words = codes "fdref" ∷ words
+
+-- the name of the subcommand that the words give
+abbrev pub name_given : List Text → Option Text
+name_given words = option_map (λ p. p.0) (subcommand_of fdref_app words)
+
+-- the text that the words give to an option of their subcommand
+abbrev pub text_given : List Text → Text → Option Text
+text_given words option = option_and_then (λ p. first_of option p.1) (subcommand_of fdref_app words)
+
+-- n is what the text writes in decimal
+abbrev pub IsDecimalOf : Text → ℕ → Type 0
+IsDecimalOf text n = IsNumeral 10 (without_leading_plus text) × (n ≡ digits_value 10 (without_leading_plus text))
+
+-- n is the number that the text gives, from 1 to the most
+abbrev pub IsNumber : ℕ → Option Text → ℕ → Type 0
+IsNumber most None n = ⊥
+IsNumber most (Some text) n = IsDecimalOf text n × (1 ≤ n) × (n ≤ most)
+
+-- the text is no such number
+abbrev pub IsNoNumber : ℕ → Option Text → Type 0
+IsNoNumber most text = (n : ℕ) → IsNumber most text n → ⊥
+
+-- n is the number of records of a replay, the default where no text is given
+abbrev pub IsRecords : Option Text → ℕ → Type 0
+IsRecords None n = n ≡ 10000
+IsRecords (Some text) n = IsNumber RECORDS_MAX (Some text) n
+
+-- the text is no number of records of a replay
+abbrev pub IsNoRecords : Option Text → Type 0
+IsNoRecords text = (n : ℕ) → IsRecords text n → ⊥
+
+-- the limits of the model in each run
+abbrev pub standard : Bounds
+standard = record { file_size = FILE_SIZE_MAX; pipe_capacity = PIPE_CAPACITY }
+
+-- what is given to each option of a subcommand
+abbrev pub Given : Type 0
+Given = Text → Option Text
+
+-- the limits are those of a replay that is given so
+pub record IsReplay (given : Given) (limits : Limits) : Type 0 where
+  pub records : IsRecords (given (codes "records")) limits.records
+  pub bounds : limits.bounds ≡ standard
+
+-- path, number of sessions, limits and the trace's file are those of a server that is given so
+pub record IsServe (given : Given) (path : Text) (count : ℕ) (limits : Limits) (file : Text) : Type 0 where
+  pub socket : given (codes "socket") ≡ Some path
+  pub sessions : IsNumber SESSIONS_MAX (given (codes "sessions")) count
+  pub records : IsNumber RECORDS_MAX (given (codes "records")) limits.records
+  pub bounds : limits.bounds ≡ standard
+  pub trace : given (codes "trace") ≡ Some file
+
+-- the form in which a trace is shown: its acts, where that option is used
+abbrev pub form_of : Option Text → Form
+form_of None = form.Records
+form_of (Some text) = if bytes_eq text (codes "true") then form.Acts else form.Records
+
+-- path and form are those of a trace that is to be shown
+pub record IsShow (given : Given) (path : Text) (how : Form) : Type 0 where
+  pub file : given (codes "file") ≡ Some path
+  pub form : how ≡ form_of (given (codes "acts"))
+
+-- the job is the one that the subcommand of this name asks for
+abbrev pub IsJobOf : Option Text → Given → Job → Type 0
+IsJobOf name given (Replay limits) = (name ≡ Some (codes "replay")) × IsReplay given limits
+IsJobOf name given (Serve path count limits file) = (name ≡ Some (codes "serve")) × IsServe given (string_bytes path) count limits (string_bytes file)
+IsJobOf name given (Audit path) = (name ≡ Some (codes "audit")) × (given (codes "file") ≡ Some (string_bytes path))
+IsJobOf name given (Show path how) = (name ≡ Some (codes "show")) × IsShow given (string_bytes path) how
+
+-- a number that the subcommand of this name is given is out of its range
+abbrev pub IsOutOfRange : Option Text → Given → Type 0
+IsOutOfRange name given = ((name ≡ Some (codes "replay")) × IsNoRecords (given (codes "records")))
+    ⊎ ((name ≡ Some (codes "serve")) × (IsNoNumber SESSIONS_MAX (given (codes "sessions"))
+    ⊎ IsNoNumber RECORDS_MAX (given (codes "records"))))
+
+-- the words parse, and ask for the job
+pub record Asks (words : List Text) (job : Job) : Type 0 where
+  pub parsed : fault_of fdref_app words ≡ []
+  pub asked : IsJobOf (name_given words) (text_given words) job
+
+-- help or the version was asked for
+abbrev pub IsRequest : ErrorKind → Type 0
+IsRequest k = (k ≡ kind.DisplayHelp) ⊎ (k ≡ kind.DisplayVersion)
+
+-- the parse refuses the words by a mistake of this kind
+abbrev pub IsMistake : List Text → ErrorKind → Type 0
+IsMistake words k = IsAmong k (fault_of fdref_app words) × (IsRequest k → ⊥)
+
+-- the words parse, but a number of theirs is out of its range
+abbrev pub IsBadNumber : List Text → ErrorKind → Type 0
+IsBadNumber words k = (fault_of fdref_app words ≡ []) × IsOutOfRange (name_given words) (text_given words)
+    × (k ≡ kind.ValueValidation)
+
+-- the words deserve the fault, or memory ran out
+abbrev pub Deserves : List Text → JobFault → Type 0
+Deserves words (Usage e) = IsMistake words (kind_of e) ⊎ IsBadNumber words (kind_of e)
+Deserves words (Shown e) = IsAmong (kind_of e) (fault_of fdref_app words) × IsRequest (kind_of e)
+Deserves words NoMemory = ⊤
+
+-- the fault says that a word is not UTF-8, or that memory ran out
+abbrev pub SaysNotText : JobFault → Type 0
+SaysNotText (Usage e) = kind_of e ≡ kind.InvalidValue
+SaysNotText (Shown e) = ⊥
+SaysNotText NoMemory = ⊤
+
+-- the exit status of a fault
+abbrev pub status_of : JobFault → ℕ
+status_of (Usage e) = 2
+status_of (Shown e) = 0
+status_of NoMemory = 5

@@ -1,0 +1,64 @@
+-- How words are read (own).
+use Rattle.std.specs.Prelude.{◌≡◌, ◌≢◌, ◌∷◌, List, [], Option, false, true, codes, is_some, ⊤}
+use Rattle.clap.specs.Words.{App, Rule, Text, app_of, fault_of, kind_of, rule_of, subcommand_of, subcommand_rows_of}
+use Rattle.clap.specs.declared.builder.arg.Arg.{Arg}
+use Rattle.clap.specs.declared.builder.command.Command.{Command}
+use Rattle.clap.specs.declared.builder.command.Command.TheViews.{out-Command as fields_of}
+use Rattle.clap.specs.declared.parser.matches.ArgMatches.{ArgMatches}
+use Rattle.clap.specs.declared.error.Error.{Error}
+use Rattle.clap.specs.declared.error.kind.ErrorKind.TheVariants as kind
+use Rattle.job_core.specs.declared.job.JobFault.{JobFault}
+use Rattle.job_core.specs.declared.job.JobFault.TheVariants.{Usage, Shown, NoMemory}
+use Rattle.job_core.specs.CommandLine.{fdref_app, Given, IsOutOfRange, IsRequest}
+
+-- words that ask for a server
+abbrev pub served : List Text
+served = codes "serve" ∷ codes "--socket" ∷ codes "s" ∷ codes "--sessions" ∷ codes "2" ∷ codes "--records=5" ∷ codes "--trace=t" ∷ []
+
+-- words that ask for the acts of a trace
+abbrev pub shown : List Text
+shown = codes "show" ∷ codes "--acts" ∷ codes "t" ∷ []
+
+-- each option of a server is given
+abbrev pub GivesAll : Given → Type 0
+GivesAll given = (is_some (given (codes "socket")) ≡ true) × (is_some (given (codes "sessions")) ≡ true)
+    × (is_some (given (codes "records")) ≡ true) × (is_some (given (codes "trace")) ≡ true)
+
+-- the file of an audit, or of a trace to be shown, is given
+abbrev pub GivesFile : Given → Type 0
+GivesFile given = is_some (given (codes "file")) ≡ true
+
+-- ---- what a command is made of
+
+-- the arguments have these rules, and none of them is global
+abbrev pub HaveRules : List Arg → List Rule → Type 0
+HaveRules [] [] = ⊤
+HaveRules [] (r ∷ rules) = ⊥
+HaveRules (a ∷ args) [] = ⊥
+HaveRules (a ∷ args) (r ∷ rules) = (rule_of a ≡ r) × (a.global ≡ false) × HaveRules args rules
+
+-- the commands are these apps, and none of them has a global argument
+abbrev pub HaveApps : List Command → List App → Type 0
+HaveApps [] [] = ⊤
+HaveApps [] (a ∷ apps) = ⊥
+HaveApps (c ∷ commands) [] = ⊥
+HaveApps (c ∷ commands) (a ∷ apps) = (app_of c ≡ a) × ((fields_of c).has_globals ≡ false) × HaveApps commands apps
+
+-- ---- what the program makes of them
+
+-- the matches are those of the words, which have no fault
+pub record IsParse (words : List Text) (m : ArgMatches) : Type 0 where
+  pub parsed : fault_of fdref_app words ≡ []
+  pub rows : subcommand_rows_of m ≡ subcommand_of fdref_app words
+
+-- the fault says that a number is out of its range, or that memory ran out
+abbrev pub RefusesNumber : Option Text → Given → JobFault → Type 0
+RefusesNumber name given (Usage e) = IsOutOfRange name given × (kind_of e ≡ kind.ValueValidation)
+RefusesNumber name given (Shown e) = ⊥
+RefusesNumber name given NoMemory = ⊤
+
+-- the fault that an error of the parse is: its error, unless memory ran out
+abbrev pub IsFaultOf : Error → JobFault → Type 0
+IsFaultOf error (Usage e) = (e ≡ error) × (kind_of error ≢ kind.OutOfMemory) × (IsRequest (kind_of error) → ⊥)
+IsFaultOf error (Shown e) = (e ≡ error) × IsRequest (kind_of error)
+IsFaultOf error NoMemory = kind_of error ≡ kind.OutOfMemory

@@ -1,0 +1,53 @@
+-- How a replay gets on (own).
+use Rattle.std.specs.Prelude.{◌≡◌, ℕ, List, [], ◌++◌, Result, Ok}
+use Rattle.call_types.specs.declared.act.ScriptAct.{ScriptAct}
+use Rattle.call_types.specs.declared.limits.Limits.{Limits}
+use Rattle.posix_model.specs.History.{legal}
+use Rattle.script_text.specs.ReadingScripts.{script, followed}
+use Rattle.script_text.specs.ReadingResults.{ScriptFails}
+use Rattle.script_text.specs.declared.fault.ScriptFault.{ScriptFault}
+use Rattle.record_book.specs.Book.{BookState}
+use Rattle.record_book.specs.Runs.{RunTells, GoesOn, Seats}
+use Rattle.record_book.specs.declared.run.ScriptAnswer.{ScriptAnswer}
+use Rattle.job_core.specs.Output.{last_line, told_line, told_lines}
+use Rattle.job_core.specs.declared.job_end.JobEnd.{JobEnd}
+use Rattle.job_core.specs.Replay.{IsOutput, end_of_fault}
+
+-- one act more was run, and its lines stand after the others
+pub record RunsNext (old new : BookState) (seats after : Seats) (act : ScriptAct) (lines more : List ℕ) : Type 0 where
+  pub told : ScriptAnswer
+  pub goes_on : GoesOn old new seats after act told
+  pub limits_are : new.limits ≡ old.limits
+  pub lines_are : more ≡ lines ++ told_line told
+
+-- acts that were read were run one after another, and their lines stand after the others; what is left is read as rest
+pub record RunsOn (read rest : Result (List ScriptAct) ScriptFault) (old new : BookState) (seats after : Seats) (lines more : List ℕ) : Type 0 where
+  pub acts : List ScriptAct
+  pub told : List ScriptAnswer
+  pub is_read : read ≡ followed acts rest
+  pub runs : RunTells old new seats after acts told
+  pub limits_are : new.limits ≡ old.limits
+  pub lines_are : more ≡ lines ++ told_lines told
+
+-- acts that were read were run in a book, to their end, and this is their output
+pub record Gathers (read : Result (List ScriptAct) ScriptFault) (old new : BookState) (output : List ℕ) : Type 0 where
+  pub acts : List ScriptAct
+  pub told : List ScriptAnswer
+  pub seats : Seats
+  pub is_read : read ≡ Ok acts
+  pub runs : RunTells old new [] seats acts told
+  pub limits_are : new.limits ≡ old.limits
+  pub is_legal : legal new.limits.bounds new.history
+  pub output_is : output ≡ told_lines told ++ last_line new
+
+-- the text is a script, and this is the output of its acts
+abbrev pub RunsScript : Limits → List ℕ → List ℕ → Type 0
+RunsScript limits text output = (acts : List ScriptAct) × (script text ≡ Ok acts) × IsOutput limits acts output
+
+-- the end says why what was read gave no output: by its fault, or for want of memory
+abbrev pub FailsReading : Result (List ScriptAct) ScriptFault → JobEnd → Type 0
+FailsReading read end = (fault : ScriptFault) × (end ≡ end_of_fault fault) × ScriptFails fault read
+
+-- the same of a text
+abbrev pub FailsAs : List ℕ → JobEnd → Type 0
+FailsAs text end = FailsReading (script text) end

@@ -1,0 +1,115 @@
+-- How a trace is shown, piece by piece (own).
+use Rattle.std.specs.Prelude.{◌≡◌, ℕ, ◌+◌, ◌*◌, ◌≤◌, nat_lt, List, ◌++◌, Option, None, Some, length, take, if◌then◌else◌, [], ◌∷◌}
+use Rattle.std.specs.Io.KnownBytes.{Appends, Consumes, IsAtEnd}
+use Rattle.call_types.specs.declared.act.Record.{Record}
+use Rattle.call_types.specs.declared.limits.TheConstants.{RECORD_LENGTH_MAX}
+use Rattle.frame_codec.specs.Decoding.{DecoderState, fresh, told_place}
+use Rattle.frame_codec.specs.Proved.Laws.{HasEnded, HasGiven}
+use Rattle.frame_codec.specs.Records.{SpellsRecord}
+use Rattle.frame_codec.specs.Trace.{trace_header}
+use Rattle.frame_codec.specs.declared.decoder.Progress.{Progress}
+use Rattle.frame_codec.specs.declared.decoder.Progress.TheVariants as progress
+use Rattle.audit_core.specs.Proved.Taking.{IsHeaded}
+use Rattle.audit_core.specs.declared.audit.TheConstants.{READ_LENGTH}
+use Rattle.job_core.specs.Output.{AppendsFront}
+use Rattle.job_core.specs.Shown.{LinesState, first_lines, lines_from, next_lines}
+use Rattle.job_core.specs.declared.job_end.JobEnd.{JobEnd}
+use Rattle.job_core.specs.declared.job_end.JobEnd.TheVariants as ended
+use Rattle.job_core.specs.declared.shown.Form.{Form}
+use Rattle.job_core.specs.Show.{BreaksAt, BeginsWith}
+
+-- a piece of so many bytes was read, none only at the end
+pub record GivesPiece (old new : Option (List ℕ)) (buffer : List ℕ) (count : ℕ) : Type 0 where
+  pub within : count ≤ length buffer
+  pub consumes : Consumes old new (take count buffer)
+  pub end : count ≡ 0 → IsAtEnd new
+
+-- how many bytes of the header were met, what is held of the bytes after it, and how the lines go on
+pub record ShownState : Type 0 where
+  pub header : ℕ
+  pub decoder : DecoderState
+  pub lines : LinesState
+
+-- before the first byte
+abbrev pub fresh_shown : Form → ShownState
+fresh_shown form = record { header = 0; decoder = fresh; lines = first_lines form }
+
+-- these bytes were taken, without a fault, and have these whole records
+pub record IsTaken (bytes : List ℕ) (records : List Record) (t : ShownState) : Type 0 where
+  pub body : List ℕ
+  pub headed : IsHeaded t.header bytes body
+  pub given : HasGiven SpellsRecord RECORD_LENGTH_MAX body records t.decoder
+
+-- where the fault is in a trace that is told of the bytes after the header
+abbrev pub fault_at : Progress → Option ℕ
+fault_at progress.More = None
+fault_at (progress.Malformed at) = Some (told_place (at + length trace_header))
+fault_at (progress.TooLong at) = Some (told_place (at + length trace_header))
+
+-- how many bytes are left over at the end
+abbrev pub left_over : ShownState → ℕ
+left_over t = if nat_lt t.header (length trace_header) then t.header else length t.decoder.held
+
+-- how the job ends then
+abbrev pub end_with : ℕ → JobEnd
+end_with left = if nat_lt 0 left then ended.Rest left else ended.Done
+
+-- what is found in bytes after the header
+abbrev pub BodyGives : List ℕ → List Record → ShownState → Option ℕ → Type 0
+BodyGives body records new None = HasGiven SpellsRecord RECORD_LENGTH_MAX body records new.decoder
+BodyGives body records new (Some at) = (told : Progress) × HasEnded SpellsRecord RECORD_LENGTH_MAX body records told × (fault_at told ≡ Some at)
+
+-- after the next records
+abbrev pub lines_after : LinesState → List Record → LinesState
+lines_after s [] = s
+lines_after s (r ∷ rs) = lines_after (next_lines s r) rs
+
+-- a piece more of the bytes after the header
+pub record TakesBody (piece : List ℕ) (old new : ShownState) (text more : List ℕ) (found : Option ℕ) : Type 0 where
+  pub added : List Record
+  pub text_is : more ≡ text ++ lines_from old.lines added
+  pub lines_are : new.lines ≡ lines_after old.lines added
+  pub gives : (body : List ℕ) (records : List Record) → HasGiven SpellsRecord RECORD_LENGTH_MAX body records old.decoder → BodyGives (body ++ piece) (records ++ added) new found
+
+-- what is found in bytes
+abbrev pub IsFound : List ℕ → List Record → ShownState → Option ℕ → Type 0
+IsFound bytes records new None = IsTaken bytes records new
+IsFound bytes records new (Some at) = BreaksAt bytes records at
+
+-- a piece more, after whatever bytes without a fault
+pub record TakesPiece (piece : List ℕ) (old new : ShownState) (text more : List ℕ) (found : Option ℕ) : Type 0 where
+  pub added : List Record
+  pub text_is : more ≡ text ++ lines_from old.lines added
+  pub lines_are : new.lines ≡ lines_after old.lines added
+  pub finds : (bytes : List ℕ) (records : List Record) → IsTaken bytes records old → IsFound (bytes ++ piece) (records ++ added) new found
+
+-- a piece more, and the lines of its records are written
+pub record WritesPiece (piece : List ℕ) (old new : ShownState) (was is : Option (List ℕ)) (found : Option ℕ) : Type 0 where
+  pub added : List Record
+  pub appends : Appends was is (lines_from old.lines added)
+  pub lines_are : new.lines ≡ lines_after old.lines added
+  pub finds : (bytes : List ℕ) (records : List Record) → IsTaken bytes records old → IsFound (bytes ++ piece) (records ++ added) new found
+
+-- a piece more, and a front of the lines of its records is written
+pub record WritesPieceFront (piece : List ℕ) (old : ShownState) (was is : Option (List ℕ)) : Type 0 where
+  pub added : List Record
+  pub front : AppendsFront was is (lines_from old.lines added)
+  pub begins : (bytes : List ℕ) (records : List Record) → IsTaken bytes records old → BeginsWith (bytes ++ piece) (records ++ added)
+
+-- what came of a piece
+abbrev pub ShowsPiece : List ℕ → ShownState → ShownState → Option (List ℕ) → Option (List ℕ) → Option JobEnd → Type 0
+ShowsPiece piece old new was is None = WritesPiece piece old new was is None
+ShowsPiece piece old new was is (Some (ended.Malformed at)) = WritesPiece piece old new was is (Some at)
+ShowsPiece piece old new was is (Some ended.CannotWrite) = WritesPieceFront piece old was is
+ShowsPiece piece old new was is (Some ended.NoMemory) = is ≡ was
+ShowsPiece piece old new was is (Some other) = ⊥
+
+-- the pieces so far
+pub record HasShown (from to was is : Option (List ℕ)) (first t : ShownState) (turns : ℕ) : Type 0 where
+  pub bytes : List ℕ
+  pub records : List Record
+  pub consumes : Consumes from to bytes
+  pub taken : IsTaken bytes records t
+  pub lines_are : t.lines ≡ lines_after first.lines records
+  pub appends : Appends was is (lines_from first.lines records)
+  pub long : length bytes ≤ turns * READ_LENGTH

@@ -1,0 +1,84 @@
+//! The audit of a trace, and the line of its verdict.
+
+ghost use Rattle.std.specs.Prelude.{◌≡◌, ◌++◌, IfOk, OnOk};
+ghost use Rattle.job_core.specs.Audit.{AuditEnds, expected_word, verdict_end, verdict_line};
+
+use crate::job_end::JobEnd;
+use crate::output::write_lines;
+use audit_core::audit::{AuditFault, audit};
+use audit_core::laws::faults_stay;
+use audit_core::verdict::Verdict;
+use call_types::outcome::Outcome;
+use logged_streams::reader::LoggedReader;
+use script_text::lines::write_outcome;
+use std::alloc::{AllocError, Global};
+use std::io::{Read, Write};
+
+/// Appends the outcome that the model gives, or that it gives none.
+fn put_expected(line: &mut Vec<u8>, expected: &Option<Outcome>) -> Result<(), AllocError>
+    ensures { OnOk result (line.new.items ≡ line.old.items ++ expected_word expected.now) }
+{
+    match expected {
+        Some(outcome) => write_outcome(line, outcome),
+        None => line.extend_from_slice(b"none"),
+    }
+}
+
+/// The line of the first record that is not what the model gives.
+fn illegal_line(
+    alloc: Global,
+    place: u64,
+    expected: &Option<Outcome>,
+) -> Result<Vec<u8>, AllocError>
+    ensures { IfOk result (λ line. line.items ≡ verdict_line (Verdict.Illegal place expected.now)) }
+{
+    let mut line = format!(in alloc; "illegal {place} expected ")?.into_bytes();
+    put_expected(&mut line, expected)?;
+    line.push(b'\n')?;
+    Ok(line)
+}
+
+/// The line of a verdict.
+fn line_of(alloc: Global, verdict: &Verdict) -> Result<Vec<u8>, AllocError>
+    ensures { IfOk result (λ line. line.items ≡ verdict_line verdict.now) }
+{
+    match verdict {
+        Verdict::Legal { records, rest } => {
+            Ok(format!(in alloc; "legal {records} rest {rest}\n")?.into_bytes())
+        }
+        Verdict::Illegal { place, expected } => illegal_line(alloc, *place, expected),
+        Verdict::Malformed { at } => Ok(format!(in alloc; "malformed {at}\n")?.into_bytes()),
+    }
+}
+
+/// How an audit ends whose verdict is written.
+fn end_of(verdict: &Verdict) -> JobEnd
+    ensures { result ≡ verdict_end verdict.now }
+{
+    match verdict {
+        Verdict::Legal { .. } => JobEnd::Done,
+        Verdict::Illegal { .. } => JobEnd::IllegalTrace,
+        Verdict::Malformed { .. } => JobEnd::MalformedTrace,
+    }
+}
+
+/// Audits the trace that a reader gives, and writes the line of the verdict. What comes after the first fault need not be read.
+pub fn audit_file<R: Read + Drop, W: Write>(alloc: Global, reader: R, writer: &mut W) -> JobEnd
+    ensures { AuditEnds (R.remaining reader) (W.contents writer.old) (W.contents writer.new) result }
+{
+    faults_stay();
+    let mut reader = LoggedReader::new(reader);
+    let verdict = match audit(alloc, &mut reader) {
+        Ok(verdict) => verdict,
+        Err(AuditFault::Read) => return JobEnd::CannotRead,
+        Err(AuditFault::NoMemory) => return JobEnd::NoMemory,
+    };
+    let line = match line_of(alloc, &verdict) {
+        Ok(line) => line,
+        Err(_) => return JobEnd::NoMemory,
+    };
+    match write_lines(writer, line.as_slice()) {
+        Ok(()) => end_of(&verdict),
+        Err(ended) => ended,
+    }
+}

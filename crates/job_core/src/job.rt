@@ -1,0 +1,539 @@
+//! What the words of a command line ask for.
+ghost use Rattle.std.specs.Prelude.{◌≡◌, ◌∷◌, ◌++◌, [], IfOk, IfErr, IfSome, IsOkAnd, OnOk, map, codes, is_some, option_map, true, false};
+ghost use Rattle.job_core.specs.declared.shown.Form.TheVariants as form;
+ghost use Rattle.clap.specs.Words.{app_of, found_of, first_value, fault_of, kind_of, new_app, rule_of};
+ghost use Rattle.clap.specs.declared.builder.command.Command.TheViews.{out-Command as fields_of};
+ghost use Rattle.job_core.specs.CommandLine.{Asks, Deserves, IsJobOf, IsNoNumber, IsNoRecords, IsNumber, IsRecords, SaysNotText, audit_app, bare_app, fdref_app, file_rule, flag_rule, form_of, line, name_given, option_rule, replay_app, required_rule, serve_app, show_app, standard, status_of, text_given};
+ghost use Rattle.job_core.specs.Proved.Parsing.{GivesAll, GivesFile, HaveApps, HaveRules, IsFaultOf, IsParse, RefusesNumber, served, shown};
+
+use crate::shown::Form;
+use call_types::limits::{Limits, RECORDS_MAX};
+use clap::error::ErrorKind;
+use clap::{Arg, ArgAction, ArgMatches, Command, Error};
+use std::alloc::{AllocError, Global};
+use std::convert::AsStr;
+use std::fmt;
+
+/// The records of a replay whose command line names no number.
+pub const DEFAULT_RECORDS: u64 = 10_000;
+
+/// The most sessions that a server may have.
+pub const SESSIONS_MAX: u8 = 64;
+
+/// What the program is asked to do.
+#[derive(Debug, Drop)]
+pub enum Job {
+    /// To run the script on standard input.
+    Replay {
+        limits: Limits,
+    },
+    /// To serve so many sessions, 1 to 64, over a Unix socket that it makes at this path, and to write their trace to this file.
+    Serve {
+        socket: String,
+        sessions: u8,
+        limits: Limits,
+        trace: String,
+    },
+    /// To judge the trace in this file.
+    Audit {
+        file: String,
+    },
+    /// To show the records of the trace in this file, in this form.
+    Show {
+        file: String,
+        form: Form,
+    },
+}
+
+/// Why a command line gives no job.
+#[derive(Debug, Drop)]
+pub enum JobFault {
+    /// The words are none that the program takes, or a number is out of its range.
+    Usage(Error),
+    /// Help or the version was asked for, and this is its text.
+    Shown(Error),
+    /// Memory ran out.
+    NoMemory,
+}
+
+impl JobFault {
+    /// The exit status of the program.
+    pub fn status(&self) -> u8
+        ensures { result ≡ status_of self.now }
+    {
+        match self {
+            JobFault::Usage(_) => 2,
+            JobFault::Shown(_) => 0,
+            JobFault::NoMemory => 5,
+        }
+    }
+}
+
+impl fmt::Display for JobFault {
+    fn fmt<W: fmt::Write>(&self, f: &mut fmt::Formatter<W>) -> fmt::Result {
+        match self {
+            JobFault::Usage(error) | JobFault::Shown(error) => error.fmt(f),
+            JobFault::NoMemory => f.write_str("no memory\n"),
+        }
+    }
+}
+
+impl From<AllocError> for JobFault {
+    ghost use Rattle.std.specs.Prelude.{◌≡◌};
+    ghost use Rattle.job_core.specs.declared.job.JobFault.TheVariants.{NoMemory};
+
+    ghost from_gives = { λ _ fault. fault ≡ NoMemory };
+
+    fn from(_error: AllocError) -> JobFault {
+        JobFault::NoMemory
+    }
+}
+
+/// What the help of `replay` says after its options.
+const REPLAY_HELP: &str =
+    "Reads a script, one act a line, such as 'p0 read 0 5'. The first act is 'join'.
+Writes 'PLACE pN ACT = OUTCOME' for each record, and the totals.
+Ends with 0 when all was run, 3 where a line is no act, 4 where input or output
+failed, 5 for want of memory.
+
+Example:
+  printf 'join\\np0 open a rw,creat\\np0 write 0 x6869\\n' | fdref replay";
+
+/// The same of `serve`.
+const SERVE_HELP: &str =
+    "Reads requests and writes answers, on each connection. Clients in C and in Python
+are in the folder 'clients', the bytes in docs/FORMATS.md.
+Writes 'sessions N records R in I out O trace T' when N connections have ended.
+Ends with 0 then, 4 where it cannot listen or the trace is not whole, 5 for want
+of memory or of a thread, 6 where counts or records disagree.
+
+Example:
+  fdref serve --socket /tmp/fdref.socket --sessions 2 --records 100 --trace /tmp/fdref.trace";
+
+/// The same of `audit`.
+const AUDIT_HELP: &str = "Reads a trace that 'fdref serve' wrote, or a program of your own.
+Writes 'legal N rest B', 'illegal PLACE expected OUTCOME' or 'malformed AT'.
+Ends with 0 where it is legal, 7 where it is illegal, 8 where it is malformed,
+4 where FILE cannot be read or output failed, 5 for want of memory.
+
+Example:
+  fdref audit /tmp/fdref.trace";
+
+/// The same of `show`.
+const SHOW_HELP: &str = "Reads a trace that 'fdref serve' wrote, or a program of your own.
+Writes 'PLACE pN ACT = OUTCOME' for each record, or the act alone, and on
+standard error how many bytes are left over.
+Ends with 0 at its end, 8 where it is malformed, 4 where FILE cannot be read or
+output failed, 5 for want of memory.
+
+Example:
+  fdref show --acts /tmp/fdref.trace | fdref replay";
+
+/// What the help of the program says after its commands.
+const FDREF_HELP: &str =
+    "'fdref COMMAND --help' tells what a command reads, writes and ends with. Wrong
+words end with 2.
+
+Example:
+  printf 'join\\np0 pipe\\np0 write 1 x6869\\np0 read 0 9\\n' | fdref replay";
+
+/// An option `--name VALUE`.
+fn option_arg<'a>(alloc: Global, name: &'a str, value: &'a str) -> Arg<'a>
+    ensures rule { rule_of result ≡ option_rule name.entry.now }
+    ensures local { result.global ≡ false }
+{
+    Arg::new(alloc, name).long(name).value_name(value)
+}
+
+/// An option `--name VALUE` that has to be given.
+fn required_arg<'a>(alloc: Global, name: &'a str, value: &'a str, help: &'a str) -> Arg<'a>
+    ensures rule { rule_of result ≡ required_rule name.entry.now }
+    ensures local { result.global ≡ false }
+{
+    option_arg(alloc, name, value).required(true).help(help)
+}
+
+/// An option `--name` without a value.
+fn flag_arg<'a>(alloc: Global, name: &'a str, help: &'a str) -> Arg<'a>
+    ensures rule { rule_of result ≡ flag_rule name.entry.now }
+    ensures local { result.global ≡ false }
+{
+    Arg::new(alloc, name)
+        .long(name)
+        .action(ArgAction::SetTrue)
+        .help(help)
+}
+
+/// The file, which has to be given, of a subcommand that reads one.
+fn file_arg<'a>(alloc: Global) -> Arg<'a>
+    ensures rule { rule_of result ≡ file_rule }
+    ensures local { result.global ≡ false }
+{
+    Arg::new(alloc, "file")
+        .value_name("FILE")
+        .required(true)
+        .help("The file that has the trace")
+}
+
+/// These items in a list.
+fn list_of<T: Drop, const N: usize>(alloc: Global, items: [T; N]) -> Result<Vec<T>, AllocError>
+    ensures { IfOk result (λ list. list.items ≡ items) }
+{
+    Ok(Vec::from_array(alloc, items)?)
+}
+
+/// Appends to a list what was made, if memory did not run out for it.
+fn push_made<T: Drop>(list: &mut Vec<T>, made: Result<T, AllocError>) -> Result<(), AllocError>
+    ensures { OnOk result (IsOkAnd made (λ item. list.new.items ≡ list.old.items ++ item ∷ [])) }
+{
+    list.push(made?)?;
+    Ok(())
+}
+
+/// A command of this name that has these texts in its help, and takes nothing.
+fn described_command<'a>(
+    alloc: Global,
+    name: &'a str,
+    about: &'a str,
+    after_help: &'a str,
+) -> Command<'a>
+    ensures app { app_of result ≡ new_app name.entry.now }
+    ensures local { (fields_of result).has_globals ≡ false }
+{
+    Command::new(alloc, name)
+        .about(about)
+        .after_help(after_help)
+}
+
+/// The subcommand `replay`.
+fn replay_command<'a>(alloc: Global) -> Result<Command<'a>, AllocError>
+    ensures app { IfOk result (λ c. app_of c ≡ replay_app) }
+    ensures local { IfOk result (λ c. (fields_of c).has_globals ≡ false) }
+{
+    let about = "Runs the script on standard input and prints a line for each record";
+    let help = "Records that the run may have, 1 to 1000000 [default: 10000]";
+    let records = option_arg(alloc, "records", "N").help(help);
+    described_command(alloc, "replay", about, REPLAY_HELP).arg(records)
+}
+
+/// The options of `serve`.
+fn serve_args<'a>(alloc: Global) -> Result<Vec<Arg<'a>>, AllocError>
+    ensures { IfOk result (λ args. HaveRules args.items serve_app.top.rules) }
+{
+    let socket = "Where the Unix socket is made; nothing may be there";
+    let sessions = "Connections that are accepted, 1 to 64; each is one process";
+    let records = "Records that the run may have, 1 to 1000000";
+    let trace = "The file that the trace is written to; one that is there is emptied";
+    let args = [
+        required_arg(alloc, "socket", "PATH", socket),
+        required_arg(alloc, "sessions", "N", sessions),
+        required_arg(alloc, "records", "N", records),
+        required_arg(alloc, "trace", "FILE", trace),
+    ];
+    list_of(alloc, args)
+}
+
+/// The subcommand `serve`.
+fn serve_command<'a>(alloc: Global) -> Result<Command<'a>, AllocError>
+    ensures app { IfOk result (λ c. app_of c ≡ serve_app) }
+    ensures local { IfOk result (λ c. (fields_of c).has_globals ≡ false) }
+{
+    let about =
+        "Answers requests over a Unix socket and prints a report when all sessions have ended";
+    let args = serve_args(alloc)?;
+    described_command(alloc, "serve", about, SERVE_HELP).args(args)
+}
+
+/// The subcommand `audit`.
+fn audit_command<'a>(alloc: Global) -> Result<Command<'a>, AllocError>
+    ensures app { IfOk result (λ c. app_of c ≡ audit_app) }
+    ensures local { IfOk result (λ c. (fields_of c).has_globals ≡ false) }
+{
+    let about = "Prints whether each record of a trace is what the model gives";
+    described_command(alloc, "audit", about, AUDIT_HELP).arg(file_arg(alloc))
+}
+
+/// The subcommand `show`.
+fn show_command<'a>(alloc: Global) -> Result<Command<'a>, AllocError>
+    ensures app { IfOk result (λ c. app_of c ≡ show_app) }
+    ensures local { IfOk result (λ c. (fields_of c).has_globals ≡ false) }
+{
+    let about = "Prints a line for each record of a trace, and judges none";
+    let acts = "Print the lines of a script that asks for the same acts";
+    let args = list_of(alloc, [flag_arg(alloc, "acts", acts), file_arg(alloc)])?;
+    described_command(alloc, "show", about, SHOW_HELP).args(args)
+}
+
+/// Puts the four subcommands into a list that is empty.
+fn push_subcommands<'a>(alloc: Global, commands: &mut Vec<Command<'a>>) -> Result<(), AllocError>
+    requires { commands.old.items ≡ [] }
+    ensures { OnOk result (HaveApps commands.new.items (replay_app ∷ serve_app ∷ audit_app ∷ show_app ∷ [])) }
+{
+    push_made(commands, replay_command(alloc))?;
+    push_made(commands, serve_command(alloc))?;
+    push_made(commands, audit_command(alloc))?;
+    push_made(commands, show_command(alloc))
+}
+
+/// The command line of the program with no subcommand yet.
+fn bare_command<'a>(alloc: Global) -> Command<'a>
+    ensures app { app_of result ≡ bare_app }
+    ensures local { (fields_of result).has_globals ≡ false }
+{
+    let about = "A machine-checked reference for POSIX file descriptors";
+    described_command(alloc, "fdref", about, FDREF_HELP)
+        .version("0.1.0")
+        .propagate_version(true)
+        .subcommand_required(true)
+        .disable_help_subcommand(true)
+}
+
+/// The command line of the program.
+fn fdref_command<'a>(alloc: Global) -> Result<Command<'a>, AllocError>
+    ensures app { IfOk result (λ c. app_of c ≡ fdref_app) }
+    ensures local { IfOk result (λ c. (fields_of c).has_globals ≡ false) }
+{
+    let mut commands = Vec::new(alloc);
+    push_subcommands(alloc, &mut commands)?;
+    bare_command(alloc).subcommands(commands)
+}
+
+/// The error of a subcommand whose option has a text that is no number from 1 to the most.
+fn number_error(
+    alloc: Global,
+    mut command: Command<'_>,
+    option: &str,
+    text: &str,
+    most: u64,
+) -> Result<Error, AllocError>
+    ensures { IfOk result (λ e. kind_of e ≡ ErrorKind.ValueValidation) }
+{
+    let message = format!(in alloc;
+        "invalid value '{text}' for '--{option} <N>': not a number from 1 to {most}"
+    )?;
+    command.error(ErrorKind::ValueValidation, message.as_str())
+}
+
+/// The error of `replay` with a text that is no number of records.
+fn replay_error(alloc: Global, text: &str) -> Result<Error, AllocError>
+    ensures { IfOk result (λ e. kind_of e ≡ ErrorKind.ValueValidation) }
+{
+    let command = replay_command(alloc)?.bin_name("fdref replay")?;
+    number_error(alloc, command, "records", text, RECORDS_MAX)
+}
+
+/// The error of `serve` whose option has a text that is no number from 1 to the most.
+fn serve_error(alloc: Global, option: &str, text: &str, most: u64) -> Result<Error, AllocError>
+    ensures { IfOk result (λ e. kind_of e ≡ ErrorKind.ValueValidation) }
+{
+    let command = serve_command(alloc)?.bin_name("fdref serve")?;
+    number_error(alloc, command, option, text, most)
+}
+
+/// The limits that the text of `--records` gives.
+fn limits_of(text: &str) -> Option<Limits>
+    ensures number { IfSome result (λ limits. IsNumber RECORDS_MAX (Some text.now) limits.records × (limits.bounds ≡ standard)) }
+    ensures refused { result ≡ None → IsNoNumber RECORDS_MAX (Some text.now) }
+{
+    let records = text.parse::<u64>().ok()?;
+    Limits::new(records).ok()
+}
+
+/// The limits of a replay whose command line names no number.
+fn default_limits() -> Limits
+    ensures { IsRecords None result.records × (result.bounds ≡ standard) }
+{
+    Limits::new(DEFAULT_RECORDS).unwrap()
+}
+
+/// The number of sessions that the text of `--sessions` gives.
+fn sessions_of(text: &str) -> Option<u8>
+    ensures number { IfSome result (λ sessions. IsNumber SESSIONS_MAX (Some text.now) sessions) }
+    ensures refused { result ≡ None → IsNoNumber SESSIONS_MAX (Some text.now) }
+{
+    let sessions = text.parse::<u8>().ok()?;
+    if sessions == 0 || sessions > SESSIONS_MAX {
+        return None;
+    }
+    Some(sessions)
+}
+
+/// The fault that an error of the parse is.
+fn fault_of_parse(error: Error) -> JobFault
+    ensures { IsFaultOf error result }
+{
+    match error.kind() {
+        ErrorKind::OutOfMemory => JobFault::NoMemory,
+        ErrorKind::DisplayHelp | ErrorKind::DisplayVersion => JobFault::Shown(error),
+        _ => JobFault::Usage(error),
+    }
+}
+
+/// The job that the matches of `replay` ask for.
+fn replay_job(alloc: Global, matches: &ArgMatches<'_>) -> Result<Job, JobFault>
+    ensures job { IfOk result (λ job. IsJobOf (Some (codes "replay")) (first_value (found_of matches.now)) job) }
+    ensures fault { IfErr result (λ fault. RefusesNumber (Some (codes "replay")) (first_value (found_of matches.now)) fault) }
+{
+    let limits = match matches.get_str("records") {
+        None => default_limits(),
+        Some(text) => match limits_of(text) {
+            Some(limits) => limits,
+            None => return Err(JobFault::Usage(replay_error(alloc, text)?)),
+        },
+    };
+    Ok(Job::Replay { limits })
+}
+
+/// The text of an option that is given.
+fn text_of<'a>(matches: &ArgMatches<'a>, option: &str) -> &'a str
+    requires there { is_some (first_value (found_of matches.now) option.now) ≡ true }
+    ensures { first_value (found_of matches.now) option.now ≡ Some result.now }
+{
+    match matches.get_str(option) {
+        Some(text) => text,
+        None => unreachable!(),
+    }
+}
+
+/// The job that the matches of `serve` ask for, in which each of its options is given.
+fn serve_job(alloc: Global, matches: &ArgMatches<'_>) -> Result<Job, JobFault>
+    requires all { GivesAll (first_value (found_of matches.now)) }
+    ensures job { IfOk result (λ job. IsJobOf (Some (codes "serve")) (first_value (found_of matches.now)) job) }
+    ensures fault { IfErr result (λ fault. RefusesNumber (Some (codes "serve")) (first_value (found_of matches.now)) fault) }
+{
+    let text = text_of(matches, "sessions");
+    let sessions = match sessions_of(text) {
+        Some(sessions) => sessions,
+        None => {
+            let error = serve_error(alloc, "sessions", text, u64::from(SESSIONS_MAX))?;
+            return Err(JobFault::Usage(error));
+        }
+    };
+    let text = text_of(matches, "records");
+    let limits = match limits_of(text) {
+        Some(limits) => limits,
+        None => return Err(JobFault::Usage(serve_error(alloc, "records", text, RECORDS_MAX)?)),
+    };
+    let socket = String::from_str(alloc, text_of(matches, "socket"))?;
+    let trace = String::from_str(alloc, text_of(matches, "trace"))?;
+    Ok(Job::Serve {
+        socket,
+        sessions,
+        limits,
+        trace,
+    })
+}
+
+/// The job that the matches of `audit` ask for, in which its file is given.
+fn audit_job(alloc: Global, matches: &ArgMatches<'_>) -> Result<Job, JobFault>
+    requires { GivesFile (first_value (found_of matches.now)) }
+    ensures job { IfOk result (λ job. IsJobOf (Some (codes "audit")) (first_value (found_of matches.now)) job) }
+    ensures fault { IfErr result (λ fault. RefusesNumber (Some (codes "audit")) (first_value (found_of matches.now)) fault) }
+{
+    let file = String::from_str(alloc, text_of(matches, "file"))?;
+    Ok(Job::Audit { file })
+}
+
+/// The form that the value of `--acts` stands for.
+fn form_of(text: Option<&str>) -> Form
+    ensures { result ≡ form_of (option_map (λ s. s.now) text.entry) }
+{
+    match text {
+        Some(text) if text == "true" => Form::Acts,
+        _ => Form::Records,
+    }
+}
+
+/// The job that the matches of `show` ask for, in which its file is given.
+fn show_job(alloc: Global, matches: &ArgMatches<'_>) -> Result<Job, JobFault>
+    requires { GivesFile (first_value (found_of matches.now)) }
+    ensures job { IfOk result (λ job. IsJobOf (Some (codes "show")) (first_value (found_of matches.now)) job) }
+    ensures fault { IfErr result (λ fault. RefusesNumber (Some (codes "show")) (first_value (found_of matches.now)) fault) }
+{
+    let form = form_of(matches.get_str("acts"));
+    let file = String::from_str(alloc, text_of(matches, "file"))?;
+    Ok(Job::Show { file, form })
+}
+
+/// The matches of the program's command line.
+fn parsed<'a, S: AsStr>(alloc: Global, words: &'a [S]) -> Result<ArgMatches<'a>, JobFault>
+    ensures ok { IfOk result (λ m. IsParse (map S.text words.entry.now) m) }
+    ensures fault { IfErr result (λ fault. Deserves (map S.text words.entry.now) fault) }
+{
+    match fdref_command(alloc)?.try_get_matches_from(words) {
+        Ok(matches) => Ok(matches),
+        Err(error) => Err(fault_of_parse(error)),
+    }
+}
+
+/// What the words ask for, of which the first is the program's name.
+pub fn job_of<S: AsStr>(alloc: Global, words: &[S]) -> Result<Job, JobFault>
+    ensures job { IfOk result (λ job. Asks (map S.text words.entry.now) job) }
+    ensures fault { IfErr result (λ fault. Deserves (map S.text words.entry.now) fault) }
+{
+    let matches = parsed(alloc, words)?;
+    if let Some(replay) = matches.subcommand_matches("replay") {
+        return replay_job(alloc, replay);
+    }
+    if let Some(serve) = matches.subcommand_matches("serve") {
+        return serve_job(alloc, serve);
+    }
+    if let Some(audit) = matches.subcommand_matches("audit") {
+        return audit_job(alloc, audit);
+    }
+    match matches.subcommand_matches("show") {
+        Some(show) => show_job(alloc, show),
+        None => unreachable!(),
+    }
+}
+
+/// The fault of a command line with a word that is not UTF-8.
+pub fn not_text(alloc: Global) -> JobFault
+    ensures { SaysNotText result }
+{
+    match not_text_error(alloc) {
+        Ok(error) => JobFault::Usage(error),
+        Err(_) => JobFault::NoMemory,
+    }
+}
+
+/// The error of a command line with a word that is not UTF-8.
+fn not_text_error(alloc: Global) -> Result<Error, AllocError>
+    ensures { IfOk result (λ e. kind_of e ≡ ErrorKind.InvalidValue) }
+{
+    fdref_command(alloc)?.error(ErrorKind::InvalidValue, "a word is not UTF-8")
+}
+
+/// Command lines, written out, and how the program reads each of them. It does nothing.
+pub fn lines_read()
+    ensures plain { (fault_of fdref_app (line (codes "replay" ∷ [])) ≡ []) × (text_given (line (codes "replay" ∷ [])) (codes "records") ≡ None) }
+    ensures apart { (fault_of fdref_app (line (codes "replay" ∷ codes "--records" ∷ codes "5" ∷ [])) ≡ []) × (text_given (line (codes "replay" ∷ codes "--records" ∷ codes "5" ∷ [])) (codes "records") ≡ Some (codes "5")) }
+    ensures joined { (fault_of fdref_app (line (codes "replay" ∷ codes "--records=5" ∷ [])) ≡ []) × (text_given (line (codes "replay" ∷ codes "--records=5" ∷ [])) (codes "records") ≡ Some (codes "5")) }
+    ensures greatest { IsRecords (Some (codes "1000000")) 1000000 }
+    ensures zero { IsNoRecords (Some (codes "0")) }
+    ensures above { IsNoRecords (Some (codes "1000001")) }
+    ensures word { IsNoRecords (Some (codes "x")) }
+    ensures missing { fault_of fdref_app (line []) ≡ ErrorKind.MissingSubcommand ∷ [] }
+    ensures help { fault_of fdref_app (line (codes "--help" ∷ [])) ≡ ErrorKind.DisplayHelp ∷ [] }
+    ensures version { fault_of fdref_app (line (codes "replay" ∷ codes "--version" ∷ [])) ≡ ErrorKind.DisplayVersion ∷ [] }
+    ensures surplus { fault_of fdref_app (line (codes "replay" ∷ codes "x" ∷ [])) ≡ ErrorKind.UnknownArgument ∷ [] }
+    ensures twice { fault_of fdref_app (line (codes "replay" ∷ codes "--records=5" ∷ codes "--records=5" ∷ [])) ≡ ErrorKind.ArgumentConflict ∷ [] }
+    ensures serve { (fault_of fdref_app (line served) ≡ []) × (name_given (line served) ≡ Some (codes "serve")) }
+    ensures socket { text_given (line served) (codes "socket") ≡ Some (codes "s") }
+    ensures sessions { text_given (line served) (codes "sessions") ≡ Some (codes "2") }
+    ensures records { text_given (line served) (codes "records") ≡ Some (codes "5") }
+    ensures trace { text_given (line served) (codes "trace") ≡ Some (codes "t") }
+    ensures incomplete { fault_of fdref_app (line (codes "serve" ∷ codes "--socket=s" ∷ codes "--records=5" ∷ codes "--trace=t" ∷ [])) ≡ ErrorKind.MissingRequiredArgument ∷ [] }
+    ensures audit { (fault_of fdref_app (line (codes "audit" ∷ codes "t" ∷ [])) ≡ []) × (name_given (line (codes "audit" ∷ codes "t" ∷ [])) ≡ Some (codes "audit")) }
+    ensures file { text_given (line (codes "audit" ∷ codes "t" ∷ [])) (codes "file") ≡ Some (codes "t") }
+    ensures no_file { fault_of fdref_app (line (codes "audit" ∷ [])) ≡ ErrorKind.MissingRequiredArgument ∷ [] }
+    ensures two_files { fault_of fdref_app (line (codes "audit" ∷ codes "t" ∷ codes "u" ∷ [])) ≡ ErrorKind.UnknownArgument ∷ [] }
+    ensures show { (fault_of fdref_app (line shown) ≡ []) × (name_given (line shown) ≡ Some (codes "show")) }
+    ensures acts { (text_given (line shown) (codes "file") ≡ Some (codes "t")) × (form_of (text_given (line shown) (codes "acts")) ≡ form.Acts) }
+    ensures records_alone { form_of (text_given (line (codes "show" ∷ codes "t" ∷ [])) (codes "acts")) ≡ form.Records }
+    ensures traceless { fault_of fdref_app (line (codes "serve" ∷ codes "--socket=s" ∷ codes "--sessions=2" ∷ codes "--records=5" ∷ [])) ≡ ErrorKind.MissingRequiredArgument ∷ [] }
+    ensures most_sessions { IsNumber SESSIONS_MAX (Some (codes "64")) 64 }
+    ensures no_sessions { IsNoNumber SESSIONS_MAX (Some (codes "0")) }
+    ensures too_many_sessions { IsNoNumber SESSIONS_MAX (Some (codes "65")) }
+    ensures word_of_sessions { IsNoNumber SESSIONS_MAX (Some (codes "x")) }
+{}

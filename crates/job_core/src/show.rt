@@ -1,0 +1,214 @@
+//! A trace, shown as its bytes come: the lines of its whole records, and what is left over.
+
+ghost use Rattle.std.specs.Prelude.{◌≡◌, ◌+◌, ◌≤◌, ◌<◌, ◌^◌, length, IfOk, IfErr, OnErr};
+ghost use Rattle.std.specs.Io.KnownBytes.{Keeps};
+ghost use Rattle.audit_core.specs.declared.audit.TheConstants.{READ_LENGTH};
+ghost use Rattle.frame_codec.specs.Trace.{trace_header};
+ghost use Rattle.job_core.specs.Show.{ShowEnds};
+ghost use Rattle.job_core.specs.Proved.Showing.{GivesPiece, ShowsPiece, TakesBody, TakesPiece, end_with, fault_at, fresh_shown, left_over};
+ghost use Rattle.job_core.specs.declared.job_end.JobEnd.TheVariants as ended;
+
+use crate::job_end::JobEnd;
+use crate::output::write_lines;
+use crate::shown::{Form, Lines};
+use audit_core::audit::{READ_LENGTH, READS_MAX};
+use audit_core::laws::{broken_stays, headers_go_on};
+use audit_core::trace::after_header;
+use frame_codec::decoder::{Decoder, Progress};
+use frame_codec::frame_kind::Records;
+use frame_codec::laws::pieces_go_on;
+use frame_codec::trace::TRACE_HEADER;
+use logged_streams::stream_log::INTERRUPTIONS_MAX;
+use std::alloc::{AllocError, Global};
+use std::io::{ErrorKind, Read, Write};
+use std::marker::Model;
+
+/// Reads a piece of a trace: how many bytes it has, none at the end.
+fn read_piece<R: Read>(reader: &mut R, buffer: &mut [u8]) -> Result<usize, JobEnd>
+    requires room { 0 < length buffer.old }
+    ensures ok { IfOk result (λ count. GivesPiece (R.remaining reader.old) (R.remaining reader.new) buffer.new count) }
+    ensures err { OnErr result (Keeps (R.remaining reader.old) (R.remaining reader.new)) }
+    ensures fault { IfErr result (λ ended. ended ≡ JobEnd.CannotRead) }
+    ensures long { length buffer.new ≡ length buffer.old }
+{
+    for _tried in 0..INTERRUPTIONS_MAX {
+        match reader.read(buffer) {
+            Ok(count) => return Ok(count),
+            Err(error) if error.kind() == ErrorKind::Interrupted => {}
+            Err(_) => return Err(JobEnd::CannotRead),
+        }
+    }
+    Err(JobEnd::CannotRead)
+}
+
+/// A trace that is being shown. It holds less than one frame of it, and keeps no record.
+#[derive(Drop)]
+struct ShownTrace {
+    /// How many bytes of the header were met.
+    header: usize,
+    decoder: Decoder<Records>,
+    lines: Lines,
+}
+
+impl Model for ShownTrace {
+    ghost use Rattle.job_core.specs.Proved.Showing.{ShownState};
+
+    ghost Value = { ShownState };
+
+    ghost view = { λ t. record { header = t.header; decoder = t.decoder; lines = t.lines } };
+
+    ghost use Rattle.std.specs.Prelude.{◌≤◌, length};
+    ghost use Rattle.frame_codec.specs.Trace.{trace_header};
+
+    ghost invariant = { λ t. t.header ≤ length trace_header };
+}
+
+/// The byte of the trace at which a fault is, from the byte after the header that the decoder tells.
+fn fault_at(told: Progress) -> Option<u64>
+    ensures { result ≡ fault_at told }
+{
+    match told {
+        Progress::More => None,
+        Progress::Malformed { at } | Progress::TooLong { at } => {
+            Some(at.saturating_add(TRACE_HEADER.len() as u64))
+        }
+    }
+}
+
+/// How a job ends that leaves so many bytes over.
+fn end_with(left: u64) -> JobEnd
+    ensures { result ≡ end_with left }
+{
+    match left {
+        0 => JobEnd::Done,
+        bytes => JobEnd::Rest { bytes },
+    }
+}
+
+impl ShownTrace {
+    /// Before the first byte.
+    fn new(alloc: Global, form: Form) -> Self
+        ensures { result ≡ fresh_shown form }
+    {
+        ShownTrace {
+            header: 0,
+            decoder: Decoder::new(alloc),
+            lines: Lines::new(alloc, form),
+        }
+    }
+
+    /// Takes bytes that come after the header, and appends the lines of the records that they complete: where the first fault is, if
+    /// there is one.
+    fn take_body(&mut self, out: &mut Vec<u8>, piece: &[u8]) -> Result<Option<u64>, AllocError>
+        requires few { self.old.lines.place + length self.old.decoder.held + length piece.now < 2 ^ 64 }
+        ensures header { self.new.header ≡ self.old.header }
+        ensures takes { IfOk result (λ found. TakesBody piece.now self.old self.new out.old.items out.new.items found) }
+    {
+        pieces_go_on::<Records>();
+        let fed = self.decoder.feed(piece)?;
+        self.lines.put_all(out, fed.values.as_slice())?;
+        Ok(fault_at(fed.progress))
+    }
+
+    /// Takes the next bytes of the trace, as above.
+    fn take(&mut self, out: &mut Vec<u8>, piece: &[u8]) -> Result<Option<u64>, AllocError>
+        requires few { self.old.lines.place + length self.old.decoder.held + length piece.now < 2 ^ 64 }
+        ensures { IfOk result (λ found. TakesPiece piece.now self.old self.new out.old.items out.new.items found) }
+    {
+        headers_go_on();
+        let Some((header, rest)) = after_header(self.header, piece) else {
+            return Ok(Some(0));
+        };
+        self.header = header;
+        self.take_body(out, rest)
+    }
+
+    /// How many bytes are left over, if no byte comes after those that were taken.
+    fn left_over(&self) -> u64
+        ensures { result ≡ left_over self.now }
+    {
+        if self.header < TRACE_HEADER.len() {
+            return self.header as u64;
+        }
+        self.decoder.held_len() as u64
+    }
+}
+
+/// Writes the lines of the records that a piece of a trace completes: how the job ended, if it did.
+fn show_piece<W: Write>(
+    trace: &mut ShownTrace,
+    out: &mut Vec<u8>,
+    piece: &[u8],
+    writer: &mut W,
+) -> Option<JobEnd>
+    requires few { trace.old.lines.place + length trace.old.decoder.held + length piece.now < 2 ^ 64 }
+    ensures { ShowsPiece piece.now trace.old trace.new (W.contents writer.old) (W.contents writer.new) result }
+{
+    out.clear();
+    let found = match trace.take(out, piece) {
+        Ok(found) => found,
+        Err(_) => return Some(JobEnd::NoMemory),
+    };
+    if let Err(ended) = write_lines(writer, out.as_slice()) {
+        return Some(ended);
+    }
+    match found {
+        Some(at) => Some(JobEnd::Malformed { at }),
+        None => None,
+    }
+}
+
+/// Reads as often as an audit may, and shows what that gives.
+fn show_often<R: Read, W: Write>(
+    trace: &mut ShownTrace,
+    reader: &mut R,
+    buffer: &mut [u8],
+    out: &mut Vec<u8>,
+    writer: &mut W,
+) -> JobEnd
+    requires room { length buffer.old ≡ READ_LENGTH }
+    requires fresh { trace.old ≡ fresh_shown trace.old.lines.form }
+    ensures { ShowEnds trace.old.lines.form (R.remaining reader.old) (W.contents writer.old) (W.contents writer.new) result }
+{
+    broken_stays();
+    for _turn in 0..READS_MAX {
+        let count = match read_piece(reader, buffer) {
+            Ok(count) => count,
+            Err(ended) => return ended,
+        };
+        if count == 0 {
+            return end_with(trace.left_over());
+        }
+        let (piece, _) = buffer.split_at(count);
+        if let Some(ended) = show_piece(trace, out, piece, writer) {
+            return ended;
+        }
+    }
+    JobEnd::CannotRead
+}
+
+/// Writes the lines of the whole records of the trace that a reader gives, unjudged, while its bytes come. Of the trace it holds one
+/// piece, one frame and the children that are not attached, however long the trace is.
+pub fn show<R: Read + Drop, W: Write>(
+    alloc: Global,
+    reader: R,
+    writer: &mut W,
+    form: Form,
+) -> JobEnd
+    ensures { ShowEnds form (R.remaining reader) (W.contents writer.old) (W.contents writer.new) result }
+{
+    let mut reader = reader;
+    let mut buffer = match vec![in alloc; 0u8; READ_LENGTH] {
+        Ok(buffer) => buffer,
+        Err(_) => return JobEnd::NoMemory,
+    };
+    let mut out = Vec::new(alloc);
+    let mut trace = ShownTrace::new(alloc, form);
+    show_often(
+        &mut trace,
+        &mut reader,
+        buffer.as_mut_slice(),
+        &mut out,
+        writer,
+    )
+}
