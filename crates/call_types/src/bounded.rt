@@ -144,10 +144,11 @@ impl Clone for Name {
 fn one_byte(bytes: &[u8]) -> Option<u8>
     ensures { IfSome result (λ byte. bytes.now ≡ replicate (length bytes.now) byte) }
 {
-    match bytes {
-        [first, ..] => bytes.iter().all(|byte| *byte == *first).then_some(*first),
-        [] => None,
-    }
+    let Some((first, rest)) = bytes.split_first() else {
+        return None;
+    };
+    let (front, _last) = bytes.split_at(rest.len());
+    if front == rest { Some(*first) } else { None }
 }
 
 /// Many bytes: as one byte and a count where they are all the same, else a copy of them; an error says that memory ran out.
