@@ -1,5 +1,5 @@
 -- A read more.
-use Rattle.std.proofs.Common.{◌≡◌, ℕ, ◌+◌, ◌<◌, ◌≤◌, inl, inr, List, [], ◌++◌, Option, None, Some, take, arith, refl, sym, ap, subst}
+use Rattle.std.proofs.Common.{◌≡◌, ◌∙◌, ℕ, ◌+◌, ◌<◌, ◌≤◌, false, inl, inr, List, [], ◌++◌, Option, None, Some, take, arith, refl, sym, ap, subst}
 use Rattle.std.proofs.lemmas.List.{append-nil}
 use Rattle.std.proofs.KnownBytes.{Consumes-nil, Consumes-trans}
 use Rattle.std.specs.Io.KnownBytes.{Consumes}
@@ -33,39 +33,39 @@ none_read input decoder old new h = subst (λ (l : List ℕ). IsPumping l decode
 all_read : CutsDoNotMatter SpellsRequest 65792 → (input : List ℕ) (decoder : DecoderState) (old new : List Request) → IsPumping input decoder old new → HasPushedAll (input ++ []) old new
 all_read law input decoder old new h = pushed_all law (input ++ []) decoder old new (none_read input decoder old new h)
 
-may_read : (source : LoggedReaderState) (found : Option PumpEnd) → source.log.interruptions < INTERRUPTIONS_MAX → IsPieceEnd found → MayRead source found
-may_read source None few is = few
-may_read source (Some end.Closed) few is = absurd is
-may_read source (Some end.ReadFault) few is = absurd is
-may_read source (Some end.Malformed) few is = tt
-may_read source (Some end.NoMemory) few is = tt
-may_read source (Some end.Ahead) few is = tt
+may_read : (source : LoggedReaderState) (found : Option PumpEnd) → source.log.interruptions < INTERRUPTIONS_MAX → source.log.failed ≡ false → IsPieceEnd found → MayRead source found
+may_read source None few sound is = (few, sound)
+may_read source (Some end.Closed) few sound is = absurd is
+may_read source (Some end.ReadFault) few sound is = absurd is
+may_read source (Some end.Malformed) few sound is = sound
+may_read source (Some end.NoMemory) few sound is = sound
+may_read source (Some end.Ahead) few sound is = sound
 
-pub bytes_read : (capacity : ℕ) (from to : LoggedReaderState) (buffer : List ℕ) (count : ℕ) (piece : List ℕ) (decoder after : DecoderState) (mid new : List Request) (found : Option PumpEnd) → ReadsOnce from to buffer (gave.Bytes count) → piece ≡ take count buffer
+pub bytes_read : (capacity : ℕ) (from to : LoggedReaderState) (buffer : List ℕ) (count : ℕ) (piece : List ℕ) (decoder after : DecoderState) (mid new : List Request) (found : Option PumpEnd) → from.log.failed ≡ false → ReadsOnce from to buffer (gave.Bytes count) → piece ≡ take count buffer
     → PumpsPiece capacity piece decoder after mid new found → IsPieceEnd found → PumpsOn capacity from to decoder after mid new found
-bytes_read capacity from to buffer count piece decoder after mid new found h e goes is = record {
+bytes_read capacity from to buffer count piece decoder after mid new found sound h e goes is = record {
   piece = piece;
   consumes = subst (Consumes from.remaining to.remaining) (sym e) h.gives.consumes;
   calls = calls_more (gave.Bytes count) from.log to.log h.log;
-  may = may_read to found (subst (λ (n : ℕ). n < INTERRUPTIONS_MAX) (sym (ap (λ (log : LogState). log.interruptions) h.log)) (omega arith)) is;
+  may = may_read to found (subst (λ (n : ℕ). n < INTERRUPTIONS_MAX) (sym (ap (λ (log : LogState). log.interruptions) h.log)) (omega arith)) (ap (λ (log : LogState). log.failed) h.log ∙ sound) is;
   goes = goes;
 }
 
-pub nothing_read : CutsDoNotMatter SpellsRequest 65792 → (capacity : ℕ) (from to : LoggedReaderState) (buffer : List ℕ) (decoder : DecoderState) (mid : List Request) → ReadsOnce from to buffer gave.Nothing → PumpsOn capacity from to decoder decoder mid mid (Some end.Closed)
-nothing_read law capacity from to buffer decoder mid h = record {
+pub nothing_read : CutsDoNotMatter SpellsRequest 65792 → (capacity : ℕ) (from to : LoggedReaderState) (buffer : List ℕ) (decoder : DecoderState) (mid : List Request) → from.log.failed ≡ false → ReadsOnce from to buffer gave.Nothing → PumpsOn capacity from to decoder decoder mid mid (Some end.Closed)
+nothing_read law capacity from to buffer decoder mid sound h = record {
   piece = [];
   consumes = h.gives.0;
   calls = calls_more gave.Nothing from.log to.log h.log;
-  may = h.gives.1;
+  may = (h.gives.1, ap (λ (log : LogState). log.failed) h.log ∙ sound);
   goes = λ (input : List ℕ) (old : List Request) (p : IsPumping input decoder old mid). all_read law input decoder old mid p;
 }
 
-pub interrupted : (capacity : ℕ) (from to : LoggedReaderState) (buffer : List ℕ) (decoder : DecoderState) (mid : List Request) → ReadsOnce from to buffer gave.Interrupted → to.log.interruptions < INTERRUPTIONS_MAX → PumpsOn capacity from to decoder decoder mid mid None
-interrupted capacity from to buffer decoder mid h few = record {
+pub interrupted : (capacity : ℕ) (from to : LoggedReaderState) (buffer : List ℕ) (decoder : DecoderState) (mid : List Request) → from.log.failed ≡ false → ReadsOnce from to buffer gave.Interrupted → to.log.interruptions < INTERRUPTIONS_MAX → PumpsOn capacity from to decoder decoder mid mid None
+interrupted capacity from to buffer decoder mid sound h few = record {
   piece = [];
   consumes = h.gives;
   calls = calls_more gave.Interrupted from.log to.log h.log;
-  may = few;
+  may = (few, ap (λ (log : LogState). log.failed) h.log ∙ sound);
   goes = λ (input : List ℕ) (old : List Request) (p : IsPumping input decoder old mid). none_read input decoder old mid p;
 }
 
@@ -120,6 +120,9 @@ pub pumped_enough : CutsDoNotMatter SpellsRequest 65792 → (capacity : ℕ) (fr
 pumped_enough law capacity from to decoder old now h worn = record { input = h.input; consumes = h.consumes; met = worn; pushed = pushed_all law h.input decoder old now h.pumping }
 
 -- ---- the turns of the loop
+
+pub none_failed_first : (log : LogState) → log ≡ fresh_log → log.failed ≡ false
+none_failed_first log e = ap (λ (l : LogState). l.failed) e
 
 pub few_first : (log : LogState) → log ≡ fresh_log → log.interruptions < INTERRUPTIONS_MAX
 few_first log e = subst (λ (n : ℕ). n < INTERRUPTIONS_MAX) (sym (ap (λ (l : LogState). l.interruptions) e)) (omega arith)

@@ -1,5 +1,5 @@
 -- What a pump has come to: what it read, what it pushed, and why it ended (own).
-use Rattle.std.specs.Prelude.{◌≡◌, ℕ, ◌≤◌, List, ◌∷◌, ◌++◌, Option, length}
+use Rattle.std.specs.Prelude.{◌≡◌, ℕ, ◌≤◌, false, List, ◌∷◌, ◌++◌, Option, length}
 use Rattle.std.specs.Io.KnownBytes.{Consumes, IsAtEnd}
 use Rattle.std.specs.declared.alloc.Global.{Global}
 use Rattle.rtrb.specs.Ring.{sent, producer_capacity}
@@ -60,11 +60,11 @@ PushedBy capacity input old new end.Ahead = HasPushedToFull capacity input old n
 
 -- ---- why it ended
 
--- it is closed only at the end of its reader, and has a read fault only where its reader is read no more
+-- it is closed only at the end of its reader, and has a read fault only where its reader is read no more; where it ends otherwise, no read failed
 abbrev pub IsMet : LoggedReaderState → PumpEnd → Type 0
-IsMet reader end.Closed = IsAtEnd reader.remaining
+IsMet reader end.Closed = IsAtEnd reader.remaining × (reader.log.failed ≡ false)
 IsMet reader end.ReadFault = IsReadNoMore READS_MAX reader.log
-IsMet reader other = Unit {0}
+IsMet reader other = reader.log.failed ≡ false
 
 -- a pump that is over: what its reader has left, where that is known, and what became of the reads; the ring, and the end
 pub record PumpState : Type 0 where

@@ -1,6 +1,6 @@
 //! Reading, and pushing what is read.
 
-ghost use Rattle.std.specs.Prelude.{◌≡◌, ◌<◌, ◌≤◌, length};
+ghost use Rattle.std.specs.Prelude.{◌≡◌, ◌<◌, ◌≤◌, false, length};
 ghost use Rattle.rtrb.specs.Ring.{sent, producer_capacity, SameProducer};
 ghost use Rattle.frame_codec.specs.Decoding.{fresh};
 ghost use Rattle.logged_streams.specs.Streams.{fresh_log};
@@ -60,6 +60,7 @@ fn pump_on<R: Read, B: Bell>(
 ) -> Option<PumpEnd>
     requires room { 0 < length buffer.old }
     requires few { source.old.log.interruptions < 16 }
+    requires sound { source.old.log.failed ≡ false }
     ensures ring { SameProducer ring.old.producer ring.new.producer }
     ensures pumps { PumpsOn (producer_capacity ring.new.producer) source.old source.new decoder.old decoder.new (sent ring.old.producer) (sent ring.new.producer) result }
     ensures long { length buffer.new ≡ length buffer.old }

@@ -168,7 +168,7 @@ early_of base input taken later extra all o source found split begins (inr h) = 
 after_all : (found : PumpEnd) (capacity : ℕ) (base : Option (List ℕ)) (input : List ℕ) (all : List Request) (o : OutputState) (source : LoggedReaderState) (at : Stage) → REQUESTS_AHEAD ≤ capacity → PushedBy capacity input [] all found
     → PumpMet source found → Holds base o → IsTalking all o.answers at → IsOver base input o (over.Leaves at (why_of found)) × IsMet source (over.Leaves at (why_of found))
 after_all pump_end.Closed capacity base input all o source at room h met holds talking =
-    (inr (record { requests = all; read = subst (λ (l : List Request). AreRequests input l progress.More) (sym h.is) h.read; holds = holds; talking = talking }), met)
+    (inr (record { requests = all; read = subst (λ (l : List Request). AreRequests input l progress.More) (sym h.is) h.read; holds = holds; talking = talking }), met.0)
 after_all pump_end.ReadFault capacity base input all o source at room h met holds talking =
     (inr (record { requests = all; read = subst (λ (l : List Request). AreRequests input l progress.More) (sym h.is) h.read; holds = holds; talking = talking }), met)
 after_all pump_end.Malformed capacity base input all o source at room h met holds talking = (
@@ -217,7 +217,7 @@ cut_off_at found capacity base input all taken later o seat h split is =
 after_cut : (found : PumpEnd) (capacity : ℕ) (base : Option (List ℕ)) (input : List ℕ) (all taken later : List Request) (o : OutputState) (source : LoggedReaderState) (seat : SeatState) → REQUESTS_AHEAD ≤ capacity → PushedBy capacity input [] all found
     → PumpMet source found → all ≡ taken ++ later → IsGivenUp base taken o seat → IsOver base input o (over.Lost seat (why_of found)) × IsMet source (over.Lost seat (why_of found))
 after_cut pump_end.Closed capacity base input all taken later o source seat room h met split is =
-    (inr (cut_off_at pump_end.Closed capacity base input all taken later o seat h split is, record { requests = h.requests; read = h.read }), met)
+    (inr (cut_off_at pump_end.Closed capacity base input all taken later o seat h split is, record { requests = h.requests; read = h.read }), met.0)
 after_cut pump_end.ReadFault capacity base input all taken later o source seat room h met split is =
     (inr (cut_off_at pump_end.ReadFault capacity base input all taken later o seat h split is, record { requests = h.requests; read = h.read }), met)
 after_cut pump_end.Malformed capacity base input all taken later o source seat room h met split is =

@@ -1,5 +1,5 @@
 -- How a pump gets on: a piece, a read, all reads so far (own).
-use Rattle.std.specs.Prelude.{◌≡◌, ℕ, ◌<◌, List, ◌++◌, Option, None, Some}
+use Rattle.std.specs.Prelude.{◌≡◌, ℕ, ◌<◌, false, List, ◌++◌, Option, None, Some}
 use Rattle.std.specs.Io.KnownBytes.{Consumes}
 use Rattle.std.specs.List.{concat}
 use Rattle.call_types.specs.declared.request.Request.{Request}
@@ -42,9 +42,9 @@ IsPieceEnd (Some end.Closed) = ⊥
 IsPieceEnd (Some end.ReadFault) = ⊥
 IsPieceEnd (Some other) = Unit {0}
 
--- a pump goes on while its reader may be read, and ends at the reader only where that end is met
+-- a pump goes on while its reader may be read and did not fail, and ends at the reader only where that end is met
 abbrev pub MayRead : LoggedReaderState → Option PumpEnd → Type 0
-MayRead source None = source.log.interruptions < INTERRUPTIONS_MAX
+MayRead source None = (source.log.interruptions < INTERRUPTIONS_MAX) × (source.log.failed ≡ false)
 MayRead source (Some end) = IsMet source end
 
 -- one read, and what came of it

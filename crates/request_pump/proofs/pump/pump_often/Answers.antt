@@ -7,6 +7,7 @@ pub loop-turn-init : goal.loop-turn-init
 loop-turn-init g c = record {
   room = c.requires.room;
   few = laws.few_first c.args.source.now.log c.requires.unread;
+  sound = laws.none_failed_first c.args.source.now.log c.requires.unread;
   calls = ap (λ (log : LogState). log.calls) c.requires.unread;
   ring = search rules;
   pumped = laws.pumped_none _ _ _ c.requires.unfed;
@@ -18,7 +19,8 @@ returns-in-Some-clause-pumps g c = laws.pumped_all _ _ _ _ _ _ _ _ _ _ c.loop-tu
 pub loop-turn-preserved : goal.loop-turn-preserved
 loop-turn-preserved g c = record {
   room = subst (λ (n : ℕ). 0 < n) (sym c.pump_on.ensures.long) c.loop-turn.invariant.room;
-  few = c.in-None.ensures.pumps.may;
+  few = c.in-None.ensures.pumps.may.0;
+  sound = c.in-None.ensures.pumps.may.1;
   calls = laws.counted_more _ c.loop-turn._turn _ (omega arith) c.loop-turn.invariant.calls c.in-None.ensures.pumps.calls;
   ring = search rules;
   pumped = laws.pumped_more _ _ _ _ _ _ _ _ _ c.loop-turn.invariant.pumped c.in-None.ensures.pumps;

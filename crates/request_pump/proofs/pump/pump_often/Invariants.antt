@@ -1,5 +1,5 @@
 -- All reads so far, one in each turn.
-use Rattle.std.proofs.Common.{◌≡◌, ◌<◌, length}
+use Rattle.std.proofs.Common.{◌≡◌, ◌<◌, false, length}
 use Rattle.rtrb.specs.Ring.{sent, SameProducer}
 use Rattle.request_pump.specs.Proved.Pumping.{HasPumped}
 use Rattle.request_pump.proofs.pump.pump_often.Given as goal
@@ -8,6 +8,7 @@ abbrev pub invariant-loop-turn : goal.invariant-loop-turn
 invariant-loop-turn g l = record {
   room : 0 < length l.buffer;
   few : l.source.log.interruptions < 16;
+  sound : l.source.log.failed ≡ false;
   calls : l.source.log.calls ≡ l._turn;
   ring : SameProducer l.fn.ring.producer l.ring.producer;
   pumped : HasPumped l.fn.source l.source l.decoder (sent l.fn.ring.producer) (sent l.ring.producer);
