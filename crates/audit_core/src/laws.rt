@@ -1,9 +1,16 @@
 //! What holds of verdicts, and of headers. Each function does nothing; its contract is the law.
 
+ghost use Rattle.std.specs.Prelude.{◌≡◌};
+ghost use Rattle.audit_core.specs.declared.audit.TheConstants.{READS_MAX};
 ghost use Rattle.audit_core.specs.Proved.Laws.{OneVerdict, TextIsLegal, FrontIsLegal, LegalFront, LegalHaveFrames, WrittenIsLegal, FaultStays, HeaderGoesOn, HeaderLacks, BrokenStays};
 
 use frame_codec::laws::{no_frame_begins_another, stops_are_no_frames};
 use posix_model::laws::{numbers_rise, records_are_short};
+
+/// How often an audit reads. Definitions name the constant, so a wrong number is seen here.
+pub fn reads_of_an_audit()
+    ensures { READS_MAX ≡ 16777216 }
+{}
 
 /// Bytes have one verdict.
 pub fn verdicts_are_one()

@@ -30,6 +30,11 @@ use std::mem::forget;
 /// How often a script is read. A reader that is not at its end by then has failed.
 pub const READS_MAX: u32 = 1_048_576;
 
+/// How often a script is read. The definitions name the constant, so a wrong number is seen here. It does nothing.
+pub fn reads_of_a_script()
+    ensures { READS_MAX ≡ 1048576 }
+{}
+
 /// How many bytes a read asks for.
 const READ_LENGTH: usize = 65_536;
 
