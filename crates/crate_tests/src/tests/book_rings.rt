@@ -125,6 +125,18 @@ fn ends_well<L: Ledgers>(
     Ok(())
 }
 
+/// What a new book that goes on has at the end of its trace.
+fn ended<L: Ledgers>(
+    rt: &impl Abort,
+    alloc: Global,
+    book: Book<L>,
+    closes: bool,
+) -> Result<(), Fail> {
+    let mut book = book;
+    let end = gone_on(rt, alloc, &mut book, closes);
+    ends_well(rt, &book.end_trace(), end, closes)
+}
+
 /// What a new book has at the end of its trace, whether its run is closed or not.
 fn ends<L: Ledgers>(
     rt: &impl Abort,
@@ -136,10 +148,7 @@ fn ends<L: Ledgers>(
 {
     // No `?` once there is a book, since each would drop it once more; whether it went on as it should is told at the end.
     match Book::<L>::new(alloc, Limits::new(20)?, blanks) {
-        Ok(mut book) => {
-            let end = gone_on(rt, alloc, &mut book, closes);
-            ends_well(rt, &book.end_trace(), end, closes)
-        }
+        Ok(book) => ended(rt, alloc, book, closes),
         Err(error) => Err(Fail::from(error)),
     }
 }

@@ -13,8 +13,9 @@ use call_types::outcome::{Outcome, Reply};
 use call_types::refusal::Refusal;
 use posix_model::reader::WorldReader;
 use record_book::book::Book;
-use record_book::opening::Opened;
-use record_book::seat::{Receipt, Seat};
+use record_book::ending::Unspent;
+use record_book::opening::{Opened, OpenedIn};
+use record_book::seat::{Receipt, Seat, SpentSeat};
 use slots::ticket::Ticket;
 use std::alloc::Global;
 use std::marker::Brand;
@@ -163,9 +164,9 @@ fn is_told_of_more<L: Ledgers>(
     Ok(())
 }
 
-/// Whether the book refuses the exit of a seat that has seen 3 records, and gives that seat back.
-fn gives_back<L: Ledgers>(book: &mut Book<L>, seat: Seat<L>) -> bool {
-    match &book.exit(seat) {
+/// Whether the exit of a seat that has seen 3 records was refused, and that seat is given back.
+fn is_given_back<L: Ledgers>(ended: &Result<SpentSeat<L>, Unspent<L>>) -> bool {
+    match ended {
         Ok(_) => false,
         Err(unspent) => {
             unspent.refusal == Refusal::Foreign { seen: 3, len: 1 }
@@ -173,6 +174,11 @@ fn gives_back<L: Ledgers>(book: &mut Book<L>, seat: Seat<L>) -> bool {
                 && held(&unspent.seat) == (3, 1)
         }
     }
+}
+
+/// Whether the exit of a seat that has seen 3 records is refused so.
+fn gives_back<L: Ledgers>(book: &mut Book<L>, seat: Seat<L>) -> bool {
+    is_given_back(&book.exit(seat))
 }
 
 /// An exit of such a seat.
@@ -188,9 +194,9 @@ fn refuses_the_exit<L: Ledgers>(
     Ok(())
 }
 
-/// Whether a second attach of process 1 is recorded as refused, at place 3.
-fn is_attached_once<L: Ledgers>(alloc: Global, book: &mut Book<L>) -> bool {
-    match &book.attach(alloc, 1) {
+/// Whether an attach of process 1 was recorded as refused, at place 3.
+fn is_refused<L: Ledgers>(opened: &Result<OpenedIn<L>, Refusal>) -> bool {
+    match opened {
         Ok(Opened::Refused(spent)) => match spent.receipts() {
             [only] => (spent.pid(), spent.seen()) == (1, 4) && is_error(only, 3, Errno::ESRCH),
             _ => false,
@@ -199,15 +205,25 @@ fn is_attached_once<L: Ledgers>(alloc: Global, book: &mut Book<L>) -> bool {
     }
 }
 
-/// Whether the exit of process 1 is recorded at place 4.
-fn ends<L: Ledgers>(book: &mut Book<L>, child: Seat<L>) -> bool {
-    match &book.exit(child) {
+/// Whether a second attach of process 1 is recorded so.
+fn is_attached_once<L: Ledgers>(alloc: Global, book: &mut Book<L>) -> bool {
+    is_refused(&book.attach(alloc, 1))
+}
+
+/// Whether the exit of process 1 was recorded at place 4.
+fn is_ended<L: Ledgers>(ended: &Result<SpentSeat<L>, Unspent<L>>) -> bool {
+    match ended {
         Ok(spent) => match spent.receipts() {
             [_attach, exit] => (spent.pid(), spent.seen()) == (1, 5) && is_exit(exit, 4, 1),
             _ => false,
         },
         Err(_) => false,
     }
+}
+
+/// Whether the exit of process 1 is recorded so.
+fn ends<L: Ledgers>(book: &mut Book<L>, child: Seat<L>) -> bool {
+    is_ended(&book.exit(child))
 }
 
 /// A child that is attached, and ends.
@@ -225,9 +241,9 @@ fn attaches_a_child<L: Ledgers>(
     Ok(())
 }
 
-/// Whether the closing ends processes 1 and 3, which have no connection, and stands at place 7.
-fn ends_one_and_three<L: Ledgers>(book: &mut Book<L>) -> bool {
-    match &book.close_run() {
+/// Whether the closing ended processes 1 and 3, which have no connection, and stands at place 7.
+fn has_ended_one_and_three<L: Ledgers>(closed: &Option<SpentSeat<L>>) -> bool {
+    match closed {
         Some(house) => match house.receipts() {
             [first, second, last] => {
                 (house.pid(), house.seen()) == (HOUSE, 8)
@@ -239,6 +255,11 @@ fn ends_one_and_three<L: Ledgers>(book: &mut Book<L>) -> bool {
         },
         None => false,
     }
+}
+
+/// Whether the closing does that.
+fn ends_one_and_three<L: Ledgers>(book: &mut Book<L>) -> bool {
+    has_ended_one_and_three(&book.close_run())
 }
 
 /// Two children that are never attached.

@@ -5,6 +5,7 @@ ghost use Rattle.std.specs.Prelude.{◌≤◌, ◌<◌, ◌^◌};
 use call_types::span::Span;
 use file_extents::extents::Extents;
 use std::alloc::{AllocError, Global};
+use std::process::Abort;
 use std::test::Fail;
 
 /// Writes bytes, after their room was made.
@@ -26,24 +27,54 @@ fn read_round(alloc: Global, start: usize) -> Result<(usize, Vec<u8>), AllocErro
     Ok((file.len(), file.read_at(start - 2, 65_536)?))
 }
 
+/// Writes three times over one another.
+fn write_over(file: &mut Extents) -> Result<(), AllocError> {
+    write(file, 4, b"wxyz")?;
+    file.reserve_for(0, 2)?;
+    file.write_at(0, Span::Slice(b"ab"));
+    write(file, 1, b"1234")
+}
+
+/// Whether the bytes from a place on, of which so many are asked for, are these.
+fn reads(file: &Extents, start: usize, count: usize, bytes: &[u8]) -> Result<bool, AllocError>
+    requires { count ≤ 65536 }
+{
+    let read = file.read_at(start, count)?;
+    Ok(read.as_slice() == bytes)
+}
+
+/// Looks at what that left.
+fn is_written_over(rt: &impl Abort, file: &Extents) -> Result<(), AllocError> {
+    assert_eq!(rt; file.len(), 8);
+    assert!(rt; reads(file, 0, 99, b"a1234xyz")?);
+    assert!(rt; file.stored(5, 2) == Some(b"xy".as_slice()));
+    Ok(())
+}
+
+/// Cuts the file to three bytes, and gives it another length twice.
+fn is_cut_and_extended(rt: &impl Abort, file: &mut Extents) -> Result<(), AllocError> {
+    file.cut(3);
+    file.extend_to(5);
+    assert!(rt; reads(file, 0, 99, b"a12\0\0")?);
+    assert!(rt; reads(file, 5, 1, b"")?);
+    file.extend_to(1_048_576);
+    assert_eq!(rt; file.len(), 1_048_576);
+    assert!(rt; reads(file, 1_048_575, 9, b"\0")?);
+    Ok(())
+}
+
+/// Writes over one another, then other lengths. No `?` where the file is owned, since each would drop it once more.
+fn written_and_cut(rt: &impl Abort, file: &mut Extents) -> Result<(), Fail> {
+    write_over(file)?;
+    is_written_over(rt, file)?;
+    is_cut_and_extended(rt, file)?;
+    Ok(())
+}
+
 #[test]
 fn writes_over_one_another_leave_the_last(rt: HostRuntime) -> Result<(), Fail> {
     let mut file = Extents::new(rt.alloc());
-    write(&mut file, 4, b"wxyz")?;
-    file.reserve_for(0, 2)?;
-    file.write_at(0, Span::Slice(b"ab"));
-    write(&mut file, 1, b"1234")?;
-    assert_eq!(rt; file.len(), 8);
-    assert!(rt; file.read_at(0, 99)?.as_slice() == b"a1234xyz".as_slice());
-    assert!(rt; file.stored(5, 2) == Some(b"xy".as_slice()));
-    file.cut(3);
-    file.extend_to(5);
-    assert!(rt; file.read_at(0, 99)?.as_slice() == b"a12\0\0".as_slice());
-    assert!(rt; file.read_at(5, 1)?.is_empty());
-    file.extend_to(1_048_576);
-    assert_eq!(rt; file.len(), 1_048_576);
-    assert!(rt; file.read_at(1_048_575, 9)?.as_slice() == b"\0".as_slice());
-    Ok(())
+    written_and_cut(&rt, &mut file)
 }
 
 #[test]
