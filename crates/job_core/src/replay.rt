@@ -112,8 +112,8 @@ fn read_text<R: Read + Drop>(alloc: Global, reader: R) -> Result<Vec<u8>, JobEnd
     }
 }
 
-/// Runs the next act, and gathers the lines of what is told of it. A recorded act is leaked, and so is its receipt: its name or
-/// data is shared with its record in the book. Any other act is dropped.
+/// Runs the next act, and gathers the lines of what is told of it. A recorded act is leaked, and so is its receipt: a long name or
+/// long data are shared with its record in the book. Any other act is dropped.
 fn run_next<L: Ledgers>(
     alloc: Global,
     book: &mut Book<L>,

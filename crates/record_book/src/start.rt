@@ -12,8 +12,7 @@ use std::alloc::{AllocError, Global};
 
 impl<L: Ledgers> Book<L> {
     /// Records a call that is not refused. On an error nothing changes.
-    // Not inlined, so that it stands once in a program, for scripts and for sessions. `decide_call` then has one caller, and is
-    // inlined here.
+    // Not inlined, so that it stands once in a program, for scripts and for sessions, and so does `decide_call`, which is inlined.
     #[inline(never)]
     pub(crate) fn record_call(
         &mut self,

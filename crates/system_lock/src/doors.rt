@@ -44,7 +44,8 @@ impl Doors {
         })
     }
 
-    /// Takes those out that an event has ended, and wakes those that it has made ready. It looks at none whom the event does not stir.
+    /// Takes those out that an event has ended, and wakes those that it has made ready. Of those that sleep it looks at none whom the
+    /// event does not stir.
     pub(crate) fn settle<L: Ledgers>(&mut self, book: &Book<L>, bells: &Bells, stirred: Stirred)
         requires left { AreLeft book.now stirred self.old }
         ensures sound { DoorsSound book.now self.new }
