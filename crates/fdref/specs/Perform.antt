@@ -4,6 +4,7 @@ use Rattle.std.specs.String.{string_bytes}
 use Rattle.job_core.specs.Audit.{AuditEnds}
 use Rattle.job_core.specs.Replay.{ReplayEnds}
 use Rattle.call_types.specs.declared.limits.Limits.{Limits}
+use Rattle.run_core.specs.Run.{IsBlank, Streams}
 use Rattle.fdref.specs.Serve.{Reports, RunAsked, SinkState}
 use Rattle.job_core.specs.Show.{ShowEnds}
 use Rattle.job_core.specs.declared.job.Job.{Job}
@@ -16,26 +17,43 @@ abbrev pub Has : Option (List ℕ) → Option (List ℕ) → Type 0
 Has None input = Unit {0}
 Has (Some bytes) input = input ≡ Some bytes
 
--- the file of the trace could not be made, or there was nothing to listen on, and nothing was written
-pub record IsUnserved (old new : Option (List ℕ)) (end : JobEnd) : Type 0 where
-  pub why : (end ≡ ended.CannotWrite) ⊎ (end ≡ ended.CannotListen)
+-- for this reason the job ended so, and nothing was written
+pub record IsUnserved (why : Type 0) (end_is : JobEnd) (old new : Option (List ℕ)) (end : JobEnd) : Type 0 where
+  pub reason : why
+  pub is : end ≡ end_is
   pub same : new ≡ old
 
--- sessions were served and reported, as many at most as were asked for and within these limits
-pub record IsServed (limits : Limits) (sessions : ℕ) (old new : Option (List ℕ)) (end : JobEnd) : Type 0 where
+-- the sessions of the connections to come were served and reported, as many at most as were asked for and within these limits; the sink of
+-- their trace held nothing before
+pub record IsServed (coming : Option (List Streams)) (limits : Limits) (sessions : ℕ) (old new : Option (List ℕ)) (end : JobEnd) : Type 0 where
   pub asked : RunAsked
+  pub coming_is : asked.coming ≡ coming
   pub limits_are : asked.limits ≡ limits
   pub sessions_are : asked.sessions ≡ sessions
+  pub blank : IsBlank asked.sink.contents
   pub sink : Option SinkState
   pub reports : Reports asked old new sink end
 
--- sessions are served, or not
-abbrev pub ServeEnds : Limits → ℕ → Option (List ℕ) → Option (List ℕ) → JobEnd → Type 0
-ServeEnds limits sessions old new end = IsServed limits sessions old new end ⊎ IsUnserved old new end
+-- sessions are served, or there was nothing to listen on
+abbrev pub ListenEnds : Option (List Streams) → Type 0 → Limits → ℕ → Option (List ℕ) → Option (List ℕ) → JobEnd → Type 0
+ListenEnds coming is_unheard limits sessions old new end = IsServed coming limits sessions old new end ⊎ IsUnserved is_unheard ended.CannotListen old new end
+
+-- the same, or the file of the trace could not be made
+abbrev pub ServeEnds : Option (List Streams) → Type 0 → Type 0 → Limits → ℕ → Option (List ℕ) → Option (List ℕ) → JobEnd → Type 0
+ServeEnds coming is_unheard is_unmade limits sessions old new end = ListenEnds coming is_unheard limits sessions old new end ⊎ IsUnserved is_unmade ended.CannotWrite old new end
+
+-- what there is round a program, by paths: the bytes of files, the files that cannot be made, the connections to come and the paths at
+-- which none can be
+pub record Surroundings : Type 1 where
+  pub bytes_at : List ℕ → Option (List ℕ)
+  pub is_unmade : List ℕ → Type 0
+  pub coming_at : List ℕ → Option (List Streams)
+  pub is_unheard : List ℕ → Type 0
 
 -- a script is run on the input, sessions are served and reported, or the trace in a file is judged or shown
-abbrev pub Performs : (List ℕ → Option (List ℕ)) → Job → Option (List ℕ) → Option (List ℕ) → Option (List ℕ) → JobEnd → Type 0
-Performs bytes_at (job.Replay limits) input old new end = ReplayEnds limits input old new end
-Performs bytes_at (job.Serve socket sessions limits trace) input old new end = ServeEnds limits sessions old new end
-Performs bytes_at (job.Audit path) input old new end = AuditEnds (bytes_at (string_bytes path)) old new end
-Performs bytes_at (job.Show path form) input old new end = ShowEnds form (bytes_at (string_bytes path)) old new end
+abbrev pub Performs : Surroundings → Job → Option (List ℕ) → Option (List ℕ) → Option (List ℕ) → JobEnd → Type 0
+Performs round (job.Replay limits) input old new end = ReplayEnds limits input old new end
+Performs round (job.Serve socket sessions limits trace) input old new end =
+    ServeEnds (round.coming_at (string_bytes socket)) (round.is_unheard (string_bytes socket)) (round.is_unmade (string_bytes trace)) limits sessions old new end
+Performs round (job.Audit path) input old new end = AuditEnds (round.bytes_at (string_bytes path)) old new end
+Performs round (job.Show path form) input old new end = ShowEnds form (round.bytes_at (string_bytes path)) old new end

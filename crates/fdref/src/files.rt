@@ -12,13 +12,15 @@ pub struct SystemFiles<'a> {
 }
 
 impl<'a> Opens for SystemFiles<'a> {
-    ghost use Rattle.std.specs.Prelude.{None};
+    ghost use Rattle.std.specs.Prelude.{None, ⊤};
 
     type File = File;
 
     type Sink = FileSink;
 
     ghost bytes_at = { λ _ _. None };
+
+    ghost is_unmade = { λ _ _. ⊤ };
 
     fn open(&self, path: &str) -> Option<File> {
         match fs::open(self.rt, path) {

@@ -62,7 +62,13 @@ pub struct Sockets<'a, R> {
 }
 
 impl<'a, R: Files + Net> Listens for Sockets<'a, R> {
+    ghost use Rattle.std.specs.Prelude.{None, ⊤};
+
     type Source = Listener;
+
+    ghost coming_at = { λ _ _. None };
+
+    ghost is_unheard = { λ _ _. ⊤ };
 
     fn listen(&self, path: &str) -> Option<Listener> {
         // an empty path would be an address that the system chooses

@@ -1,8 +1,9 @@
 //! A job, done.
 
-ghost use Rattle.std.specs.Prelude.{◌≡◌, ◌+◌, ◌<◌, ◌^◌, true, IfSome};
+ghost use Rattle.std.specs.Prelude.{◌≡◌, ◌+◌, ◌<◌, ◌^◌, true, IfSome, IfNone};
 ghost use Rattle.job_core.specs.Audit.{AuditEnds};
-ghost use Rattle.fdref.specs.Perform.{Has, Performs, ServeEnds};
+ghost use Rattle.run_core.specs.Run.{IsBlank};
+ghost use Rattle.fdref.specs.Perform.{Has, ListenEnds, Performs, ServeEnds};
 ghost use Rattle.job_core.specs.Show.{ShowEnds};
 
 use crate::serve::serve_on;
@@ -23,10 +24,21 @@ use trace_writer::sink::Sink;
 
 /// What makes sources of connections.
 pub trait Listens {
+    ghost use Rattle.std.specs.Prelude.{ℕ, List, Option};
+    ghost use Rattle.run_core.specs.Run.{Streams};
+
     type Source: Source + Send + Drop + 'static;
+
+    /// What the connections to a path are to hold, in order, where that is known.
+    ghost coming_at: { Self → List ℕ → Option (List Streams) };
+
+    /// There is nothing to listen on at a path.
+    ghost is_unheard: { Self → List ℕ → Type 0 };
 
     /// A source of the connections to a path, at which nothing was before.
     fn listen(&self, path: &str) -> Option<Self::Source>
+        ensures coming { IfSome result (λ source. Self.Source.Source.coming source ≡ coming_at self.now path.now) }
+        ensures none { IfNone result (is_unheard self.now path.now) }
         ensures failures { IfSome result (λ source. Self.Source.Source.failures source ≡ 0) }
         ensures accepted { IfSome result (λ source. Self.Source.Source.accepted source ≡ 0) };
 }
@@ -42,12 +54,17 @@ pub trait Opens {
     /// What the file at a path has, where that is known.
     ghost bytes_at: { Self → List ℕ → Option (List ℕ) };
 
+    /// No file can be made at a path.
+    ghost is_unmade: { Self → List ℕ → Type 0 };
+
     /// The file at a path, to be read from its first byte on.
     fn open(&self, path: &str) -> Option<Self::File>
         ensures { IfSome result (λ file. Has (bytes_at self.now path.now) (Self.File.Read.remaining file)) };
 
     /// An empty file at a path, to be written, in place of one that is there.
     fn create(&self, path: &str) -> Option<Self::Sink>
+        ensures blank { IfSome result (λ sink. IsBlank (Self.Sink.Sink.contents sink)) }
+        ensures none { IfNone result (is_unmade self.now path.now) }
         ensures sound { IfSome result (λ sink. Self.Sink.Sink.is_sound sink ≡ true) }
         ensures failures { IfSome result (λ sink. Self.Sink.Sink.failures sink ≡ 0) };
 }
@@ -94,9 +111,10 @@ fn serve_at<
     sink: K,
     writer: &mut W,
 ) -> JobEnd
+    requires blank { IsBlank (K.contents sink) }
     requires sound { K.is_sound sink ≡ true }
     requires few { K.failures sink + 1 < 2 ^ 64 }
-    ensures { ServeEnds limits sessions (W.contents writer.old) (W.contents writer.new) result }
+    ensures { ListenEnds (L.coming_at listens.now path.now) (L.is_unheard listens.now path.now) limits sessions (W.contents writer.old) (W.contents writer.new) result }
 {
     match listens.listen(path) {
         Some(source) => {
@@ -133,7 +151,7 @@ fn serve_to<
     trace: &str,
     writer: &mut W,
 ) -> JobEnd
-    ensures { ServeEnds limits sessions (W.contents writer.old) (W.contents writer.new) result }
+    ensures { ServeEnds (L.coming_at listens.now path.now) (L.is_unheard listens.now path.now) (F.is_unmade files.now trace.now) limits sessions (W.contents writer.old) (W.contents writer.new) result }
 {
     match files.create(trace) {
         Some(sink) => serve_at(rt, alloc, listens, path, sessions, limits, sink, writer),
@@ -150,7 +168,7 @@ pub fn perform<
     R: Read + Drop,
     W: Write,
 >(rt: Rt, alloc: Global, listens: &L, files: &F, reader: R, writer: &mut W, job: Job) -> JobEnd
-    ensures { Performs (F.bytes_at files.now) job (R.remaining reader) (W.contents writer.old) (W.contents writer.new) result }
+    ensures { Performs (record { bytes_at = F.bytes_at files.now; is_unmade = F.is_unmade files.now; coming_at = L.coming_at listens.now; is_unheard = L.is_unheard listens.now }) job (R.remaining reader) (W.contents writer.old) (W.contents writer.new) result }
 {
     match job {
         Job::Replay { limits } => replay(alloc, reader, writer, limits),
