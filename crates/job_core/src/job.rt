@@ -104,8 +104,8 @@ const SERVE_HELP: &str =
     "Reads requests and writes answers, on each connection. Clients in C and in Python
 are in the folder 'clients', the bytes in docs/FORMATS.md.
 Writes 'sessions N records R in I out O trace T' when N connections have ended.
-Ends with 0 then, 4 where it cannot listen or the trace is not whole, 5 for want
-of memory or of a thread, 6 where counts or records disagree.
+Ends with 0 then, 4 where it cannot listen or write or the trace is not whole, 5
+for want of memory or of a thread, 6 where counts or records disagree.
 
 Example:
   fdref serve --socket /tmp/fdref.socket --sessions 2 --records 100 --trace /tmp/fdref.trace";

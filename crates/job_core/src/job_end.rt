@@ -21,7 +21,7 @@ pub enum JobEnd {
     TooLong,
     /// The input failed, or could not be opened. Of a trace that is shown, lines may have been written; else nothing was run or written.
     CannotRead,
-    /// The output failed. A front of the right output was written, and nothing else.
+    /// The output failed, or the file of a run's trace could not be made. A front of the right output was written, and nothing else.
     CannotWrite,
     /// Memory ran out. Of a trace that is shown, lines may have been written; else nothing was.
     NoMemory,
