@@ -14,6 +14,8 @@ use Rattle.record_book.specs.Book.{BookState, world_now}
 use Rattle.record_book.specs.Counting.{only_records, seats_given}
 use Rattle.record_book.specs.Exits.{closing_records, receipts_from}
 use Rattle.byte_ledger.specs.Counted.{Counted}
+use Rattle.trace_writer.specs.declared.traced.TraceFault.{TraceFault}
+use Rattle.trace_writer.specs.declared.traced.TraceFault.TheVariants as trace_fault
 use Rattle.run_core.specs.declared.closing.CloseFault.{CloseFault}
 use Rattle.run_core.specs.declared.closing.CloseFault.TheVariants as fault
 use Rattle.session_core.specs.declared.end.End.{End}
@@ -177,8 +179,13 @@ pub record IsRun (told : RunTold) : Type 0 where
   pub run : IsRunOf told.limits_are told.records told.taken told.given book house (counted_by connections) (map (λ s. held_by s.process) told.ends) told.received
   pub trace : IsTold told.trace book.history
 
--- why a run comes to no totals: seats are missing, or none is and this is the least place that does not agree
-abbrev pub ClosesFor : BookState → List SeatState → List Record → CloseFault → Type 0
-ClosesFor b seats received fault.NoMemory = Unit {0}
-ClosesFor b seats received (fault.Missing m) = (m.held ≡ length seats) × (m.opened ≡ seats_given b) × (m.held < m.opened)
-ClosesFor b seats received (fault.Disagree place) = (length seats ≡ seats_given b) × IsLeast b.history (map held_in seats) received place
+-- the list of received records ends early, before so many records, because memory ran out: that is the fault of the trace
+abbrev pub IsTorn : Option TraceFault → ℕ → List Record → Type 0
+IsTorn why records received = (why ≡ Some trace_fault.NoMemory) × (length received < records)
+
+-- why a run comes to no totals: seats are missing; or none is, and this is the least place that does not agree, though what was received
+-- did not end early for want of memory
+abbrev pub ClosesFor : BookState → List SeatState → Option TraceFault → List Record → CloseFault → Type 0
+ClosesFor b seats why received fault.NoMemory = Unit {0}
+ClosesFor b seats why received (fault.Missing m) = (m.held ≡ length seats) × (m.opened ≡ seats_given b) × (m.held < m.opened)
+ClosesFor b seats why received (fault.Disagree place) = (length seats ≡ seats_given b) × IsLeast b.history (map held_in seats) received place × (IsTorn why (length b.history) received → ⊥)

@@ -1,6 +1,6 @@
 //! The closing of a run whose sessions have ended: their receipts are compared with its records, and what they counted is gathered.
 
-ghost use Rattle.std.specs.Prelude.{◌≡◌, ◌+◌, ◌++◌, ◌∷◌, ℕ, List, [], true, map, None, Some, length, vec_len, OnOk, IfOk, IfErr};
+ghost use Rattle.std.specs.Prelude.{◌≡◌, ◌↔◌, ◌+◌, ◌++◌, ◌∷◌, ℕ, List, Option, [], true, map, None, Some, length, vec_len, OnOk, IfOk, IfErr};
 ghost use Rattle.std.specs.Arc.{arc_value};
 ghost use Rattle.posix_model.specs.History.{legal};
 ghost use Rattle.posix_model.specs.Turns.{bytes_in, bytes_out};
@@ -9,7 +9,8 @@ ghost use Rattle.record_book.specs.Book.{world_now};
 ghost use Rattle.record_book.specs.Counting.{seats_given};
 ghost use Rattle.run_core.specs.declared.report.RunFault.TheVariants as run_fault;
 ghost use Rattle.run_core.specs.Proved.Laws.{FlagsDecideAll};
-ghost use Rattle.run_core.specs.Run.{AreAll, ClosesFor, IsClosing, IsGathered, IsLeast, IsRunOf, held_in};
+ghost use Rattle.run_core.specs.Run.{AreAll, ClosesFor, IsClosing, IsGathered, IsLeast, IsRunOf, IsTorn, held_in};
+ghost use Rattle.trace_writer.specs.declared.traced.TraceFault.{TraceFault as FaultOfTrace};
 
 use crate::comparison::{HasReceipts, compare};
 use crate::report::RunFault;
@@ -60,7 +61,7 @@ pub enum CloseFault {
     /// Some seats are missing.
     #[error("missing share")]
     Missing(Missing),
-    /// The receipts and the records differ: this is the least place at which they do.
+    /// The receipts, the records and what was received differ: this is the least place at which they do.
     #[error("disagree at {place}")]
     Disagree { place: u64 },
 }
@@ -108,8 +109,10 @@ fn part<L: Ledgers>(alloc: Global, seats: Vec<SpentSeat<L>>) -> Result<Parted<L>
     Ok(Parted { receipts, shares })
 }
 
-/// Whether the list of received records ends early, before the `len` records of the run, because memory ran out.
-fn is_torn(traced: &Traced, records: u64) -> bool {
+/// Whether the list of received records ends early, before the records of the run, because memory ran out.
+fn is_torn(traced: &Traced, records: u64) -> bool
+    ensures { (result ≡ true) ↔ IsTorn traced.now.fault records (map arc_value traced.now.received.items) }
+{
     traced.fault == Some(TraceFault::NoMemory) && (traced.received.len() as u64) < records
 }
 
@@ -141,7 +144,7 @@ fn gather_seats<L: Ledgers>(
     ensures gathered { IfOk result (λ totals. IsGathered book (map (λ s. s.counted) seats.items) totals.records totals.bytes_in totals.bytes_out) }
     ensures receipts { IfOk result (λ totals. map (λ r. r.items) totals.receipts.items ≡ map (λ s. s.receipts) seats.items) }
     ensures all { OnOk result (length seats.items ≡ seats_given book) }
-    ensures fault { IfErr result (λ fault. (received : List Record) → ClosesFor book seats.items received fault) }
+    ensures fault { IfErr result (λ fault. (why : Option FaultOfTrace) (received : List Record) → ClosesFor book seats.items why received fault) }
 {
     let parted = part(alloc, seats)?;
     let Parted { receipts, shares } = parted;
@@ -172,7 +175,7 @@ pub fn close_run<L: Ledgers>(
     ensures receipts { IfOk result (λ totals. map (λ r. r.items) totals.receipts.items ≡ map (λ s. s.receipts) seats.items) }
     ensures all { OnOk result (AreAll book.history (map held_in seats.items) (map arc_value traced.now.received.items)) }
     ensures received { OnOk result (map arc_value traced.now.received.items ≡ book.history) }
-    ensures fault { IfErr result (ClosesFor book seats.items (map arc_value traced.now.received.items)) }
+    ensures fault { IfErr result (ClosesFor book seats.items traced.now.fault (map arc_value traced.now.received.items)) }
 {
     let received = traced.received.as_slice();
     let least = compare_seats(alloc, &book, seats.as_slice(), received);
@@ -180,10 +183,8 @@ pub fn close_run<L: Ledgers>(
     let totals = gather_seats(alloc, book, seats);
     let least = least?;
     let totals = totals?;
-    if least.is_some() && is_torn(traced, totals.records) {
-        return Err(CloseFault::NoMemory);
-    }
     match least {
+        Some(_) if is_torn(traced, totals.records) => Err(CloseFault::NoMemory),
         Some(place) => Err(CloseFault::Disagree { place }),
         None => Ok(totals),
     }
@@ -296,10 +297,8 @@ pub(crate) fn end_run<L: Ledgers, T: HasReceipts>(
     let sums = gather_with_house(closed, shares);
     let least = least?;
     let sums = sums?;
-    if least.is_some() && is_torn(traced, sums.records) {
-        return Err(RunFault::NoMemory);
-    }
     match least {
+        Some(_) if is_torn(traced, sums.records) => Err(RunFault::NoMemory),
         Some(place) => Err(RunFault::Disagree { place }),
         None => Ok(sums),
     }

@@ -459,8 +459,9 @@ fn serve_traced<
 /// Runs so many sessions, each in a thread of its own, and a thread beside them that writes the trace into a sink. An answer is written
 /// once the gate lets it through. When all sessions have ended, the run is closed, what their seats counted is gathered, and receipts,
 /// records and what the trace thread received are compared. Where accepting fails, the sessions before are served to their end, and the
-/// report has fewer. Where a thread cannot be started they are too, but there is no report. Where the sink fails, the report tells it. An
-/// audit under the same limits finds what the sink took legal, with the whole records that are told. In any case no thread goes on then.
+/// report has fewer. Where a session's own thread cannot be started they are too, but there is no report. Where the sink fails, the
+/// report tells it. An audit under the same limits finds what the sink took legal, with the whole records that are told. In any case no
+/// thread goes on then.
 pub fn run_sessions<
     Rt: Threads + Wait + Clock + Copy + Drop + Send + Sync + 'static,
     S: Source + Send + 'static,
