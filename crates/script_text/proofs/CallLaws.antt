@@ -16,7 +16,7 @@ use Rattle.script_text.specs.ReadingNumbers.{process_of}
 use Rattle.call_types.specs.CallTable.{Entry, Parts, parts, call_table}
 use Rattle.call_types.specs.Proved.Made.{Parted, made}
 use Rattle.script_text.proofs.CallParts.{all_parted, made_again}
-use Rattle.script_text.specs.ReadingCalls.{entry_at, one_of, named_call, last_word, process_act, run_act, act_of, act_at, with_column, reading}
+use Rattle.script_text.specs.ReadingCalls.{entry_at, one_of, named_call, last_word, process_act, bare_act, act_of, act_at, with_column, reading}
 use Rattle.script_text.specs.Lines.{process_word}
 use Rattle.script_text.specs.Spellings.{SpellsFields, SpellsParts, SpellsCall, SpellsAct}
 use Rattle.script_text.proofs.Numerals.{chosen}
@@ -87,15 +87,15 @@ process_act_takes process w act h =
     (word_or_takes (codes "resume") (acts.Resume process) act w an_exit line (h, refl)
     (word_or_takes (codes "exit") (acts.Exit process) act w a_call line (h, refl) (call_act_takes process w act h)))
 
-run_act_takes : (w : Word) (act : ScriptAct) → run_act w ≡ Ok act → SpellsAct act (text_from w)
-run_act_takes w act =
+bare_act_takes : (w : Word) (act : ScriptAct) → bare_act w ≡ Ok act → SpellsAct act (text_from w)
+bare_act_takes w act =
     let no_act : Result ScriptAct BadWord = Err (record { remaining = w.remaining; expected = expect.Actor }) in
     let a_closing : Result ScriptAct BadWord = cond (bytes_eq w.text (codes "close-run")) (last_word acts.CloseRun w.after) no_act in
     word_or_takes (codes "join") acts.Join act w a_closing (λ text. text) refl
     (word_or_takes (codes "close-run") acts.CloseRun act w no_act (λ text. text) refl (λ e. absurd cc))
 
 act_of_takes : (o : Option ℕ) (w : Word) (act : ScriptAct) → process_of w.text ≡ o → act_of o w ≡ Ok act → SpellsAct act (text_from w)
-act_of_takes None w act is e = run_act_takes w act e
+act_of_takes None w act is e = bare_act_takes w act e
 act_of_takes (Some process) w act is e =
     let spelled = process_takes w.text process is in
     let v = bind_ok (word_at expect.Act w.after) (λ word. process_act process word) act e in

@@ -76,8 +76,8 @@ process_act process w =
     else named_call w >>= λ call. Ok (acts.Call process call)
 
 -- an act that has no process in front: join or close-run; no other word is allowed
-abbrev pub run_act : Word → Result ScriptAct BadWord
-run_act w =
+abbrev pub bare_act : Word → Result ScriptAct BadWord
+bare_act w =
     if bytes_eq w.text (codes "join") then last_word acts.Join w.after
     else if bytes_eq w.text (codes "close-run") then last_word acts.CloseRun w.after
     else Err (record { remaining = w.remaining; expected = expect.Actor })
@@ -85,7 +85,7 @@ run_act w =
 -- the act of a process, if the first word is one, or else of that word
 abbrev pub act_of : Option ℕ → Word → Result ScriptAct BadWord
 act_of (Some process) w = word_at expect.Act w.after >>= λ word. process_act process word
-act_of None w = run_act w
+act_of None w = bare_act w
 
 -- the act of a line, by its first word
 abbrev pub act_at : Unread → Result ScriptAct BadWord

@@ -3,7 +3,7 @@
 ghost use Rattle.std.specs.Prelude.{Some, Ok, IfOk};
 ghost use Rattle.std.specs.Option.{option_copied};
 ghost use Rattle.script_text.specs.Reading.{Gives, Word};
-ghost use Rattle.script_text.specs.ReadingCalls.{process_act, run_act, act_at, reading};
+ghost use Rattle.script_text.specs.ReadingCalls.{process_act, bare_act, act_at, reading};
 ghost use Rattle.script_text.specs.ReadingResults.{LineGives};
 ghost use Rattle.script_text.specs.Spellings.{SpellsAct};
 ghost use Rattle.call_types.specs.declared.act.ScriptAct.{ScriptAct};
@@ -39,8 +39,8 @@ fn process_act(alloc: Global, process: u32, word: Next<'_>) -> Result<ScriptAct,
 }
 
 /// The act that has no process in front, by its word.
-fn run_act(word: Next<'_>) -> Result<ScriptAct, WordFault>
-    ensures { Gives (λ x. x) result (run_act (record { text = word.entry.text.now; remaining = word.entry.remaining; after = option_copied word.entry.after })) }
+fn bare_act(word: Next<'_>) -> Result<ScriptAct, WordFault>
+    ensures { Gives (λ x. x) result (bare_act (record { text = word.entry.text.now; remaining = word.entry.remaining; after = option_copied word.entry.after })) }
 {
     if word.is(b"join") {
         line_end(word.after)?;
@@ -63,7 +63,7 @@ fn act(alloc: Global, line: &[u8]) -> Result<ScriptAct, WordFault>
     let word = next_word(Expected::Actor, Some(line))?;
     match process_value(word.text) {
         Some(process) => process_act(alloc, process, next_word(Expected::Act, word.after)?),
-        None => run_act(word),
+        None => bare_act(word),
     }
 }
 

@@ -1,5 +1,5 @@
 -- The act that a line asks for (own).
-use Rattle.std.specs.Prelude.{ℕ, ◌+◌, List, [], ◌++◌, codes}
+use Rattle.std.specs.Prelude.{ℕ, List, [], ◌++◌, codes}
 use Rattle.call_types.specs.declared.act.Act.{Act}
 use Rattle.call_types.specs.declared.act.Act.TheVariants as acts
 use Rattle.script_text.specs.Lines.{process_word}
