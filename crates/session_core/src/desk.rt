@@ -3,7 +3,7 @@
 ghost use Rattle.std.specs.Prelude.{◌≡◌, ◌∷◌, ◌++◌, ℕ, List, Option, Some, [], length};
 ghost use Rattle.rtrb.specs.Ring.{received, known_items, SameConsumer};
 ghost use Rattle.call_types.specs.declared.request.Request.{Request};
-ghost use Rattle.session_core.specs.Proved.Desk.{TurnStands, StandsBy, StandsOn, SendsOn, SentIfOn, SentIfReady, IsReady, LeftBy, EndsOn, comes_to};
+ghost use Rattle.session_core.specs.Proved.Desk.{TurnStands, StandsBy, StandsOn, SendsOn, SentIfOn, SentIfReady, IsReady, LeftBy, EndsOn, attended_by};
 ghost use Rattle.session_core.specs.Refusals.{AreSaid, RefusalSaid};
 ghost use Rattle.session_core.specs.Proved.Saying.{IsReadingEnd, OverSaid, TurnSaid};
 ghost use Rattle.session_core.specs.declared.stage.Standing.TheVariants as standings;
@@ -160,7 +160,7 @@ pub(crate) fn take_ready<
 }
 
 /// Writes the answers of a session that goes on.
-fn send<W: Write, G: Gate, L: Ledgers, K: Kernel<Seat<L>, SpentSeat<L>>>(
+fn write_out<W: Write, G: Gate, L: Ledgers, K: Kernel<Seat<L>, SpentSeat<L>>>(
     output: &mut Output<W, G>,
     stage: StageOf<L>,
 ) -> TurnOf<L>
@@ -187,7 +187,7 @@ pub(crate) fn send_ready<
 {
     match standing {
         Standing::Ready(stage) => {
-            let turn = send::<W, G, L, K>(output, stage);
+            let turn = write_out::<W, G, L, K>(output, stage);
             stand(rt, output, kernel, turn)
         }
         Standing::Waits(seat) => Standing::Waits(seat),
@@ -237,7 +237,7 @@ fn is_opening<S, A>(stage: &Stage<S, A>) -> bool {
 }
 
 /// Tells that the connection of a process is lost, where a process is there.
-fn give_up<Rt: Wait, L: Ledgers, K: Kernel<Seat<L>, SpentSeat<L>>>(
+fn tell_lost<Rt: Wait, L: Ledgers, K: Kernel<Seat<L>, SpentSeat<L>>>(
     rt: &Rt,
     kernel: &K,
     standing: &StandingOf<L>,
@@ -272,7 +272,7 @@ fn take_late<
     let turn = take_next(rt, note, output, kernel, stage, request);
     let standing = stand(rt, output, kernel, turn);
     if is_opening {
-        give_up(rt, kernel, &standing);
+        tell_lost(rt, kernel, &standing);
     }
     standing
 }
@@ -330,8 +330,8 @@ pub(crate) enum Attended {
 }
 
 /// What a desk has come to, by where its session stands.
-fn comes_to<L: Ledgers>(standing: &StandingOf<L>) -> Attended
-    ensures { result ≡ comes_to standing.now }
+fn attended_by<L: Ledgers>(standing: &StandingOf<L>) -> Attended
+    ensures { result ≡ attended_by standing.now }
 {
     match standing {
         Standing::Ready(_) => Attended::Ready,
@@ -343,9 +343,9 @@ fn comes_to<L: Ledgers>(standing: &StandingOf<L>) -> Attended
 /// Puts back where a session stands, and says what its desk has come to.
 fn put_back<L: Ledgers>(place: &mut Option<StandingOf<L>>, standing: StandingOf<L>) -> Attended
     ensures place { place.new ≡ Some standing }
-    ensures attended { result ≡ comes_to standing }
+    ensures attended { result ≡ attended_by standing }
 {
-    let attended = comes_to(&standing);
+    let attended = attended_by(&standing);
     drop(place.replace(standing));
     attended
 }

@@ -174,7 +174,7 @@ fn serve_shared<
         Some(thread) => {
             drop(place.replace(Desk::new(consumer, output, admission)));
             drop(place);
-            shared.attend(&rt);
+            shared.answer_waits(&rt);
             leave_rest(&rt, shared, thread.join(&rt))
         }
         None => unstarted(alloc, None, output, admission, End::NoThread),

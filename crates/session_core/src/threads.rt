@@ -107,7 +107,7 @@ impl<
     }
 
     /// Waits for each call that waits, then answers the requests after it, until the session ends or no more is read.
-    pub(crate) fn attend<Rt: Wait>(&self, rt: &Rt) {
+    pub(crate) fn answer_waits<Rt: Wait>(&self, rt: &Rt) {
         for _ in rt.forever() {
             let has_ended = self.note.has_ended(rt);
             match self.answer(rt) {

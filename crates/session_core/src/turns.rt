@@ -100,7 +100,10 @@ fn goes_on(outcome: &Outcome) -> bool
 
 /// What became of a session whose process has ended in the call that it waited in. All answers so far have been written. Where memory ran
 /// out or the run was full, that is answered.
-fn give_up<W: Write, G: Gate, L: Ledgers>(output: &mut Output<W, G>, ended: EndedIn<L>) -> TurnOf<L>
+fn end_given_up<W: Write, G: Gate, L: Ledgers>(
+    output: &mut Output<W, G>,
+    ended: EndedIn<L>,
+) -> TurnOf<L>
     requires why { IsWhyFinished ended.why }
     requires sent { output.old.unsent ≡ [] }
     ensures gives { GivesUp ended output.old output.new result }
@@ -154,7 +157,7 @@ pub(crate) fn wait_once<Rt: Wait, W: Write, G: Gate, L: Ledgers, K: Kernel<Seat<
     }
     let (seat, receipt) = match finish_sent(rt, output, kernel, seat) {
         Finished::Resumed { seat, receipt } => (seat, receipt),
-        Finished::Ended(ended) => return give_up(output, ended),
+        Finished::Ended(ended) => return end_given_up(output, ended),
     };
     let waits = goes_on(&receipt.record().outcome);
     match output.put_recorded(receipt) {

@@ -120,11 +120,11 @@ StandsThere unopened refused ended base taken o None = ⊥
 StandsThere unopened refused ended base taken o (Some standing) = Stands unopened refused ended base taken o standing
 
 -- what a desk has come to whose session stands there
-abbrev pub comes_to : Standing → Attended
-comes_to (standing.Ready at) = attended.Ready
-comes_to (standing.Waits seat) = attended.Waits
-comes_to (standing.Lost seat) = attended.Left
-comes_to (standing.Left left) = attended.Left
+abbrev pub attended_by : Standing → Attended
+attended_by (standing.Ready at) = attended.Ready
+attended_by (standing.Waits seat) = attended.Waits
+attended_by (standing.Lost seat) = attended.Left
+attended_by (standing.Left left) = attended.Left
 
 -- what a desk holds
 pub record DeskState : Type 0 where

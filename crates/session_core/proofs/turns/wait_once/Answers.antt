@@ -17,7 +17,7 @@ pub returns-in-Err-clause-waits : goal.returns-in-Err-clause-waits
 returns-in-Err-clause-waits g c base handled call w = laws.unsent base handled call c.args.seat _ _ c.in-Err.ensures.err w
 
 pub returns-in-Ended-clause-waits : goal.returns-in-Ended-clause-waits
-returns-in-Ended-clause-waits g c base handled call w = c.give_up.ensures.gives base handled call c.args.seat (laws.still_waits base handled call c.args.seat _ _ c.in-Ok.ensures.ok w) c.in-Ended.ensures.finishes.0
+returns-in-Ended-clause-waits g c base handled call w = c.end_given_up.ensures.gives base handled call c.args.seat (laws.still_waits base handled call c.args.seat _ _ c.in-Ok.ensures.ok w) c.in-Ended.ensures.finishes.0
 
 pub returns-in-Ok-put_recorded-clause-waits : goal.returns-in-Ok-put_recorded-clause-waits
 returns-in-Ok-put_recorded-clause-waits g c base handled call w = (
@@ -43,7 +43,7 @@ returns-in-Err-put_recorded-clause-waits g c base handled call w =
 
 pub returns-in-Ended-clause-said : goal.returns-in-Ended-clause-said
 returns-in-Ended-clause-said g c =
-    given_up_said g.K.Kernel.not_opened g.K.Kernel.ended c.in-Ended.ended.seat c.in-Ended.ended.why c.flush.new.self c.give_up.new.output c.give_up.result c.give_up.ensures.tells
+    given_up_said g.K.Kernel.not_opened g.K.Kernel.ended c.in-Ended.ended.seat c.in-Ended.ended.why c.flush.new.self c.end_given_up.new.output c.end_given_up.result c.end_given_up.ensures.tells
     (c.args.seat, c.in-Ended.ensures.finishes.0, c.in-Ended.ensures.ended)
 
 pub returns-in-Err-clause-refusals : goal.returns-in-Err-clause-refusals
@@ -53,7 +53,7 @@ returns-in-Err-clause-refusals g c base handled call w are =
 
 pub returns-in-Ended-clause-refusals : goal.returns-in-Ended-clause-refusals
 returns-in-Ended-clause-refusals g c base handled call w are =
-    ended_refused g.K.Kernel.not_opened g.K.Kernel.refused g.K.Kernel.ended base handled call c.args.seat c.in-Ended.ended.seat c.in-Ended.ended.why c.flush.new.self c.give_up.new.output c.give_up.result c.give_up.ensures.tells c.in-Ended.ensures.ended
+    ended_refused g.K.Kernel.not_opened g.K.Kernel.refused g.K.Kernel.ended base handled call c.args.seat c.in-Ended.ended.seat c.in-Ended.ended.why c.flush.new.self c.end_given_up.new.output c.end_given_up.result c.end_given_up.ensures.tells c.in-Ended.ensures.ended
     (laws.still_waits base handled call c.args.seat _ _ c.in-Ok.ensures.ok w)
     (kept_said (RefusalSaid g.K.Kernel.not_opened g.K.Kernel.refused g.K.Kernel.ended (handled ++ request.Call call ∷ [])) c.args.output.now.answers c.flush.new.self.answers c.in-Ok.ensures.ok.flushes.answers are)
 

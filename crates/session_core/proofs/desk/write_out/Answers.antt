@@ -1,5 +1,5 @@
 use Rattle.session_core.proofs.DeskLemmas as laws
-use Rattle.session_core.proofs.desk.send.Goals as goal
+use Rattle.session_core.proofs.desk.write_out.Goals as goal
 
 pub returns-in-Ok-clause-stands : goal.returns-in-Ok-clause-stands
 returns-in-Ok-clause-stands g c = laws.sent_all g.K.Kernel.not_opened g.K.Kernel.refused g.K.Kernel.ended c.args.output.now c.flush.new.self c.args.stage c.in-Ok.ensures.ok

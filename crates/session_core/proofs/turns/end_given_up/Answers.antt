@@ -2,7 +2,7 @@ use Rattle.std.proofs.Common.{subst}
 use Rattle.call_types.specs.declared.refusal.Refusal.TheVariants as refusal
 use Rattle.system_lock.specs.Kernel.{EndsBy}
 use Rattle.session_core.proofs.WaitLemmas as laws
-use Rattle.session_core.proofs.turns.give_up.Goals as goal
+use Rattle.session_core.proofs.turns.end_given_up.Goals as goal
 
 pub returns-in-NoMemory-clause-gives : goal.returns-in-NoMemory-clause-gives
 returns-in-NoMemory-clause-gives g c base handled call seat waits ends =
