@@ -30,14 +30,14 @@ pub(crate) fn ran<
     requires limits { L.limits ≡ Some limits }
 {
     let mut source = Waiting::new(alloc)?;
-    Ok(run_sessions::<Rt, Waiting, OthersFirst, L, MemorySink>(
+    Ok(run_sessions::<Rt, Waiting, OthersFirst<Rt>, L, MemorySink>(
         rt,
         alloc,
         &mut source,
         SESSIONS,
         limits,
         blanks,
-        OthersFirst::new(),
+        OthersFirst::new(rt),
         MemorySink::new(alloc, Manner::sound()),
     )?)
 }
