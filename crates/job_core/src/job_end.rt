@@ -41,7 +41,7 @@ pub enum JobEnd {
     IllegalTrace,
     /// The trace has no header, or a frame that spells no record; the verdict was written.
     MalformedTrace,
-    /// All whole records were shown, and so many bytes of one that is not finished are left over.
+    /// All whole records were shown, and so many bytes of one, or of the header, that is not finished are left over.
     Rest {
         bytes: u64,
     },
