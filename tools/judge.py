@@ -381,7 +381,7 @@ def parse(words: Sequence[str]) -> argparse.Namespace:
     add_program(parser)
     parser.add_argument("--shim", metavar="PATH", help="the shim, where it is built already")
     parser.add_argument("--stdin", metavar="FILE", default=os.devnull, help="its standard input, else /dev/null")
-    seconds = "how long it may take; 60 where no number is given"
+    seconds = "how long each of its two runs may take; 60 where no number is given"
     parser.add_argument("--seconds", metavar="N", type=number_in(1, 10**6), default=60, help=seconds)
     sessions = f"processes that may come in all, at most {SESSIONS_MOST}, which is what is taken where none is given"
     parser.add_argument(

@@ -113,7 +113,8 @@ class Refused(Exception):
 
 
 class Stat(NamedTuple):
-    """What fstat tells. A pipe and a FIFO have the same `st_mode`, as in `os`; `kind` tells them apart."""
+    """What fstat tells. A pipe and a FIFO have the same `st_mode`, as in `os`; `kind` tells them apart. A trace has no
+    `st_mode`: any will do for a record."""
 
     kind: str
     st_mode: int
