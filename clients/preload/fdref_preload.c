@@ -11,10 +11,10 @@
                         exit have no line. Without FDREF_SOCKET the run is *native*: the system answers, and the lines
                         are the same, with `-` in place of the place.
      FDREF_STRICT=1     What fdref leaves out is told on standard error, and the program ends with status 125.
-     FDREF_PAST=FILE    Each call that is left to the system, as far as it is seen, is appended to FILE as a line, with
-                        its kind: `! path d/x`, `! path mkdir d`, `! program execve ./a`, `! call poll`. Where
-                        FDREF_STRICT would not tell it `-` stands for `!`: `- stream fopen /tmp/x`, and `- stdio 1`,
-                        as a file of fdref comes to be at descriptor 0, 1 or 2.
+     FDREF_PAST=FILE    Each call that is left to the system or fails with ENOSYS, as far as it is seen, is appended to
+                        FILE as a line, with its kind: `! path d/x`, `! path mkdir d`, `! program execve ./a`,
+                        `! call poll`. Where FDREF_STRICT would not tell it `-` stands for `!`: `- stream fopen /tmp/x`,
+                        and `- stdio 1`, as a file of fdref comes to be at descriptor 0, 1 or 2.
 
    Without the first two nothing is changed. Where there is no answer (no server, a run that is full, a lost connection)
    that is told on standard error, and the program ends with status 124.
@@ -113,6 +113,13 @@ enum {
     STATUS_FLAGS = O_ACCMODE | O_APPEND | O_NONBLOCK
 };
 
+/* What the kernel adds to the flags of each open, and F_GETFL tells: its own O_LARGEFILE. */
+#if defined __x86_64__
+enum { ADDED_FLAGS = 0100000 };
+#else
+enum { ADDED_FLAGS = 0 };
+#endif
+
 static int64_t taken(int64_t fd, struct slot slot, int is_cloexec)
 {
     if (fd >= 0)
@@ -144,7 +151,7 @@ static int open_in(int folder, const char *name, int flags, mode_t mode)
     const char *rest = name;
     enum way way = way_in(folder, &rest);
     int is_cloexec = (flags & O_CLOEXEC) != 0;
-    struct slot slot = {OURS, 0, flags & STATUS_FLAGS, 0, 0};
+    struct slot slot = {OURS, 0, (flags & STATUS_FLAGS) | ADDED_FLAGS, 0, 0};
     struct fdref_act act = fdref_act_open(rest, flags & ASKED_FLAGS);
     if (way != PASS && (flags & ~(ASKED_FLAGS | IGNORED_FLAGS)) != 0) {
         leave_out("path", "open with other flags", rest);

@@ -3,7 +3,8 @@
    usage: judge_agrees [WORD]
 
    A line of standard input is put into a file and read again, by descriptors that share an offset and by one that has
-   an offset of its own; the line is printed after WORD. The status is 1 where an answer is not the one of POSIX. */
+   an offset of its own. Their flags and the line are printed, the line after WORD. The status is 1 where an answer is
+   not the one of POSIX. */
 
 #define _POSIX_C_SOURCE 200809L
 
@@ -47,6 +48,7 @@ static int put_and_read(const char *text, size_t length)
     CHECK(ftruncate(fd, 2) == 0 && fstat(other, &told) == 0 && told.st_size == 2);
     CHECK(close(shared) == 0 && close(shared) == -1 && errno == EBADF);
     CHECK(dup2(other, 9) == 9 && pread(9, given, 1, 1) == 1 && given[0] == text[1]);
+    printf("%#x %#x ", fcntl(fd, F_GETFL), fcntl(9, F_GETFL));
     return 0;
 }
 
