@@ -1,3 +1,4 @@
 pub mod ReceiptLemmas
+pub mod ClosingLemmas
 pub mod JoinLemmas
 pub mod JudgedLemmas

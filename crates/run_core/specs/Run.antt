@@ -18,6 +18,8 @@ use Rattle.trace_writer.specs.declared.traced.TraceFault.{TraceFault}
 use Rattle.trace_writer.specs.declared.traced.TraceFault.TheVariants as trace_fault
 use Rattle.run_core.specs.declared.closing.CloseFault.{CloseFault}
 use Rattle.run_core.specs.declared.closing.CloseFault.TheVariants as fault
+use Rattle.run_core.specs.declared.report.RunFault.{RunFault}
+use Rattle.run_core.specs.declared.report.RunFault.TheVariants as run_fault
 use Rattle.session_core.specs.declared.end.End.{End}
 use Rattle.session_core.specs.declared.told.Told.{Told}
 use Rattle.session_core.specs.Refusals.{ServesUnder}
@@ -183,9 +185,15 @@ pub record IsRun (told : RunTold) : Type 0 where
 abbrev pub IsTorn : Option TraceFault → ℕ → List Record → Type 0
 IsTorn why records received = (why ≡ Some trace_fault.NoMemory) × (length received < records)
 
--- why a run comes to no totals: seats are missing; or none is, and this is the least place that does not agree, though what was received
--- did not end early for want of memory
-abbrev pub ClosesFor : BookState → List SeatState → Option TraceFault → List Record → CloseFault → Type 0
-ClosesFor b seats why received fault.NoMemory = Unit {0}
-ClosesFor b seats why received (fault.Missing m) = (m.held ≡ length seats) × (m.opened ≡ seats_given b) × (m.held < m.opened)
-ClosesFor b seats why received (fault.Disagree place) = (length seats ≡ seats_given b) × IsLeast b.history (map held_in seats) received place × (IsTorn why (length b.history) received → ⊥)
+-- why a run of so many seats, which hold this, comes to no totals: seats are missing; or none is, and this is the least place that does
+-- not agree, though what was received did not end early for want of memory
+abbrev pub ClosesFor : BookState → ℕ → List Held → Option TraceFault → List Record → CloseFault → Type 0
+ClosesFor b seats held why received fault.NoMemory = Unit {0}
+ClosesFor b seats held why received (fault.Missing m) = (m.held ≡ seats) × (m.opened ≡ seats_given b) × (m.held < m.opened)
+ClosesFor b seats held why received (fault.Disagree place) = (seats ≡ seats_given b) × IsLeast b.history held received place × (IsTorn why (length b.history) received → ⊥)
+
+-- the fault of a run that comes to no totals for this
+abbrev pub fault_of_closing : CloseFault → RunFault
+fault_of_closing fault.NoMemory = run_fault.NoMemory
+fault_of_closing (fault.Missing m) = run_fault.Missing
+fault_of_closing (fault.Disagree place) = run_fault.Disagree place

@@ -1,6 +1,6 @@
 //! The closing of a run whose sessions have ended: their receipts are compared with its records, and what they counted is gathered.
 
-ghost use Rattle.std.specs.Prelude.{◌≡◌, ◌↔◌, ◌+◌, ◌++◌, ◌∷◌, ℕ, List, Option, [], true, map, None, Some, length, vec_len, OnOk, IfOk, IfErr};
+ghost use Rattle.std.specs.Prelude.{◌≡◌, ◌↔◌, ◌++◌, ◌∷◌, ℕ, List, Option, [], true, map, None, Some, length, vec_len, OnOk, IfOk, IfErr};
 ghost use Rattle.std.specs.Arc.{arc_value};
 ghost use Rattle.posix_model.specs.History.{legal};
 ghost use Rattle.posix_model.specs.Turns.{bytes_in, bytes_out};
@@ -8,7 +8,9 @@ ghost use Rattle.call_types.specs.declared.act.Record.{Record};
 ghost use Rattle.record_book.specs.Book.{world_now};
 ghost use Rattle.record_book.specs.Counting.{seats_given};
 ghost use Rattle.run_core.specs.declared.report.RunFault.TheVariants as run_fault;
+ghost use Rattle.run_core.specs.Proved.Closing.{DiffersFor};
 ghost use Rattle.run_core.specs.Proved.Laws.{FlagsDecideAll};
+ghost use Rattle.run_core.specs.Receipts.{Held};
 ghost use Rattle.run_core.specs.Run.{AreAll, ClosesFor, IsClosing, IsGathered, IsLeast, IsRunOf, IsTorn, held_in};
 ghost use Rattle.trace_writer.specs.declared.traced.TraceFault.{TraceFault as FaultOfTrace};
 
@@ -86,6 +88,20 @@ impl From<Missing> for CloseFault {
     }
 }
 
+impl From<CloseFault> for RunFault {
+    ghost use Rattle.run_core.specs.Run.{fault_of_closing};
+
+    ghost from_gives = { λ closing fault. fault ≡ fault_of_closing closing };
+
+    fn from(closing: CloseFault) -> RunFault {
+        match closing {
+            CloseFault::NoMemory => RunFault::NoMemory,
+            CloseFault::Missing(_) => RunFault::Missing,
+            CloseFault::Disagree { place } => RunFault::Disagree { place },
+        }
+    }
+}
+
 /// Seats that were parted into their receipts and their shares.
 #[derive(Drop)]
 struct Parted<L: Ledgers> {
@@ -116,6 +132,19 @@ fn is_torn(traced: &Traced, records: u64) -> bool
     traced.fault == Some(TraceFault::NoMemory) && (traced.received.len() as u64) < records
 }
 
+/// Whether all places of a run agree, where this is the least that does not. If there is one, it is the fault, or want of memory, where that
+/// is why less was received.
+fn all_agree(traced: &Traced, records: u64, least: Option<u64>) -> Result<(), CloseFault>
+    ensures all { OnOk result (least ≡ None) }
+    ensures fault { IfErr result (DiffersFor least traced.now.fault records (map arc_value traced.now.received.items)) }
+{
+    match least {
+        None => Ok(()),
+        Some(_) if is_torn(traced, records) => Err(CloseFault::NoMemory),
+        Some(place) => Err(CloseFault::Disagree { place }),
+    }
+}
+
 /// Compares the receipts of seats, and what was received, with the records of their book: the least place that does not agree, if there
 /// is one.
 fn compare_seats<L: Ledgers>(
@@ -144,7 +173,7 @@ fn gather_seats<L: Ledgers>(
     ensures gathered { IfOk result (λ totals. IsGathered book (map (λ s. s.counted) seats.items) totals.records totals.bytes_in totals.bytes_out) }
     ensures receipts { IfOk result (λ totals. map (λ r. r.items) totals.receipts.items ≡ map (λ s. s.receipts) seats.items) }
     ensures all { OnOk result (length seats.items ≡ seats_given book) }
-    ensures fault { IfErr result (λ fault. (why : Option FaultOfTrace) (received : List Record) → ClosesFor book seats.items why received fault) }
+    ensures fault { IfErr result (λ fault. (held : List Held) (why : Option FaultOfTrace) (received : List Record) → ClosesFor book (length seats.items) held why received fault) }
 {
     let parted = part(alloc, seats)?;
     let Parted { receipts, shares } = parted;
@@ -175,7 +204,7 @@ pub fn close_run<L: Ledgers>(
     ensures receipts { IfOk result (λ totals. map (λ r. r.items) totals.receipts.items ≡ map (λ s. s.receipts) seats.items) }
     ensures all { OnOk result (AreAll book.history (map held_in seats.items) (map arc_value traced.now.received.items)) }
     ensures received { OnOk result (map arc_value traced.now.received.items ≡ book.history) }
-    ensures fault { IfErr result (ClosesFor book seats.items traced.now.fault (map arc_value traced.now.received.items)) }
+    ensures fault { IfErr result (ClosesFor book (length seats.items) (map held_in seats.items) traced.now.fault (map arc_value traced.now.received.items)) }
 {
     let received = traced.received.as_slice();
     let least = compare_seats(alloc, &book, seats.as_slice(), received);
@@ -183,11 +212,8 @@ pub fn close_run<L: Ledgers>(
     let totals = gather_seats(alloc, book, seats);
     let least = least?;
     let totals = totals?;
-    match least {
-        Some(_) if is_torn(traced, totals.records) => Err(CloseFault::NoMemory),
-        Some(place) => Err(CloseFault::Disagree { place }),
-        None => Ok(totals),
-    }
+    all_agree(traced, totals.records, least)?;
+    Ok(totals)
 }
 
 /// A run that is closed: its book, and the seat of the house, which closed it.
@@ -234,6 +260,7 @@ fn compare_with_house<L: Ledgers, T: HasReceipts>(
 ) -> Result<Option<u64>, AllocError>
     ensures is_legal { OnOk result (legal closed.now.book.limits.bounds closed.now.book.history) }
     ensures all { IfOk result (λ least. least ≡ None → AreAll closed.now.book.history (map T.held holders.now ++ held_in closed.now.house ∷ []) (map arc_value received.now)) }
+    ensures least { IfOk result (λ least. (place : ℕ) → least ≡ Some place → IsLeast closed.now.book.history (map T.held holders.now ++ held_in closed.now.house ∷ []) (map arc_value received.now) place) }
     ensures decided { IfOk result (λ least. least ≡ None → FlagsDecideAll (map arc_value received.now)) }
 {
     let least = compare(
@@ -261,16 +288,17 @@ fn with_house<L: Ledgers>(
     Ok(shares)
 }
 
-/// Gathers these shares and those of the house: the number of the records of a closed run, and of the bytes that they took and gave.
+/// Gathers these shares and those of the house: the number of the records of a closed run, and of the bytes that they took and gave. Where
+/// shares are missing, that is the fault.
 fn gather_with_house<L: Ledgers>(
     closed: Closed<L>,
     shares: Vec<Shares<L>>,
-) -> Result<Sums, RunFault>
+) -> Result<Sums, CloseFault>
     ensures records { IfOk result (λ sums. sums.records ≡ length closed.book.history) }
     ensures bytes_in { IfOk result (λ sums. sums.bytes_in ≡ bytes_in closed.book.limits.bounds closed.book.history) }
     ensures bytes_out { IfOk result (λ sums. sums.bytes_out ≡ bytes_out closed.book.limits.bounds closed.book.history) }
     ensures gathered { IfOk result (λ sums. IsGathered closed.book (shares.items ++ closed.house.counted ∷ []) sums.records sums.bytes_in sums.bytes_out) }
-    ensures fault { IfErr result (λ fault. fault ≡ run_fault.NoThread → ⊥) }
+    ensures fault { IfErr result (λ fault. (held : List Held) (why : Option FaultOfTrace) (received : List Record) → ClosesFor closed.book (length (shares.items ++ closed.house.counted ∷ [])) held why received fault) }
 {
     let Closed { book, house } = closed;
     let shares = with_house(house, shares)?;
@@ -279,17 +307,18 @@ fn gather_with_house<L: Ledgers>(
 }
 
 /// Ends a run that is closed and whose seats are parted into holders of their receipts and shares. It compares the receipts with the
-/// records and with what was received, and gathers the shares: the number of the records, and of the bytes that they took and gave.
+/// records and with what was received, and gathers the shares: the number of the records, and of the bytes that they took and gave. The
+/// faults are those of `close_run`.
 pub(crate) fn end_run<L: Ledgers, T: HasReceipts>(
     alloc: Global,
     closed: Closed<L>,
     holders: &[T],
     shares: Vec<Shares<L>>,
     traced: &Traced,
-) -> Result<Sums, RunFault>
+) -> Result<Sums, CloseFault>
     ensures run { IfOk result (λ sums. IsRunOf closed.book.limits sums.records sums.bytes_in sums.bytes_out closed.book closed.house shares.items (map T.held holders.now) (map arc_value traced.now.received.items)) }
     ensures decided { OnOk result (FlagsDecideAll (map arc_value traced.now.received.items)) }
-    ensures fault { IfErr result (λ fault. fault ≡ run_fault.NoThread → ⊥) }
+    ensures fault { IfErr result (ClosesFor closed.book (length (shares.items ++ closed.house.counted ∷ [])) (map T.held holders.now ++ held_in closed.house ∷ []) traced.now.fault (map arc_value traced.now.received.items)) }
 {
     let received = traced.received.as_slice();
     let least = compare_with_house(alloc, &closed, holders, received);
@@ -297,9 +326,6 @@ pub(crate) fn end_run<L: Ledgers, T: HasReceipts>(
     let sums = gather_with_house(closed, shares);
     let least = least?;
     let sums = sums?;
-    match least {
-        Some(_) if is_torn(traced, sums.records) => Err(RunFault::NoMemory),
-        Some(place) => Err(RunFault::Disagree { place }),
-        None => Ok(sums),
-    }
+    all_agree(traced, sums.records, least)?;
+    Ok(sums)
 }

@@ -4,7 +4,6 @@ ghost use Rattle.std.specs.Prelude.{◌≡◌};
 ghost use Rattle.run_core.specs.Receipts.{held_by};
 
 use crate::comparison::HasReceipts;
-use byte_ledger::gather::Missing;
 use logged_streams::reader::LoggedReader;
 use logged_streams::writer::LoggedWriter;
 use record_book::seat::Receipt;
@@ -131,15 +130,5 @@ impl From<AllocError> for RunFault {
 
     fn from(_fault: AllocError) -> RunFault {
         RunFault::NoMemory
-    }
-}
-
-impl From<Missing> for RunFault {
-    ghost use Rattle.run_core.specs.declared.report.RunFault.TheVariants as run_fault;
-
-    ghost from_gives = { λ _ fault. fault ≡ run_fault.Missing };
-
-    fn from(_missing: Missing) -> RunFault {
-        RunFault::Missing
     }
 }

@@ -1,14 +1,15 @@
 //! The sessions of a run, each in a thread of its own.
 
-ghost use Rattle.std.specs.Prelude.{◌≡◌, ◌≤◌, ◌<◌, ◌+◌, ◌^◌, ◌∷◌, [], true, false, Some, map, vec_len, vec_capacity, IfOk, IfErr, IfSome, OnOk};
+ghost use Rattle.std.specs.Prelude.{◌≡◌, ◌≤◌, ◌<◌, ◌+◌, ◌^◌, ◌++◌, ◌∷◌, [], true, false, Some, map, length, vec_len, vec_capacity, IfOk, IfErr, IfSome, OnOk};
 ghost use Rattle.std.specs.Option.{option_map};
 ghost use Rattle.std.specs.Arc.{arc_value};
 ghost use Rattle.rtrb.specs.Ring.{received};
 ghost use Rattle.call_types.specs.declared.limits.Limits.{Limits};
 ghost use Rattle.run_core.specs.Judged.{IsJudged};
+ghost use Rattle.run_core.specs.Proved.Closing.{UnreportedFor};
 ghost use Rattle.run_core.specs.Proved.Laws.{FlagsDecideAll};
 ghost use Rattle.run_core.specs.Receipts.{held_by};
-ghost use Rattle.run_core.specs.Run.{IsRun, IsRunOf, IsBlank, IsProcessOf, FailsIfFewer, GivesConnections, ServesInRun, streams, with_seat};
+ghost use Rattle.run_core.specs.Run.{IsRun, IsRunOf, IsBlank, IsProcessOf, FailsIfFewer, GivesConnections, ServesInRun, held_in, streams, with_seat};
 ghost use Rattle.run_core.specs.Proved.Joining.{HasEnded, IsJoined};
 ghost use Rattle.run_core.specs.declared.report.RunFault.TheVariants as run_fault;
 ghost use Rattle.run_core.specs.declared.sessions.Shortage.TheVariants as shortage;
@@ -399,7 +400,7 @@ fn report_of<R: Read + Drop, W: Write + Drop, L: Ledgers, K: Sink + Drop>(
     ensures decided { OnOk result (FlagsDecideAll (map arc_value done.traced.received.items)) }
     ensures ends { IfOk result (λ report. (report.ends ≡ ended.parted.sessions) × (report.sessions ≡ vec_len ended.parted.sessions)) }
     ensures trace { IfOk result (λ report. (report.traced ≡ done.traced) × (report.sink ≡ done.sink)) }
-    ensures fault { IfErr result (λ fault. fault ≡ run_fault.NoThread → ⊥) }
+    ensures fault { IfErr result (UnreportedFor ended.closed.book (length (ended.parted.shares.items ++ ended.closed.house.counted ∷ [])) (map (λ s. held_by s.process) ended.parted.sessions.items ++ held_in ended.closed.house ∷ []) done.traced.fault (map arc_value done.traced.received.items)) }
 {
     let Ended { closed, parted } = ended;
     let Parted {
