@@ -1,5 +1,5 @@
 -- The bytes of a chunk whose first zeros are not stored.
-use Rattle.std.proofs.Common.{◌≡◌, ℕ, ◌+◌, ◌-◌, ◌≤◌, ◌<◌, min, ◌∙◌, List, ◌++◌, length, get_or, take, drop, replicate, ap, sym, arith, length-append, length-take, append_assoc, append-nil, inl, inr}
+use Rattle.std.proofs.Common.{◌≡◌, ℕ, ◌+◌, ◌-◌, ◌≤◌, ◌<◌, min, ◌∙◌, List, ◌++◌, length, get_or, drop, replicate, ap, sym, arith, length-append, length-take, append_assoc, append-nil, inl, inr}
 use Rattle.std.proofs.lemmas.Bool.{cases_lt}
 use Rattle.std.proofs.lemmas.List.{ext_get_or, get_or-take, get_or-drop, get_or_append_left, get_or-append_right, length-replicate}
 use Rattle.posix_model.specs.Bytes.{splice, bytes_at}

@@ -1,12 +1,12 @@
 -- Chunks of rows: those that are added without a byte, the one that is edited, and copies.
-use Rattle.std.proofs.Common.{◌≡◌, ◌≢◌, ℕ, zero, suc, ◌+◌, ◌-◌, ◌<◌, ◌/◌, ◌%◌, ◌∙◌, List, [], ◌∷◌, ◌++◌, false, ◌==◌, length, get_or, slice_set, refl, ap, sym, arith, inl, inr}
+use Rattle.std.proofs.Common.{◌≡◌, ◌≢◌, ℕ, zero, suc, ◌-◌, ◌<◌, ◌/◌, ◌%◌, ◌∙◌, List, [], ◌∷◌, ◌++◌, false, ◌==◌, length, get_or, slice_set, refl, ap, sym, arith, inl, inr}
 use Rattle.std.specs.List.{AllZip}
 use Rattle.std.proofs.lemmas.Bool.{cases_lt, cases_eq}
 use Rattle.std.proofs.lemmas.Bool.Decides.{nat_tests}
 use Rattle.std.proofs.lemmas.List.{get_or_past, get_or_append_left, get_or-append_right, get_or-set_same, get_or-set_other}
 use Rattle.std.proofs.lemmas.List.Elements.{AllZip-get_or, length_all_zip}
 use Rattle.posix_model.specs.Bytes.{splice}
-use Rattle.file_extents.specs.Proved.Chunks.{ChunkState, TableState, HasPlaces, SameBytes, KeepsPlaces, Keeps, Edits, no_chunk, chunk_in, row_in, placed, chunk_at, byte_in}
+use Rattle.file_extents.specs.Proved.Chunks.{ChunkState, TableState, HasPlaces, KeepsPlaces, Keeps, Edits, no_chunk, chunk_in, row_in, placed, chunk_at, byte_in}
 
 no_byte : (c : ChunkState) (j i : ℕ) → c.bytes ≡ [] → byte_in (get_or (c ∷ []) j no_chunk) i ≡ 0
 no_byte c zero i none = rw none refl

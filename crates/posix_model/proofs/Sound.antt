@@ -10,7 +10,7 @@ use Rattle.std.proofs.lemmas.Bool.Decides.{nat_tests}
 use Rattle.call_types.specs.CallTable.{payload_of}
 use Rattle.call_types.specs.Flags.{has}
 use Rattle.call_types.specs.Flags as flag
-use Rattle.posix_model.specs.Types.{Call, Act, Outcome, Reply, Errno, OpenFlags, Whence, Bounds, World, Process, Parked, Description, Target, File, Fifo, OpenDescriptor, Decided, OFFSET_MAX, OPEN_MAX, NAMES_MAX, DESCRIPTIONS_MAX, PROCESSES_MAX, TRANSFER_MAX, EAGAIN, Replied, Number, Data, Error}
+use Rattle.posix_model.specs.Types.{Call, Act, Outcome, Reply, Errno, OpenFlags, Bounds, World, Process, Parked, Description, Target, File, Fifo, OpenDescriptor, Decided, OFFSET_MAX, OPEN_MAX, NAMES_MAX, DESCRIPTIONS_MAX, PROCESSES_MAX, TRANSFER_MAX, EAGAIN, Replied, Number, Data, Error}
 use Rattle.call_types.specs.declared.act.Act.TheVariants as act
 use Rattle.call_types.specs.declared.call.Call.TheVariants as call
 use Rattle.posix_model.specs.Bytes.{bytes_at}

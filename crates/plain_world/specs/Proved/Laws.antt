@@ -1,5 +1,5 @@
 -- What holds of steps, and so of histories.
-use Rattle.std.specs.Prelude.{◌≡◌, ◌≢◌, ℕ, ◌+◌, ◌≤◌, ◌<◌, true, false, List, [], ◌∷◌, ◌++◌, Option, None, Some, length, is_some}
+use Rattle.std.specs.Prelude.{◌≡◌, ◌≢◌, ℕ, ◌≤◌, ◌<◌, true, false, List, [], ◌∷◌, ◌++◌, Option, None, Some, length, is_some}
 use Rattle.plain_world.specs.Proved.Types.{Act, Record, Errno, Bounds, World, Description, Decided, OFFSET_MAX, EAGAIN, Replied, Number, Error}
 use Rattle.call_types.specs.declared.act.Act.TheVariants as act
 use Rattle.slots.specs.Slots.{slot, lowest}

@@ -1,5 +1,5 @@
 -- The exits that a book has prepared (own).
-use Rattle.std.specs.Prelude.{ℕ, ◌+◌, suc, List, [], ◌∷◌, ◌++◌, Option, None, Some}
+use Rattle.std.specs.Prelude.{ℕ, suc, List, [], ◌∷◌, ◌++◌, Option, None, Some}
 use Rattle.std.specs.Option.{option_map}
 use Rattle.call_types.specs.declared.act.Record.{Record}
 use Rattle.process_table.specs.declared.process.Process.{Process}
