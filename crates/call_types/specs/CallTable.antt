@@ -91,13 +91,22 @@ fstat_entry = record { word = codes "fstat"; byte = 30; fields = a_descriptor �
 abbrev pub fork_entry : Entry
 fork_entry = record { word = codes "fork"; byte = 31; fields = []; make = calls.Fork }
 
+abbrev pub getfl_entry : Entry
+getfl_entry = record { word = codes "getfl"; byte = 32; fields = a_descriptor ∷ []; make = calls.Getfl }
+
+abbrev pub setfl_entry : Entry
+setfl_entry = record { word = codes "setfl"; byte = 33; fields = a_descriptor ∷ some_flags ∷ []; make = λ fd bits. calls.Setfl fd (record { 0 = bits }) }
+
+abbrev pub rename_entry : Entry
+rename_entry = record { word = codes "rename"; byte = 34; fields = a_name ∷ a_name ∷ []; make = calls.Rename }
+
 -- the calls that name a position, an offset or a length
 abbrev pub position_table : List Entry
 position_table = pread_entry ∷ pwrite_entry ∷ lseek_entry ∷ ftruncate_entry ∷ []
 
 -- the calls that are less common
 abbrev pub later_table : List Entry
-later_table = dup_entry ∷ dup2_entry ∷ pipe_entry ∷ mkfifo_entry ∷ link_entry ∷ unlink_entry ∷ fstat_entry ∷ fork_entry ∷ position_table
+later_table = dup_entry ∷ dup2_entry ∷ pipe_entry ∷ mkfifo_entry ∷ link_entry ∷ unlink_entry ∷ fstat_entry ∷ fork_entry ∷ getfl_entry ∷ setfl_entry ∷ rename_entry ∷ position_table
 
 -- the calls
 abbrev pub call_table : List Entry
@@ -129,6 +138,9 @@ parts (calls.Link old new) = of link_entry (old, (new, tt))
 parts (calls.Unlink name) = of unlink_entry (name, tt)
 parts (calls.Fstat fd) = of fstat_entry (fd, tt)
 parts calls.Fork = of fork_entry tt
+parts (calls.Getfl fd) = of getfl_entry (fd, tt)
+parts (calls.Setfl fd flags) = of setfl_entry (fd, (flags.0, tt))
+parts (calls.Rename old new) = of rename_entry (old, (new, tt))
 
 -- a field that is a descriptor, or what the fields after it tell
 abbrev pub descriptor_or : (k : FieldKind) → Value k → Option ℤ → Option ℤ

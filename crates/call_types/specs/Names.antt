@@ -1,5 +1,5 @@
 -- The names of files: a finite map, as the list of its entries in the order of the names' bytes.
-use Rattle.std.specs.Prelude.{ℕ, not, List, Option}
+use Rattle.std.specs.Prelude.{ℕ, not, List, Option, unwrap_or}
 use Rattle.std.specs.Ordering.{nat_cmp, eq_by_cmp}
 use Rattle.std.specs.Cmp.Lexicographic.{slice_cmp}
 use Rattle.std.specs.FinMap.{find, put}
@@ -20,3 +20,7 @@ with_name name file entries = put (slice_cmp nat_cmp) name file entries
 -- the entries without the name
 abbrev pub without_name : List ℕ → Entries → Entries
 without_name name entries = where_key (slice_cmp nat_cmp) (λ other. not (eq_by_cmp (slice_cmp nat_cmp) name other)) entries
+
+-- the entries in which the new name leads where the old one led, in place of it; where the new one led before is no matter
+abbrev pub with_moved_name : List ℕ → List ℕ → Entries → Entries
+with_moved_name old new entries = with_name new (unwrap_or (file_of old entries) 0) (without_name old (without_name new entries))

@@ -77,6 +77,20 @@ pub enum Call {
     },
     /// Makes a child with the same descriptors (page of fork).
     Fork,
+    /// Tells how a file was opened, and its flags (page of fcntl, F_GETFL).
+    Getfl {
+        fd: i32,
+    },
+    /// Gives an open file description other flags, of those that stay with it (page of fcntl, F_SETFL).
+    Setfl {
+        fd: i32,
+        flags: OpenFlags,
+    },
+    /// Gives the file of a name another name in its place (page of rename).
+    Rename {
+        old: Name,
+        new: Name,
+    },
 }
 
 impl Call {
@@ -121,6 +135,10 @@ impl Call {
             Call::Unlink { name } => {
                 let _bytes = name.as_slice();
             }
+            Call::Rename { old, new } => {
+                let _old = old.as_slice();
+                let _new = new.as_slice();
+            }
             _ => {}
         }
     }
@@ -155,6 +173,11 @@ impl Call {
             Call::Unlink { name } => matches!(other, Call::Unlink { name: n } if name.is_same(n)),
             Call::Fstat { fd } => matches!(other, Call::Fstat { fd: f } if *fd == *f),
             Call::Fork => matches!(other, Call::Fork),
+            Call::Getfl { fd } => matches!(other, Call::Getfl { fd: f } if *fd == *f),
+            Call::Setfl { fd, flags } =>
+                matches!(other, Call::Setfl { fd: f, flags: g } if *fd == *f && *flags == *g),
+            Call::Rename { old, new } =>
+                matches!(other, Call::Rename { old: o, new: n } if old.is_same(o) && new.is_same(n)),
         }
     }
 }

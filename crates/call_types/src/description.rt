@@ -1,7 +1,10 @@
 //! Open file descriptions (XBD 3, Open File Description), and what they refer to.
 
 ghost use Rattle.std.specs.Prelude.{◌≡◌};
-ghost use Rattle.call_types.specs.Descriptions.{can_read, can_write};
+ghost use Rattle.call_types.specs.Descriptions.{can_read, can_write, described, flag_if, flags_of};
+
+use crate::flags::OpenFlags;
+use bitflags::Flags;
 
 /// What an open file description refers to, by number.
 #[derive(Clone, Copy)]
@@ -49,4 +52,46 @@ pub struct Description {
     pub mode: Mode,
     pub append: bool,
     pub nonblock: bool,
+}
+
+/// What changes in an open file description. What it is open on, and for what, stays.
+#[derive(Clone, Copy)]
+pub enum DescriptionEdit {
+    /// Its offset, in bytes.
+    Offset { offset: u64 },
+    /// Its flags, of those that can be set (page of fcntl, F_SETFL).
+    Flags { append: bool, nonblock: bool },
+}
+
+/// The flag, if it is set.
+fn flag_if(set: bool, flag: OpenFlags) -> OpenFlags
+    ensures { result.0 ≡ flag_if set flag.0 }
+{
+    if set { flag } else { OpenFlags::empty() }
+}
+
+impl Description {
+    /// How it is accessed, append and nonblock (page of fcntl, F_GETFL).
+    pub fn flags(&self) -> OpenFlags
+        ensures { result ≡ flags_of self.now }
+    {
+        let reading = flag_if(self.mode.can_read(), OpenFlags::READ);
+        let writing = flag_if(self.mode.can_write(), OpenFlags::WRITE);
+        let appending = flag_if(self.append, OpenFlags::APPEND);
+        let nonblocking = flag_if(self.nonblock, OpenFlags::NONBLOCK);
+        reading.union(writing).union(appending.union(nonblocking))
+    }
+
+    /// Makes an edit.
+    pub fn edit(&mut self, edit: DescriptionEdit)
+        ensures { self.new ≡ described edit self.old }
+    {
+        match edit {
+            DescriptionEdit::Offset { offset } => self.offset = offset,
+            DescriptionEdit::Flags { append, nonblock } => {
+                self.append = append;
+                self.nonblock = nonblock;
+            }
+        }
+    }
 }

@@ -19,3 +19,7 @@ returns-in-Link c = rw c.in-Link.is
 
 pub returns-in-Unlink : goal.returns-in-Unlink
 returns-in-Unlink c = rw c.in-Unlink.is (omega (arith, ap length c.as_slice-bytes-in-Unlink.ensures.value, c.as_slice-bytes-in-Unlink.ensures.within), tt)
+
+pub returns-in-Rename : goal.returns-in-Rename
+returns-in-Rename c = rw c.in-Rename.is
+    (omega (arith, ap length c.as_slice-old-in-Rename.ensures.value, c.as_slice-old-in-Rename.ensures.within), (omega (arith, ap length c.as_slice-new-in-Rename.ensures.value, c.as_slice-new-in-Rename.ensures.within), tt))
