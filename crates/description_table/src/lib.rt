@@ -5,12 +5,10 @@ ghost use Rattle.std.specs.Prelude.{◌≡◌, ◌+◌, ◌<◌, ◌≤◌, ◌^
 ghost use Rattle.std.specs.Option.{option_map};
 ghost use Rattle.slots.specs.Slots.{slot, live, edited};
 ghost use Rattle.slots.specs.Proved.Uses.{uses_at, value_at, last_value, used_once, use_added, use_dropped, with_value};
-ghost use Rattle.call_types.specs.Descriptions.{at_offset};
+ghost use Rattle.call_types.specs.Descriptions.{described, flags_of};
 ghost use Rattle.description_table.specs.Proved.Drops.{dropped};
-ghost use Rattle.description_table.specs.Proved.Flags.{flag_if, flags_of};
 
-use bitflags::Flags;
-use call_types::description::{Description, Mode, Target};
+use call_types::description::{Description, DescriptionEdit, Mode, Target};
 use call_types::flags::OpenFlags;
 use slots::keyed::Keyed;
 use slots::ticket::Ticket;
@@ -25,24 +23,6 @@ pub enum Dropped {
     Still,
     /// It went with its last reference; this is what it referred to, and for what it was open.
     Gone { target: Target, mode: Mode },
-}
-
-/// The flag, if it is set.
-fn flag_if(set: bool, flag: OpenFlags) -> OpenFlags
-    ensures { result.0 ≡ flag_if set flag.0 }
-{
-    if set { flag } else { OpenFlags::empty() }
-}
-
-/// The flags with which a description was opened, of those that stay with it (page of fcntl, F_GETFL).
-fn flags_of(description: Description) -> OpenFlags
-    ensures { result ≡ flags_of description }
-{
-    let reading = flag_if(description.mode.can_read(), OpenFlags::READ);
-    let writing = flag_if(description.mode.can_write(), OpenFlags::WRITE);
-    let appending = flag_if(description.append, OpenFlags::APPEND);
-    let nonblocking = flag_if(description.nonblock, OpenFlags::NONBLOCK);
-    reading.union(writing).union(appending.union(nonblocking))
 }
 
 /// The live descriptions (XBD 3, Open File Description). Contracts see a slot for each number that was ever given, with its references, and for how many
@@ -126,7 +106,7 @@ impl DescriptionTable {
         ensures { result ≡ option_map flags_of (value_at (slot self.now.0 ticket.now)) }
     {
         match self.get(ticket) {
-            Some(description) => Some(flags_of(*description)),
+            Some(description) => Some(description.flags()),
             None => None,
         }
     }
@@ -190,13 +170,13 @@ impl DescriptionTable {
         }
     }
 
-    /// Gives a live description another offset, in bytes, below 2^63.
+    /// Gives a live description another offset, or other flags. An offset is in bytes, below 2^63.
     #[inline(always)]
-    pub fn set_offset(&mut self, ticket: &Ticket, offset: u64)
+    pub fn describe(&mut self, ticket: &Ticket, edit: DescriptionEdit)
         requires { is_some (slot self.old.0 ticket.now) ≡ true }
-        ensures slots { self.new.0 ≡ edited ticket.now (with_value (at_offset offset)) self.old.0 }
+        ensures slots { self.new.0 ≡ edited ticket.now (with_value (described edit)) self.old.0 }
         ensures room { self.new.1 ≡ self.old.1 }
     {
-        self.descriptions.value_mut(ticket).value.offset = offset;
+        self.descriptions.value_mut(ticket).value.edit(edit);
     }
 }
