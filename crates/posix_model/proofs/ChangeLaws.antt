@@ -7,17 +7,18 @@ use Rattle.std.specs.Ordering.{nat_cmp, eq_by_cmp}
 use Rattle.std.specs.Cmp.Lexicographic.{slice_cmp}
 use Rattle.std.specs.FinMap.Entries.{by_order}
 use Rattle.std.specs.declared.cmp.Ordering.TheVariants.{Less, Equal, Greater}
-use Rattle.posix_model.specs.Proved.Whole.{TargetIsThere, is_fifo, is_regular_file, EachThere, PipeIsThere, IsItsFifo, IsOnItsPipe, PipesApart, WaitsForFew, IsWhole}
+use Rattle.posix_model.specs.Proved.Whole.{TargetIsThere, is_fifo, is_regular_file, EachThere, PipeIsThere, IsItsFifo, IsOnItsPipe, PipesApart, WaitsForFew, IsWhole, StaysOpen}
 use Rattle.posix_model.specs.Kept.{IsThere}
-use Rattle.slots.specs.Slots.{slot}
+use Rattle.slots.specs.Slots.{slot, edited}
 use Rattle.call_types.specs.Names.{Entries, with_name, without_name}
-use Rattle.call_types.specs.Descriptions.{at_offset}
+use Rattle.call_types.specs.Descriptions.{described}
+use Rattle.call_types.specs.declared.description.DescriptionEdit.TheVariants as on_description
 use Rattle.process_table.specs.Processes.{with_entry, process_with, with_parked, moved_in}
-use Rattle.posix_model.specs.Descriptors.{with_descriptor, with_offset}
+use Rattle.posix_model.specs.Descriptors.{with_descriptor}
 use Rattle.posix_model.specs.Pipes.{fifo_at, pipe_of_fifo}
 use Rattle.posix_model.specs.Change.{with_processes, with_bytes, created, with_description}
 use Rattle.posix_model.specs.Proved.Fits.{CanAdd}
-use Rattle.posix_model.specs.Types.{World, Process, Parked, Description, Target, File, Fifo, OPEN_MAX}
+use Rattle.posix_model.specs.Types.{World, Process, Parked, Description, DescriptionEdit, Target, File, Fifo, OPEN_MAX}
 use Rattle.posix_model.specs.declared.change.ProcessEdit.TheVariants as on_process
 use Rattle.posix_model.specs.Proved.Numbers.{Rises, NumbersRise, StaysSame}
 use Rattle.process_table.specs.Proved.Waits.{AsksFew}
@@ -171,18 +172,24 @@ had_push (z ∷ xs) y none (suc g) p h =
 pub pipe_there : (pipes : List (Option (List ℕ))) (files : List (Option File)) → EachThere (PipeIsThere pipes) files → (g p : ℕ) → HasPipe files g p → IsThere pipes p
 pipe_there pipes files fifos g p h = fifos g (file.Fifo h.fifo) h.stands p h.its_pipe
 
-offset_edited : (P : Target → Type 0) (k : ℕ) (old : Option Description) (d : Description) → ((x : Description) → old ≡ Some x → P x.target) → option_map (at_offset k) old ≡ Some d → P d.target
-offset_edited P k None d all h = cc
-offset_edited P k (Some x) d all h = let e : at_offset k x ≡ d = cc in subst (λ (y : Description). P y.target) e (all x refl)
+target_edited : (P : Target → Type 0) (f : Description → Description) (stays : StaysOpen f) (old : Option Description) (d : Description) → ((x : Description) → old ≡ Some x → P x.target) → option_map f old ≡ Some d →
+    P d.target
+target_edited P f stays None d all h = cc
+target_edited P f stays (Some x) d all h = let e : f x ≡ d = cc in subst (λ (y : Description). P y.target) e (subst P (sym (stays.target x)) (all x refl))
 
--- a description has another offset
-pub offset_goes : (w : World) (n k : ℕ) → IsWhole w → Goes w (with_offset w n k)
-offset_goes w n k whole =
+-- an edit of a description leaves what it is open on, and for what
+pub stays_open : (e : DescriptionEdit) → StaysOpen (described e)
+stays_open (on_description.Offset offset) = record { target = λ d. refl; mode = λ d. refl }
+stays_open other = record { target = λ d. refl; mode = λ d. refl }
+
+-- a description has another offset, or other flags
+pub description_goes : (w : World) (n : ℕ) (f : Description → Description) → StaysOpen f → IsWhole w → Goes w (record w { descriptions = edited n f w.descriptions })
+description_goes w n f stays whole =
     let ds = w.descriptions in
-    let moved = option_map (at_offset k) (slot ds n) in
-    let adds = adds_edited ds n (at_offset k) in
-    let same : (x y : Description) → slot ds n ≡ Some x → moved ≡ Some y → at_offset k x ≡ y =
-    λ x y h e. let is : option_map (at_offset k) (Some x) ≡ Some y = ap (option_map (at_offset k)) (sym h) ∙ e in cc in
+    let moved = option_map f (slot ds n) in
+    let adds = adds_edited ds n f in
+    let same : (x y : Description) → slot ds n ≡ Some x → moved ≡ Some y → f x ≡ y =
+    λ x y h e. let is : option_map f (Some x) ≡ Some y = ap (option_map f) (sym h) ∙ e in cc in
     record {
       rises = record {
         files = (adds_same w.files).rises;
@@ -190,17 +197,17 @@ offset_goes w n k whole =
         descriptions = adds.rises;
         processes = (adds_same w.processes).rises;
         kinds = stays_as_is (λ f. is_fifo (Some f)) w.files;
-        targets = stays_set (λ d. d.target) ds n moved (λ x y h e. sym (ap (λ (d : Description). d.target) (same x y h e)));
-        modes = stays_set (λ d. d.mode) ds n moved (λ x y h e. sym (ap (λ (d : Description). d.mode) (same x y h e)));
+        targets = stays_set (λ d. d.target) ds n moved (λ x y h e. sym (sym (stays.target x) ∙ ap (λ (d : Description). d.target) (same x y h e)));
+        modes = stays_set (λ d. d.mode) ds n moved (λ x y h e. sym (sym (stays.mode x) ∙ ap (λ (d : Description). d.mode) (same x y h e)));
       };
       whole = record {
         names = whole.names;
         descriptions = each_set (λ d. TargetIsThere w.files w.pipes d.target) ds n moved whole.descriptions
-            (λ d h. offset_edited (TargetIsThere w.files w.pipes) k (slot ds n) d (whole.descriptions n) h);
+            (λ d h. target_edited (TargetIsThere w.files w.pipes) f stays (slot ds n) d (whole.descriptions n) h);
         fifos = whole.fifos;
-        ends = each_set (λ d. IsItsFifo w.files d.target) ds n moved whole.ends (λ d h. offset_edited (IsItsFifo w.files) k (slot ds n) d (whole.ends n) h);
+        ends = each_set (λ d. IsItsFifo w.files d.target) ds n moved whole.ends (λ d h. target_edited (IsItsFifo w.files) f stays (slot ds n) d (whole.ends n) h);
         apart = whole.apart;
-        pipes = each_set (λ d. IsOnItsPipe w.files d.target) ds n moved whole.pipes (λ d h. offset_edited (IsOnItsPipe w.files) k (slot ds n) d (whole.pipes n) h);
+        pipes = each_set (λ d. IsOnItsPipe w.files d.target) ds n moved whole.pipes (λ d h. target_edited (IsOnItsPipe w.files) f stays (slot ds n) d (whole.pipes n) h);
         processes = λ p process at m x h. adds.there x (whole.processes p process at m x h);
         waits = whole.waits;
         tables = whole.tables;

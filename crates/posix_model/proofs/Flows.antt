@@ -131,7 +131,6 @@ none_put : (b : Bool) → cond b nil nil ≡ nil
 none_put b = cond_same b nil
 
 edit_flows : (w : World) (bytes : List ℕ) (e : FileEdit) (q : ℕ) → PipeFits w.pipes e → Flows w.pipes (with_files w bytes e).pipes q (edit_put w bytes q e) (edit_got w q e)
-edit_flows w bytes on_files.Nothing q fits = keeps_flows w.pipes w.pipes q (keeps_same w.pipes q)
 edit_flows w bytes (on_files.Put pipe source count) q fits =
     let new = take count (bytes_from w bytes source) in
     subst (λ g. Flows w.pipes (edited pipe (after_those new) w.pipes) q (cond (eqb pipe q) new []) g) (none_put (eqb pipe q))
@@ -139,32 +138,18 @@ edit_flows w bytes (on_files.Put pipe source count) q fits =
 edit_flows w bytes (on_files.Take pipe count) q fits =
     subst (λ p. Flows w.pipes (edited pipe (drop count) w.pipes) q p (cond (eqb pipe q) (take count (held w.pipes pipe)) [])) (none_put (eqb pipe q))
     (flows_edited (drop count) w.pipes pipe q [] (take count (held w.pipes pipe)) fits (λ b h. taken_off count (slot w.pipes pipe) b h))
-edit_flows w bytes (on_files.Bytes file start count) q fits = keeps_flows w.pipes w.pipes q (keeps_same w.pipes q)
-edit_flows w bytes (on_files.Resize file len) q fits = keeps_flows w.pipes w.pipes q (keeps_same w.pipes q)
-edit_flows w bytes (on_files.AddName name file) q fits = keeps_flows w.pipes w.pipes q (keeps_same w.pipes q)
-edit_flows w bytes (on_files.RemoveName name) q fits = keeps_flows w.pipes w.pipes q (keeps_same w.pipes q)
-edit_flows w bytes (on_files.MakeFile name) q fits = keeps_flows w.pipes w.pipes q (keeps_same w.pipes q)
-edit_flows w bytes (on_files.MakeFifo name) q fits = keeps_flows w.pipes w.pipes q (keeps_same w.pipes q)
+edit_flows w bytes other q fits = keeps_flows w.pipes w.pipes q (keeps_same w.pipes q)
 
 -- an edit of processes leaves pipes and files
 processes_leave : (w : World) (e : ProcessEdit) → (with_processes w e).pipes ≡ w.pipes
 processes_leave w on_process.Nothing = refl
-processes_leave w (on_process.Add table attached) = refl
-processes_leave w (on_process.Attach process) = refl
-processes_leave w (on_process.Park process parked) = refl
-processes_leave w (on_process.Total process moved) = refl
-processes_leave w (on_process.Unpark process) = refl
-processes_leave w (on_process.Exit process) = refl
-processes_leave w on_process.Close = refl
+processes_leave w other = refl
 
 -- an edit of descriptors makes pipes that are empty, at most
 table_keeps : (w : World) (e : TableEdit) (q : ℕ) → Keeps w.pipes (with_table w e).pipes q
-table_keeps w on_table.Nothing q = keeps_same w.pipes q
-table_keeps w (on_table.Offset number offset) q = keeps_same w.pipes q
-table_keeps w (on_table.Open process fd description) q = keeps_same w.pipes q
 table_keeps w (on_table.OpenPair process reading writing) q = keeps_push w.pipes q
 table_keeps w (on_table.OpenEnd process fd file description) q = keeps_made (pipe_of_fifo (fifo_at (slot w.files file))) w.pipes q
-table_keeps w (on_table.Entry process fd entry) q = keeps_same w.pipes q
+table_keeps w other q = keeps_same w.pipes q
 
 sweep_keeps : (w : World) (q : ℕ) → Keeps w.pipes (sweep w).pipes q
 sweep_keeps w q = keeps_swept (is_open (kept (is_referred w.processes) w.descriptions)) 0 w.pipes q

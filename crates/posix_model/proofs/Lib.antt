@@ -7,6 +7,7 @@ pub mod SweepWhole
 pub mod ReleaseLaws
 pub mod DropLaws
 pub mod PageLaws
+pub mod NameLemmas
 pub mod Sound
 pub mod SoundTries
 pub mod Resuming

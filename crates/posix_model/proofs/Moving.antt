@@ -129,15 +129,9 @@ record StillMoves (w : World) (bytes : List ℕ) (e : FileEdit) : Type 0 where
   gets : (q : ℕ) → edit_got w q e ≡ []
 
 still_moves : (w : World) (bytes : List ℕ) (e : FileEdit) → IsStill e → StillMoves w bytes e
-still_moves w bytes on_files.Nothing s = record { puts = λ q. refl; gets = λ q. refl }
-still_moves w bytes (on_files.Bytes file start count) s = record { puts = λ q. refl; gets = λ q. refl }
-still_moves w bytes (on_files.Resize file len) s = record { puts = λ q. refl; gets = λ q. refl }
-still_moves w bytes (on_files.AddName name file) s = record { puts = λ q. refl; gets = λ q. refl }
-still_moves w bytes (on_files.RemoveName name) s = record { puts = λ q. refl; gets = λ q. refl }
-still_moves w bytes (on_files.MakeFile name) s = record { puts = λ q. refl; gets = λ q. refl }
-still_moves w bytes (on_files.MakeFifo name) s = record { puts = λ q. refl; gets = λ q. refl }
 still_moves w bytes (on_files.Put pipe source count) s = absurd s
 still_moves w bytes (on_files.Take pipe count) s = absurd s
+still_moves w bytes other s = record { puts = λ q. refl; gets = λ q. refl }
 
 -- nothing is told, and nothing moves
 pub tells_none : (w : World) (bytes : List ℕ) (on : ℕ → Bool) (t : Turn) (d : Decided) → took_in (total d.outcome) t ≡ 0 → data_in d.outcome ≡ [] → IsStill d.change.files → Tells w bytes on t d

@@ -39,6 +39,7 @@ use Rattle.posix_model.specs.declared.change.DataSource.TheVariants as source
 use Rattle.posix_model.specs.declared.change.FileEdit.TheVariants as on_files
 use Rattle.posix_model.specs.declared.change.ProcessEdit.TheVariants as on_process
 use Rattle.posix_model.specs.declared.change.TableEdit.TheVariants as on_table
+use Rattle.call_types.specs.declared.description.DescriptionEdit.TheVariants as on_description
 use Rattle.posix_model.specs.declared.change.Try.TheVariants.{Ends}
 use Rattle.posix_model.proofs.PageLaws.{page_has, on_open_has, if_has, unmet}
 use Rattle.posix_model.proofs.Moving.{IsStill, Tells, Fair, turn_of, if_at, fair_read, fair_write, fair_still, tells_none, tells_elsewhere, tells_refused, tells_first, tells_next}
@@ -141,9 +142,9 @@ read_tells w p fd count o (target.Regular f) =
     let on = on_target (target.Regular f) in
     let c = turn_of (call.Read fd count) 0 in
     let got = bytes_at (bytes_of w (file_at o)) o.description.offset count in
-    if_at (Tells w [] on c) (eqb (length got) 0) (tells (Data got)) (does (Data got) on_files.Nothing (on_table.Offset o.number (o.description.offset + length got)))
+    if_at (Tells w [] on c) (eqb (length got) 0) (tells (Data got)) (does (Data got) on_files.Nothing (on_table.Describe o.number (on_description.Offset (o.description.offset + length got))))
     (λ e. tells_elsewhere w [] on c (tells (Data got)) (λ q. refl) tt)
-    (λ e. tells_elsewhere w [] on c (does (Data got) on_files.Nothing (on_table.Offset o.number (o.description.offset + length got))) (λ q. refl) tt)
+    (λ e. tells_elsewhere w [] on c (does (Data got) on_files.Nothing (on_table.Describe o.number (on_description.Offset (o.description.offset + length got)))) (λ q. refl) tt)
 read_tells w p fd count o (target.Pipe pipe) = read_end_tells w p fd count o pipe
 read_tells w p fd count o (target.Fifo f pipe) = read_end_tells w p fd count o pipe
 
@@ -168,7 +169,7 @@ write_tells : (bounds : Bounds) (w : World) (p : ℕ) (fd : ℤ) (new : List ℕ
     Tells w new (on_target t) (turn_of (call.Write fd new) 0) (write_to bounds w p (call.Write fd new) start new o (pipe_at t))
 write_tells bounds w p fd new start o (target.Regular f) =
     let n = fitting bounds start new in
-    puts_tells w new new (on_target (target.Regular f)) (turn_of (call.Write fd new) 0) (file_at o) start n (on_table.Offset o.number (start + n)) (λ q. refl)
+    puts_tells w new new (on_target (target.Regular f)) (turn_of (call.Write fd new) 0) (file_at o) start n (on_table.Describe o.number (on_description.Offset (start + n))) (λ q. refl)
 write_tells bounds w p fd new start o (target.Pipe pipe) = write_end_tells bounds w p fd new o pipe
 write_tells bounds w p fd new start o (target.Fifo f pipe) = write_end_tells bounds w p fd new o pipe
 

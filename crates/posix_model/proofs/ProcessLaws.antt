@@ -53,7 +53,7 @@ files_keep w bytes other = (refl, refl)
 
 table_keeps : (w : World) (e : TableEdit) → SameRun w (with_table w e)
 table_keeps w on_table.Nothing = record { all = refl; living = refl; closed = refl }
-table_keeps w (on_table.Offset number offset) = record { all = refl; living = refl; closed = refl }
+table_keeps w (on_table.Describe number edit) = record { all = refl; living = refl; closed = refl }
 table_keeps w (on_table.Open process fd d) = described_keeps w process fd d
 table_keeps w (on_table.OpenPair process reading writing) =
     let p = length w.pipes in

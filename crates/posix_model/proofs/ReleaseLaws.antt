@@ -1,17 +1,17 @@
-use Rattle.std.proofs.Common.{◌≡◌, ◌≢◌, ℕ, zero, suc, ◌+◌, ◌<◌, ◌∙◌, Bool, true, false, ◌&&◌, cond, List, [], ◌∷◌, Option, None, Some, map, set, refl, ap, sym, subst, arith, ◌⊎◌, inl, inr, eq-eqb, eqb-true}
+use Rattle.std.proofs.Common.{◌≡◌, ◌≢◌, ℕ, zero, suc, ◌+◌, ◌<◌, ◌∙◌, Bool, true, false, ◌&&◌, cond, List, [], ◌∷◌, Option, None, Some, map, set, refl, ap, sym, subst, arith, ◌⊎◌, inl, inr, eq-eqb, eqb-true, ltb}
 use Rattle.std.specs.Prelude.{is_some, ◌==◌}
 use Rattle.std.specs.List.{count_by}
 use Rattle.std.proofs.lemmas.List.Sums.{sum_by-cons}
 use Rattle.std.proofs.lemmas.Bool.{ltb-true, lt-ltb}
-use Rattle.slots.specs.Slots.{slot, kept}
+use Rattle.slots.specs.Slots.{slot, kept, kept_from}
 use Rattle.call_types.specs.Names.{Entries}
 use Rattle.posix_model.specs.Counts.{links, refs, holds, holders, reads, readers, writes, writers, is_file, is_pipe}
-use Rattle.posix_model.specs.Sweep.{is_referred, is_open, is_wanted, open_pipe, without_gone_pipe}
+use Rattle.posix_model.specs.Sweep.{is_referred, is_open, is_wanted, open_pipe, without_gone_pipe, sweep}
 use Rattle.posix_model.specs.Types.{World, Description, Target, File, Fifo}
 use Rattle.call_types.specs.declared.description.Target.TheVariants as target
 use Rattle.posix_model.specs.declared.world.File.TheVariants as file
 use Rattle.posix_model.proofs.SweepLaws.{one, LeavesThere, sweep_leaves, sweep_leaves_there, slot_mapped, still_there}
-use Rattle.posix_model.specs.Proved.Released.{released_descriptions, pipes_after, fifos_after, files_after, SweptIsSettled, SweepReleases, SettledStays, NamesRelease, released_file}
+use Rattle.posix_model.specs.Proved.Released.{released_descriptions, pipes_after, fifos_after, files_after, SweptIsSettled, SweepReleases, SettledStays, NamesRelease, SweepCounts, released_file}
 use Rattle.posix_model.specs.Proved.Whole.{IsItsFifo}
 use Rattle.posix_model.proofs.SlotLaws.{kept_all, kept_at, map_all, map_at}
 
@@ -169,3 +169,14 @@ names_release w names f settled stays =
     either : (a b c : ℕ) → (0 < a → 0 < b) → 0 < a + c → 0 < b + c
     either zero b c h there = omega (arith, there)
     either (suc a) b c h there = let more : 0 < b = h (omega arith) in omega (arith, more)
+
+-- a test that gives the same of each number keeps the same
+kept_same : {T : Type 0} (p q : ℕ → Bool) → ((n : ℕ) → p n ≡ q n) → (k : ℕ) (xs : List (Option T)) → kept_from p k xs ≡ kept_from q k xs
+kept_same p q same k [] = refl
+kept_same p q same k (x ∷ xs) = rw (same k, kept_same p q same (suc k) xs) refl
+
+pub sweep_counts : SweepCounts
+sweep_counts w names same =
+    let ds = kept (is_referred w.processes) w.descriptions in
+    let fs = map (without_gone_pipe ds) w.files in
+    ap (λ files. record (sweep w) { names = names; files = files }) (kept_same (is_wanted names ds) (is_wanted w.names ds) (λ n. ap (λ k. ltb 0 (k + holders ds n)) (same n)) 0 fs)

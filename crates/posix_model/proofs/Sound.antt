@@ -1,16 +1,16 @@
 -- What acts come to is sound: lemmas of calls that do not wait.
-use Rattle.std.proofs.Common.{rules, ◌≡◌, ◌∙◌, ℕ, zero, suc, replicate, ℤ, pos, negsuc, nat_abs, ◌+◌, ◌-◌, ◌<◌, ◌≤◌, ◌≢◌, Bool, true, false, not, ◌&&◌, ◌||◌, cond, List, [], ◌∷◌, ◌++◌, Option, None, Some, length, length-set, set, refl, ap, sym, subst, arith, leb, ltb, eqb}
-use Rattle.std.specs.Option.{option_map, is_some, is_none, unwrap_or}
+use Rattle.std.proofs.Common.{rules, ◌≡◌, ◌∙◌, ℕ, zero, suc, replicate, ℤ, pos, negsuc, nat_abs, ◌+◌, ◌-◌, ◌<◌, ◌≤◌, ◌≢◌, Bool, true, false, not, ◌&&◌, ◌||◌, cond, List, [], ◌∷◌, ◌++◌, Option, None, Some, length, length-set, set, refl, ap, sym, subst, arith, leb, ltb, eqb, eq-eqb}
+use Rattle.std.specs.Option.{option_map, option_map_or, is_some, is_none, unwrap_or}
 use Rattle.std.specs.List.{All}
 use Rattle.std.specs.Ordering.{nat_cmp, is_eq}
 use Rattle.std.specs.Cmp.Lexicographic.{slice_cmp}
 use Rattle.std.proofs.lemmas.Grind.{common_steps}
 use Rattle.std.proofs.lemmas.List.Elements.{All-head, All-tail}
 use Rattle.std.proofs.lemmas.Bool.Decides.{nat_tests}
-use Rattle.call_types.specs.CallTable.{payload_of}
+use Rattle.call_types.specs.CallTable.{payload_of, descriptor_of}
 use Rattle.call_types.specs.Flags.{has}
 use Rattle.call_types.specs.Flags as flag
-use Rattle.posix_model.specs.Types.{Call, Act, Outcome, Reply, Errno, OpenFlags, Bounds, World, Process, Parked, Description, Target, File, Fifo, OpenDescriptor, Decided, OFFSET_MAX, OPEN_MAX, NAMES_MAX, DESCRIPTIONS_MAX, PROCESSES_MAX, TRANSFER_MAX, EAGAIN, Replied, Number, Data, Error}
+use Rattle.posix_model.specs.Types.{Call, Act, Outcome, Reply, Errno, OpenFlags, Bounds, World, Process, Parked, Description, DescriptionEdit, Target, File, Fifo, OpenDescriptor, NameEdit, FileEdit, TableEdit, Decided, OFFSET_MAX, OPEN_MAX, NAMES_MAX, DESCRIPTIONS_MAX, PROCESSES_MAX, TRANSFER_MAX, EAGAIN, Replied, Number, Data, Error, Done}
 use Rattle.call_types.specs.declared.act.Act.TheVariants as act
 use Rattle.call_types.specs.declared.call.Call.TheVariants as call
 use Rattle.posix_model.specs.Bytes.{bytes_at}
@@ -19,11 +19,12 @@ use Rattle.call_types.specs.Names.{Entries, file_of}
 use Rattle.posix_model.specs.Proved.Whole.{EachThere, TargetIsThere, is_fifo, is_regular_file, IsWhole}
 use Rattle.posix_model.specs.Kept.{IsThere}
 use Rattle.process_table.specs.Processes.{table_of, free_table, copied_table, with_parked}
+use Rattle.posix_model.specs.Given.{data_given}
 use Rattle.posix_model.specs.Descriptors.{opened, opened_number, opened_description, bytes_of}
-use Rattle.posix_model.specs.Proved.Sound.{number_of, added, ended, closes, adds, data_of, IsTold, Sound, data_most, FilesWithin}
+use Rattle.posix_model.specs.Proved.Sound.{number_of, number_at, described_in, added, ended, closes, adds, data_of, may_change_files, is_of_pipes, makes_pipe, opens_fifo, IsTold, Sound, data_most, WithinLimits, FilesWithin, EditWithin, TableWithin}
 use Rattle.posix_model.specs.Positions.{bytes_before, regular_file, is_regular, file_at}
-use Rattle.posix_model.specs.Change.{with_bytes, created, with_processes}
-use Rattle.posix_model.specs.Proved.Fits.{IsFree, CanAdd, CanOpenPair, PutsWithin, Fits, IsProper}
+use Rattle.posix_model.specs.Change.{with_bytes, created, with_files, with_processes}
+use Rattle.posix_model.specs.Proved.Fits.{IsFree, IsNewName, CanAdd, CanSet, CanOpenPair, NamesFit, NamesProper, FilesFit, FilesProper, TableFits, TableProper, PutsWithin, Fits, IsProper, is_of_names}
 use Rattle.posix_model.specs.Pages.{first_fault, unless, refused, tells, does, acts, decided_by}
 use Rattle.posix_model.specs.Close.{close}
 use Rattle.posix_model.specs.Read.{read_faults, gives}
@@ -34,19 +35,22 @@ use Rattle.posix_model.specs.Dup.{dup}
 use Rattle.posix_model.specs.Dup2.{is_no_descriptor, dup2}
 use Rattle.posix_model.specs.Link.{link_at}
 use Rattle.posix_model.specs.Unlink.{unlink_faults, unlink}
-use Rattle.posix_model.specs.Open.{open_faults, open_found, open_there, open_end, opens_end, opens, emptied, mode_of, new_description, free_descriptor}
+use Rattle.posix_model.specs.Open.{names_full, open_faults, open_found, open_there, open_end, opens_end, opens, emptied, mode_of, new_description, free_descriptor}
 use Rattle.posix_model.specs.Pipes.{fifo_at, is_met, opposite_openings, pipe_between}
 use Rattle.posix_model.specs.Tries.{waiting, parks}
 use Rattle.posix_model.specs.Pipe.{pipe_faults, free_pair, opens_pair}
 use Rattle.posix_model.specs.Mkfifo.{mkfifo}
+use Rattle.posix_model.specs.Rename.{leads_to, rename_at}
 use Rattle.process_table.specs.Tables.{two_lowest, and_next}
 use Rattle.posix_model.specs.Join.{is_full}
-use Rattle.posix_model.specs.Turns.{total, took_in, new_turn, took, data_in}
+use Rattle.posix_model.specs.Turns.{took_in, new_turn, took, data_in}
 use Rattle.call_types.specs.declared.description.Target.TheVariants as target
 use Rattle.posix_model.specs.declared.world.File.TheVariants as file
+use Rattle.posix_model.specs.declared.change.NameEdit.TheVariants as on_names
 use Rattle.posix_model.specs.declared.change.FileEdit.TheVariants as on_files
 use Rattle.posix_model.specs.declared.change.ProcessEdit.TheVariants as on_process
 use Rattle.posix_model.specs.declared.change.TableEdit.TheVariants as on_table
+use Rattle.call_types.specs.declared.description.DescriptionEdit.TheVariants as on_description
 use Rattle.posix_model.proofs.PageLaws.{if_has, IsOf, unmet}
 use Rattle.posix_model.proofs.SlotLaws.{test_set, there_below, stands_there, lowest_is_least, slot_set_there, set_within, set_other}
 
@@ -62,17 +66,21 @@ none_taken c most = elim (is_some (payload_of c)) as (λ b. cond b (0 - 0) 0 ≤
 pub as_before : {act : Act} {outcome : Outcome} (w : World) → added act outcome ≡ 0 → adds w act ≡ 0 → ended act ≡ 0 → closes act ≡ false → IsTold w act outcome on_process.Nothing
 as_before w adds_none plans_none ends_none stays_open = record { added = sym adds_none; planned = sym plans_none; ended = sym ends_none; closed = sym stays_open; there = λ p h. cc }
 
--- what only tells, and no bytes taken
-pub sound_tells : (bounds : Bounds) (w : World) (process : ℕ) (c : Call) (reply : Reply) → added (act.Call c) (Replied reply) ≡ 0 → adds w (act.Call c) ≡ 0 → total (Replied reply) ≡ 0 →
-    length (data_in (Replied reply)) ≤ data_most (act.Call c) → Answers bounds w process c (tells reply)
-sound_tells bounds w process c reply adds_none plans_none none brief = record {
+-- how many bytes a call takes by its reply
+abbrev pub taken : World → ℕ → Call → Reply → ℕ
+taken w process c reply = took w (record { actor = process; act = act.Call c; outcome = Replied reply })
+
+-- what only tells, and takes no more bytes than the call gives
+pub sound_tells : (bounds : Bounds) (w : World) (process : ℕ) (c : Call) (reply : Reply) → added (act.Call c) (Replied reply) ≡ 0 → adds w (act.Call c) ≡ 0 →
+    taken w process c reply ≤ length (data_of w process (act.Call c)) → length (data_in (Replied reply)) ≤ data_most (act.Call c) → Answers bounds w process c (tells reply)
+sound_tells bounds w process c reply adds_none plans_none few brief = record {
   refusal = λ _ _ _. refl;
   processes = as_before w adds_none plans_none refl refl;
   own = λ n h. cc;
   files = λ _. record { files = λ _. refl; table = refl };
   pipes = λ _. record { files = refl; made = refl; opened = refl };
   brief = λ _. brief;
-  few = subst (λ n. took_in n (new_turn c) ≤ length (data_of w process (act.Call c))) (sym none) (none_taken c (length (data_of w process (act.Call c))));
+  few = few;
   proper = λ _. record { files = tt; process = tt; table = tt };
   fits = λ _. record { files = tt; process = tt; table = tt; alone = λ h. cc; goes_alone = λ h. cc };
   puts = tt;
@@ -87,7 +95,74 @@ refused_adds other error = refl
 
 -- a refusal, of a call that is to add no process
 pub sound_refused : (bounds : Bounds) (w : World) (process : ℕ) (c : Call) → adds w (act.Call c) ≡ 0 → (error : Errno) → Answers bounds w process c (refused error)
-sound_refused bounds w process c plans_none error = sound_tells bounds w process c (Error error) (refused_adds c error) plans_none refl (omega arith)
+sound_refused bounds w process c plans_none error =
+    sound_tells bounds w process c (Error error) (refused_adds c error) plans_none (none_taken c (length (data_of w process (act.Call c)))) (omega arith)
+
+-- a reply of a call that is no refusal and adds no process, and takes and tells no more bytes than it may
+pub record IsReply (w : World) (process : ℕ) (c : Call) (reply : Reply) : Type 0 where
+  pub done : (error : Errno) → Replied reply ≡ Replied (Error error) → ⊥
+  pub adds_none : added (act.Call c) (Replied reply) ≡ 0
+  pub plans_none : adds w (act.Call c) ≡ 0
+  pub few : taken w process c reply ≤ length (data_of w process (act.Call c))
+  pub brief : length (data_in (Replied reply)) ≤ data_most (act.Call c)
+
+-- an edit of files or names, which the call may make, of no pipe
+pub record FilesSound (bounds : Bounds) (w : World) (c : Call) (e : FileEdit) : Type 0 where
+  pub may : may_change_files (act.Call c) ≡ false → e ≡ on_files.Nothing
+  pub still : is_of_pipes e ≡ false
+  pub proper : bounds.file_size ≤ OFFSET_MAX → FilesProper w (data_given c) e
+  pub fits : IsWhole w → FilesFit w e
+  pub puts : PutsWithin bounds.pipe_capacity w e
+  pub within : FilesWithin bounds e
+
+-- an edit of descriptors in a world after that of files, of no new pipe
+pub record TableSound (bounds : Bounds) (w v : World) (process : ℕ) (c : Call) (e : TableEdit) : Type 0 where
+  pub own : (n : ℕ) → described_in e ≡ Some n → number_at w process (act.Call c) ≡ Some n
+  pub makes_none : makes_pipe e ≡ false
+  pub opens_none : opens_fifo e ≡ false
+  pub proper : TableProper w e
+  pub fits : IsWhole w → TableFits v e
+  pub within : bounds.file_size ≤ OFFSET_MAX → WithinLimits bounds w → TableWithin e
+
+-- no edit of files, and none of descriptors
+pub no_files : (bounds : Bounds) (w : World) (c : Call) → FilesSound bounds w c on_files.Nothing
+no_files bounds w c = record { may = λ _. refl; still = refl; proper = λ _. tt; fits = λ _. tt; puts = tt; within = tt }
+
+pub no_table : (bounds : Bounds) (w v : World) (process : ℕ) (c : Call) → TableSound bounds w v process c on_table.Nothing
+no_table bounds w v process c = record { own = λ n h. cc; makes_none = refl; opens_none = refl; proper = tt; fits = λ _. tt; within = λ _ _. tt }
+
+-- what a call does that does not wait: a reply, an edit of files and one of descriptors, and none beside one of names
+pub sound_does : (bounds : Bounds) (w : World) (process : ℕ) (c : Call) (reply : Reply) (files : FileEdit) (table : TableEdit) → IsReply w process c reply → FilesSound bounds w c files →
+    TableSound bounds w (with_files w (data_given c) files) process c table → (is_of_names files ≡ true → table ≡ on_table.Nothing) → Answers bounds w process c (does reply files table)
+sound_does bounds w process c reply files table is f t alone = record {
+  refusal = λ _ error h. absurd (is.done error h);
+  processes = as_before w is.adds_none is.plans_none refl refl;
+  own = t.own;
+  files = λ no. record { files = λ _. f.may no; table = t.opens_none };
+  pipes = λ _. record { files = f.still; made = t.makes_none; opened = t.opens_none };
+  brief = λ _. is.brief;
+  few = is.few;
+  proper = λ small. record { files = f.proper small; process = tt; table = t.proper };
+  fits = λ whole. record { files = f.fits whole; process = tt; table = t.fits whole; alone = λ h. (refl, alone h); goes_alone = λ h. cc };
+  puts = f.puts;
+  within_files = f.within;
+  within_table = t.within;
+}
+
+-- a descriptor refers to what is there, or is free
+pub sound_entry : (bounds : Bounds) (w : World) (process : ℕ) (c : Call) (reply : Reply) (fd : ℕ) (entry : Option ℕ) → IsReply w process c reply → (IsWhole w → CanSet w process fd entry) →
+    Answers bounds w process c (does reply on_files.Nothing (on_table.Entry process fd entry))
+sound_entry bounds w process c reply fd entry is can =
+    sound_does bounds w process c reply on_files.Nothing (on_table.Entry process fd entry) is (no_files bounds w c)
+    (record { own = λ n h. cc; makes_none = refl; opens_none = refl; proper = tt; fits = can; within = λ _ _. tt }) (λ h. cc)
+
+-- an edit of names
+pub sound_names : (bounds : Bounds) (w : World) (process : ℕ) (c : Call) (e : NameEdit) → may_change_files (act.Call c) ≡ true → IsReply w process c Done → NamesProper w e → (IsWhole w → NamesFit w e) →
+    Answers bounds w process c (does Done (on_files.Names e) on_table.Nothing)
+sound_names bounds w process c e may is proper fits =
+    sound_does bounds w process c Done (on_files.Names e) on_table.Nothing is
+    (record { may = λ no. let bad : true ≡ false = sym may ∙ no in cc; still = refl; proper = λ _. proper; fits = fits; puts = tt; within = tt })
+    (no_table bounds w (with_files w (data_given c) (on_files.Names e)) process c) (λ _. refl)
 
 -- an open descriptor of a process stands in its table, and its description under its number
 pub record IsOpenAt (w : World) (p : ℕ) (o : OpenDescriptor) : Type 0 where
@@ -117,9 +192,9 @@ pub opened_stands : (w : World) (p : ℕ) (fd : ℤ) (o : OpenDescriptor) → op
 opened_stands w p (pos fd) o h = open_in w p fd (slot w.processes p) o refl h
 opened_stands w p (negsuc n) o h = cc
 
--- the offset that a call on a descriptor moves is that of its own description
-pub own_offset : (w : World) (p : ℕ) (fd : ℤ) (o : OpenDescriptor) (n : ℕ) → opened w p fd ≡ Some o → Some o.number ≡ Some n → number_of w p fd ≡ Some n
-own_offset w p fd o n is h = ap (option_map (λ x. x.number)) is ∙ h
+-- a call on a descriptor describes its own description
+own_number : (w : World) (p : ℕ) (fd : ℤ) (o : OpenDescriptor) (n : ℕ) → opened w p fd ≡ Some o → Some o.number ≡ Some n → number_of w p fd ≡ Some n
+own_number w p fd o n is h = ap (option_map (λ x. x.number)) is ∙ h
 
 -- the file of a descriptor that is open on a regular one is there
 regular_there : (files : List (Option File)) (pipes : List (Option (List ℕ))) (t : Target) → is_some (regular_file t) ≡ true → TargetIsThere files pipes t →
@@ -127,6 +202,23 @@ regular_there : (files : List (Option File)) (pipes : List (Option (List ℕ))) 
 regular_there files pipes (target.Regular f) regular there = there
 regular_there files pipes (target.Pipe pipe) regular there = cc
 regular_there files pipes (target.Fifo f pipe) regular there = cc
+
+-- the description that the call is on has another offset, or other flags
+pub sound_describes : (bounds : Bounds) (w : World) (process : ℕ) (c : Call) (reply : Reply) (files : FileEdit) (fd : ℤ) (o : OpenDescriptor) (e : DescriptionEdit) → opened w process fd ≡ Some o →
+    descriptor_of c ≡ Some fd → IsReply w process c reply → FilesSound bounds w c files → is_of_names files ≡ false → (with_files w (data_given c) files).descriptions ≡ w.descriptions →
+    (bounds.file_size ≤ OFFSET_MAX → WithinLimits bounds w → EditWithin e) → Answers bounds w process c (does reply files (on_table.Describe o.number e))
+sound_describes bounds w process c reply files fd o e is on replied f stays same within =
+    let at = opened_stands w process fd o is in
+    sound_does bounds w process c reply files (on_table.Describe o.number e) replied f
+    (record {
+      own = λ n h. ap (λ d. option_map_or (number_of w process) d None) on ∙ own_number w process fd o n is h;
+      makes_none = refl;
+      opens_none = refl;
+      proper = tt;
+      fits = λ _. ap (λ ds. is_some (slot ds o.number)) same ∙ ap is_some at.description_is;
+      within = within;
+    })
+    (λ h. let bad : true ≡ false = sym h ∙ stays in cc)
 
 pub not_false : (b : Bool) → not b ≡ false → b ≡ true
 not_false true h = refl
@@ -156,20 +248,9 @@ put_below bounds start bytes clear some =
     (omega arith, omega (arith, below))
 
 pub sound_close : (bounds : Bounds) (w : World) (p : ℕ) (fd : ℤ) (o : OpenDescriptor) → IsOpenAt w p o → Answers bounds w p (call.Close fd) (close p o).effect
-sound_close bounds w p fd o at = record {
-  refusal = λ _ _ h. cc;
-  processes = as_before w refl refl refl refl;
-  own = λ n h. cc;
-  files = λ _. record { files = λ _. refl; table = refl };
-  pipes = λ _. record { files = refl; made = refl; opened = refl };
-  brief = λ _. omega arith;
-  few = omega arith;
-  proper = λ _. record { files = tt; process = tt; table = tt };
-  fits = λ _. record { files = tt; process = tt; table = record { process = at.process; process_is = at.process_is; within = at.within; there = λ n h. cc }; alone = λ h. cc; goes_alone = λ h. cc };
-  puts = tt;
-  within_files = tt;
-  within_table = λ _ _. tt;
-}
+sound_close bounds w p fd o at =
+    sound_entry bounds w p (call.Close fd) Done o.fd None (record { done = λ error h. cc; adds_none = refl; plans_none = refl; few = omega arith; brief = omega arith })
+    (λ _. record { process = at.process; process_is = at.process_is; within = at.within; there = λ n h. cc })
 
 -- a read ends at the end of the file, or at the offset
 read_end : (there : List ℕ) (start count size most : ℕ) → length there ≤ size → size ≤ most → start ≤ most → start + length (bytes_at there start count) ≤ most
@@ -186,22 +267,24 @@ sound_read_file bounds w p fd count o is free =
     let brief = read_few (bytes_of w (file_at o)) o.description.offset count TRANSFER_MAX asked in
     let got = bytes_at (bytes_of w (file_at o)) o.description.offset count in
     let at = opened_stands w p fd o is in
-    if_has (Answers bounds w p (call.Read fd count)) (eqb (length got) 0) (tells (Data got)) (does (Data got) on_files.Nothing (on_table.Offset o.number (o.description.offset + length got)))
-    (λ _. sound_tells bounds w p (call.Read fd count) (Data got) refl refl refl brief)
-    (λ _. record {
-      refusal = λ _ _ h. cc;
-      processes = as_before w refl refl refl refl;
-      own = λ n h. own_offset w p fd o n is h;
-      files = λ _. record { files = λ _. refl; table = refl };
-      pipes = λ _. record { files = refl; made = refl; opened = refl };
-      brief = λ _. brief;
-      few = omega arith;
-      proper = λ _. record { files = tt; process = tt; table = tt };
-      fits = λ _. record { files = tt; process = tt; table = ap is_some at.description_is; alone = λ h. cc; goes_alone = λ h. cc };
-      puts = tt;
-      within_files = tt;
-      within_table = λ small limits. read_end (bytes_of w (file_at o)) o.description.offset count bounds.file_size OFFSET_MAX (limits.files (file_at o)) small (limits.offsets o.number o.description at.description_is);
-    })
+    let to = on_description.Offset (o.description.offset + length got) in
+    if_has (Answers bounds w p (call.Read fd count)) (eqb (length got) 0) (tells (Data got)) (does (Data got) on_files.Nothing (on_table.Describe o.number to))
+    (λ _. sound_tells bounds w p (call.Read fd count) (Data got) refl refl (omega arith) brief)
+    (λ _. sound_describes bounds w p (call.Read fd count) (Data got) on_files.Nothing fd o to is refl
+    (record { done = λ error h. cc; adds_none = refl; plans_none = refl; few = omega arith; brief = brief }) (no_files bounds w (call.Read fd count)) refl refl
+    (λ small limits. read_end (bytes_of w (file_at o)) o.description.offset count bounds.file_size OFFSET_MAX (limits.files (file_at o)) small (limits.offsets o.number o.description at.description_is)))
+
+-- bytes that are put into a regular file, below the limit
+bytes_sound : (bounds : Bounds) (w : World) (c : Call) (f start n : ℕ) → may_change_files (act.Call c) ≡ true → n ≤ length (data_given c) → length (data_given c) ≤ TRANSFER_MAX →
+    start + n ≤ bounds.file_size → (IsWhole w → is_regular_file (slot w.files f) ≡ true) → FilesSound bounds w c (on_files.Bytes f start n)
+bytes_sound bounds w c f start n may put few within there = record {
+  may = λ no. let bad : true ≡ false = sym may ∙ no in cc;
+  still = refl;
+  proper = λ small. (put, omega (arith, within, small), omega (arith, put, few));
+  fits = there;
+  puts = tt;
+  within = within;
+}
 
 pub sound_write_file : (bounds : Bounds) (w : World) (p : ℕ) (fd : ℤ) (bytes : List ℕ) (start : ℕ) (o : OpenDescriptor) → opened w p fd ≡ Some o → is_regular o ≡ true →
     first_fault (write_faults bounds start bytes o) ≡ None → Answers bounds w p (call.Write fd bytes) (write_file bounds start bytes o)
@@ -212,22 +295,13 @@ sound_write_file bounds w p fd bytes start o is on_file free =
     ap (λ b. b && is_past_limit bounds start bytes) (sym on_file) ∙ unmet (write_faults bounds start bytes o) free (is_regular o && is_past_limit bounds start bytes) (search rules) in
     let few = not_below TRANSFER_MAX (length bytes) (unmet (write_faults bounds start bytes o) free (ltb TRANSFER_MAX (length bytes)) (search rules)) in
     let n = fitting bounds start bytes in
-    if_has (Answers bounds w p (call.Write fd bytes)) (eqb (length bytes) 0) (tells (Number 0)) (does (Number n) (on_files.Bytes (file_at o) start n) (on_table.Offset o.number (start + n)))
-    (λ _. sound_tells bounds w p (call.Write fd bytes) (Number 0) refl refl refl (omega arith))
-    (λ some. let put = put_below bounds start bytes below_limit some in record {
-      refusal = λ _ _ h. cc;
-      processes = as_before w refl refl refl refl;
-      own = λ n h. own_offset w p fd o n is h;
-      files = λ h. cc;
-      pipes = λ _. record { files = refl; made = refl; opened = refl };
-      brief = λ _. omega arith;
-      few = omega (arith, put.0);
-      proper = λ small. record { files = (put.0, omega (arith, put.1, small), omega (arith, put.0, few)); process = tt; table = tt };
-      fits = λ whole. record { files = file_there w p o at regular whole; process = tt; table = ap is_some at.description_is; alone = λ h. cc; goes_alone = λ h. cc };
-      puts = tt;
-      within_files = put.1;
-      within_table = λ small _. omega (arith, put.1, small);
-    })
+    let to = on_description.Offset (start + n) in
+    if_has (Answers bounds w p (call.Write fd bytes)) (eqb (length bytes) 0) (tells (Number 0)) (does (Number n) (on_files.Bytes (file_at o) start n) (on_table.Describe o.number to))
+    (λ _. sound_tells bounds w p (call.Write fd bytes) (Number 0) refl refl (omega arith) (omega arith))
+    (λ some. let put = put_below bounds start bytes below_limit some in
+    sound_describes bounds w p (call.Write fd bytes) (Number n) (on_files.Bytes (file_at o) start n) fd o to is refl
+    (record { done = λ error h. cc; adds_none = refl; plans_none = refl; few = omega (arith, put.0); brief = omega arith })
+    (bytes_sound bounds w (call.Write fd bytes) (file_at o) start n refl put.0 few put.1 (file_there w p o at regular)) refl refl (λ small _. omega (arith, put.1, small)))
 
 pub sound_pwrite : (bounds : Bounds) (w : World) (p : ℕ) (fd start : ℤ) (bytes : List ℕ) (o : OpenDescriptor) → opened w p fd ≡ Some o → first_fault (pwrite_faults bounds start bytes o) ≡ None →
     Answers bounds w p (call.Pwrite fd start bytes) (pwrite bounds start bytes o).effect
@@ -237,42 +311,24 @@ sound_pwrite bounds w p fd start bytes o is free =
     let below_limit = unmet (pwrite_faults bounds start bytes o) free (is_past_limit bounds (bytes_before start) bytes) (search rules) in
     let few = not_below TRANSFER_MAX (length bytes) (unmet (pwrite_faults bounds start bytes o) free (ltb TRANSFER_MAX (length bytes)) (search rules)) in
     let n = fitting bounds (bytes_before start) bytes in
-    if_has (Answers bounds w p (call.Pwrite fd start bytes)) (eqb (length bytes) 0) (tells (Number 0)) (does (Number n) (on_files.Bytes (file_at o) (bytes_before start) n) on_table.Nothing)
-    (λ _. sound_tells bounds w p (call.Pwrite fd start bytes) (Number 0) refl refl refl (omega arith))
-    (λ some. let put = put_below bounds (bytes_before start) bytes below_limit some in record {
-      refusal = λ _ _ h. cc;
-      processes = as_before w refl refl refl refl;
-      own = λ n h. cc;
-      files = λ h. cc;
-      pipes = λ _. record { files = refl; made = refl; opened = refl };
-      brief = λ _. omega arith;
-      few = omega (arith, put.0);
-      proper = λ small. record { files = (put.0, omega (arith, put.1, small), omega (arith, put.0, few)); process = tt; table = tt };
-      fits = λ whole. record { files = file_there w p o at regular whole; process = tt; table = tt; alone = λ h. cc; goes_alone = λ h. cc };
-      puts = tt;
-      within_files = put.1;
-      within_table = λ _ _. tt;
-    })
+    let put_it = on_files.Bytes (file_at o) (bytes_before start) n in
+    if_has (Answers bounds w p (call.Pwrite fd start bytes)) (eqb (length bytes) 0) (tells (Number 0)) (does (Number n) put_it on_table.Nothing)
+    (λ _. sound_tells bounds w p (call.Pwrite fd start bytes) (Number 0) refl refl (omega arith) (omega arith))
+    (λ some. let put = put_below bounds (bytes_before start) bytes below_limit some in
+    sound_does bounds w p (call.Pwrite fd start bytes) (Number n) put_it on_table.Nothing
+    (record { done = λ error h. cc; adds_none = refl; plans_none = refl; few = omega (arith, put.0); brief = omega arith })
+    (bytes_sound bounds w (call.Pwrite fd start bytes) (file_at o) (bytes_before start) n refl put.0 few put.1 (file_there w p o at regular))
+    (no_table bounds w (with_files w bytes put_it) p (call.Pwrite fd start bytes)) (λ h. cc))
 
 pub sound_ftruncate : (bounds : Bounds) (w : World) (p : ℕ) (fd len : ℤ) (o : OpenDescriptor) → IsOpenAt w p o → first_fault (ftruncate_faults bounds len o) ≡ None →
     Answers bounds w p (call.Ftruncate fd len) (ftruncate bounds len o).effect
 sound_ftruncate bounds w p fd len o at free =
     let regular = unmet (ftruncate_faults bounds len o) free (not (is_regular o)) (search rules) in
     let short = not_below bounds.file_size (bytes_before len) (unmet (ftruncate_faults bounds len o) free (ltb bounds.file_size (bytes_before len)) (search rules)) in
-    record {
-      refusal = λ _ _ h. cc;
-      processes = as_before w refl refl refl refl;
-      own = λ n h. cc;
-      files = λ h. cc;
-      pipes = λ _. record { files = refl; made = refl; opened = refl };
-      brief = λ _. omega arith;
-      few = omega arith;
-      proper = λ small. record { files = omega (arith, short, small); process = tt; table = tt };
-      fits = λ whole. record { files = file_there w p o at regular whole; process = tt; table = tt; alone = λ h. cc; goes_alone = λ h. cc };
-      puts = tt;
-      within_files = short;
-      within_table = λ _ _. tt;
-    }
+    let resize = on_files.Resize (file_at o) (bytes_before len) in
+    sound_does bounds w p (call.Ftruncate fd len) Done resize on_table.Nothing (record { done = λ error h. cc; adds_none = refl; plans_none = refl; few = omega arith; brief = omega arith })
+    (record { may = λ h. cc; still = refl; proper = λ small. omega (arith, short, small); fits = file_there w p o at regular; puts = tt; within = short })
+    (no_table bounds w (with_files w [] resize) p (call.Ftruncate fd len)) (λ h. cc)
 
 -- a name that is found leads to a file that is there
 found_there : (P : ℕ → Type 0) (name : List ℕ) (es : Entries) (f : ℕ) → All (λ entry. P entry.1) es → file_of name es ≡ Some f → P f
@@ -303,26 +359,9 @@ pub sound_dup : (bounds : Bounds) (w : World) (p : ℕ) (fd : ℤ) (o : OpenDesc
 sound_dup bounds w p fd o at free =
     let low = lowest (table_of (slot w.processes p)) in
     let is = free_is w p low refl (unmet (dup w p o).faults free (is_none low) (search rules)) in
-    record {
-      refusal = λ _ _ h. cc;
-      processes = as_before w refl refl refl refl;
-      own = λ n h. cc;
-      files = λ _. record { files = λ _. refl; table = refl };
-      pipes = λ _. record { files = refl; made = refl; opened = refl };
-      brief = λ _. omega arith;
-      few = omega arith;
-      proper = λ _. record { files = tt; process = tt; table = tt };
-      fits = λ _. record {
-        files = tt;
-        process = tt;
-        table = record { process = is.process; process_is = is.process_is; within = is.within; there = λ n h. let same : o.number ≡ n = cc in subst (IsThere w.descriptions) same (ap is_some at.description_is) };
-        alone = λ h. cc;
-        goes_alone = λ h. cc;
-      };
-      puts = tt;
-      within_files = tt;
-      within_table = λ _ _. tt;
-    }
+    let to = free_descriptor w p in
+    sound_entry bounds w p (call.Dup fd) (Number to) to (Some o.number) (record { done = λ error h. cc; adds_none = refl; plans_none = refl; few = omega arith; brief = omega arith })
+    (λ _. record { process = is.process; process_is = is.process_is; within = is.within; there = λ n h. let same : o.number ≡ n = cc in subst (IsThere w.descriptions) same (ap is_some at.description_is) })
 
 -- a number that may be a descriptor
 may_be_one : (to : ℤ) → is_no_descriptor to ≡ false → nat_abs to < OPEN_MAX
@@ -332,46 +371,16 @@ may_be_one (negsuc n) h = cc
 pub sound_dup2 : (bounds : Bounds) (w : World) (p : ℕ) (fd to : ℤ) (o : OpenDescriptor) → IsOpenAt w p o → first_fault (dup2 p to o).faults ≡ None → Answers bounds w p (call.Dup2 fd to) (dup2 p to o).effect
 sound_dup2 bounds w p fd to o at free =
     let few = may_be_one to (unmet (dup2 p to o).faults free (is_no_descriptor to) (search rules)) in
-    if_has (Answers bounds w p (call.Dup2 fd to)) (eqb (nat_abs to) o.fd) (tells (Number (nat_abs to))) (does (Number (nat_abs to)) on_files.Nothing (on_table.Entry p (nat_abs to) (Some o.number)))
-    (λ _. record {
-      refusal = λ _ _ h. cc;
-      processes = as_before w refl refl refl refl;
-      own = λ n h. cc;
-      files = λ _. record { files = λ _. refl; table = refl };
-      pipes = λ _. record { files = refl; made = refl; opened = refl };
-      brief = λ _. omega arith;
-      few = omega arith;
-      proper = λ _. record { files = tt; process = tt; table = tt };
-      fits = λ _. record { files = tt; process = tt; table = tt; alone = λ h. cc; goes_alone = λ h. cc };
-      puts = tt;
-      within_files = tt;
-      within_table = λ _ _. tt;
-    })
-    (λ _. record {
-      refusal = λ _ _ h. cc;
-      processes = as_before w refl refl refl refl;
-      own = λ n h. cc;
-      files = λ _. record { files = λ _. refl; table = refl };
-      pipes = λ _. record { files = refl; made = refl; opened = refl };
-      brief = λ _. omega arith;
-      few = omega arith;
-      proper = λ _. record { files = tt; process = tt; table = tt };
-      fits = λ whole. record {
-        files = tt;
-        process = tt;
-        table = record {
-          process = at.process;
-          process_is = at.process_is;
-          within = omega (arith, few, whole.tables p at.process at.process_is);
-          there = λ n h. let same : o.number ≡ n = cc in subst (IsThere w.descriptions) same (ap is_some at.description_is);
-        };
-        alone = λ h. cc;
-        goes_alone = λ h. cc;
-      };
-      puts = tt;
-      within_files = tt;
-      within_table = λ _ _. tt;
-    })
+    let told = Number (nat_abs to) in
+    let is : IsReply w p (call.Dup2 fd to) told = record { done = λ error h. cc; adds_none = refl; plans_none = refl; few = omega arith; brief = omega arith } in
+    if_has (Answers bounds w p (call.Dup2 fd to)) (eqb (nat_abs to) o.fd) (tells told) (does told on_files.Nothing (on_table.Entry p (nat_abs to) (Some o.number)))
+    (λ _. sound_tells bounds w p (call.Dup2 fd to) told refl refl (omega arith) (omega arith))
+    (λ _. sound_entry bounds w p (call.Dup2 fd to) told (nat_abs to) (Some o.number) is (λ whole. record {
+      process = at.process;
+      process_is = at.process_is;
+      within = omega (arith, few, whole.tables p at.process at.process_is);
+      there = λ n h. let same : o.number ≡ n = cc in subst (IsThere w.descriptions) same (ap is_some at.description_is);
+    }))
 
 -- a free descriptor stays so where its process waits in a call
 parked_free : (w : World) (p fd : ℕ) (parked : Parked) → IsFree w p fd → IsFree (with_processes w (on_process.Park p parked)) p fd
@@ -519,29 +528,21 @@ none_there : (x : Option ℕ) → is_some x ≡ false → x ≡ None
 none_there None h = refl
 none_there (Some n) h = cc
 
+-- a name that is new where a page has found it so
+new_name : (w : World) (name : List ℕ) (faults : List (Bool × Errno)) → first_fault faults ≡ None → IsOf faults (is_some (file_of name w.names)) → IsOf faults (names_full w) → IsNewName w name
+new_name w name faults free is_taken is_full = (none_there (file_of name w.names) (unmet faults free (is_some (file_of name w.names)) is_taken), not_at_most NAMES_MAX (length w.names) (unmet faults free (names_full w) is_full))
+
+-- a call is done that gives no data
+pub done_sound : (w : World) (p : ℕ) (c : Call) → added (act.Call c) (Replied Done) ≡ 0 → adds w (act.Call c) ≡ 0 → taken w p c Done ≤ length (data_of w p (act.Call c)) → IsReply w p c Done
+done_sound w p c adds_none plans_none few = record { done = λ error h. cc; adds_none = adds_none; plans_none = plans_none; few = few; brief = omega arith }
+
 pub sound_link : (bounds : Bounds) (w : World) (p : ℕ) (old new : List ℕ) (found : Option ℕ) → file_of old w.names ≡ found → first_fault (link_at w old new found).faults ≡ None →
     Answers bounds w p (call.Link old new) (link_at w old new found).effect
 sound_link bounds w p old new None is free = let bad : true ≡ false = unmet (link_at w old new None).faults free true (search rules) in cc
 sound_link bounds w p old new (Some f) is free =
     let faults = (link_at w old new (Some f)).faults in
-    record {
-      refusal = λ _ _ h. cc;
-      processes = as_before w refl refl refl refl;
-      own = λ n h. cc;
-      files = λ h. cc;
-      pipes = λ _. record { files = refl; made = refl; opened = refl };
-      brief = λ _. omega arith;
-      few = omega arith;
-      proper = λ _. record {
-        files = (none_there (file_of new w.names) (unmet faults free (is_some (file_of new w.names)) (search rules)), not_at_most NAMES_MAX (length w.names) (unmet faults free (leb NAMES_MAX (length w.names)) (search rules)));
-        process = tt;
-        table = tt;
-      };
-      fits = λ whole. record { files = found_there (IsThere w.files) old w.names f whole.names is; process = tt; table = tt; alone = λ h. cc; goes_alone = λ h. cc };
-      puts = tt;
-      within_files = tt;
-      within_table = λ _ _. tt;
-    }
+    sound_names bounds w p (call.Link old new) (on_names.Add new f) refl (done_sound w p (call.Link old new) refl refl (omega arith)) (new_name w new faults free (search rules) (search rules))
+    (λ whole. found_there (IsThere w.files) old w.names f whole.names is)
 
 -- what is not missing is there
 some_there : (x : Option ℕ) → is_none x ≡ false → is_some x ≡ true
@@ -549,42 +550,33 @@ some_there None h = cc
 some_there (Some n) h = refl
 
 pub sound_unlink : (bounds : Bounds) (w : World) (p : ℕ) (name : List ℕ) → first_fault (unlink_faults w name) ≡ None → Answers bounds w p (call.Unlink name) (unlink w name).effect
-sound_unlink bounds w p name free = record {
-  refusal = λ _ _ h. cc;
-  processes = as_before w refl refl refl refl;
-  own = λ n h. cc;
-  files = λ h. cc;
-  pipes = λ _. record { files = refl; made = refl; opened = refl };
-  brief = λ _. omega arith;
-  few = omega arith;
-  proper = λ _. record { files = tt; process = tt; table = tt };
-  fits = λ _. record { files = some_there (file_of name w.names) (unmet (unlink_faults w name) free (is_none (file_of name w.names)) (search rules)); process = tt; table = tt; alone = λ _. (refl, refl); goes_alone = λ h. cc };
-  puts = tt;
-  within_files = tt;
-  within_table = λ _ _. tt;
-}
+sound_unlink bounds w p name free =
+    sound_names bounds w p (call.Unlink name) (on_names.Remove name) refl (done_sound w p (call.Unlink name) refl refl (omega arith)) tt
+    (λ _. some_there (file_of name w.names) (unmet (unlink_faults w name) free (is_none (file_of name w.names)) (search rules)))
 
 pub sound_mkfifo : (bounds : Bounds) (w : World) (p : ℕ) (name : List ℕ) → first_fault (mkfifo w name).faults ≡ None → Answers bounds w p (call.Mkfifo name) (mkfifo w name).effect
 sound_mkfifo bounds w p name free =
     let faults = (mkfifo w name).faults in
-    record {
-      refusal = λ _ _ h. cc;
-      processes = as_before w refl refl refl refl;
-      own = λ n h. cc;
-      files = λ h. cc;
-      pipes = λ _. record { files = refl; made = refl; opened = refl };
-      brief = λ _. omega arith;
-      few = omega arith;
-      proper = λ _. record {
-        files = (none_there (file_of name w.names) (unmet faults free (is_some (file_of name w.names)) (search rules)), not_at_most NAMES_MAX (length w.names) (unmet faults free (leb NAMES_MAX (length w.names)) (search rules)));
-        process = tt;
-        table = tt;
-      };
-      fits = λ _. record { files = tt; process = tt; table = tt; alone = λ h. cc; goes_alone = λ h. cc };
-      puts = tt;
-      within_files = tt;
-      within_table = λ _ _. tt;
-    }
+    sound_does bounds w p (call.Mkfifo name) Done (on_files.MakeFifo name) on_table.Nothing (done_sound w p (call.Mkfifo name) refl refl (omega arith))
+    (record { may = λ h. cc; still = refl; proper = λ _. new_name w name faults free (search rules) (search rules); fits = λ _. tt; puts = tt; within = tt })
+    (no_table bounds w (with_files w [] (on_files.MakeFifo name)) p (call.Mkfifo name)) (λ h. cc)
+
+-- names that lead to different files are different
+names_apart : (old new : List ℕ) (f : ℕ) (es : Entries) → file_of old es ≡ Some f → leads_to f (file_of new es) ≡ false → old ≢ new
+names_apart old new f es is other same =
+    let at : leads_to f (file_of new es) ≡ true = ap (λ name. leads_to f (file_of name es)) (sym same) ∙ (ap (leads_to f) is ∙ eq-eqb f f refl) in
+    let bad : true ≡ false = sym at ∙ other in
+    cc
+
+pub sound_rename : (bounds : Bounds) (w : World) (p : ℕ) (old new : List ℕ) (found : Option ℕ) → file_of old w.names ≡ found → first_fault (rename_at w old new found).faults ≡ None →
+    Answers bounds w p (call.Rename old new) (rename_at w old new found).effect
+sound_rename bounds w p old new None is free = let bad : true ≡ false = unmet (rename_at w old new None).faults free true (search rules) in cc
+sound_rename bounds w p old new (Some f) is free =
+    if_has (Answers bounds w p (call.Rename old new)) (leads_to f (file_of new w.names)) (tells Done) (does Done (on_files.Names (on_names.Move old new)) on_table.Nothing)
+    (λ _. sound_tells bounds w p (call.Rename old new) Done refl refl (omega arith) (omega arith))
+    (λ other. sound_names bounds w p (call.Rename old new) (on_names.Move old new) refl (done_sound w p (call.Rename old new) refl refl (omega arith))
+    (record { there = ap is_some is; apart = names_apart old new f w.names is other })
+    (λ whole. rw is (found_there (IsThere w.files) old w.names f whole.names is)))
 
 -- two free descriptors of a process
 pair_free : (w : World) (p : ℕ) (there : Option Process) (pair : Option (ℕ × ℕ)) → slot w.processes p ≡ there → two_lowest (table_of there) ≡ pair → is_none pair ≡ false →

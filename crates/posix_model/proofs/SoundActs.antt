@@ -1,14 +1,16 @@
 -- What acts come to is sound: one case for each call and act.
-use Rattle.std.proofs.Common.{rules, ◌≡◌, ℕ, ℤ, pos, negsuc, nat_abs, ◌≤◌, Bool, true, false, not, ◌&&◌, cond, Option, None, Some, length, refl, ap, subst, arith, eqb, ltb}
+use Rattle.std.proofs.Common.{rules, ◌≡◌, ℕ, ℤ, pos, negsuc, nat_abs, ◌≤◌, Bool, true, false, not, ◌&&◌, cond, Option, None, Some, length, refl, subst, arith, eqb, ltb}
 use Rattle.std.specs.Prelude.{◌+ℤ◌}
 use Rattle.std.specs.Option.{is_some}
 use Rattle.call_types.specs.declared.act.TheConstants.{HOUSE}
 use Rattle.call_types.specs.declared.act.Act.TheVariants as act
 use Rattle.call_types.specs.declared.call.Call.TheVariants as call
 use Rattle.call_types.specs.Names.{file_of}
+use Rattle.call_types.specs.Descriptions.{flags_of}
+use Rattle.call_types.specs.declared.description.DescriptionEdit.TheVariants as on_description
 use Rattle.slots.specs.Slots.{slot}
 use Rattle.process_table.specs.Processes.{free_table, copied_table, awaits}
-use Rattle.posix_model.specs.Types.{Act, Bounds, World, Process, ProcessEdit, Decided, OpenDescriptor, Whence, OFFSET_MAX, TRANSFER_MAX, Replied, Data, Done, StatReply}
+use Rattle.posix_model.specs.Types.{Act, Bounds, World, Process, ProcessEdit, Decided, OpenDescriptor, Whence, OFFSET_MAX, TRANSFER_MAX, Replied, Data, Done, Number, StatReply}
 use Rattle.posix_model.specs.Bytes.{bytes_at}
 use Rattle.posix_model.specs.Proved.Whole.{IsWhole}
 use Rattle.posix_model.specs.Kept.{IsThere}
@@ -32,15 +34,19 @@ use Rattle.posix_model.specs.Mkfifo.{mkfifo}
 use Rattle.posix_model.specs.Link.{link}
 use Rattle.posix_model.specs.Unlink.{unlink}
 use Rattle.posix_model.specs.Fstat.{fstat, stat_of}
+use Rattle.posix_model.specs.Getfl.{getfl}
+use Rattle.posix_model.specs.Setfl.{status_flags, setfl}
+use Rattle.posix_model.specs.Rename.{rename}
 use Rattle.posix_model.specs.Join.{join}
 use Rattle.posix_model.specs.Attach.{attach}
 use Rattle.posix_model.specs.Exit.{exit, close_run}
 use Rattle.posix_model.specs.Step.{decided, can_call}
 use Rattle.posix_model.specs.Turns.{took}
 use Rattle.posix_model.specs.Proved.Sound.{data_of, IsTold, Sound, CallsAreSound, ActsAreSound}
+use Rattle.posix_model.specs.declared.change.FileEdit.TheVariants as on_files
 use Rattle.posix_model.specs.declared.change.ProcessEdit.TheVariants as on_process
 use Rattle.posix_model.proofs.PageLaws.{page_has, on_open_has, unmet}
-use Rattle.posix_model.proofs.Sound.{Answers, as_before, sound_tells, sound_refused, opened_stands, own_offset, not_false, not_below, read_few, sound_close, sound_pwrite, sound_ftruncate, sound_dup, sound_dup2, can_open, sound_open, sound_pipe, sound_mkfifo, sound_link, sound_unlink, sound_adds, free_can, copied_can}
+use Rattle.posix_model.proofs.Sound.{Answers, as_before, sound_tells, sound_refused, done_sound, sound_describes, no_files, opened_stands, not_false, not_below, read_few, sound_close, sound_pwrite, sound_ftruncate, sound_dup, sound_dup2, can_open, sound_open, sound_pipe, sound_mkfifo, sound_link, sound_unlink, sound_rename, sound_adds, free_can, copied_can}
 use Rattle.posix_model.proofs.SoundTries.{sound_read, sound_write, sound_resume}
 
 -- a place that is not before the start of a file, and not past the greatest offset
@@ -51,20 +57,9 @@ sought_within (negsuc n) o free = let none = unmet (lseek_faults (negsuc n) o) f
 -- what lseek comes to sets the offset of the descriptor's own description, within all offsets
 sound_lseek : (bounds : Bounds) (w : World) (p : ℕ) (fd offset : ℤ) (from : Whence) (to : ℤ) (o : OpenDescriptor) → opened w p fd ≡ Some o → first_fault (lseek_faults to o) ≡ None →
     Answers bounds w p (call.Lseek fd offset from) (lseek_to to o).effect
-sound_lseek bounds w p fd offset from to o is free = record {
-  refusal = λ _ _ h. cc;
-  processes = as_before w refl refl refl refl;
-  own = λ n h. own_offset w p fd o n is h;
-  files = λ _. record { files = λ _. refl; table = refl };
-  pipes = λ _. record { files = refl; made = refl; opened = refl };
-  brief = λ _. omega arith;
-  few = omega arith;
-  proper = λ _. record { files = tt; process = tt; table = tt };
-  fits = λ _. record { files = tt; process = tt; table = ap is_some (opened_stands w p fd o is).description_is; alone = λ h. cc; goes_alone = λ h. cc };
-  puts = tt;
-  within_files = tt;
-  within_table = λ _ _. sought_within to o free;
-}
+sound_lseek bounds w p fd offset from to o is free =
+    sound_describes bounds w p (call.Lseek fd offset from) (Number (nat_abs to)) on_files.Nothing fd o (on_description.Offset (nat_abs to)) is refl
+    (record { done = λ error h. cc; adds_none = refl; plans_none = refl; few = omega arith; brief = omega arith }) (no_files bounds w (call.Lseek fd offset from)) refl refl (λ _ _. sought_within to o free)
 
 -- one case for each call
 pub calls_are_sound : CallsAreSound
@@ -85,7 +80,7 @@ calls_are_sound bounds w p (call.Pread fd start count) =
     (λ o is free.
     let asked = not_below TRANSFER_MAX count (unmet (pread_faults start count o) free (ltb TRANSFER_MAX count) (search rules)) in
     let there = bytes_of w (file_at o) in
-    sound_tells bounds w p (call.Pread fd start count) (Data (bytes_at there (bytes_before start) count)) refl refl refl (read_few there (bytes_before start) count TRANSFER_MAX asked))
+    sound_tells bounds w p (call.Pread fd start count) (Data (bytes_at there (bytes_before start) count)) refl refl (omega arith) (read_few there (bytes_before start) count TRANSFER_MAX asked))
 calls_are_sound bounds w p (call.Pwrite fd start bytes) =
     on_open_has (Answers bounds w p (call.Pwrite fd start bytes)) (opened w p fd) (pwrite bounds start bytes) (sound_refused bounds w p (call.Pwrite fd start bytes) refl)
     (λ o is free. sound_pwrite bounds w p fd start bytes o is free)
@@ -108,10 +103,20 @@ calls_are_sound bounds w p (call.Unlink name) =
     page_has (Answers bounds w p (call.Unlink name)) (unlink w name) (sound_refused bounds w p (call.Unlink name) refl) (λ free. sound_unlink bounds w p name free)
 calls_are_sound bounds w p (call.Fstat fd) =
     on_open_has (Answers bounds w p (call.Fstat fd)) (opened w p fd) (fstat w) (sound_refused bounds w p (call.Fstat fd) refl)
-    (λ o is _. sound_tells bounds w p (call.Fstat fd) (StatReply (stat_of w o.description.target)) refl refl refl (omega arith))
+    (λ o is _. sound_tells bounds w p (call.Fstat fd) (StatReply (stat_of w o.description.target)) refl refl (omega arith) (omega arith))
 calls_are_sound bounds w p call.Fork =
     sound_adds bounds w p (act.Call call.Fork) (copied_table (slot w.processes p)) false (record { told = λ _. refl; refused = λ _. refl; planned = refl; ended = refl; closed = refl; few = λ _. omega arith })
     (λ whole. copied_can w (slot w.processes p) (whole.processes p) (whole.tables p))
+calls_are_sound bounds w p (call.Getfl fd) =
+    on_open_has (Answers bounds w p (call.Getfl fd)) (opened w p fd) getfl (sound_refused bounds w p (call.Getfl fd) refl)
+    (λ o is _. sound_tells bounds w p (call.Getfl fd) (Number (flags_of o.description).0) refl refl (omega arith) (omega arith))
+calls_are_sound bounds w p (call.Setfl fd flags) =
+    on_open_has (Answers bounds w p (call.Setfl fd flags)) (opened w p fd) (setfl flags) (sound_refused bounds w p (call.Setfl fd flags) refl)
+    (λ o is _. sound_describes bounds w p (call.Setfl fd flags) Done on_files.Nothing fd o (status_flags flags) is refl
+    (done_sound w p (call.Setfl fd flags) refl refl (omega arith)) (no_files bounds w (call.Setfl fd flags)) refl refl (λ _ _. tt))
+calls_are_sound bounds w p (call.Rename old new) =
+    page_has (Answers bounds w p (call.Rename old new)) (rename w old new) (sound_refused bounds w p (call.Rename old new) refl)
+    (λ free. sound_rename bounds w p old new (file_of old w.names) refl free)
 
 -- what is of one process alone
 alone_sound : (bounds : Bounds) (w : World) (actor : ℕ) (a : Act) (edit : ProcessEdit) → IsTold w a (Replied Done) edit → took w (record { actor = actor; act = a; outcome = Replied Done }) ≤ length (data_of w actor a) →

@@ -16,7 +16,7 @@ use Rattle.posix_model.specs.Descriptors.{opened, held_in}
 use Rattle.posix_model.specs.Positions.{regular_file}
 use Rattle.posix_model.specs.Pipes.{pipe_at, held_bytes, room_in, has_reader, has_writer}
 use Rattle.posix_model.specs.Change.{bytes_from, rest_of, with_files}
-use Rattle.posix_model.specs.Proved.Fits.{FilesFit, FilesProper, PutsWithin, removes}
+use Rattle.posix_model.specs.Proved.Fits.{FilesFit, FilesProper, PutsWithin, is_of_names}
 use Rattle.posix_model.specs.Pages.{first_fault, refused, does, tells}
 use Rattle.posix_model.specs.Tries.{read_try, broken, write_try, waiting, parks, instead, first_try, next_try}
 use Rattle.posix_model.specs.Read.{read_faults, read_from}
@@ -59,7 +59,7 @@ record IsPiped (bounds : Bounds) (w : World) (bytes : List ℕ) (e : FileEdit) :
   proper : FilesProper w bytes e
   puts : PutsWithin bounds.pipe_capacity w e
   pipes : is_of_pipes e ≡ false → e ≡ on_files.Nothing
-  stays : removes e ≡ false
+  stays : is_of_names e ≡ false
   within : FilesWithin bounds e
 
 -- a try that puts no more than its turn has left, and tells no more bytes than it asks for; one that ends in an error changes nothing
@@ -218,7 +218,7 @@ sound_read bounds w p fd count o is free (Some pipe) on =
     let asked = not_below TRANSFER_MAX count (unmet (read_faults count o) free (ltb TRANSFER_MAX count) (search rules)) in
     let may : MayWait w p (call.Read fd count) = record { adds_none = λ o. refl; plans_none = refl; pipes = refl; few = asked; brief = asked } in
     if_has (Answers bounds w p (call.Read fd count)) (eqb count 0) (tells (Data [])) (first_try p (call.Read fd count) o (read_try w pipe count))
-    (λ _. sound_tells bounds w p (call.Read fd count) (Data []) refl refl refl (omega arith))
+    (λ _. sound_tells bounds w p (call.Read fd count) (Data []) refl refl (omega arith) (omega arith))
     (λ _. sound_first bounds w p (call.Read fd count) o (read_try w pipe count) at may (read_is_try bounds w [] fd pipe count 0 (end_there w p o pipe at on)))
 
 -- what has no pipe is a regular file
@@ -235,7 +235,7 @@ sound_write bounds w p fd bytes start o is free (Some pipe) on =
     let may : MayWait w p (call.Write fd bytes) = record { adds_none = λ o. refl; plans_none = refl; pipes = refl; few = tt; brief = omega arith } in
     let x = write_try bounds w pipe source.Act (length bytes) 0 in
     if_has (Answers bounds w p (call.Write fd bytes)) (eqb (length bytes) 0) (tells (Number 0)) (first_try p (call.Write fd bytes) o x)
-    (λ _. sound_tells bounds w p (call.Write fd bytes) (Number 0) refl refl refl (omega arith))
+    (λ _. sound_tells bounds w p (call.Write fd bytes) (Number 0) refl refl (omega arith) (omega arith))
     (λ _. sound_first bounds w p (call.Write fd bytes) o x at may (write_is_try bounds w bytes fd bytes pipe 0 source.Act (end_there w p o pipe at on) (omega arith)))
 
 -- a call that waits asks for few bytes

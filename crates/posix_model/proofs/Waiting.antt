@@ -4,7 +4,7 @@ use Rattle.std.specs.Option.{option_map, is_some}
 use Rattle.std.proofs.lemmas.Bool.Decides.{nat_tests}
 use Rattle.slots.specs.Slots.{slot, edited}
 use Rattle.process_table.specs.Processes.{is_here, parked_of, process_with, with_connection, with_parked, moved_in, with_total, with_entry, table_of}
-use Rattle.call_types.specs.Descriptions.{at_offset, can_read, can_write}
+use Rattle.call_types.specs.Descriptions.{described, can_read, can_write}
 use Rattle.call_types.specs.Flags.{has}
 use Rattle.call_types.specs.Flags as flag
 use Rattle.call_types.specs.Names.{file_of}
@@ -13,7 +13,7 @@ use Rattle.call_types.specs.declared.act.Act.TheVariants as act
 use Rattle.call_types.specs.declared.call.Call.TheVariants as call
 use Rattle.call_types.specs.declared.description.Target.TheVariants as target
 use Rattle.posix_model.specs.Types.{Call, Act, Record, Errno, Reply, OpenFlags, Bounds, World, Process, Parked, Description, Target, Fifo, OpenDescriptor, DataSource, FileEdit, ProcessEdit, TableEdit, Decided, Try, PIPE_BUF, EAGAIN, Number, Data, Error}
-use Rattle.posix_model.specs.Proved.Whole.{EachThere}
+use Rattle.posix_model.specs.Proved.Whole.{EachThere, StaysOpen}
 use Rattle.posix_model.specs.Positions.{file_at}
 use Rattle.posix_model.specs.Descriptors.{opened, opened_number, opened_description, bytes_of, held_in}
 use Rattle.posix_model.specs.Pipes.{pipe_at, fifo_at, is_met, opposite_openings, pipe_between, held_bytes, room_in, has_reader, has_writer}
@@ -38,6 +38,7 @@ use Rattle.posix_model.specs.declared.change.TableEdit.TheVariants as on_table
 use Rattle.posix_model.specs.declared.change.Try.TheVariants.{Ends, Waits}
 use Rattle.posix_model.proofs.PageLaws.{page_has, on_open_has, if_has, unmet}
 use Rattle.posix_model.proofs.SlotLaws.{not_there, there_below, test_set, slot_pushed, slot_at_end, set_within, each_set, each_push, kept_as_is}
+use Rattle.posix_model.proofs.ChangeLaws.{stays_open}
 use Rattle.posix_model.proofs.Sound.{not_false, not_at_most, CanOpenFound, can_open}
 use Rattle.posix_model.proofs.SoundTries.{try_has, some_try}
 use Rattle.posix_model.proofs.SoundActs.{where_may}
@@ -83,12 +84,12 @@ led_keeps ds es keeps (Some n) c h = keeps n c h
 keeps_push : (ds : List (Option Description)) (d : Description) → Keeps ds (ds ++ Some d ∷ [])
 keeps_push ds d n c h = ap (lets c) (slot_pushed ds (Some d) n (there_below ds n (lets_there c (slot ds n) h))) ∙ h
 
-lets_moved : (k : ℕ) (c : Call) (x : Option Description) → lets c (option_map (at_offset k) x) ≡ lets c x
-lets_moved k c None = refl
-lets_moved k c (Some d) = refl
+lets_edited : (f : Description → Description) → StaysOpen f → (c : Call) (x : Option Description) → lets c (option_map f x) ≡ lets c x
+lets_edited f stays c None = refl
+lets_edited f stays c (Some d) = rw (stays.target d, stays.mode d) refl
 
-keeps_offset : (ds : List (Option Description)) (m k : ℕ) → Keeps ds (edited m (at_offset k) ds)
-keeps_offset ds m k n c h = test_set (lets c) ds m (option_map (at_offset k) (slot ds m)) n (lets_moved k c (slot ds m)) ∙ h
+keeps_edited : (ds : List (Option Description)) (m : ℕ) (f : Description → Description) → StaysOpen f → Keeps ds (edited m f ds)
+keeps_edited ds m f stays n c h = test_set (lets c) ds m (option_map f (slot ds m)) n (lets_edited f stays c (slot ds m)) ∙ h
 
 wells_more : (ds es : List (Option Description)) (ps : List (Option Process)) → Keeps ds es → EachThere (Well ds) ps → EachThere (Well es) ps
 wells_more ds es ps keeps each n x h parked is =
@@ -136,12 +137,11 @@ files_idle w bytes other p h = h
 
 -- an edit of the descriptors of one process
 abbrev IsTableOf : ℕ → TableEdit → Type 0
-IsTableOf p on_table.Nothing = Unit {0}
-IsTableOf p (on_table.Offset number offset) = Unit {0}
 IsTableOf p (on_table.Open process fd description) = process ≡ p
 IsTableOf p (on_table.OpenPair process reading writing) = process ≡ p
 IsTableOf p (on_table.OpenEnd process fd file description) = process ≡ p
 IsTableOf p (on_table.Entry process fd entry) = process ≡ p
+IsTableOf p other = Unit {0}
 
 -- a process that waits in no call waits well
 idle_well : (ds : List (Option Description)) (x : Process) → x.parked ≡ None → Well ds x
@@ -155,7 +155,8 @@ entry_wells ds es ps q p f keeps same idle stays each =
 
 table_wells : (w : World) (e : TableEdit) (p : ℕ) → IsTableOf p e → IsIdle w p → Wells w → Wells (with_table w e)
 table_wells w on_table.Nothing p of idle h = h
-table_wells w (on_table.Offset m k) p of idle h = wells_more w.descriptions (edited m (at_offset k) w.descriptions) w.processes (keeps_offset w.descriptions m k) h
+table_wells w (on_table.Describe m edit) p of idle h =
+    wells_more w.descriptions (edited m (described edit) w.descriptions) w.processes (keeps_edited w.descriptions m (described edit) (stays_open edit)) h
 table_wells w (on_table.Open q fd d) p of idle h =
     entry_wells w.descriptions (w.descriptions ++ Some d ∷ []) w.processes q p (with_entry fd (Some (length w.descriptions))) (keeps_push w.descriptions d) of (λ x here. (idle x here).1) (λ x. refl) h
 table_wells w (on_table.OpenPair q reading writing) p of idle h =

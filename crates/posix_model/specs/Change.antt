@@ -2,17 +2,18 @@
 -- descriptions.
 use Rattle.std.specs.Prelude.{ℕ, true, false, List, [], ◌∷◌, ◌++◌, Option, None, Some, length, take, drop, slice_set}
 use Rattle.posix_model.specs.Bytes.{splice, resized}
-use Rattle.call_types.specs.Names.{with_name, without_name}
+use Rattle.call_types.specs.Names.{Entries, with_name, without_name, with_moved_name}
 use Rattle.slots.specs.Slots.{slot, edited}
 use Rattle.process_table.specs.Processes.{process_with, with_connection, parked_of, with_parked, with_total}
-use Rattle.posix_model.specs.Descriptors.{with_descriptor, with_offset, bytes_of}
+use Rattle.posix_model.specs.Descriptors.{with_descriptor, with_edit, bytes_of}
 use Rattle.posix_model.specs.Pipes.{unopened, with_pipe, with_opening}
-use Rattle.posix_model.specs.Types.{World, File, Description, Mode, Parked, DataSource, FileEdit, ProcessEdit, TableEdit, Change}
+use Rattle.posix_model.specs.Types.{World, File, Description, Mode, Parked, DataSource, NameEdit, FileEdit, ProcessEdit, TableEdit, Change}
 use Rattle.posix_model.specs.Given.{data_given}
 use Rattle.posix_model.specs.declared.world.File.TheVariants as file
 use Rattle.call_types.specs.declared.description.Mode.TheVariants as mode
 use Rattle.call_types.specs.declared.description.Target.TheVariants as target
 use Rattle.posix_model.specs.declared.change.DataSource.TheVariants as source
+use Rattle.posix_model.specs.declared.change.NameEdit.TheVariants as on_names
 use Rattle.posix_model.specs.declared.change.FileEdit.TheVariants as on_files
 use Rattle.posix_model.specs.declared.change.ProcessEdit.TheVariants as on_process
 use Rattle.posix_model.specs.declared.change.TableEdit.TheVariants as on_table
@@ -39,13 +40,18 @@ bytes_from w bytes (source.Parked process) = rest_of (parked_of (slot w.processe
 abbrev pub after_those : List ℕ → List ℕ → List ℕ
 after_those new there = there ++ new
 
+-- the entries after an edit of names
+abbrev pub renamed : NameEdit → Entries → Entries
+renamed (on_names.Add name file) = with_name name file
+renamed (on_names.Remove name) = without_name name
+renamed (on_names.Move old new) = with_moved_name old new
+
 -- the world after an edit of files and pipes, where the act gives these bytes
 abbrev pub with_files : World → List ℕ → FileEdit → World
 with_files w bytes on_files.Nothing = w
 with_files w bytes (on_files.Bytes file start count) = with_bytes w file (splice (bytes_of w file) start (take count bytes))
 with_files w bytes (on_files.Resize file len) = with_bytes w file (resized (bytes_of w file) len)
-with_files w bytes (on_files.AddName name file) = record w { names = with_name name file w.names }
-with_files w bytes (on_files.RemoveName name) = record w { names = without_name name w.names }
+with_files w bytes (on_files.Names edit) = record w { names = renamed edit w.names }
 with_files w bytes (on_files.MakeFile name) = created w name (file.Regular [])
 with_files w bytes (on_files.MakeFifo name) = created w name (file.Fifo unopened)
 with_files w bytes (on_files.Put pipe source count) = record w { pipes = edited pipe (after_those (take count (bytes_from w bytes source))) w.pipes }
@@ -74,7 +80,7 @@ end_of pipe mode = record { target = target.Pipe pipe; offset = 0; mode = mode; 
 -- the world after an edit of descriptors and open file descriptions
 abbrev pub with_table : World → TableEdit → World
 with_table w on_table.Nothing = w
-with_table w (on_table.Offset number offset) = with_offset w number offset
+with_table w (on_table.Describe number edit) = with_edit w number edit
 with_table w (on_table.Open process fd description) = with_description w process fd description
 with_table w (on_table.OpenPair process reading writing) =
     let pipe = length w.pipes in

@@ -1,9 +1,9 @@
 -- Descriptors of a process, the open file descriptions that they lead to, and what files and pipes hold.
 use Rattle.std.specs.Prelude.{ℕ, ℤ, pos, negsuc, List, [], Option, None, Some, length}
-use Rattle.call_types.specs.Descriptions.{at_offset}
+use Rattle.call_types.specs.Descriptions.{described}
 use Rattle.slots.specs.Slots.{slot, edited}
 use Rattle.process_table.specs.Processes.{table_of, with_entry}
-use Rattle.posix_model.specs.Types.{World, Description, File, OpenDescriptor}
+use Rattle.posix_model.specs.Types.{World, Description, DescriptionEdit, File, OpenDescriptor}
 use Rattle.posix_model.specs.declared.world.File.TheVariants as file
 
 -- the description of this number, with the descriptor that refers to it
@@ -25,9 +25,9 @@ opened w process (negsuc n) = None
 abbrev pub with_descriptor : World → ℕ → ℕ → Option ℕ → World
 with_descriptor w process fd entry = record w { processes = edited process (with_entry fd entry) w.processes }
 
--- the world in which the description of this number has this offset
-abbrev pub with_offset : World → ℕ → ℕ → World
-with_offset w number offset = record w { descriptions = edited number (at_offset offset) w.descriptions }
+-- the world in which a description has another offset, or other flags
+abbrev pub with_edit : World → ℕ → DescriptionEdit → World
+with_edit w number edit = record w { descriptions = edited number (described edit) w.descriptions }
 
 -- the bytes of a regular file
 abbrev pub file_bytes : Option File → List ℕ

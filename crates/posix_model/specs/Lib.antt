@@ -24,6 +24,9 @@ pub mod Mkfifo
 pub mod Link
 pub mod Unlink
 pub mod Fstat
+pub mod Getfl
+pub mod Setfl
+pub mod Rename
 pub mod Join
 pub mod Fork
 pub mod Attach

@@ -5,6 +5,7 @@ use Rattle.posix_model.specs.Types.{Errno, World, ENOENT, EEXIST, EMLINK, ENOSPC
 use Rattle.posix_model.specs.Counts.{links}
 use Rattle.posix_model.specs.Open.{name_faults, names_full}
 use Rattle.posix_model.specs.Pages.{Page, does}
+use Rattle.posix_model.specs.declared.change.NameEdit.TheVariants as on_names
 use Rattle.posix_model.specs.declared.change.FileEdit.TheVariants as on_files
 use Rattle.posix_model.specs.declared.change.TableEdit.TheVariants as on_table
 
@@ -21,7 +22,7 @@ linked_faults w new found =
 abbrev pub link_at : World → List ℕ → List ℕ → Option ℕ → Page
 link_at w old new found = record {
   faults = name_faults old ++ (name_faults new ++ linked_faults w new found);
-  effect = does Done (on_files.AddName new (unwrap_or found 0)) on_table.Nothing;
+  effect = does Done (on_files.Names (on_names.Add new (unwrap_or found 0))) on_table.Nothing;
 }
 
 -- link(old, new)

@@ -7,6 +7,7 @@ use Rattle.posix_model.specs.Pages.{Page, does}
 use Rattle.posix_model.specs.Descriptors.{bytes_of}
 use Rattle.posix_model.specs.declared.change.FileEdit.TheVariants as on_files
 use Rattle.posix_model.specs.declared.change.TableEdit.TheVariants as on_table
+use Rattle.call_types.specs.declared.description.DescriptionEdit.TheVariants as on_description
 
 -- from where the offset is counted: the start, the offset or the end
 abbrev pub base_of : World → OpenDescriptor → Whence → ℕ
@@ -24,7 +25,7 @@ lseek_faults to o =
 
 -- the offset becomes a place in the file, and is told
 abbrev pub lseek_to : ℤ → OpenDescriptor → Page
-lseek_to to o = record { faults = lseek_faults to o; effect = does (Number (nat_abs to)) on_files.Nothing (on_table.Offset o.number (nat_abs to)) }
+lseek_to to o = record { faults = lseek_faults to o; effect = does (Number (nat_abs to)) on_files.Nothing (on_table.Describe o.number (on_description.Offset (nat_abs to))) }
 
 -- lseek(fd, offset, whence)
 abbrev pub lseek : World → ℤ → Whence → OpenDescriptor → Page

@@ -10,6 +10,7 @@ use Rattle.posix_model.specs.Pages.{Page, does, tells}
 use Rattle.posix_model.specs.Descriptors.{bytes_of}
 use Rattle.posix_model.specs.declared.change.FileEdit.TheVariants as on_files
 use Rattle.posix_model.specs.declared.change.TableEdit.TheVariants as on_table
+use Rattle.call_types.specs.declared.description.DescriptionEdit.TheVariants as on_description
 
 -- the refusals of an open descriptor (own: EINVAL of more than 65,536 bytes); EAGAIN of a pipe or FIFO is of a try
 abbrev pub read_faults : ℕ → OpenDescriptor → List (Bool × Errno)
@@ -20,7 +21,7 @@ read_faults count o =
 
 -- the bytes are told, and the offset goes past them; none are no change
 abbrev pub gives : OpenDescriptor → List ℕ → Decided
-gives o got = if length got == 0 then tells (Data got) else does (Data got) on_files.Nothing (on_table.Offset o.number (o.description.offset + length got))
+gives o got = if length got == 0 then tells (Data got) else does (Data got) on_files.Nothing (on_table.Describe o.number (on_description.Offset (o.description.offset + length got)))
 
 -- a read of a pipe or FIFO: of no bytes it changes nothing, else it is tried, and may wait
 abbrev pub read_end : World → ℕ → Call → ℕ → OpenDescriptor → ℕ → Decided

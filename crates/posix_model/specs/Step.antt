@@ -32,6 +32,9 @@ use Rattle.posix_model.specs.Link.{link}
 use Rattle.posix_model.specs.Unlink.{unlink}
 use Rattle.posix_model.specs.Fstat.{fstat}
 use Rattle.posix_model.specs.Fork.{fork}
+use Rattle.posix_model.specs.Getfl.{getfl}
+use Rattle.posix_model.specs.Setfl.{setfl}
+use Rattle.posix_model.specs.Rename.{rename}
 
 -- whether a process waits in a call
 abbrev pub is_parked : Option Process → Bool
@@ -60,6 +63,9 @@ decided bounds w process (call.Link old new) = decided_by (link w old new)
 decided bounds w process (call.Unlink name) = decided_by (unlink w name)
 decided bounds w process (call.Fstat fd) = on_open (opened w process fd) (fstat w)
 decided bounds w process call.Fork = decided_by (fork w process)
+decided bounds w process (call.Getfl fd) = on_open (opened w process fd) getfl
+decided bounds w process (call.Setfl fd flags) = on_open (opened w process fd) (setfl flags)
+decided bounds w process (call.Rename old new) = decided_by (rename w old new)
 
 -- what an act comes to, or nothing where the rules record none: a join under another number than the next, a call of a
 -- process that is not live and attached or that waits in one, a resume of one that is not ready, an exit of a process that

@@ -10,6 +10,7 @@ use Rattle.posix_model.specs.Pages.{Page, does, tells}
 use Rattle.posix_model.specs.Descriptors.{bytes_of}
 use Rattle.posix_model.specs.declared.change.FileEdit.TheVariants as on_files
 use Rattle.posix_model.specs.declared.change.TableEdit.TheVariants as on_table
+use Rattle.call_types.specs.declared.description.DescriptionEdit.TheVariants as on_description
 
 -- where a write begins: at the end under append, else at the offset
 abbrev pub write_start : Description → ℕ → ℕ
@@ -38,7 +39,7 @@ puts bytes file start n moved = if length bytes == 0 then tells (Number 0) else 
 
 -- a write to a regular file from a position on: what fits, and the offset goes past it
 abbrev pub write_file : Bounds → ℕ → List ℕ → OpenDescriptor → Decided
-write_file bounds start bytes o = let n = fitting bounds start bytes in puts bytes (file_at o) start n (on_table.Offset o.number (start + n))
+write_file bounds start bytes o = let n = fitting bounds start bytes in puts bytes (file_at o) start n (on_table.Describe o.number (on_description.Offset (start + n)))
 
 -- a write to a pipe or FIFO: of no bytes it changes nothing (own), else it is tried, and may wait
 abbrev pub write_end : Bounds → World → ℕ → Call → List ℕ → OpenDescriptor → ℕ → Decided

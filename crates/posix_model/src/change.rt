@@ -2,7 +2,7 @@ ghost use Rattle.std.specs.Prelude.{◌≡◌};
 ghost use Rattle.posix_model.specs.Pages.{tells, does, acts, refused};
 
 use call_types::bounded::Name;
-use call_types::description::Description;
+use call_types::description::{Description, DescriptionEdit};
 use call_types::errno::Errno;
 use call_types::outcome::{Outcome, Reply};
 use process_table::process::Parked;
@@ -16,6 +16,17 @@ pub enum DataSource {
     Act,
     /// The data of the call that a process waits in, after the bytes that it moved.
     Parked { process: usize },
+}
+
+/// What an act changes in the names of files that are there.
+#[derive(Drop)]
+pub enum NameEdit {
+    /// A file has one more name.
+    Add { name: Name, file: usize },
+    /// A name is taken away.
+    Remove { name: Name },
+    /// A file has the new name in place of the old one. What the new one led to has one name less.
+    Move { old: Name, new: Name },
 }
 
 /// What an act changes in names, files and pipes; new pipes come with their ends, in a `TableEdit`. All numbers are found already; positions and lengths are in bytes.
@@ -34,15 +45,8 @@ pub enum FileEdit {
         file: usize,
         len: usize,
     },
-    /// A file that is there has one more name.
-    AddName {
-        name: Name,
-        file: usize,
-    },
-    /// A name is taken away.
-    RemoveName {
-        name: Name,
-    },
+    /// The names of files that are there change.
+    Names(NameEdit),
     /// An empty regular file has a new name.
     MakeFile {
         name: Name,
@@ -106,10 +110,10 @@ pub enum ProcessEdit {
 pub enum TableEdit {
     /// Nothing.
     Nothing,
-    /// A description has another offset, in bytes.
-    Offset {
+    /// A description has another offset, or other flags.
+    Describe {
         number: Ticket,
-        offset: u64,
+        edit: DescriptionEdit,
     },
     /// A free descriptor refers to a new description.
     Open {

@@ -2,7 +2,7 @@
 
 ghost use Rattle.posix_model.specs.Proved.Sound.{CallsAreSound, ActsAreSound};
 ghost use Rattle.posix_model.specs.Proved.Lengths.{StepIsShort};
-ghost use Rattle.posix_model.specs.Proved.Released.{SweptIsSettled, SettledStays, SweepReleases, NamesRelease};
+ghost use Rattle.posix_model.specs.Proved.Released.{SweptIsSettled, SettledStays, SweepReleases, NamesRelease, SweepCounts};
 ghost use Rattle.posix_model.specs.Proved.Drops.{ExitCloses, ClosedIsBare, CloseThenSet};
 ghost use Rattle.posix_model.specs.Proved.Laws.{StepRaisesNumbers, StepKeepsWhole, HistoryIsWhole, HistoryRaisesNumbers, SweepSettles, StepSettles, HistorySettles, HistoryKeepsExactly, SweepLeaves, StepTellsProcesses, StepPlansProcesses};
 
@@ -39,12 +39,14 @@ pub fn sweep_leaves_wanted()
 {}
 
 /// A world is its own sweep exactly where it is settled. After a change of the references to one description, the sweep
-/// takes it and what it alone held, or nothing; after a change of the names of one file, that file or nothing.
+/// takes it and what it alone held, or nothing; after a change of the names of one file, that file or nothing; and after one
+/// that leaves each file as many names, what it would have taken before.
 pub fn sweep_releases()
     ensures settled { SweptIsSettled }
     ensures stays { SettledStays }
     ensures releases { SweepReleases }
     ensures names { NamesRelease }
+    ensures counts { SweepCounts }
 {}
 
 /// In a history a file is there exactly while it has a name or a live description holds it, a pipe while an end of it is

@@ -1,5 +1,5 @@
 -- What a change asks of the world that it is made in.
-use Rattle.std.specs.Prelude.{◌≡◌, ◌≢◌, ℕ, ◌+◌, ◌-◌, ◌≤◌, ◌<◌, Bool, true, false, List, Option, None, Some, length, is_some}
+use Rattle.std.specs.Prelude.{◌≡◌, ◌≢◌, ℕ, ◌+◌, ◌-◌, ◌≤◌, ◌<◌, Bool, true, false, List, Option, None, Some, length, is_some, unwrap_or}
 use Rattle.slots.specs.Slots.{slot, live}
 use Rattle.call_types.specs.Names.{file_of}
 use Rattle.posix_model.specs.Proved.Whole.{EachThere, is_regular_file, is_fifo, TargetIsThere, IsItsFifo, IsOnItsPipe}
@@ -9,7 +9,8 @@ use Rattle.posix_model.specs.Descriptors.{held_in}
 use Rattle.posix_model.specs.Pipes.{fifo_at, pipe_between}
 use Rattle.call_types.specs.declared.description.Target.TheVariants as target
 use Rattle.posix_model.specs.Change.{bytes_from, with_files, with_processes}
-use Rattle.posix_model.specs.Types.{World, Process, Parked, Description, FileEdit, ProcessEdit, TableEdit, Change, OPEN_MAX, OFFSET_MAX, TRANSFER_MAX, NAMES_MAX, DESCRIPTIONS_MAX, PROCESSES_MAX}
+use Rattle.posix_model.specs.Types.{World, Process, Parked, Description, NameEdit, FileEdit, ProcessEdit, TableEdit, Change, OPEN_MAX, OFFSET_MAX, TRANSFER_MAX, NAMES_MAX, DESCRIPTIONS_MAX, PROCESSES_MAX}
+use Rattle.posix_model.specs.declared.change.NameEdit.TheVariants as on_names
 use Rattle.posix_model.specs.declared.change.FileEdit.TheVariants as on_files
 use Rattle.posix_model.specs.declared.change.ProcessEdit.TheVariants as on_process
 use Rattle.posix_model.specs.declared.change.TableEdit.TheVariants as on_table
@@ -45,14 +46,19 @@ pub record CanOpenEnd (w : World) (p fd number : ℕ) (description : Description
   pub there : is_fifo (slot w.files number) ≡ true
   pub target_is : description.target ≡ target.Fifo number (pipe_between w (fifo_at (slot w.files number)))
 
+-- what an edit of names asks to be there
+abbrev pub NamesFit : World → NameEdit → Type 0
+NamesFit w (on_names.Add name file) = IsThere w.files file
+NamesFit w (on_names.Remove name) = is_some (file_of name w.names) ≡ true
+NamesFit w (on_names.Move old new) = IsThere w.files (unwrap_or (file_of old w.names) 0)
+
 -- what an edit of files asks to be there
 abbrev pub FilesFit : World → FileEdit → Type 0
 FilesFit w (on_files.Bytes file start count) = is_regular_file (slot w.files file) ≡ true
 FilesFit w (on_files.Resize file len) = is_regular_file (slot w.files file) ≡ true
-FilesFit w (on_files.AddName name file) = IsThere w.files file
+FilesFit w (on_files.Names edit) = NamesFit w edit
 FilesFit w (on_files.Put pipe source count) = IsThere w.pipes pipe
 FilesFit w (on_files.Take pipe count) = IsThere w.pipes pipe
-FilesFit w (on_files.RemoveName name) = is_some (file_of name w.names) ≡ true
 FilesFit w other = Unit {0}
 
 -- a new process has as many descriptors as any, and they refer to what is there
@@ -79,30 +85,44 @@ ProcessFits w on_process.Close = Unit {0}
 -- what an edit of descriptors asks to be there
 abbrev pub TableFits : World → TableEdit → Type 0
 TableFits w on_table.Nothing = Unit {0}
-TableFits w (on_table.Offset number offset) = IsThere w.descriptions number
+TableFits w (on_table.Describe number edit) = IsThere w.descriptions number
 TableFits w (on_table.Open process fd description) = CanOpen w process fd description × IsItsFifo w.files description.target × IsOnItsPipe w.files description.target
 TableFits w (on_table.OpenPair process reading writing) = CanOpenPair w process reading writing
 TableFits w (on_table.OpenEnd process fd file description) = CanOpenEnd w process fd file description
 TableFits w (on_table.Entry process fd entry) = CanSet w process fd entry
 
--- whether an edit takes a name away, with which a file may go
-abbrev pub removes : FileEdit → Bool
-removes (on_files.RemoveName name) = true
-removes other = false
+-- whether an edit is one of names, with which a file may go
+abbrev pub is_of_names : FileEdit → Bool
+is_of_names (on_files.Names edit) = true
+is_of_names other = false
 
 -- whether an edit ends a process, with which its descriptions may go
 abbrev pub ends : ProcessEdit → Bool
 ends (on_process.Exit process) = true
 ends other = false
 
--- what a change asks to be there, each edit in the world after the one before it; a name is taken away alone, and a process
--- goes alone
+-- what a change asks to be there, each edit in the world after the one before it; names change alone, and a process goes alone
 pub record Fits (w : World) (bytes : List ℕ) (c : Change) : Type 0 where
   pub files : FilesFit w c.files
   pub process : ProcessFits (with_files w bytes c.files) c.process
   pub table : TableFits (with_processes (with_files w bytes c.files) c.process) c.table
-  pub alone : removes c.files ≡ true → (c.process ≡ on_process.Nothing) × (c.table ≡ on_table.Nothing)
+  pub alone : is_of_names c.files ≡ true → (c.process ≡ on_process.Nothing) × (c.table ≡ on_table.Nothing)
   pub goes_alone : ends c.process ≡ true → (c.files ≡ on_files.Nothing) × (c.table ≡ on_table.Nothing)
+
+-- a name is new, and there is room for it
+abbrev pub IsNewName : World → List ℕ → Type 0
+IsNewName w name = (file_of name w.names ≡ None) × (length w.names < NAMES_MAX)
+
+-- a name is there, and is another than the one that its file is to have
+pub record CanMove (w : World) (old new : List ℕ) : Type 0 where
+  pub there : is_some (file_of old w.names) ≡ true
+  pub apart : old ≢ new
+
+-- what an edit of names asks of them
+abbrev pub NamesProper : World → NameEdit → Type 0
+NamesProper w (on_names.Add name file) = IsNewName w name
+NamesProper w (on_names.Remove name) = Unit {0}
+NamesProper w (on_names.Move old new) = CanMove w old new
 
 -- what an edit of files asks of its numbers: no more bytes than the act gives and than one transfer has, no position past the
 -- greatest offset, and room for a name that is new
@@ -110,10 +130,9 @@ abbrev pub FilesProper : World → List ℕ → FileEdit → Type 0
 FilesProper w bytes on_files.Nothing = Unit {0}
 FilesProper w bytes (on_files.Bytes file start count) = (count ≤ length bytes) × (start + count ≤ OFFSET_MAX) × (count ≤ TRANSFER_MAX)
 FilesProper w bytes (on_files.Resize file len) = len ≤ OFFSET_MAX
-FilesProper w bytes (on_files.AddName name file) = (file_of name w.names ≡ None) × (length w.names < NAMES_MAX)
-FilesProper w bytes (on_files.RemoveName name) = Unit {0}
-FilesProper w bytes (on_files.MakeFile name) = (file_of name w.names ≡ None) × (length w.names < NAMES_MAX)
-FilesProper w bytes (on_files.MakeFifo name) = (file_of name w.names ≡ None) × (length w.names < NAMES_MAX)
+FilesProper w bytes (on_files.Names edit) = NamesProper w edit
+FilesProper w bytes (on_files.MakeFile name) = IsNewName w name
+FilesProper w bytes (on_files.MakeFifo name) = IsNewName w name
 FilesProper w bytes (on_files.Put pipe source count) = count ≤ length (bytes_from w bytes source)
 FilesProper w bytes (on_files.Take pipe count) = Unit {0}
 

@@ -65,3 +65,7 @@ SettledStays = (w : World) → IsSettled w → sweep w ≡ w
 abbrev pub NamesRelease : Type 0
 NamesRelease = (w : World) (names : Entries) (f : ℕ) → IsSettled w → ((g : ℕ) → g ≢ f → 0 < links w.names g → 0 < links names g) →
     sweep (record w { names = names }) ≡ record w { names = names; files = released_file names w.descriptions w.files f }
+
+-- a sweep sees of names only how many each file has
+abbrev pub SweepCounts : Type 0
+SweepCounts = (w : World) (names : Entries) → ((g : ℕ) → links names g ≡ links w.names g) → sweep (record w { names = names }) ≡ record (sweep w) { names = names }

@@ -2,7 +2,7 @@
 use Rattle.std.specs.Prelude.{◌≡◌, ℕ, ◌+◌, ◌≤◌, Bool, true, false, List, [], Option, None, Some, length, is_some, is_none, ◌&&◌, if◌then◌else◌, ℤ}
 use Rattle.std.specs.Option.{option_map_or, option_map}
 use Rattle.call_types.specs.CallTable.{descriptor_of, payload_of}
-use Rattle.posix_model.specs.Types.{Call, Act, Outcome, Errno, Bounds, World, FileEdit, ProcessEdit, TableEdit, Change, Decided, OPEN_MAX, NAMES_MAX, DESCRIPTIONS_MAX, PROCESSES_MAX, OFFSET_MAX, TRANSFER_MAX, Replied, Error, Number}
+use Rattle.posix_model.specs.Types.{Call, Act, Outcome, Errno, Bounds, World, DescriptionEdit, FileEdit, ProcessEdit, TableEdit, Change, Decided, OPEN_MAX, NAMES_MAX, DESCRIPTIONS_MAX, PROCESSES_MAX, OFFSET_MAX, TRANSFER_MAX, Replied, Error, Number}
 use Rattle.call_types.specs.declared.act.Act.TheVariants as act
 use Rattle.call_types.specs.declared.call.Call.TheVariants as call
 use Rattle.slots.specs.Slots.{live}
@@ -18,6 +18,7 @@ use Rattle.posix_model.specs.Turns.{turn, took, data_in}
 use Rattle.posix_model.specs.declared.change.FileEdit.TheVariants as on_files
 use Rattle.posix_model.specs.declared.change.ProcessEdit.TheVariants as on_process
 use Rattle.posix_model.specs.declared.change.TableEdit.TheVariants as on_table
+use Rattle.call_types.specs.declared.description.DescriptionEdit.TheVariants as on_description
 
 -- how many processes an edit makes
 abbrev pub makes : ProcessEdit → ℕ
@@ -79,10 +80,10 @@ pub record IsTold (w : World) (act : Act) (outcome : Outcome) (edit : ProcessEdi
   pub closed : closed_by edit ≡ closes act
   pub there : (process : ℕ) → edit ≡ on_process.Exit process → IsThere w.processes process
 
--- the number of the description whose offset an edit moves
-abbrev pub moved_offset : TableEdit → Option ℕ
-moved_offset (on_table.Offset number offset) = Some number
-moved_offset other = None
+-- the number of the description that an edit gives another offset, or other flags
+abbrev pub described_in : TableEdit → Option ℕ
+described_in (on_table.Describe number edit) = Some number
+described_in other = None
 
 -- the number of the open file description that a descriptor leads to, if it is open (XBD 3, File Descriptor)
 abbrev pub number_of : World → ℕ → ℤ → Option ℕ
@@ -102,6 +103,7 @@ may_change_files (act.Call (call.Ftruncate fd len)) = true
 may_change_files (act.Call (call.Mkfifo name)) = true
 may_change_files (act.Call (call.Link old new)) = true
 may_change_files (act.Call (call.Unlink name)) = true
+may_change_files (act.Call (call.Rename old new)) = true
 may_change_files other = false
 
 -- whether an act may change a pipe, but for what a sweep takes
@@ -157,21 +159,26 @@ FilesWithin bounds (on_files.Bytes file start count) = start + count ≤ bounds.
 FilesWithin bounds (on_files.Resize file len) = len ≤ bounds.file_size
 FilesWithin bounds other = Unit {0}
 
+-- an edit of a description goes past no greatest offset
+abbrev pub EditWithin : DescriptionEdit → Type 0
+EditWithin (on_description.Offset offset) = offset ≤ OFFSET_MAX
+EditWithin other = Unit {0}
+
 -- an edit of descriptors goes past no greatest offset
 abbrev pub TableWithin : TableEdit → Type 0
-TableWithin (on_table.Offset number offset) = offset ≤ OFFSET_MAX
+TableWithin (on_table.Describe number edit) = EditWithin edit
 TableWithin (on_table.Open process fd description) = description.offset ≤ OFFSET_MAX
 TableWithin (on_table.OpenEnd process fd file description) = description.offset ≤ OFFSET_MAX
 TableWithin other = Unit {0}
 
 -- what an act comes to: a refusal changes nothing, but for that of a resume, which ends the call that waited; it adds and ends as many
--- processes as it tells; it moves no offset but that of its own descriptor; it changes no file, name or pipe where it may not; it takes no
+-- processes as it tells; it moves no offset and sets no flags but those that its own descriptor leads to; it changes no file, name or pipe where it may not; it takes no
 -- more bytes than its call gives, and is told no more than it may be; it puts no more into a pipe than it has room for; and its change can
 -- be made, within all limits. The limit of sizes is at most the greatest offset
 pub record Sound (bounds : Bounds) (w : World) (actor : ℕ) (act : Act) (d : Decided) : Type 0 where
   pub refusal : is_resume act ≡ false → (error : Errno) → d.outcome ≡ Replied (Error error) → d.change ≡ no_change
   pub processes : IsTold w act d.outcome d.change.process
-  pub own : (n : ℕ) → moved_offset d.change.table ≡ Some n → number_at w actor act ≡ Some n
+  pub own : (n : ℕ) → described_in d.change.table ≡ Some n → number_at w actor act ≡ Some n
   pub files : may_change_files act ≡ false → LeavesFiles d.change
   pub pipes : may_change_pipes act ≡ false → LeavesPipes d.change
   pub brief : IsWhole w → length (data_in d.outcome) ≤ data_most act

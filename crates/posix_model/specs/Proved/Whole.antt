@@ -1,7 +1,7 @@
 -- What is there: nothing refers to what is gone, and each process has its descriptors.
 use Rattle.std.specs.Prelude.{◌≡◌, ℕ, Bool, true, false, All, List, Option, None, Some, length}
 use Rattle.slots.specs.Slots.{slot}
-use Rattle.posix_model.specs.Types.{World, Process, Parked, Target, File, Fifo, OPEN_MAX}
+use Rattle.posix_model.specs.Types.{World, Process, Parked, Description, Target, File, Fifo, OPEN_MAX}
 use Rattle.process_table.specs.Proved.Waits.{AsksFew}
 use Rattle.posix_model.specs.Counts.{is_pipe, is_file}
 use Rattle.posix_model.specs.Pipes.{fifo_at, pipe_of_fifo}
@@ -67,3 +67,8 @@ pub record IsWhole (w : World) : Type 0 where
   pub pipes : EachThere (λ description. IsOnItsPipe w.files description.target) w.descriptions
   pub waits : EachThere WaitsForFew w.processes
   pub tables : EachThere (λ process. length process.table ≡ OPEN_MAX) w.processes
+
+-- what becomes of a description leaves what it is open on, and for what (own)
+pub record StaysOpen (edit : Description → Description) : Type 0 where
+  pub target : (d : Description) → (edit d).target ≡ d.target
+  pub mode : (d : Description) → (edit d).mode ≡ d.mode
