@@ -4,6 +4,7 @@ ghost use Rattle.posix_model.specs.Pages.{first_fault, on_open};
 ghost use Rattle.posix_model.specs.Lseek.{base_of, lseek_faults, lseek};
 
 use crate::targets::{file_at, is_regular};
+use call_types::description::DescriptionEdit;
 use call_types::errno::Errno;
 use call_types::limits::OFFSET_MAX;
 use call_types::outcome::Reply;
@@ -68,6 +69,10 @@ pub fn decide_lseek<R: WorldReader>(
     }
     let offset = to.unsigned_abs() as u64;
     let number = descriptor.number.again();
-    let edit = TableEdit::Offset { number, offset };
-    does(Reply::Number(offset), FileEdit::Nothing, edit)
+    let edit = DescriptionEdit::Offset { offset };
+    does(
+        Reply::Number(offset),
+        FileEdit::Nothing,
+        TableEdit::Describe { number, edit },
+    )
 }

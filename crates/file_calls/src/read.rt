@@ -9,6 +9,7 @@ ghost use Rattle.pipe_calls.specs.Proved.Refusals.{is_refusal};
 use crate::targets::file_at;
 use call_types::bounded::Content;
 use call_types::call::Call;
+use call_types::description::DescriptionEdit;
 use call_types::errno::Errno;
 use call_types::limits::TRANSFER_MAX;
 use call_types::outcome::Reply;
@@ -42,8 +43,12 @@ fn gives(descriptor: &OpenDescriptor, got: Content) -> Decided
     }
     let offset = descriptor.description.offset + got.len() as u64;
     let number = descriptor.number.again();
-    let edit = TableEdit::Offset { number, offset };
-    does(Reply::Data(got), FileEdit::Nothing, edit)
+    let edit = DescriptionEdit::Offset { offset };
+    does(
+        Reply::Data(got),
+        FileEdit::Nothing,
+        TableEdit::Describe { number, edit },
+    )
 }
 
 /// A read of a regular file, from the offset on, none at its end. An error says that memory ran out.

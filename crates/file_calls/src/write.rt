@@ -9,6 +9,7 @@ use crate::puts::{fitting, is_past_limit, puts};
 use crate::targets::{file_at, is_regular};
 use call_types::bounded::Payload;
 use call_types::call::Call;
+use call_types::description::DescriptionEdit;
 use call_types::errno::Errno;
 use call_types::limits::{Bounds, TRANSFER_MAX};
 use pipe_calls::targets::pipe_at;
@@ -57,7 +58,8 @@ fn write_file(bounds: Bounds, start: u64, bytes: &Payload, descriptor: &OpenDesc
     let count = fitting(bounds, start, bytes);
     let offset = start + count as u64;
     let number = descriptor.number.again();
-    let moved = TableEdit::Offset { number, offset };
+    let edit = DescriptionEdit::Offset { offset };
+    let moved = TableEdit::Describe { number, edit };
     puts(bytes, file_at(descriptor), start as usize, count, moved)
 }
 
