@@ -8,10 +8,13 @@ use crate::dup::decide_dup;
 use crate::dup2::decide_dup2;
 use crate::exit::{decide_close_run, decide_exit};
 use crate::fork::decide_fork;
+use crate::getfl::decide_getfl;
 use crate::join::{decide_join, is_full};
 use crate::link::decide_link;
 use crate::mkfifo::decide_mkfifo;
 use crate::pipe::decide_pipe;
+use crate::rename::decide_rename;
+use crate::setfl::decide_setfl;
 use crate::unlink::decide_unlink;
 use call_types::act::{Act, HOUSE};
 use call_types::call::Call;
@@ -75,6 +78,9 @@ pub fn decide_call<R: WorldReader>(
         Call::Unlink { name } => decide_unlink(state, name),
         Call::Fstat { fd } => Ok(decide_fstat(state, process, *fd)),
         Call::Fork => decide_fork(state, alloc, process),
+        Call::Getfl { fd } => Ok(decide_getfl(state, process, *fd)),
+        Call::Setfl { fd, flags } => Ok(decide_setfl(state, process, *fd, *flags)),
+        Call::Rename { old, new } => decide_rename(state, old, new),
     }
 }
 

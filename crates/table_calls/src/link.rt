@@ -7,7 +7,7 @@ use call_types::errno::Errno;
 use call_types::limits::LINK_MAX;
 use call_types::outcome::Reply;
 use file_calls::opening::{name_fault, names_full};
-use posix_model::change::{Decided, FileEdit, TableEdit, does, refused};
+use posix_model::change::{Decided, FileEdit, NameEdit, TableEdit, does, refused};
 use posix_model::reader::WorldReader;
 use std::alloc::AllocError;
 
@@ -56,6 +56,6 @@ pub fn decide_link<R: WorldReader>(state: &R, old: &Name, new: &Name) -> Result<
     }
     let name = new.clone()?;
     let file = found.unwrap_or(0);
-    let edit = FileEdit::AddName { name, file };
-    Ok(does(Reply::Done, edit, TableEdit::Nothing))
+    let edit = NameEdit::Add { name, file };
+    Ok(does(Reply::Done, FileEdit::Names(edit), TableEdit::Nothing))
 }

@@ -6,7 +6,7 @@ use call_types::bounded::Name;
 use call_types::errno::Errno;
 use call_types::outcome::Reply;
 use file_calls::opening::name_fault;
-use posix_model::change::{Decided, FileEdit, TableEdit, does, refused};
+use posix_model::change::{Decided, FileEdit, NameEdit, TableEdit, does, refused};
 use posix_model::reader::WorldReader;
 use std::alloc::AllocError;
 
@@ -32,6 +32,6 @@ pub fn decide_unlink<R: WorldReader>(state: &R, name: &Name) -> Result<Decided, 
         return Ok(refused(error));
     }
     let name = name.clone()?;
-    let edit = FileEdit::RemoveName { name };
-    Ok(does(Reply::Done, edit, TableEdit::Nothing))
+    let edit = NameEdit::Remove { name };
+    Ok(does(Reply::Done, FileEdit::Names(edit), TableEdit::Nothing))
 }
