@@ -10,9 +10,8 @@ use Rattle.call_types.specs.declared.limits.TheConstants.{OPEN_MAX}
 use Rattle.slots.specs.Slots.{slot, live, edited}
 use Rattle.call_types.specs.Names.{Entries, file_of, with_name, without_name}
 use Rattle.posix_model.specs.Counts.{links, refers, refs, refs_of, holds, holders, is_file}
-use Rattle.call_types.specs.Descriptions.{at_offset}
 use Rattle.process_table.specs.Processes.{with_entry, table_of}
-use Rattle.posix_model.specs.Proved.Whole.{EachThere}
+use Rattle.posix_model.specs.Proved.Whole.{EachThere, StaysOpen}
 use Rattle.machine_state.specs.Proved.Types.{Process, Description, Target}
 use Rattle.machine_state.specs.Proved.Targets.{file_of_target}
 use Rattle.call_types.specs.declared.description.Target.TheVariants as target
@@ -98,13 +97,13 @@ module _ (t : Option Description → Bool) (none : t None ≡ false) where
   pub count_added : (ds : List (Option Description)) (d : Description) → count_by t (ds ++ Some d ∷ []) ≡ count_by t ds + one (t (Some d))
   count_added ds d = omega (arith, sum_by-append (λ x. one (t x)) ds (Some d ∷ []))
 
-  pub count_moved : (ds : List (Option Description)) (n k : ℕ) → ((d : Description) → t (Some (at_offset k d)) ≡ t (Some d)) → count_by t (edited n (at_offset k) ds) ≡ count_by t ds
-  count_moved [] n k same = refl
-  count_moved (None ∷ ds) zero k same = refl
-  count_moved (Some d ∷ ds) zero k same =
-      let as_was : one (t (Some (at_offset k d))) ≡ one (t (Some d)) = ap one (same d) in
-      omega (arith, as_was, sum_by-cons (λ x. one (t x)) (Some d) ds, sum_by-cons (λ x. one (t x)) (Some (at_offset k d)) ds)
-  count_moved (x ∷ ds) (suc n) k same = omega (arith, count_moved ds n k same, sum_by-cons (λ x. one (t x)) x ds, sum_by-cons (λ x. one (t x)) x (edited n (at_offset k) ds))
+  pub count_edited : (ds : List (Option Description)) (n : ℕ) (f : Description → Description) → ((d : Description) → t (Some (f d)) ≡ t (Some d)) → count_by t (edited n f ds) ≡ count_by t ds
+  count_edited [] n f same = refl
+  count_edited (None ∷ ds) zero f same = refl
+  count_edited (Some d ∷ ds) zero f same =
+      let as_was : one (t (Some (f d))) ≡ one (t (Some d)) = ap one (same d) in
+      omega (arith, as_was, sum_by-cons (λ x. one (t x)) (Some d) ds, sum_by-cons (λ x. one (t x)) (Some (f d)) ds)
+  count_edited (x ∷ ds) (suc n) f same = omega (arith, count_edited ds n f same, sum_by-cons (λ x. one (t x)) x ds, sum_by-cons (λ x. one (t x)) x (edited n f ds))
 
   pub count_live : (ds : List (Option Description)) → count_by t ds ≤ live ds
   count_live [] = omega arith
@@ -136,12 +135,9 @@ holders_added ds d f =
     let same : one (holds f (Some d)) ≡ one (refers f (file_of_target d.target)) = ap one (sym (refers_target f d.target)) in
     omega (arith, same, sum_by-append (λ x. one (holds f x)) ds (Some d ∷ []))
 
--- an offset is no matter to the holders of a file
-pub holders_same : (ds : List (Option Description)) (n k f : ℕ) → holders (edited n (at_offset k) ds) f ≡ holders ds f
-holders_same [] n k f = refl
-holders_same (None ∷ ds) zero k f = refl
-holders_same (Some d ∷ ds) zero k f = omega (arith, sum_by-cons (λ x. one (holds f x)) (Some d) ds, sum_by-cons (λ x. one (holds f x)) (Some (at_offset k d)) ds)
-holders_same (x ∷ ds) (suc n) k f = omega (arith, holders_same ds n k f, sum_by-cons (λ x. one (holds f x)) x ds, sum_by-cons (λ x. one (holds f x)) x (edited n (at_offset k) ds))
+-- an offset and flags are no matter to the holders of a file
+pub holders_same : (ds : List (Option Description)) (n : ℕ) (edit : Description → Description) → StaysOpen edit → (f : ℕ) → holders (edited n edit ds) f ≡ holders ds f
+holders_same ds n edit stays f = count_edited (holds f) refl ds n edit (λ d. ap (is_file f) (stays.target d))
 
 -- what a new name adds to the links of a file
 pub links_added : (name : List ℕ) (file f : ℕ) (es : Entries) → file_of name es ≡ None → links (with_name name file es) f ≡ links es f + one (file == f)

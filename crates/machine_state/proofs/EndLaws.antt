@@ -5,11 +5,11 @@ use Rattle.std.proofs.lemmas.List.Sums.{sum_by-cons}
 use Rattle.std.proofs.lemmas.Bool.{lt-ltb, ltb-true}
 use Rattle.slots.specs.Slots.{slot, edited}
 use Rattle.slots.specs.Proved.Uses.{value_at, values_in, used_once, with_value}
-use Rattle.call_types.specs.Descriptions.{at_offset, can_read, can_write}
+use Rattle.call_types.specs.Descriptions.{can_read, can_write}
 use Rattle.posix_model.specs.Counts.{refers, is_pipe, reads, writes, readers, writers}
 use Rattle.posix_model.specs.Pipes.{pipe_at}
 use Rattle.posix_model.specs.Sweep.{is_open}
-use Rattle.posix_model.specs.Proved.Whole.{EachThere}
+use Rattle.posix_model.specs.Proved.Whole.{EachThere, StaysOpen}
 use Rattle.posix_model.specs.Proved.Released.{pipes_after}
 use Rattle.machine_state.specs.Proved.Types.{Description, Target, Mode, Used, Ring, StoredPipe}
 use Rattle.call_types.specs.declared.description.Target.TheVariants as target
@@ -24,7 +24,7 @@ use Rattle.machine_state.proofs.SlotLaws.{one, each_set, each_added, each_edited
 use Rattle.machine_state.proofs.UseLaws.{Counted, slot_values, there_values, there_edited, counted_as, counted_more, values_more, counted_added, values_added, length_values, counted_edited, values_edited, full, positive, StaysUsed, Goes, LosesUse, loses_use}
 use Rattle.machine_state.proofs.PipeLaws.{Pipes, pipe_slots_set, pipes_same, ring_with, ring_without}
 use Rattle.machine_state.proofs.LinkLaws.{Tallies, tallies_more, tallies_fewer, tallies_kept, tallies_added, tallies_less}
-use Rattle.machine_state.proofs.CountLaws.{count_gone, count_added, count_moved, count_there}
+use Rattle.machine_state.proofs.CountLaws.{count_gone, count_added, count_edited, count_there}
 
 -- a target is the pipe that it is an end of
 pub pipe_refers : (p : ℕ) (t : Target) → is_pipe p t ≡ refers p (pipe_at t)
@@ -127,9 +127,10 @@ module _ (xs : Pipes) (ds : List (Option Description)) (capacity : ℕ) (facts :
     capacities = facts.capacities;
   }
 
-  -- a description has another offset
-  pub pipes_moved : (n k : ℕ) → PipeFacts xs (edited n (at_offset k) ds) capacity
-  pipes_moved n k = pipes_as (edited n (at_offset k) ds) (λ p. count_moved (is_end p) refl ds n k (λ d. refl)) (λ p. count_moved (reads p) refl ds n k (λ d. refl)) (λ p. count_moved (writes p) refl ds n k (λ d. refl))
+  -- a description has another offset, or other flags
+  pub pipes_moved : (n : ℕ) (f : Description → Description) → StaysOpen f → PipeFacts xs (edited n f ds) capacity
+  pipes_moved n f stays = pipes_as (edited n f ds) (λ p. count_edited (is_end p) refl ds n f (λ d. rw (stays.target d) refl)) (λ p. count_edited (reads p) refl ds n f (λ d. rw (stays.target d, stays.mode d) refl))
+      (λ p. count_edited (writes p) refl ds n f (λ d. rw (stays.target d, stays.mode d) refl))
 
   -- a pipe has other bytes
   pub pipes_written : (n : ℕ) (edit : List ℕ → List ℕ) → PipeFacts (edited n (with_value (edited_ring edit)) xs) ds capacity

@@ -3,14 +3,13 @@ use Rattle.std.specs.Prelude.{is_some, ◌==◌}
 use Rattle.std.proofs.lemmas.Bool.{lt-ltb}
 use Rattle.call_types.specs.declared.limits.TheConstants.{OPEN_MAX, NAMES_MAX, DESCRIPTIONS_MAX, PROCESSES_MAX}
 use Rattle.slots.specs.Slots.{slot, live, edited}
-use Rattle.call_types.specs.Names.{file_of, with_name}
+use Rattle.call_types.specs.Names.{file_of, with_name, without_name}
 use Rattle.posix_model.specs.Counts.{links, refs, holders, readers, writers}
 use Rattle.posix_model.specs.Sweep.{without_gone_pipe}
 use Rattle.posix_model.specs.Pipes.{pipe_of_fifo, fifo_at}
-use Rattle.call_types.specs.Descriptions.{at_offset}
 use Rattle.process_table.specs.Processes.{with_entry}
-use Rattle.posix_model.specs.Descriptors.{with_offset, held_in}
-use Rattle.posix_model.specs.Proved.Whole.{EachThere}
+use Rattle.posix_model.specs.Descriptors.{held_in}
+use Rattle.posix_model.specs.Proved.Whole.{EachThere, StaysOpen}
 use Rattle.posix_model.specs.Kept.{IsThere, IsSettled}
 use Rattle.machine_state.specs.Proved.Types.{Process, Description, Used, Ring, TableState, FileBody, StoredFile, StoredPipe}
 use Rattle.slots.specs.Proved.Uses.{uses_at, value_at, values_in, used_once, use_added, with_value}
@@ -20,6 +19,7 @@ use Rattle.machine_state.specs.Proved.Pipes.{is_end, open_ends}
 use Rattle.file_table.specs.Proved.Files.{named, file_in, edited_body, edited_bytes, links_at}
 use Rattle.machine_state.specs.Proved.Held.{Stored, world_in}
 use Rattle.machine_state.specs.Proved.Consistent.{IsConsistent}
+use Rattle.posix_model.proofs.NameLemmas.{still_none, one_fewer}
 use Rattle.slots.proofs.SlotLaws.{same_or_not}
 use Rattle.machine_state.proofs.SlotLaws.{one, slot_set, slot_added, set_none, each_edited}
 use Rattle.machine_state.proofs.UseLaws.{Counted, slot_values, there_edited, there_values, counted_as, counted_more, values_more, counted_added, values_added, length_values, counted_edited, values_edited}
@@ -291,29 +291,54 @@ module _ (s : Stored) (all : IsConsistent s) where
   pub linked_world : (name : List ℕ) (file : ℕ) → world_in (linked name file) ≡ record (world_in s) { names = with_name name file s.names }
   linked_world name file = rw (values_more (named_files file) (Some file), files_same s.files file named (λ _. refl)) refl
 
-  -- a description has another offset
-  pub after_offset : (n offset : ℕ) → IsConsistent (record s { descriptions = edited n (with_value (at_offset offset)) s.descriptions })
-  after_offset n offset =
+  -- a file has a new name in place of an old one
+  abbrev pub moved_name : List ℕ → List ℕ → ℕ → Stored
+  moved_name old new file = record s { names = with_name new file (without_name old s.names) }
+
+  pub same_links : (old new : List ℕ) (file : ℕ) → file_of new s.names ≡ None → ((g : ℕ) → links (without_name old s.names) g + one (file == g) ≡ links s.names g) →
+      (g : ℕ) → links (with_name new file (without_name old s.names)) g ≡ links s.names g
+  same_links old new file none fewer g = omega (arith, links_added new file g (without_name old s.names) (still_none old new s.names none), fewer g)
+
+  pub after_move : (old new : List ℕ) (file : ℕ) → file_of old s.names ≡ Some file → file_of new s.names ≡ None →
+      ((g : ℕ) → links (with_name new file (without_name old s.names)) g ≡ links s.names g) → IsConsistent (moved_name old new file)
+  after_move old new file is none same =
       let facts = facts_of s all in
-      let t = record s { descriptions = edited n (with_value (at_offset offset)) s.descriptions } in
-      let values : values_in t.descriptions ≡ edited n (at_offset offset) ds = values_edited s.descriptions n (at_offset offset) in
-      consistent_of t (record {
-        references = counted_edited s.descriptions (λ m. refs s.processes m) n (at_offset offset) facts.references;
-        uses = counted_as s.files (λ f. links s.names f + holders ds f) (λ f. links s.names f + holders (values_in t.descriptions) f) facts.uses
-            (λ f. rw values (ap (λ k. links s.names f + k) (holders_same ds n offset f)));
-        links = facts.links;
-        pipes = rw values (pipes_moved s.pipes ds s.capacity facts.pipes n offset);
-        fifos = rw values (knows_more (values_in s.files) ds facts.fifos (edited n (at_offset offset) ds) (λ p. omega (arith, (facts.pipes.ends p).uses, ((pipes_moved s.pipes ds s.capacity facts.pipes n offset).ends p).uses)));
+      consistent_of (moved_name old new file) (record {
+        references = facts.references;
+        uses = counted_as s.files (λ g. links s.names g + holders ds g) (λ g. links (with_name new file (without_name old s.names)) g + holders ds g) facts.uses (λ g. ap (λ k. k + holders ds g) (same g));
+        links = λ n. facts.links n ∙ sym (same n);
+        pipes = facts.pipes;
+        fifos = facts.fifos;
         spare = facts.spare;
         tables = facts.tables;
         few_processes = facts.few_processes;
-        few_descriptions = rw values (omega (arith, facts.few_descriptions, live_edited ds n (at_offset offset)));
+        few_descriptions = facts.few_descriptions;
+        few_names = omega (arith, facts.few_names, names_longer new file (without_name old s.names) (still_none old new s.names none), one_fewer old s.names (ap is_some is));
+      })
+
+  -- a description has another offset, or other flags
+  pub after_description : (n : ℕ) (f : Description → Description) → StaysOpen f → IsConsistent (record s { descriptions = edited n (with_value f) s.descriptions })
+  after_description n f stays =
+      let facts = facts_of s all in
+      let t = record s { descriptions = edited n (with_value f) s.descriptions } in
+      let values : values_in t.descriptions ≡ edited n f ds = values_edited s.descriptions n f in
+      consistent_of t (record {
+        references = counted_edited s.descriptions (λ m. refs s.processes m) n f facts.references;
+        uses = counted_as s.files (λ g. links s.names g + holders ds g) (λ g. links s.names g + holders (values_in t.descriptions) g) facts.uses
+            (λ g. rw values (ap (λ k. links s.names g + k) (holders_same ds n f stays g)));
+        links = facts.links;
+        pipes = rw values (pipes_moved s.pipes ds s.capacity facts.pipes n f stays);
+        fifos = rw values (knows_more (values_in s.files) ds facts.fifos (edited n f ds) (λ p. omega (arith, (facts.pipes.ends p).uses, ((pipes_moved s.pipes ds s.capacity facts.pipes n f stays).ends p).uses)));
+        spare = facts.spare;
+        tables = facts.tables;
+        few_processes = facts.few_processes;
+        few_descriptions = rw values (omega (arith, facts.few_descriptions, live_edited ds n f));
         few_names = facts.few_names;
       })
 
   -- its world
-  pub offset_world : (n offset : ℕ) → world_in (record s { descriptions = edited n (with_value (at_offset offset)) s.descriptions }) ≡ with_offset (world_in s) n offset
-  offset_world n offset = ap (λ es. record (world_in s) { descriptions = es }) (values_edited s.descriptions n (at_offset offset))
+  pub description_world : (n : ℕ) (f : Description → Description) → world_in (record s { descriptions = edited n (with_value f) s.descriptions }) ≡ record (world_in s) { descriptions = edited n f (world_in s).descriptions }
+  description_world n f = ap (λ es. record (world_in s) { descriptions = es }) (values_edited s.descriptions n f)
 
   -- a process has another entry
   pub tables_set : (p fd : ℕ) (entry : Option ℕ) → EachThere HasAll (edited p (with_entry fd entry) s.processes)

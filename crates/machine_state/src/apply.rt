@@ -1,7 +1,7 @@
 ghost use Rattle.std.specs.Prelude.{◌≡◌, false};
 ghost use Rattle.call_types.specs.Proved.Stored.{span_bytes};
 ghost use Rattle.posix_model.specs.Change.{with_files, with_processes, with_table, changed};
-ghost use Rattle.posix_model.specs.Proved.Fits.{FilesFit, ProcessFits, TableFits, removes, ends, Fits, FilesProper, ProcessProper, TableProper, IsProper, PutsWithin};
+ghost use Rattle.posix_model.specs.Proved.Fits.{FilesFit, ProcessFits, TableFits, is_of_names, ends, Fits, FilesProper, ProcessProper, TableProper, IsProper, PutsWithin};
 ghost use Rattle.posix_model.specs.Proved.Whole.{EachThere, IsItsFifo};
 ghost use Rattle.posix_model.specs.Sweep.{sweep};
 ghost use Rattle.machine_state.specs.Proved.Targets.{EndsAreTheirs};
@@ -14,14 +14,14 @@ use posix_model::change::{Change, FileEdit, ProcessEdit, TableEdit};
 use posix_model::laws::sweep_releases;
 
 impl Machine {
-    /// Makes an edit of files that takes no name away, with the bytes of the act. Nothing waits for a sweep after it.
+    /// Makes an edit of files but one of names, with the bytes of the act. Nothing waits for a sweep after it.
     #[inline(always)]
     fn apply_files(&mut self, bytes: Span<'_>, edit: FileEdit)
         requires fits { FilesFit self.old.world edit }
         requires proper { FilesProper self.old.world (span_bytes bytes) edit }
         requires room { HasFileRoom self.old.room edit }
         requires holds { PutsWithin self.old.room.capacity self.old.world edit }
-        requires stays { removes edit ≡ false }
+        requires stays { is_of_names edit ≡ false }
         ensures world { self.new.world ≡ with_files self.old.world (span_bytes bytes.entry) edit }
         ensures tables { KeepsTableRoom self.old self.new }
     {
@@ -31,8 +31,7 @@ impl Machine {
                 self.write_bytes(file, start, bytes.cut(0, count));
             }
             FileEdit::Resize { file, len } => self.set_len(file, len),
-            FileEdit::AddName { name, file } => self.link(name, file),
-            FileEdit::RemoveName { .. } => unreachable!(),
+            FileEdit::Names(_) => unreachable!(),
             FileEdit::MakeFile { name } => self.create(name, FileBody::empty(self.alloc)),
             FileEdit::MakeFifo { name } => self.create(name, FileBody::fifo()),
             FileEdit::Put {
@@ -78,7 +77,7 @@ impl Machine {
     {
         match edit {
             TableEdit::Nothing => {}
-            TableEdit::Offset { number, offset } => self.set_offset(&number, offset),
+            TableEdit::Describe { number, edit } => self.describe(&number, edit),
             TableEdit::Open {
                 process,
                 fd,
@@ -105,6 +104,33 @@ impl Machine {
         self.is_settled();
     }
 
+    /// Makes a change of no names, and sweeps after it.
+    #[inline(always)]
+    fn apply_keeping(
+        &mut self,
+        bytes: Span<'_>,
+        files: FileEdit,
+        process: ProcessEdit,
+        table: TableEdit,
+    )
+        requires stays { is_of_names files ≡ false }
+        requires fits { Fits self.old.world (span_bytes bytes) (record { files = files; process = process; table = table }) }
+        requires proper { IsProper self.old.world (span_bytes bytes) (record { files = files; process = process; table = table }) }
+        requires room { HasRoom self.old (record { files = files; process = process; table = table }) }
+        requires holds { PutsWithin self.old.room.capacity self.old.world files }
+        requires ends { EachThere (λ description. IsItsFifo self.old.world.files description.target) self.old.world.descriptions }
+        ensures world { self.new.world ≡ sweep (changed self.old.world (span_bytes bytes.entry) (record { files = files; process = process; table = table })) }
+        ensures capacity { self.new.room.capacity ≡ self.old.room.capacity }
+    {
+        if let ProcessEdit::Exit { process } = process {
+            self.exit(process);
+            return;
+        }
+        self.apply_files(bytes, files);
+        self.apply_process(process);
+        self.apply_table(table);
+    }
+
     /// Makes a change, and sweeps after it. It cannot fail for want of memory: its room stands reserved.
     #[inline(always)]
     pub fn apply(&mut self, bytes: Span<'_>, change: Change)
@@ -121,16 +147,9 @@ impl Machine {
             process,
             table,
         } = change;
-        if let FileEdit::RemoveName { name } = &files {
-            self.unlink(name.as_slice());
-            return;
+        match files {
+            FileEdit::Names(edit) => self.edit_names(edit),
+            files => self.apply_keeping(bytes, files, process, table),
         }
-        if let ProcessEdit::Exit { process } = process {
-            self.exit(process);
-            return;
-        }
-        self.apply_files(bytes, files);
-        self.apply_process(process);
-        self.apply_table(table);
     }
 }

@@ -1,7 +1,7 @@
 ghost use Rattle.std.specs.Prelude.{◌≡◌, ◌+◌, ◌<◌, ◌≤◌, ◌^◌, true, length, None, Some, ℕ};
 ghost use Rattle.call_types.specs.declared.limits.TheConstants.{DESCRIPTIONS_MAX};
 ghost use Rattle.slots.specs.Slots.{slot, live, edited};
-ghost use Rattle.posix_model.specs.Descriptors.{with_descriptor, with_offset};
+ghost use Rattle.posix_model.specs.Descriptors.{with_descriptor, with_edit};
 ghost use Rattle.posix_model.specs.Change.{with_description, with_table, end_of};
 ghost use Rattle.posix_model.specs.Pipes.{pipe_at, pipe_of_fifo, with_pipe, fifo_at, opened_file};
 ghost use Rattle.posix_model.specs.Kept.{IsThere};
@@ -15,7 +15,7 @@ ghost use Rattle.machine_state.specs.Proved.Room.{HasEndRoom};
 use crate::entries::{drop_entry, hold_entry};
 use crate::machine::Machine;
 use crate::targets::{add_end, file_of_target, hold_file, pipe_of_target, release};
-use call_types::description::{Description, Mode, Target};
+use call_types::description::{Description, DescriptionEdit, Mode, Target};
 use posix_model::laws::{sweep_leaves_wanted, sweep_releases};
 use posix_model::world::Fifo;
 use slots::ticket::Ticket;
@@ -41,14 +41,14 @@ pub(crate) fn pipe_of_fifo(fifo: Option<Fifo>) -> Option<usize>
 }
 
 impl Machine {
-    /// Gives a description another offset, in bytes.
+    /// Gives a description another offset, or other flags.
     #[inline(always)]
-    pub(crate) fn set_offset(&mut self, ticket: &Ticket, offset: u64)
+    pub(crate) fn describe(&mut self, ticket: &Ticket, edit: DescriptionEdit)
         requires { IsThere self.old.world.descriptions ticket.now }
-        ensures world { self.new.world ≡ with_offset self.old.world ticket.now offset }
+        ensures world { self.new.world ≡ with_edit self.old.world ticket.now edit }
         ensures capacity { self.new.room.capacity ≡ self.old.room.capacity }
     {
-        self.descriptions.set_offset(ticket, offset);
+        self.descriptions.describe(ticket, edit);
     }
 
     /// Lets a free descriptor refer to a new description.

@@ -7,7 +7,7 @@ use crate::machine::Machine;
 use call_types::description::Mode;
 use file_table::stored_file::openings;
 use pipe_ring::PipeRing;
-use posix_model::change::{Change, FileEdit, ProcessEdit, TableEdit};
+use posix_model::change::{Change, FileEdit, NameEdit, ProcessEdit, TableEdit};
 use std::alloc::AllocError;
 
 impl Machine {
@@ -74,7 +74,7 @@ impl Machine {
                 description,
                 ..
             } => self.reserve_end(*file, description.mode),
-            TableEdit::Nothing | TableEdit::Offset { .. } | TableEdit::Entry { .. } => Ok(()),
+            TableEdit::Nothing | TableEdit::Describe { .. } | TableEdit::Entry { .. } => Ok(()),
         }
     }
 
@@ -111,8 +111,9 @@ impl Machine {
         match edit {
             FileEdit::Nothing | FileEdit::Resize { .. } => Ok(()),
             FileEdit::Bytes { file, start, count } => self.reserve_bytes(*file, *start, *count),
-            FileEdit::AddName { .. } => self.names.reserve(),
-            FileEdit::RemoveName { .. } | FileEdit::Put { .. } | FileEdit::Take { .. } => Ok(()),
+            FileEdit::Names(NameEdit::Remove { .. }) => Ok(()),
+            FileEdit::Names(_) => self.names.reserve(),
+            FileEdit::Put { .. } | FileEdit::Take { .. } => Ok(()),
             FileEdit::MakeFile { .. } | FileEdit::MakeFifo { .. } => {
                 self.files.reserve()?;
                 self.names.reserve()

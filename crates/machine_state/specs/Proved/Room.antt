@@ -2,7 +2,8 @@
 use Rattle.std.specs.Prelude.{◌≡◌, ℕ, ◌+◌, ◌<◌, ◌≤◌, ◌^◌, None}
 use Rattle.slots.specs.Slots.{slot}
 use Rattle.posix_model.specs.Pipes.{fifo_at, pipe_of_fifo}
-use Rattle.machine_state.specs.Proved.Types.{Mode, FileEdit, ProcessEdit, TableEdit, Change}
+use Rattle.machine_state.specs.Proved.Types.{Mode, NameEdit, FileEdit, ProcessEdit, TableEdit, Change}
+use Rattle.posix_model.specs.declared.change.NameEdit.TheVariants as on_names
 use Rattle.posix_model.specs.declared.change.FileEdit.TheVariants as on_files
 use Rattle.posix_model.specs.declared.change.ProcessEdit.TheVariants as on_process
 use Rattle.posix_model.specs.declared.change.TableEdit.TheVariants as on_table
@@ -10,10 +11,15 @@ use Rattle.file_extents.specs.Proved.Contents.{HasRoom as HasBytes, KeepsRoom as
 use Rattle.file_table.specs.Proved.Files.{room_at, openings}
 use Rattle.machine_state.specs.Proved.Held.{Room, Held}
 
+-- the room of an edit of names stands reserved
+abbrev pub HasNameRoom : Room → NameEdit → Type 0
+HasNameRoom room (on_names.Remove name) = Unit {0}
+HasNameRoom room other = 0 < room.names
+
 -- the room of an edit of files stands reserved
 abbrev pub HasFileRoom : Room → FileEdit → Type 0
 HasFileRoom room (on_files.Bytes file start count) = HasBytes (room_at room.bytes file) start count
-HasFileRoom room (on_files.AddName name file) = 0 < room.names
+HasFileRoom room (on_files.Names edit) = HasNameRoom room edit
 HasFileRoom room (on_files.MakeFile name) = (0 < room.files) × (0 < room.names)
 HasFileRoom room (on_files.MakeFifo name) = (0 < room.files) × (0 < room.names)
 HasFileRoom room other = Unit {0}

@@ -6,6 +6,7 @@ pub use Rattle.call_types.specs.declared.description.Target.{Target}
 pub use Rattle.call_types.specs.declared.description.Mode.{Mode}
 pub use Rattle.posix_model.specs.declared.world.File.{File}
 pub use Rattle.posix_model.specs.declared.world.Fifo.{Fifo}
+pub use Rattle.posix_model.specs.declared.change.NameEdit.{NameEdit}
 pub use Rattle.posix_model.specs.declared.change.FileEdit.{FileEdit}
 pub use Rattle.posix_model.specs.declared.change.ProcessEdit.{ProcessEdit}
 pub use Rattle.posix_model.specs.declared.change.TableEdit.{TableEdit}
