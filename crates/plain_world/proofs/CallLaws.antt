@@ -33,6 +33,7 @@ use Rattle.posix_model.specs.declared.world.File.TheVariants as file
 use Rattle.call_types.specs.declared.description.Target.TheVariants as target
 use Rattle.posix_model.specs.declared.change.FileEdit.TheVariants as on_files
 use Rattle.posix_model.specs.declared.change.TableEdit.TheVariants as on_table
+use Rattle.call_types.specs.declared.description.DescriptionEdit.TheVariants as on_description
 use Rattle.plain_world.specs.Proved.FileLaws.{OpenOn, WritePuts, PwritePuts, WriteMoves, WriteTakesAll, WriteAppends, IsRead, ReadGives, PreadGives, ReadMoves, SeekTells, SeekMoves, PreadKeepsWorld, NothingRead, NothingWritten, NothingPwritten, PwriteKeepsOffsets, with_append, with_appending, PwriteSameUnderAppend, OwnFileAlone, FilesStay, PipesStay, ActsLeaveFiles, ActsLeavePipes, FtruncateLeavesResized, FtruncateKeepsOffsets}
 use Rattle.plain_world.specs.Proved.Calls.{IsNoError}
 use Rattle.plain_world.specs.Proved.DescriptorLaws.{AccessIsNeeded}
@@ -123,12 +124,12 @@ pub write_puts : WritePuts
 write_puts bounds w process fd bytes o f n is some told =
     let start : ℕ → ℕ = λ g. write_start o.description (length (bytes_of w g)) in
     let count = fitting bounds (start f) bytes in
-    let Puts : ℕ → Type 0 = λ g. let count = fitting bounds (start g) bytes in Leaves w bytes f (start f) n (puts bytes g (start g) count (on_table.Offset o.number (start g + count))) in
+    let Puts : ℕ → Type 0 = λ g. let count = fitting bounds (start g) bytes in Leaves w bytes f (start f) n (puts bytes g (start g) count (on_table.Describe o.number (on_description.Offset (start g + count)))) in
     let c = call.Write fd bytes in
     let Ends : Option ℕ → Type 0 = λ on. Leaves w bytes f (start f) n (write_to bounds w process c (start (file_at o)) bytes o on) in
     opened_has (Leaves w bytes f (start f) n) (opened w process fd) o (write bounds w process c bytes) is.opened_is (λ error refused. cc)
     (λ _. subst Ends (sym (no_pipe w process fd o f is))
-    (subst Puts (sym (file_is w process fd o f is)) (puts_leave w f (start f) count (on_table.Offset o.number (start f + count)) n bytes refl some is.there))) told
+    (subst Puts (sym (file_is w process fd o f is)) (puts_leave w f (start f) count (on_table.Describe o.number (on_description.Offset (start f + count))) n bytes refl some is.there))) told
 
 -- what a decided write of some bytes that tells a number leaves of the description of its descriptor
 abbrev LeavesAfter : World → List ℕ → OpenDescriptor → ℕ → ℕ → Decided → Type 0
@@ -140,15 +141,15 @@ offset_edited : (w : World) (o : OpenDescriptor) (to : ℕ) → slot w.descripti
 offset_edited w o to there = slot_edited w.descriptions o.number (at_offset to) ∙ ap (option_map (at_offset to)) there
 
 puts_leave_after : (w : World) (o : OpenDescriptor) (f start count n : ℕ) (bytes : List ℕ) → slot w.descriptions o.number ≡ Some o.description → bytes ≢ [] →
-    LeavesAfter w bytes o start n (puts bytes f start count (on_table.Offset o.number (start + count)))
+    LeavesAfter w bytes o start n (puts bytes f start count (on_table.Describe o.number (on_description.Offset (start + count))))
 puts_leave_after w o f start count n bytes there some =
-    subst (λ empty. LeavesAfter w bytes o start n (cond empty (tells (Number 0)) (does (Number count) (on_files.Bytes f start count) (on_table.Offset o.number (start + count))))) (sym (not_none bytes some))
+    subst (λ empty. LeavesAfter w bytes o start n (cond empty (tells (Number 0)) (does (Number count) (on_files.Bytes f start count) (on_table.Describe o.number (on_description.Offset (start + count)))))) (sym (not_none bytes some))
     (λ told. let same : count ≡ n = cc in offset_edited w o (start + count) there ∙ ap (λ k. Some (at_offset (start + k) o.description)) same)
 
 pub write_moves : WriteMoves
 write_moves bounds w process fd bytes o f n is some told =
     let start : ℕ → ℕ = λ g. write_start o.description (length (bytes_of w g)) in
-    let Puts : ℕ → Type 0 = λ g. let count = fitting bounds (start g) bytes in LeavesAfter w bytes o (start f) n (puts bytes g (start g) count (on_table.Offset o.number (start g + count))) in
+    let Puts : ℕ → Type 0 = λ g. let count = fitting bounds (start g) bytes in LeavesAfter w bytes o (start f) n (puts bytes g (start g) count (on_table.Describe o.number (on_description.Offset (start g + count)))) in
     let c = call.Write fd bytes in
     let Ends : Option ℕ → Type 0 = λ on. LeavesAfter w bytes o (start f) n (write_to bounds w process c (start (file_at o)) bytes o on) in
     opened_has (LeavesAfter w bytes o (start f) n) (opened w process fd) o (write bounds w process c bytes) is.opened_is (λ error refused. cc)
@@ -184,7 +185,7 @@ write_takes_all bounds w process fd bytes o f n is some told =
     let start : ℕ → ℕ = λ g. write_start o.description (length (bytes_of w g)) in
     let All : Decided → Type 0 = λ d. d.outcome ≡ Replied (Number n) → (n ≡ length bytes) ⊎ (start f + n ≡ bounds.file_size) in
     let Ends : Option ℕ → Type 0 = λ on. All (write_to bounds w process (call.Write fd bytes) (start (file_at o)) bytes o on) in
-    let Puts : ℕ → Type 0 = λ g. let count = fitting bounds (start g) bytes in All (puts bytes g (start g) count (on_table.Offset o.number (start g + count))) in
+    let Puts : ℕ → Type 0 = λ g. let count = fitting bounds (start g) bytes in All (puts bytes g (start g) count (on_table.Describe o.number (on_description.Offset (start g + count)))) in
     let at = file_is w process fd o f is in
     let count = fitting bounds (start f) bytes in
     opened_has All (opened w process fd) o (write bounds w process (call.Write fd bytes) bytes) is.opened_is (λ error refused. cc)
@@ -195,7 +196,7 @@ write_takes_all bounds w process fd bytes o f n is some told =
     subst Ends (sym (no_pipe w process fd o f is))
     (subst Puts (sym at)
     (λ told.
-    subst (λ k. (k ≡ length bytes) ⊎ (start f + k ≡ bounds.file_size)) (puts_tell bytes f (start f) count (on_table.Offset o.number (start f + count)) n some told)
+    subst (λ k. (k ≡ length bytes) ⊎ (start f + k ≡ bounds.file_size)) (puts_tell bytes f (start f) count (on_table.Describe o.number (on_description.Offset (start f + count))) n some told)
     (fit_or_reach bounds (start f) bytes some below)))) told
 
 pub pwrite_puts : PwritePuts
@@ -264,7 +265,7 @@ none_long x h = grind (arith, nat_tests)
 gives_moved : (w : World) (o : OpenDescriptor) (x got : List ℕ) → slot w.descriptions o.number ≡ Some o.description → Moved w o got (gives o x)
 gives_moved w o x got there =
     let start = o.description.offset in
-    if_has (Moved w o got) (eqb (length x) 0) (tells (Data x)) (does (Data x) on_files.Nothing (on_table.Offset o.number (start + length x)))
+    if_has (Moved w o got) (eqb (length x) 0) (tells (Data x)) (does (Data x) on_files.Nothing (on_table.Describe o.number (on_description.Offset (start + length x))))
     (λ none told.
     let zero_long : length got ≡ 0 = ap length (sym (told_read x got told)) ∙ none_long x none in
     let stays : start ≡ start + length got = omega (arith, zero_long) in
@@ -295,7 +296,7 @@ given_read bytes start count got told = subst (λ (x : List ℕ). IsRead bytes s
 gives_read : (o : OpenDescriptor) (bytes : List ℕ) (start count : ℕ) (got : List ℕ) → Given bytes start count got (gives o (bytes_at bytes start count))
 gives_read o bytes start count got =
     let x = bytes_at bytes start count in
-    if_has (Given bytes start count got) (eqb (length x) 0) (tells (Data x)) (does (Data x) on_files.Nothing (on_table.Offset o.number (o.description.offset + length x)))
+    if_has (Given bytes start count got) (eqb (length x) 0) (tells (Data x)) (does (Data x) on_files.Nothing (on_table.Describe o.number (on_description.Offset (o.description.offset + length x))))
     (λ _. given_read bytes start count got) (λ _. given_read bytes start count got)
 
 pub read_gives : ReadGives
@@ -368,7 +369,7 @@ own_file_alone bounds w process fd start len bytes o f n is other =
       write =
           opened_has (Apart bytes) (opened w process fd) o (write bounds w process (call.Write fd bytes) bytes) is.opened_is (λ _. refl)
           (λ _. subst (λ on. Apart bytes (write_to bounds w process (call.Write fd bytes) from bytes o on)) (sym (no_pipe w process fd o f is))
-          (puts_apart w g from count n bytes (on_table.Offset o.number (from + count)) refl away));
+          (puts_apart w g from count n bytes (on_table.Describe o.number (on_description.Offset (from + count))) refl away));
       pwrite =
           opened_has (Apart bytes) (opened w process fd) o (pwrite bounds start bytes) is.opened_is (λ _. refl)
           (λ _. puts_apart w g at (fitting bounds at bytes) n bytes on_table.Nothing refl away);

@@ -2,11 +2,11 @@
 use Rattle.std.proofs.Common.{◌≡◌, ◌≢◌, ◌∙◌, ℕ, zero, suc, ◌<◌, false, List, ◌++◌, [], ◌∷◌, Option, Some, set, length, take, refl, ap, sym, subst, arith}
 use Rattle.posix_model.specs.Bytes.{splice, resized}
 use Rattle.slots.specs.Slots.{slot}
-use Rattle.call_types.specs.Descriptions.{at_offset}
+use Rattle.call_types.specs.Descriptions.{described}
 use Rattle.posix_model.specs.Descriptors.{file_bytes}
 use Rattle.posix_model.specs.Change.{with_files, with_processes, end_of, with_table, changed}
 use Rattle.posix_model.specs.Pipes.{unopened}
-use Rattle.posix_model.specs.Proved.Sound.{moved_offset, is_of_pipes, makes_pipe, opens_fifo, LeavesFiles, LeavesPipes}
+use Rattle.posix_model.specs.Proved.Sound.{described_in, is_of_pipes, makes_pipe, opens_fifo, LeavesFiles, LeavesPipes}
 use Rattle.plain_world.specs.Proved.Types.{World, Description, FileEdit, ProcessEdit, TableEdit, Change}
 use Rattle.posix_model.specs.declared.world.File.TheVariants as file
 use Rattle.call_types.specs.declared.description.Mode.TheVariants as mode
@@ -94,8 +94,7 @@ same_edit : (w v : World) (bytes : List ℕ) (e : FileEdit) → v.files ≡ w.fi
 same_edit w v bytes on_files.Nothing h = h
 same_edit w v bytes (on_files.Bytes f start count) h = ap (λ fs. set fs f (Some (file.Regular (splice (file_bytes (slot fs f)) start (take count bytes))))) h
 same_edit w v bytes (on_files.Resize f len) h = ap (λ fs. set fs f (Some (file.Regular (resized (file_bytes (slot fs f)) len)))) h
-same_edit w v bytes (on_files.AddName name f) h = h
-same_edit w v bytes (on_files.RemoveName name) h = h
+same_edit w v bytes (on_files.Names edit) h = h
 same_edit w v bytes (on_files.MakeFile name) h = ap (λ fs. fs ++ Some (file.Regular []) ∷ []) h
 same_edit w v bytes (on_files.MakeFifo name) h = ap (λ fs. fs ++ Some (file.Fifo unopened) ∷ []) h
 same_edit w v bytes (on_files.Put pipe source count) h = h
@@ -112,10 +111,9 @@ longer (y ∷ xs) x zero below = omega arith
 longer (y ∷ xs) x (suc n) below = let more = longer xs x n (omega arith) in omega arith
 
 -- an edit of descriptors leaves a description that was there, but for the one whose offset it moves
-other_description : (w : World) (e : TableEdit) (n : ℕ) → n < length w.descriptions → moved_offset e ≢ Some n → slot (with_table w e).descriptions n ≡ slot w.descriptions n
+other_description : (w : World) (e : TableEdit) (n : ℕ) → n < length w.descriptions → described_in e ≢ Some n → slot (with_table w e).descriptions n ≡ slot w.descriptions n
 other_description w on_table.Nothing n below other = refl
-other_description w (on_table.Offset number offset) n below other =
-    other_slot w.descriptions number n (at_offset offset) (λ same. other (ap Some (sym same)))
+other_description w (on_table.Describe number edit) n below other = other_slot w.descriptions number n (described edit) (λ same. other (ap Some (sym same)))
 other_description w (on_table.Open process fd d) n below other = slot_pushed w.descriptions (Some d) n below
 other_description w (on_table.OpenPair process reading writing) n below other =
     let first = Some (end_of (length w.pipes) mode.Read) in
@@ -124,7 +122,7 @@ other_description w (on_table.OpenPair process reading writing) n below other =
 other_description w (on_table.OpenEnd process fd file d) n below other = slot_pushed w.descriptions (Some d) n below
 other_description w (on_table.Entry process fd entry) n below other = refl
 
-pub offset_stays : (w : World) (bytes : List ℕ) (c : Change) (n : ℕ) → n < length w.descriptions → moved_offset c.table ≢ Some n → slot (changed w bytes c).descriptions n ≡ slot w.descriptions n
+pub offset_stays : (w : World) (bytes : List ℕ) (c : Change) (n : ℕ) → n < length w.descriptions → described_in c.table ≢ Some n → slot (changed w bytes c).descriptions n ≡ slot w.descriptions n
 offset_stays w bytes c n below other =
     let v = with_processes (with_files w bytes c.files) c.process in
     let same = same_descriptions w bytes c in

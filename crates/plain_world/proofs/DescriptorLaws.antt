@@ -25,10 +25,11 @@ use Rattle.posix_model.specs.declared.change.DataSource.TheVariants as source
 use Rattle.posix_model.specs.declared.change.Try.TheVariants.{Ends, Waits}
 use Rattle.posix_model.specs.Close.{close}
 use Rattle.posix_model.specs.Step.{given, decided}
-use Rattle.plain_world.specs.Proved.Types.{Call, Reply, Errno, OpenFlags, Bounds, World, Process, OpenDescriptor, Fifo, Parked, Try, FileEdit, ProcessEdit, TableEdit, Change, Decided, EAGAIN, EBADF, Replied, Number, Done, Error}
+use Rattle.plain_world.specs.Proved.Types.{Call, Reply, Errno, OpenFlags, Bounds, World, Process, OpenDescriptor, DescriptionEdit, Fifo, Parked, Try, FileEdit, ProcessEdit, TableEdit, Change, Decided, EAGAIN, EBADF, Replied, Number, Done, Error}
 use Rattle.posix_model.specs.declared.change.FileEdit.TheVariants as on_files
 use Rattle.posix_model.specs.declared.change.ProcessEdit.TheVariants as on_process
 use Rattle.posix_model.specs.declared.change.TableEdit.TheVariants as on_table
+use Rattle.call_types.specs.declared.description.DescriptionEdit.TheVariants as on_description
 use Rattle.plain_world.specs.Proved.DescriptorLaws.{OpenGivesLowest, CloseCloses, NotOpenIsBad, ProcessesAreApart}
 use Rattle.posix_model.proofs.PageLaws.{page_has, if_has}
 use Rattle.plain_world.proofs.PageLemmas.{on_open_has}
@@ -69,6 +70,7 @@ not_open_is_bad bounds w p fd call.Pipe free is = cc
 not_open_is_bad bounds w p fd (call.Mkfifo name) free is = cc
 not_open_is_bad bounds w p fd (call.Link old new) free is = cc
 not_open_is_bad bounds w p fd (call.Unlink name) free is = cc
+not_open_is_bad bounds w p fd (call.Rename old new) free is = cc
 not_open_is_bad bounds w p fd call.Fork free is = cc
 not_open_is_bad bounds w p fd other free is = refused_as_bad w p fd _ _ free is
 
@@ -83,7 +85,7 @@ edited_process other = None
 -- it leaves each other process
 other_process : (w : World) (e : TableEdit) (q : ℕ) → edited_process e ≢ Some q → slot (with_table w e).processes q ≡ slot w.processes q
 other_process w on_table.Nothing q other = refl
-other_process w (on_table.Offset number offset) q other = refl
+other_process w (on_table.Describe number edit) q other = refl
 other_process w (on_table.Open p fd d) q other = other_slot w.processes p q (with_entry fd (Some (length w.descriptions))) (λ same. other (ap Some (sym same)))
 other_process w (on_table.OpenPair p reading writing) q other =
     let n = length w.descriptions in
@@ -130,8 +132,8 @@ record Own (p : ℕ) (d : Decided) : Type 0 where
 own_nothing : (p : ℕ) (reply : Reply) (files : FileEdit) → Own p (does reply files on_table.Nothing)
 own_nothing p reply files = record { turned = λ q h. cc; own = λ q h. cc }
 
-own_offset : (p : ℕ) (reply : Reply) (files : FileEdit) (number offset : ℕ) → Own p (does reply files (on_table.Offset number offset))
-own_offset p reply files number offset = record { turned = λ q h. cc; own = λ q h. cc }
+own_described : (p : ℕ) (reply : Reply) (files : FileEdit) (number : ℕ) (edit : DescriptionEdit) → Own p (does reply files (on_table.Describe number edit))
+own_described p reply files number edit = record { turned = λ q h. cc; own = λ q h. cc }
 
 own_entry : (p : ℕ) (reply : Reply) (files : FileEdit) (fd : ℕ) (entry : Option ℕ) → Own p (does reply files (on_table.Entry p fd entry))
 own_entry p reply files fd entry = record { turned = λ q h. cc; own = λ q h. cc }
@@ -169,8 +171,8 @@ own_first p c o (Waits moved edit) =
 own_read : (w : World) (p : ℕ) (c : Call) (count : ℕ) (o : OpenDescriptor) (on : Option ℕ) → Own p (read_from w p c count o on)
 own_read w p c count o None =
     let got = bytes_at (bytes_of w (file_at o)) o.description.offset count in
-    own_if p (eqb (length got) 0) (tells (Data got)) (does (Data got) on_files.Nothing (on_table.Offset o.number (o.description.offset + length got))) (own_nothing p (Data got) on_files.Nothing)
-    (own_offset p (Data got) on_files.Nothing o.number (o.description.offset + length got))
+    own_if p (eqb (length got) 0) (tells (Data got)) (does (Data got) on_files.Nothing (on_table.Describe o.number (on_description.Offset (o.description.offset + length got)))) (own_nothing p (Data got) on_files.Nothing)
+    (own_described p (Data got) on_files.Nothing o.number (on_description.Offset (o.description.offset + length got)))
 own_read w p c count o (Some pipe) =
     own_if p (eqb count 0) (tells (Data [])) (first_try p c o (read_try w pipe count)) (own_nothing p (Data []) on_files.Nothing) (own_first p c o (read_try w pipe count))
 
@@ -178,8 +180,8 @@ own_write : (bounds : Bounds) (w : World) (p : ℕ) (c : Call) (start : ℕ) (by
 own_write bounds w p c start bytes o None =
     let n = fitting bounds start bytes in
     let put = on_files.Bytes (file_at o) start n in
-    own_if p (eqb (length bytes) 0) (tells (Number 0)) (does (Number n) put (on_table.Offset o.number (start + n))) (own_nothing p (Number 0) on_files.Nothing)
-    (own_offset p (Number n) put o.number (start + n))
+    own_if p (eqb (length bytes) 0) (tells (Number 0)) (does (Number n) put (on_table.Describe o.number (on_description.Offset (start + n)))) (own_nothing p (Number 0) on_files.Nothing)
+    (own_described p (Number n) put o.number (on_description.Offset (start + n)))
 own_write bounds w p c start bytes o (Some pipe) =
     let x = write_try bounds w pipe source.Act (length bytes) 0 in
     own_if p (eqb (length bytes) 0) (tells (Number 0)) (first_try p c o x) (own_nothing p (Number 0) on_files.Nothing) (own_first p c o x)
@@ -199,7 +201,7 @@ open_own w p name flags None = record { turned = λ q h. cc; own = λ q h. cc }
 open_own w p name flags (Some n) = open_there_own w p name flags n (fifo_at (slot w.files n))
 
 -- what the page of a call is made of
-ruleset own_rules = (own_page, own_on_open, own_if, own_nothing, own_offset, own_entry, own_pair, own_added)
+ruleset own_rules = (own_page, own_on_open, own_if, own_nothing, own_described, own_entry, own_pair, own_added)
 
 -- so a call changes its own process and its descriptors alone
 calls_own : (bounds : Bounds) (w : World) (p : ℕ) (c : Call) → Own p (decided bounds w p c)

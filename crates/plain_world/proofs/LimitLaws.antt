@@ -1,42 +1,45 @@
 -- No step goes past a limit: one lemma for each edit, and one for the sweep.
-use Rattle.std.proofs.Common.{eqb, ◌≡◌, ℕ, zero, suc, ◌+◌, ◌-◌, ◌≤◌, ◌<◌, ◌∙◌, Bool, true, false, not, cond, List, [], ◌∷◌, ◌++◌, Option, None, Some, length, set, take, drop, refl, ap, sym, subst, arith, length-set}
-use Rattle.std.specs.Option.{option_map, is_some}
+use Rattle.std.proofs.Common.{eqb, ◌≡◌, ℕ, zero, suc, ◌+◌, ◌-◌, ◌≤◌, ◌<◌, ◌∙◌, Bool, true, false, cond, List, [], ◌∷◌, ◌++◌, Option, None, Some, length, set, take, drop, refl, ap, sym, subst, arith, length-set}
+use Rattle.std.specs.Option.{option_map, is_some, unwrap_or}
 use Rattle.std.proofs.lemmas.Grind.{common_steps}
 use Rattle.std.proofs.lemmas.List.{length-replicate}
 use Rattle.std.proofs.lemmas.List.Sums.{sum_by-cons, sum_by_push}
-use Rattle.std.specs.Ordering.{nat_cmp, eq_by_cmp}
+use Rattle.std.specs.Ordering.{nat_cmp}
 use Rattle.std.specs.Cmp.Lexicographic.{slice_cmp}
 use Rattle.std.specs.FinMap.Entries.{by_order}
 use Rattle.std.specs.declared.cmp.Ordering.TheVariants.{Less, Equal, Greater}
-use Rattle.plain_world.specs.Proved.Types.{Act, Record, Bounds, World, Process, Description, Mode, File, FileEdit, ProcessEdit, TableEdit, Change, Decided, OPEN_MAX, NAMES_MAX, DESCRIPTIONS_MAX, OFFSET_MAX}
+use Rattle.plain_world.specs.Proved.Types.{Act, Record, Bounds, World, Process, Description, DescriptionEdit, Mode, File, NameEdit, FileEdit, ProcessEdit, TableEdit, Change, Decided, OPEN_MAX, NAMES_MAX, DESCRIPTIONS_MAX, OFFSET_MAX}
 use Rattle.call_types.specs.declared.act.Act.TheVariants as act
 use Rattle.call_types.specs.declared.call.Call.TheVariants as call
 use Rattle.posix_model.specs.Bytes.{splice, resized}
 use Rattle.slots.specs.Slots.{slot, edited, live, kept_from}
-use Rattle.call_types.specs.Names.{Entries, with_name, without_name}
-use Rattle.call_types.specs.Descriptions.{at_offset}
+use Rattle.call_types.specs.Names.{Entries, file_of, with_name, without_name}
+use Rattle.call_types.specs.Descriptions.{described}
 use Rattle.process_table.specs.Processes.{free_table, copied_table, process_with, with_connection, with_parked, with_total, with_entry}
-use Rattle.posix_model.specs.Descriptors.{with_descriptor, with_offset, file_bytes, bytes_of, pipe_bytes, held_in}
-use Rattle.posix_model.specs.Change.{with_bytes, created, bytes_from, after_those, with_files, with_processes, with_description, end_of, with_table, changed}
+use Rattle.posix_model.specs.Descriptors.{with_descriptor, file_bytes, bytes_of, pipe_bytes, held_in}
+use Rattle.posix_model.specs.Change.{with_bytes, created, renamed, bytes_from, after_those, with_files, with_processes, with_description, end_of, with_table, changed}
 use Rattle.posix_model.specs.Pipes.{unopened, fifo_at, pipe_of_fifo, pipe_between, with_pipe_for, opened_file, with_opening, with_pipe}
-use Rattle.posix_model.specs.Proved.Fits.{FilesProper, PutsWithin, ProcessProper, TableProper, IsProper}
+use Rattle.posix_model.specs.Proved.Fits.{NamesProper, FilesProper, PutsWithin, ProcessProper, TableProper, IsProper}
 use Rattle.posix_model.specs.Sweep.{is_referred, is_open, is_wanted, without_gone_pipe, sweep}
 use Rattle.posix_model.specs.Step.{can_call, given, comes_to, step}
 use Rattle.posix_model.specs.Pages.{decided_by}
 use Rattle.posix_model.specs.Join.{join}
 use Rattle.posix_model.specs.Fork.{fork}
-use Rattle.posix_model.specs.Proved.Sound.{Sound, makes, ActsAreSound, WithinLimits, FilesWithin, TableWithin}
+use Rattle.posix_model.specs.Proved.Sound.{Sound, makes, ActsAreSound, WithinLimits, FilesWithin, EditWithin, TableWithin}
 use Rattle.posix_model.specs.Proved.Laws.{SweepLeaves}
 use Rattle.posix_model.specs.History.{empty_world, after, world_from}
 use Rattle.posix_model.specs.declared.world.File.TheVariants as file
 use Rattle.call_types.specs.declared.description.Mode.TheVariants as mode
+use Rattle.posix_model.specs.declared.change.NameEdit.TheVariants as on_names
 use Rattle.posix_model.specs.declared.change.FileEdit.TheVariants as on_files
+use Rattle.call_types.specs.declared.description.DescriptionEdit.TheVariants as on_description
 use Rattle.posix_model.specs.declared.change.ProcessEdit.TheVariants as on_process
 use Rattle.posix_model.specs.declared.change.TableEdit.TheVariants as on_table
 use Rattle.plain_world.specs.Proved.Laws.{StepKeepsLimits, LimitsHold}
 use Rattle.posix_model.proofs.PageLaws.{page_has}
 use Rattle.posix_model.proofs.SweepLaws.{step_parts}
 use Rattle.posix_model.proofs.HistoryLaws.{stepped_or_not}
+use Rattle.posix_model.proofs.NameLemmas.{other_name, no_more_names, one_fewer}
 use Rattle.plain_world.proofs.PageLemmas.{where_may}
 use Rattle.plain_world.proofs.ChangeLemmas.{files_leave, same_descriptions}
 use Rattle.plain_world.proofs.SlotLemmas.{at_set, at_push, stood}
@@ -117,16 +120,6 @@ created_within bounds w name new empty h room = record {
   processes = h.processes;
 }
 
--- and a name that is taken away makes them no longer
-no_more_names : (name : List ℕ) (es : Entries) → length (without_name name es) ≤ length es
-no_more_names name [] = omega arith
-no_more_names name (e ∷ es) =
-    let rest = no_more_names name es in
-    elim (not (eq_by_cmp (slice_cmp nat_cmp) name e.0)) as (λ b. length (cond b (e ∷ without_name name es) (without_name name es)) ≤ length (e ∷ es)) [
-      | true ↦ omega (arith, rest)
-      | false ↦ omega (arith, rest)
-    ]
-
 names_within : (bounds : Bounds) (w : World) (names : Entries) → WithinLimits bounds w → length names ≤ NAMES_MAX → WithinLimits bounds (record w { names = names })
 names_within bounds w names h few = record { files = h.files; pipes = h.pipes; offsets = h.offsets; tables = h.tables; names = few; descriptions = h.descriptions; processes = h.processes }
 
@@ -155,13 +148,25 @@ added_few there new count most h k = grind (arith, common_steps)
 dropped_few : (there : List ℕ) (count most : ℕ) → length there ≤ most → length (drop count there) ≤ most
 dropped_few there count most h = grind (arith, common_steps)
 
+-- an edit of names leaves no more of them than there may be
+names_few : (w : World) (e : NameEdit) → length w.names ≤ NAMES_MAX → NamesProper w e → length (renamed e w.names) ≤ NAMES_MAX
+names_few w (on_names.Add name f) few proper = let more = one_more_name name f w.names in omega (arith, more, proper.1)
+names_few w (on_names.Remove name) few proper = let fewer = no_more_names name w.names in omega (arith, fewer, few)
+names_few w (on_names.Move old new) few proper =
+    let f = unwrap_or (file_of old w.names) 0 in
+    let left = without_name new w.names in
+    let is = other_name new old w.names (λ same. proper.apart (sym same)) in
+    let more = one_more_name new f (without_name old left) in
+    let fewer = one_fewer old left (ap is_some is ∙ proper.there) in
+    let no_more = no_more_names new w.names in
+    omega (arith, more, fewer, no_more, few)
+
 files_within : (bounds : Bounds) (w : World) (bytes : List ℕ) (e : FileEdit) → WithinLimits bounds w → FilesProper w bytes e → PutsWithin bounds.pipe_capacity w e → FilesWithin bounds e → WithinLimits bounds (with_files w bytes e)
 files_within bounds w bytes on_files.Nothing h proper puts within = h
 files_within bounds w bytes (on_files.Bytes f start count) h proper puts within =
     bytes_within bounds w f (splice (bytes_of w f) start (take count bytes)) h (splice_fits bounds.file_size start count (bytes_of w f) bytes (h.files f) within)
 files_within bounds w bytes (on_files.Resize f len) h proper puts within = bytes_within bounds w f (resized (bytes_of w f) len) h (resized_fits (bytes_of w f) len bounds.file_size within)
-files_within bounds w bytes (on_files.AddName name f) h proper puts within = names_within bounds w (with_name name f w.names) h (let more = one_more_name name f w.names in omega (arith, more, proper.1))
-files_within bounds w bytes (on_files.RemoveName name) h proper puts within = names_within bounds w (without_name name w.names) h (let few = no_more_names name w.names in omega (arith, few, h.names))
+files_within bounds w bytes (on_files.Names edit) h proper puts within = names_within bounds w (renamed edit w.names) h (names_few w edit h.names proper)
 files_within bounds w bytes (on_files.MakeFile name) h proper puts within = created_within bounds w name (file.Regular []) (omega arith) h proper.1
 files_within bounds w bytes (on_files.MakeFifo name) h proper puts within = created_within bounds w name (file.Fifo unopened) (omega arith) h proper.1
 files_within bounds w bytes (on_files.Put p source count) h proper puts within =
@@ -228,23 +233,29 @@ processes_within bounds w (on_process.Exit p) h proper all = record {
 processes_within bounds w on_process.Close h proper all =
     record { files = h.files; pipes = h.pipes; offsets = h.offsets; tables = h.tables; names = h.names; descriptions = h.descriptions; processes = h.processes }
 
--- the offset of a description is written
-offset_within : (bounds : Bounds) (w : World) (n k : ℕ) → WithinLimits bounds w → k ≤ OFFSET_MAX → WithinLimits bounds (with_offset w n k)
-offset_within bounds w n k h small =
-    let moved = option_map (at_offset k) (slot w.descriptions n) in
+-- the offset or the flags of a description are written
+description_within : (bounds : Bounds) (w : World) (n : ℕ) (f : Description → Description) → WithinLimits bounds w → ((d : Description) → d.offset ≤ OFFSET_MAX → (f d).offset ≤ OFFSET_MAX) →
+    WithinLimits bounds (record w { descriptions = edited n f w.descriptions })
+description_within bounds w n f h small =
+    let moved = option_map f (slot w.descriptions n) in
     record {
       files = h.files;
       pipes = h.pipes;
-      offsets = λ m. at_set (λ o. (x : Description) → o ≡ Some x → x.offset ≤ OFFSET_MAX) w.descriptions n moved m h.offsets (λ d e. as_small (slot w.descriptions n) d e);
+      offsets = λ m. at_set (λ o. (x : Description) → o ≡ Some x → x.offset ≤ OFFSET_MAX) w.descriptions n moved m h.offsets (λ d e. as_small (slot w.descriptions n) d (h.offsets n) e);
       tables = h.tables;
       names = h.names;
-      descriptions = rw (live_set w.descriptions n moved (some_mapped (at_offset k) (slot w.descriptions n))) h.descriptions;
+      descriptions = rw (live_set w.descriptions n moved (some_mapped f (slot w.descriptions n))) h.descriptions;
       processes = h.processes;
     }
   where
-    as_small : (old : Option Description) (d : Description) → option_map (at_offset k) old ≡ Some d → d.offset ≤ OFFSET_MAX
-    as_small None d e = cc
-    as_small (Some x) d e = let same : at_offset k x ≡ d = cc in subst (λ (y : Description). y.offset ≤ OFFSET_MAX) same small
+    as_small : (old : Option Description) (d : Description) → ((x : Description) → old ≡ Some x → x.offset ≤ OFFSET_MAX) → option_map f old ≡ Some d → d.offset ≤ OFFSET_MAX
+    as_small None d before e = cc
+    as_small (Some x) d before e = let same : f x ≡ d = cc in subst (λ (y : Description). y.offset ≤ OFFSET_MAX) same (small x (before x refl))
+
+-- an edit within all offsets leaves one
+edit_within : (e : DescriptionEdit) → EditWithin e → (d : Description) → d.offset ≤ OFFSET_MAX → (described e d).offset ≤ OFFSET_MAX
+edit_within (on_description.Offset offset) within d small = within
+edit_within other within d small = small
 
 descriptor_within : (bounds : Bounds) (w : World) (p fd : ℕ) (entry : Option ℕ) → WithinLimits bounds w → WithinLimits bounds (with_descriptor w p fd entry)
 descriptor_within bounds w p fd entry h = process_within bounds w p (with_entry fd entry) (λ x. length-set x.table fd entry) h
@@ -308,7 +319,7 @@ opening_within bounds w f m h =
 
 table_within : (bounds : Bounds) (w : World) (e : TableEdit) → WithinLimits bounds w → TableProper w e → TableWithin e → WithinLimits bounds (with_table w e)
 table_within bounds w on_table.Nothing h proper within = h
-table_within bounds w (on_table.Offset n k) h proper within = offset_within bounds w n k h within
+table_within bounds w (on_table.Describe n edit) h proper within = description_within bounds w n (described edit) h (edit_within edit within)
 table_within bounds w (on_table.Open p fd d) h proper within = opened_within bounds w p fd d h within proper
 table_within bounds w (on_table.OpenPair p reading writing) h proper within =
     let pipe = length w.pipes in
@@ -327,7 +338,7 @@ process_room w v other same proper = tt
 
 table_room : (w v : World) (e : TableEdit) → v.descriptions ≡ w.descriptions → TableProper w e → TableProper v e
 table_room w v on_table.Nothing same proper = tt
-table_room w v (on_table.Offset n k) same proper = tt
+table_room w v (on_table.Describe n edit) same proper = tt
 table_room w v (on_table.Open p fd d) same proper = rw same proper
 table_room w v (on_table.OpenPair p reading writing) same proper = rw same proper
 table_room w v (on_table.OpenEnd p fd f d) same proper = rw same proper

@@ -33,6 +33,7 @@ use Rattle.call_types.specs.declared.description.Mode.TheVariants as mode
 use Rattle.posix_model.specs.declared.change.DataSource.TheVariants as source
 use Rattle.posix_model.specs.declared.change.FileEdit.TheVariants as on_files
 use Rattle.posix_model.specs.declared.change.TableEdit.TheVariants as on_table
+use Rattle.call_types.specs.declared.description.DescriptionEdit.TheVariants as on_description
 use Rattle.posix_model.specs.declared.change.Try.TheVariants.{Ends, Waits}
 use Rattle.plain_world.specs.Proved.Types.{Call, Errno, OpenFlags, Bounds, World, Process, Parked, DataSource, Mode, File, Fifo, OpenDescriptor, FileEdit, Decided, Try, EAGAIN, Number, Error}
 use Rattle.plain_world.specs.Proved.Calls.{IsNoError}
@@ -120,7 +121,7 @@ write_takes_none bounds w pipe from len moved =
 write_to_loses_none : (bounds : Bounds) (w : World) (p : ℕ) (c : Call) (start : ℕ) (bytes : List ℕ) (o : OpenDescriptor) (on : Option ℕ) → LosesNone (write_to bounds w p c start bytes o on)
 write_to_loses_none bounds w p c start bytes o None =
     let n = fitting bounds start bytes in
-    if_has LosesNone (eqb (length bytes) 0) (tells (Number 0)) (does (Number n) (on_files.Bytes (file_at o) start n) (on_table.Offset o.number (start + n)))
+    if_has LosesNone (eqb (length bytes) 0) (tells (Number 0)) (does (Number n) (on_files.Bytes (file_at o) start n) (on_table.Describe o.number (on_description.Offset (start + n))))
     (λ _. record { files = refl; made = refl; opened_none = refl }) (λ _. record { files = refl; made = refl; opened_none = refl })
 write_to_loses_none bounds w p c start bytes o (Some pipe) =
     let x = write_try bounds w pipe source.Act (length bytes) 0 in

@@ -6,17 +6,17 @@ use Rattle.call_types.specs.declared.act.TheConstants.{HOUSE}
 use Rattle.call_types.specs.declared.act.Act.TheVariants as act
 use Rattle.call_types.specs.declared.call.Call.TheVariants as call
 use Rattle.slots.specs.Slots.{slot}
-use Rattle.call_types.specs.Descriptions.{at_offset}
+use Rattle.call_types.specs.Descriptions.{described}
 use Rattle.process_table.specs.Processes.{table_of, copied_table, process_with}
 use Rattle.posix_model.specs.Kept.{IsThere}
-use Rattle.posix_model.specs.Descriptors.{opened, opened_number, opened_description, with_offset}
+use Rattle.posix_model.specs.Descriptors.{opened, opened_number, opened_description, with_edit}
 use Rattle.posix_model.specs.Change.{changed}
 use Rattle.posix_model.specs.Pages.{refused, decided_by}
 use Rattle.posix_model.specs.Fork.{fork}
 use Rattle.posix_model.specs.Exit.{exit}
 use Rattle.posix_model.specs.Step.{stepped}
 use Rattle.posix_model.specs.Proved.Laws.{SweepLeaves}
-use Rattle.plain_world.specs.Proved.Types.{World, Process, OpenDescriptor, Replied, Number, Done, EAGAIN}
+use Rattle.plain_world.specs.Proved.Types.{World, Process, DescriptionEdit, OpenDescriptor, Replied, Number, Done, EAGAIN}
 use Rattle.plain_world.specs.Proved.Calls.{before_sweep}
 use Rattle.plain_world.specs.Proved.ProcessLaws.{Forks, ForkCopies, ForkShares, FullForkRefused, description_at, SharedIsSeen, AfterExit, ExitFrees, ClosingCloses, ClosedOnce}
 use Rattle.posix_model.proofs.PageLaws.{page_has}
@@ -71,14 +71,14 @@ stands_open : (w : World) (p : ℕ) (fd : ℤ) (o : OpenDescriptor) → IsOpenAt
 stands_open w p fd o at =
     subst (λ x. opened w p x ≡ Some o) at.fd_is (ap (opened_number w o.fd) at.entry_is ∙ ap (opened_description o.fd o.number) at.description_is)
 
-moved : (w : World) (p : ℕ) (fd : ℤ) (o : OpenDescriptor) (k : ℕ) → IsOpenAt w p fd o → description_at (with_offset w o.number k) p fd ≡ Some (at_offset k o.description)
-moved w p fd o k at =
-    let now : OpenDescriptor = record o { description = at_offset k o.description } in
-    let v = with_offset w o.number k in
+sees : (w : World) (p : ℕ) (fd : ℤ) (o : OpenDescriptor) (e : DescriptionEdit) → IsOpenAt w p fd o → description_at (with_edit w o.number e) p fd ≡ Some (described e o.description)
+sees w p fd o e at =
+    let now : OpenDescriptor = record o { description = described e o.description } in
+    let v = with_edit w o.number e in
     ap (option_map (λ x. x.description)) (stands_open v p fd now (record {
       fd_is = at.fd_is;
       entry_is = at.entry_is;
-      description_is = slot_edited w.descriptions o.number (at_offset k) ∙ ap (option_map (at_offset k)) at.description_is;
+      description_is = slot_edited w.descriptions o.number (described e) ∙ ap (option_map (described e)) at.description_is;
     }))
 
 -- a descriptor that leads to the number of a description leads to that
@@ -97,7 +97,7 @@ shared_is_seen w p q fd to o is number =
     let second : OpenDescriptor = record o { fd = other.0 } in
     let description = option_map (λ (x : OpenDescriptor). x.description) in (
       record { first = ap description is; second = ap description (stands_open w q to second other.1) },
-      λ k. record { first = moved w p fd o k first; second = moved w q to second k other.1 },
+      λ e. record { first = sees w p fd o e first; second = sees w q to second e other.1 },
     )
 
 exit_ends : SweepLeaves → (w : World) (p : ℕ) → AfterExit w (stepped w [] (exit p)).world p

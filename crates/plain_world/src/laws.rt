@@ -1,7 +1,7 @@
 //! Laws of steps and histories, and worked runs. None of these functions does anything; each contract is its law.
 
 ghost use Rattle.plain_world.specs.Proved.Laws.{RefusedStepKeepsWorld, RefusedNextKeepsWorld, JoinAdds, FullJoinRefused, LowestIsLeast, NoLowestIsFull, OffsetsAreApart, OffsetsStayApart, TakesFew, StepKeepsLimits, LimitsHold, LegalIsAnswered, AnsweredIsLegal};
-ghost use Rattle.plain_world.specs.Proved.Rows.{Runs, standard, small, path, hole, greatest_offset, size_limit, pwrite_under_append, opening, deferred_removal, duplicates, shared_offset, closing, nonblocking_fifo, exit_in_a_write_that_waits, last_reader_goes, fifo_rendezvous, parts_of_a_large_write};
+ghost use Rattle.plain_world.specs.Proved.Rows.{Runs, standard, small, path, hole, greatest_offset, size_limit, pwrite_under_append, opening, deferred_removal, duplicates, renames, flags_of_descriptors, nonblock_under_a_read, shared_offset, closing, nonblocking_fifo, exit_in_a_write_that_waits, last_reader_goes, fifo_rendezvous, parts_of_a_large_write};
 
 use posix_model::laws::{
     acts_are_sound, numbers_rise, sweep_leaves_wanted, sweep_releases, sweep_settles,
@@ -76,6 +76,9 @@ pub fn worked_runs()
     ensures opening { Runs standard opening 2 3 }
     ensures deferred_removal { Runs standard deferred_removal 3 3 }
     ensures duplicates { Runs standard duplicates 2 2 }
+    ensures renames { Runs standard renames 2 0 }
+    ensures flags_of_descriptors { Runs standard flags_of_descriptors 3 3 }
+    ensures nonblock_under_a_read { Runs standard nonblock_under_a_read 2 2 }
     ensures shared_offset { Runs standard shared_offset 4 4 }
     ensures closing { Runs standard closing 0 0 }
     ensures nonblocking_fifo { Runs standard nonblocking_fifo 1025 1 }

@@ -7,20 +7,20 @@ ghost use Rattle.posix_model.specs.Bytes.{splice, resized};
 ghost use Rattle.slots.specs.Slots.{slot, edited};
 ghost use Rattle.call_types.specs.Names.{file_of};
 ghost use Rattle.call_types.specs.Proved.Stored.{span_bytes};
-ghost use Rattle.call_types.specs.Descriptions.{at_offset};
+ghost use Rattle.call_types.specs.Descriptions.{described};
 ghost use Rattle.process_table.specs.Processes.{with_connection, with_parked, with_total, with_entry};
 ghost use Rattle.posix_model.specs.Descriptors.{file_bytes};
-ghost use Rattle.posix_model.specs.Change.{bytes_from, created, with_files, with_processes, with_description, with_table, changed};
+ghost use Rattle.posix_model.specs.Change.{renamed, bytes_from, created, with_files, with_processes, with_description, with_table, changed};
 ghost use Rattle.posix_model.specs.Pipes.{with_opening};
-ghost use Rattle.posix_model.specs.Proved.Fits.{FilesProper, IsProper};
+ghost use Rattle.posix_model.specs.Proved.Fits.{NamesProper, FilesProper, IsProper};
 
 use crate::pipes::{
     end_of, open_once, parked_bytes, pipe_for, pipe_of_fifo, put_bytes, take_first,
 };
 use call_types::bounded::Name;
-use call_types::description::{Description, Mode};
+use call_types::description::{Description, DescriptionEdit, Mode};
 use call_types::span::Span;
-use posix_model::change::{Change, DataSource, FileEdit, ProcessEdit, TableEdit};
+use posix_model::change::{Change, DataSource, FileEdit, NameEdit, ProcessEdit, TableEdit};
 use posix_model::contents::Contents;
 use posix_model::world::{Fifo, File, World};
 use process_table::process::{Parked, Process};
@@ -103,6 +103,26 @@ fn put_into(
     }
 }
 
+/// Makes an edit of names.
+fn make_names(world: &mut World, edit: NameEdit) -> Result<(), AllocError>
+    requires { NamesProper world.old edit }
+    ensures { OnOk result (world.new ≡ record world.old { names = renamed edit world.old.names }) }
+{
+    match edit {
+        NameEdit::Add { name, file } => world.names.put(name, file),
+        NameEdit::Remove { name } => {
+            world.names.remove(name.as_slice());
+            Ok(())
+        }
+        NameEdit::Move { old, new } => {
+            let file = world.names.file_of(old.as_slice()).unwrap_or(0);
+            world.names.remove(new.as_slice());
+            world.names.remove(old.as_slice());
+            world.names.put(new, file)
+        }
+    }
+}
+
 /// Makes an edit of files, of which the act gives these bytes.
 fn make_files(
     alloc: Global,
@@ -119,11 +139,7 @@ fn make_files(
             write_bytes(alloc, &mut world.files, file, start, bytes.cut(0, count))
         }
         FileEdit::Resize { file, len } => resize(alloc, &mut world.files, file, len),
-        FileEdit::AddName { name, file } => world.names.put(name, file),
-        FileEdit::RemoveName { name } => {
-            world.names.remove(name.as_slice());
-            Ok(())
-        }
+        FileEdit::Names(edit) => make_names(world, edit),
         FileEdit::MakeFile { name } => {
             make_file(world, name, File::Regular(Contents::new(alloc)))
         }
@@ -207,12 +223,12 @@ fn set_descriptor(processes: &mut Slots<Process>, number: usize, fd: usize, entr
     }
 }
 
-/// Gives a description another offset, in bytes.
-fn set_offset(descriptions: &mut Slots<Description>, number: usize, offset: u64)
-    ensures { descriptions.new ≡ edited number (at_offset offset) descriptions.old }
+/// Gives a description another offset, or other flags.
+fn describe(descriptions: &mut Slots<Description>, number: usize, edit: DescriptionEdit)
+    ensures { descriptions.new ≡ edited number (described edit) descriptions.old }
 {
     if let Some(mut description) = descriptions.take(number) {
-        description.offset = offset;
+        description.edit(edit);
         descriptions.put(number, Some(description));
     }
 }
@@ -268,8 +284,8 @@ fn make_table(alloc: Global, world: &mut World, edit: TableEdit) -> Result<(), A
 {
     match edit {
         TableEdit::Nothing => {}
-        TableEdit::Offset { number, offset } => {
-            set_offset(&mut world.descriptions, number.number(), offset);
+        TableEdit::Describe { number, edit } => {
+            describe(&mut world.descriptions, number.number(), edit);
         }
         TableEdit::Open {
             process,

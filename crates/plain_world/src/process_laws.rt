@@ -13,8 +13,8 @@ pub fn fork_copies_descriptors()
     ensures full { FullForkRefused }
 {}
 
-/// Descriptors that lead to one description share its offset, in one process or in two (XBD 3, File Offset; pages of fork and
-/// dup).
+/// Descriptors that lead to one description share its offset and its flags, in one process or in two (XBD 3, File Offset; pages of
+/// fork, dup and fcntl).
 pub fn shared_is_seen()
     ensures { SharedIsSeen }
 {}

@@ -34,3 +34,20 @@ LinkNames = (bounds : Bounds) (w : World) (process : ℕ) (old new : List ℕ) �
 abbrev pub UnlinkNames : Type 0
 UnlinkNames = (bounds : Bounds) (w : World) (process : ℕ) (name : List ℕ) → outcome_of bounds w process (call.Unlink name) ≡ Replied Done →
     Unlinked w (before_sweep bounds w process (call.Unlink name)) name
+
+-- the new name leads where the old one led, the old one leads nowhere, and every other name leads where it led
+pub record Renamed (w v : World) (old new : List ℕ) : Type 0 where
+  pub leads : file_of new v.names ≡ file_of old w.names
+  pub gone : file_of old v.names ≡ None
+  pub others : (name : List ℕ) → name ≢ old → name ≢ new → file_of name v.names ≡ file_of name w.names
+  pub alone : NamesAlone w v
+
+-- a rename that is not refused, of a name to one that does not lead to the same file, moves the name and changes nothing else; what
+-- the new name led to has one name less (page of rename)
+abbrev pub RenameNames : Type 0
+RenameNames = (bounds : Bounds) (w : World) (process : ℕ) (old new : List ℕ) → file_of new w.names ≢ file_of old w.names → outcome_of bounds w process (call.Rename old new) ≡ Replied Done →
+    Renamed w (before_sweep bounds w process (call.Rename old new)) old new
+
+-- and of two names of one file changes nothing (page of rename)
+abbrev pub RenameOfOneFile : Type 0
+RenameOfOneFile = (bounds : Bounds) (w : World) (process : ℕ) (old new : List ℕ) → file_of new w.names ≡ file_of old w.names → before_sweep bounds w process (call.Rename old new) ≡ w

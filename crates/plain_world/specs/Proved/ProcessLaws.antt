@@ -1,15 +1,15 @@
 -- What holds of processes that fork, are attached and end, and of a run that is closed, in words that the pages use.
 use Rattle.std.specs.Prelude.{◌≡◌, ◌≢◌, ℕ, ℤ, true, false, [], ◌∷◌, ◌++◌, Option, None, Some, length, slice_set, if◌then◌else◌}
 use Rattle.std.specs.Option.{option_map}
-use Rattle.plain_world.specs.Proved.Types.{Bounds, World, Description, OpenDescriptor, EAGAIN, ESRCH, Replied, Number, Done, Error}
+use Rattle.plain_world.specs.Proved.Types.{Bounds, World, Description, DescriptionEdit, OpenDescriptor, EAGAIN, ESRCH, Replied, Number, Done, Error}
 use Rattle.call_types.specs.declared.act.TheConstants.{HOUSE}
 use Rattle.call_types.specs.declared.act.Act.TheVariants as act
 use Rattle.call_types.specs.declared.call.Call.TheVariants as call
 use Rattle.slots.specs.Slots.{slot, edited}
-use Rattle.call_types.specs.Descriptions.{at_offset}
+use Rattle.call_types.specs.Descriptions.{described}
 use Rattle.process_table.specs.Processes.{table_of, awaits, process_with, with_connection}
 use Rattle.posix_model.specs.Kept.{IsThere}
-use Rattle.posix_model.specs.Descriptors.{opened, with_offset}
+use Rattle.posix_model.specs.Descriptors.{opened, with_edit}
 use Rattle.posix_model.specs.Proved.Sound.{number_of}
 use Rattle.posix_model.specs.Join.{is_full}
 use Rattle.posix_model.specs.Sweep.{is_referred, is_wanted, without_gone_pipe, sweep}
@@ -46,11 +46,11 @@ pub record BothSee (w : World) (p : ℕ) (fd : ℤ) (q : ℕ) (to : ℤ) (descri
   pub first : description_at w p fd ≡ Some description
   pub second : description_at w q to ≡ Some description
 
--- two descriptors that lead to one description, of whatever processes, see it alike, and where its offset is moved both see the
--- new one (XBD 3, File Offset; pages of fork and dup)
+-- two descriptors that lead to one description, of whatever processes, see it alike, and where its offset is moved or its flags are
+-- set both see the new ones (XBD 3, File Offset; pages of fork, dup and fcntl)
 abbrev pub SharedIsSeen : Type 0
 SharedIsSeen = (w : World) (p q : ℕ) (fd to : ℤ) (o : OpenDescriptor) → opened w p fd ≡ Some o → number_of w q to ≡ Some o.number →
-    BothSee w p fd q to o.description × ((offset : ℕ) → BothSee (with_offset w o.number offset) p fd q to (at_offset offset o.description))
+    BothSee w p fd q to o.description × ((edit : DescriptionEdit) → BothSee (with_edit w o.number edit) p fd q to (described edit o.description))
 
 -- an attach of a child that waits for its connection gives it that and changes nothing else, where the world was its own sweep, as
 -- it is in a history (own)

@@ -1,7 +1,7 @@
 -- Worked runs: what each act answers, and the bytes that each run takes and gives.
 use Rattle.std.specs.Prelude.{◌≡◌, ℕ, pos, negsuc, List, [], ◌∷◌, codes, replicate}
 use Rattle.plain_world.specs.Proved.Types.{Call, Record, Reply, OpenFlags, Bounds, Act, EAGAIN, EBADF, EINVAL, EFBIG, EOVERFLOW, ENOENT, ENXIO, EEXIST, EPIPE, ESRCH}
-use Rattle.call_types.specs.declared.call.Call.TheVariants.{Open, Close, Read, Write, Pread, Pwrite, Lseek, Ftruncate, Dup, Dup2, Pipe, Mkfifo, Link, Unlink, Fstat, Fork}
+use Rattle.call_types.specs.declared.call.Call.TheVariants.{Open, Close, Read, Write, Pread, Pwrite, Lseek, Ftruncate, Dup, Dup2, Pipe, Mkfifo, Link, Unlink, Fstat, Fork, Getfl, Setfl, Rename}
 use Rattle.call_types.specs.declared.whence.Whence.TheVariants.{Set, Cur, End}
 use Rattle.call_types.specs.declared.act.TheConstants.{HOUSE}
 use Rattle.call_types.specs.declared.act.Act.TheVariants as act
@@ -154,6 +154,60 @@ duplicates =
     ∷ answers (Open (codes "e") (bits 7)) (reply.Number 0)
     ∷ answers (Dup2 (pos 1) (pos 0)) (reply.Number 0)
     ∷ answers (Fstat (pos 0)) (reply.Stat (record { kind = Regular; size = 2; links = 1 }))
+    ∷ []
+
+-- a rename replaces a link, whose file stays while it is open; two names of one file stay both
+abbrev pub renames : List Record
+renames =
+    joins
+    ∷ answers (Open (codes "a") (bits 6)) (reply.Number 0)
+    ∷ answers (Write (pos 0) (codes "ab")) (reply.Number 2)
+    ∷ answers (Open (codes "b") (bits 7)) (reply.Number 1)
+    ∷ answers (Rename (codes "a") (codes "b")) reply.Done
+    ∷ answers (Open (codes "a") (bits 1)) (reply.Error ENOENT)
+    ∷ answers (Fstat (pos 0)) (reply.Stat (record { kind = Regular; size = 2; links = 1 }))
+    ∷ answers (Fstat (pos 1)) (reply.Stat (record { kind = Regular; size = 0; links = 0 }))
+    ∷ answers (Close (pos 1)) reply.Done
+    ∷ answers (Link (codes "b") (codes "c")) reply.Done
+    ∷ answers (Rename (codes "b") (codes "c")) reply.Done
+    ∷ answers (Fstat (pos 0)) (reply.Stat (record { kind = Regular; size = 2; links = 2 }))
+    ∷ answers (Rename (codes "b") (codes "b")) reply.Done
+    ∷ answers (Rename (codes "x") (codes "y")) (reply.Error ENOENT)
+    ∷ answers (Rename (codes "b") (codes "a/b")) (reply.Error EINVAL)
+    ∷ []
+
+-- flags are those of the description, for each of its descriptors
+abbrev pub flags_of_descriptors : List Record
+flags_of_descriptors =
+    joins
+    ∷ answers (Open (codes "s") (bits 7)) (reply.Number 0)
+    ∷ answers (Write (pos 0) (codes "ab")) (reply.Number 2)
+    ∷ answers (Dup (pos 0)) (reply.Number 1)
+    ∷ answers (Lseek (pos 0) (pos 0) Set) (reply.Number 0)
+    ∷ answers (Setfl (pos 1) (bits 32)) reply.Done
+    ∷ answers (Getfl (pos 0)) (reply.Number 35)
+    ∷ answers (Write (pos 0) (codes "c")) (reply.Number 1)
+    ∷ answers (Pread (pos 0) (pos 0) 9) (reply.Data (codes "abc"))
+    ∷ answers (Setfl (pos 0) (bits 0)) reply.Done
+    ∷ answers (Getfl (pos 1)) (reply.Number 3)
+    ∷ answers (Getfl (pos 5)) (reply.Error EBADF)
+    ∷ answers (Lseek (pos 0) (pos 0) Cur) (reply.Number 3)
+    ∷ []
+
+-- a read that waits waits on though its description is nonblocking now, and the next one does not wait
+abbrev pub nonblock_under_a_read : List Record
+nonblock_under_a_read =
+    joins
+    ∷ answers Pipe (reply.Pair 0 1)
+    ∷ answers Fork (reply.Number 1)
+    ∷ acts 1 act.Attach reply.Done
+    ∷ waits 0 (act.Call (Read (pos 0) 4)) 0
+    ∷ acts 1 (act.Call (Setfl (pos 0) (bits 64))) reply.Done
+    ∷ acts 1 (act.Call (Read (pos 0) 4)) (reply.Error EAGAIN)
+    ∷ acts 1 (act.Call (Getfl (pos 0))) (reply.Number 65)
+    ∷ acts 1 (act.Call (Write (pos 1) (codes "hi"))) (reply.Number 2)
+    ∷ acts 0 act.Resume (reply.Data (codes "hi"))
+    ∷ answers (Read (pos 0) 1) (reply.Error EAGAIN)
     ∷ []
 
 -- a child reads on where its parent's offset stands, the parent after it, and the offset is still there when the child is gone

@@ -10,6 +10,7 @@ pub use Rattle.call_types.specs.declared.limits.Bounds.{Bounds}
 pub use Rattle.posix_model.specs.declared.world.World.{World}
 pub use Rattle.process_table.specs.declared.process.Process.{Process}
 pub use Rattle.call_types.specs.declared.description.Description.{Description}
+pub use Rattle.call_types.specs.declared.description.DescriptionEdit.{DescriptionEdit}
 pub use Rattle.call_types.specs.declared.description.Target.{Target}
 pub use Rattle.call_types.specs.declared.description.Mode.{Mode}
 pub use Rattle.posix_model.specs.declared.world.File.{File}
@@ -17,6 +18,7 @@ pub use Rattle.posix_model.specs.declared.world.Fifo.{Fifo}
 pub use Rattle.process_table.specs.declared.process.Parked.{Parked}
 pub use Rattle.posix_model.specs.declared.opened.OpenDescriptor.{OpenDescriptor}
 pub use Rattle.posix_model.specs.declared.change.DataSource.{DataSource}
+pub use Rattle.posix_model.specs.declared.change.NameEdit.{NameEdit}
 pub use Rattle.posix_model.specs.declared.change.FileEdit.{FileEdit}
 pub use Rattle.posix_model.specs.declared.change.ProcessEdit.{ProcessEdit}
 pub use Rattle.posix_model.specs.declared.change.TableEdit.{TableEdit}
