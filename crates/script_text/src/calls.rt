@@ -4,7 +4,7 @@
 
 ghost use Rattle.std.specs.Prelude.{◌≡◌, ◌++◌, ◌+◌, ◌<◌, ◌^◌, ◌≤◌};
 ghost use Rattle.std.specs.Option.{option_copied};
-ghost use Rattle.call_types.specs.CallTable.{open_entry, close_entry, read_entry, write_entry, pread_entry, pwrite_entry, lseek_entry, ftruncate_entry, dup_entry, dup2_entry, pipe_entry, mkfifo_entry, link_entry, unlink_entry, fstat_entry, fork_entry, later_table, position_table};
+ghost use Rattle.call_types.specs.CallTable.{open_entry, close_entry, read_entry, write_entry, pread_entry, pwrite_entry, lseek_entry, ftruncate_entry, dup_entry, dup2_entry, pipe_entry, mkfifo_entry, link_entry, unlink_entry, fstat_entry, fork_entry, getfl_entry, setfl_entry, rename_entry, later_table, position_table};
 ghost use Rattle.script_text.specs.Reading.{Gives, Word};
 ghost use Rattle.script_text.specs.ReadingCalls.{entry_at, one_of, named_call};
 ghost use Rattle.script_text.specs.Lines.{call_text};
@@ -358,6 +358,69 @@ fn put_fork(out: &mut Vec<u8>)
     put(out, b"fork");
 }
 
+/// `getfl FD`
+fn getfl_call(left: Unread<'_>) -> Result<Call, WordFault>
+    ensures { Gives (λ x. x) result (entry_at getfl_entry (option_copied left.entry)) }
+{
+    let (fd, left) = fields::descriptor(left)?;
+    line_end(left)?;
+    Ok(Call::Getfl { fd })
+}
+
+/// Appends a getfl.
+fn put_getfl(out: &mut Vec<u8>, fd: i32)
+    requires { HasRoom out.old CALL_ROOM }
+    ensures text { out.new.items ≡ out.old.items ++ (call_text (Call.Getfl fd)) }
+    ensures room { UsesRoom out.old out.new CALL_ROOM }
+{
+    put(out, b"getfl ");
+    put_descriptor(out, fd);
+}
+
+/// `setfl FD FLAGS`
+fn setfl_call(left: Unread<'_>) -> Result<Call, WordFault>
+    ensures { Gives (λ x. x) result (entry_at setfl_entry (option_copied left.entry)) }
+{
+    let (fd, left) = fields::descriptor(left)?;
+    let (flags, left) = fields::flags(left)?;
+    line_end(left)?;
+    Ok(Call::Setfl { fd, flags })
+}
+
+/// Appends a setfl.
+fn put_setfl(out: &mut Vec<u8>, fd: i32, flags: OpenFlags)
+    requires { HasRoom out.old CALL_ROOM }
+    ensures text { out.new.items ≡ out.old.items ++ (call_text (Call.Setfl fd flags)) }
+    ensures room { UsesRoom out.old out.new CALL_ROOM }
+{
+    put(out, b"setfl ");
+    put_descriptor(out, fd);
+    out.push_reserved(b' ');
+    put_flags(out, flags);
+}
+
+/// `rename NAME NAME`
+fn rename_call(alloc: Global, left: Unread<'_>) -> Result<Call, WordFault>
+    ensures { Gives (λ x. x) result (entry_at rename_entry (option_copied left.entry)) }
+{
+    let (old, left) = fields::name(alloc, left)?;
+    let (new, left) = fields::name(alloc, left)?;
+    line_end(left)?;
+    Ok(Call::Rename { old, new })
+}
+
+/// Appends a rename.
+fn put_rename(out: &mut Vec<u8>, old: &Name, new: &Name)
+    requires { HasRoom out.old (CALL_ROOM + (name_room old.now + name_room new.now)) }
+    ensures text { out.new.items ≡ out.old.items ++ (call_text (Call.Rename old.now new.now)) }
+    ensures room { UsesRoom out.old out.new (CALL_ROOM + (name_room old.now + name_room new.now)) }
+{
+    put(out, b"rename ");
+    put_name(out, old.as_slice());
+    out.push_reserved(b' ');
+    put_name(out, new.as_slice());
+}
+
 /// The call that a first word names.
 pub(crate) fn call(alloc: Global, word: Next<'_>) -> Result<Call, WordFault>
     ensures { Gives (λ x. x) result (named_call (record { text = word.entry.text.now; remaining = word.entry.remaining; after = option_copied word.entry.after })) }
@@ -396,6 +459,12 @@ fn later_call(alloc: Global, word: Next<'_>) -> Result<Call, WordFault>
         fstat_call(word.after)
     } else if word.is(b"fork") {
         fork_call(word.after)
+    } else if word.is(b"getfl") {
+        getfl_call(word.after)
+    } else if word.is(b"setfl") {
+        setfl_call(word.after)
+    } else if word.is(b"rename") {
+        rename_call(alloc, word.after)
     } else {
         position_call(alloc, word)
     }
@@ -439,7 +508,9 @@ pub(crate) fn room_of_call(call: &Call) -> usize
         Call::Open { name, .. } | Call::Mkfifo { name } | Call::Unlink { name } => {
             CALL_ROOM + room_of_name(name)
         }
-        Call::Link { old, new } => CALL_ROOM + (room_of_name(old) + room_of_name(new)),
+        Call::Link { old, new } | Call::Rename { old, new } => {
+            CALL_ROOM + (room_of_name(old) + room_of_name(new))
+        }
         Call::Write { bytes, .. } | Call::Pwrite { bytes, .. } => {
             CALL_ROOM + room_of_data(bytes.span())
         }
@@ -472,5 +543,8 @@ pub(crate) fn put_call(out: &mut Vec<u8>, call: &Call)
         Call::Unlink { name } => put_unlink(out, name),
         Call::Fstat { fd } => put_fstat(out, *fd),
         Call::Fork => put_fork(out),
+        Call::Getfl { fd } => put_getfl(out, *fd),
+        Call::Setfl { fd, flags } => put_setfl(out, *fd, *flags),
+        Call::Rename { old, new } => put_rename(out, old, new),
     }
 }

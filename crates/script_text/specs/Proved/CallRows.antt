@@ -32,7 +32,10 @@ call_rows =
     record { line = codes "p7 link a b"; byte = 28; call = calls.Link (codes "a") (codes "b") } ∷
     record { line = codes "p7 unlink a"; byte = 29; call = calls.Unlink (codes "a") } ∷
     record { line = codes "p7 fstat 3"; byte = 30; call = calls.Fstat (pos 3) } ∷
-    record { line = codes "p7 fork"; byte = 31; call = calls.Fork } ∷ []
+    record { line = codes "p7 fork"; byte = 31; call = calls.Fork } ∷
+    record { line = codes "p7 getfl 3"; byte = 32; call = calls.Getfl (pos 3) } ∷
+    record { line = codes "p7 setfl 3 -,nonblock"; byte = 33; call = calls.Setfl (pos 3) (record { 0 = nonblocking }) } ∷
+    record { line = codes "p7 rename a b"; byte = 34; call = calls.Rename (codes "a") (codes "b") } ∷ []
 
 -- each line is read as its call, and each call has its byte
 pub record CallRows : Type 0 where

@@ -38,6 +38,7 @@ call_room (calls.Pwrite fd start bytes) = CALL_ROOM + data_room bytes
 call_room (calls.Mkfifo name) = CALL_ROOM + name_room name
 call_room (calls.Link old new) = CALL_ROOM + (name_room old + name_room new)
 call_room (calls.Unlink name) = CALL_ROOM + name_room name
+call_room (calls.Rename old new) = CALL_ROOM + (name_room old + name_room new)
 call_room other = CALL_ROOM
 
 -- the room that an act is written in, after its actor
