@@ -25,6 +25,7 @@ fields_short (calls.Pwrite fd start bytes) h = omega (arith, h.1.1.0.1)
 fields_short (calls.Mkfifo name) h = omega (arith, h.0.1)
 fields_short (calls.Link old new) h = omega (arith, h.0.1, h.1.0.1)
 fields_short (calls.Unlink name) h = omega (arith, h.0.1)
+fields_short (calls.Rename old new) h = omega (arith, h.0.1, h.1.0.1)
 fields_short other h = omega arith
 
 act_short : (act : Act) → ActFits act → length (act_bytes act) ≤ 65717

@@ -3,7 +3,7 @@
 
 ghost use Rattle.std.specs.Prelude.{◌≡◌, ◌+◌, ◌≤◌, ◌∷◌, ◌++◌, length};
 ghost use Rattle.std.specs.Int.{w32, w64, cast_unsigned};
-ghost use Rattle.call_types.specs.CallTable.{parts, fields_length, close_entry, read_entry, write_entry, pread_entry, pwrite_entry, lseek_entry, ftruncate_entry, dup_entry, dup2_entry, pipe_entry, mkfifo_entry, link_entry, unlink_entry, fstat_entry, fork_entry, later_table, position_table};
+ghost use Rattle.call_types.specs.CallTable.{parts, fields_length, close_entry, read_entry, write_entry, pread_entry, pwrite_entry, lseek_entry, ftruncate_entry, dup_entry, dup2_entry, pipe_entry, mkfifo_entry, link_entry, unlink_entry, fstat_entry, fork_entry, getfl_entry, setfl_entry, rename_entry, later_table, position_table};
 ghost use Rattle.call_types.specs.Writing.{Appends};
 ghost use Rattle.call_types.specs.declared.call.Call.TheVariants as calls;
 ghost use Rattle.frame_codec.specs.Fields.{number_bytes, whence_byte};
@@ -341,6 +341,58 @@ fn put_fork(out: &mut Vec<u8>) -> Result<(), AllocError>
     Ok(())
 }
 
+/// The fields of a getfl.
+fn getfl_call(bytes: &[u8]) -> Result<(Call, &[u8]), PayloadFault>
+    ensures { Gives (λ x. (x.0, x.1.now)) result (entry_at getfl_entry bytes.now) }
+{
+    let (fd, bytes) = fields::descriptor(bytes)?;
+    Ok((Call::Getfl { fd }, bytes))
+}
+
+/// Appends a getfl.
+fn put_getfl(out: &mut Vec<u8>, fd: i32) -> Result<(), AllocError>
+    ensures { Appends result out.old.items out.new.items (call_bytes (calls.Getfl fd)) }
+{
+    put_start(out, 32, fd)?;
+    Ok(())
+}
+
+/// The fields of a setfl.
+fn setfl_call(bytes: &[u8]) -> Result<(Call, &[u8]), PayloadFault>
+    ensures { Gives (λ x. (x.0, x.1.now)) result (entry_at setfl_entry bytes.now) }
+{
+    let (fd, bytes) = fields::descriptor(bytes)?;
+    let (flags, bytes) = fields::flags(bytes)?;
+    Ok((Call::Setfl { fd, flags }, bytes))
+}
+
+/// Appends a setfl.
+fn put_setfl(out: &mut Vec<u8>, fd: i32, flags: OpenFlags) -> Result<(), AllocError>
+    ensures { Appends result out.old.items out.new.items (call_bytes (calls.Setfl fd flags)) }
+{
+    put_start(out, 33, fd)?;
+    put_byte(out, flags.bits())?;
+    Ok(())
+}
+
+/// The fields of a rename.
+fn rename_call(alloc: Global, bytes: &[u8]) -> Result<(Call, &[u8]), PayloadFault>
+    ensures { Gives (λ x. (x.0, x.1.now)) result (entry_at rename_entry bytes.now) }
+{
+    let (old, bytes) = fields::name(alloc, bytes)?;
+    let (new, bytes) = fields::name(alloc, bytes)?;
+    Ok((Call::Rename { old, new }, bytes))
+}
+
+/// Appends a rename.
+fn put_rename(out: &mut Vec<u8>, old: &Name, new: &Name) -> Result<(), AllocError>
+    ensures { Appends result out.old.items out.new.items (call_bytes (calls.Rename old.now new.now)) }
+{
+    put_named(out, 34, old)?;
+    put_name(out, new.as_slice())?;
+    Ok(())
+}
+
 /// The fields of the call of a byte, of those with a position, an offset or a length.
 fn position_call(alloc: Global, byte: u8, bytes: &[u8]) -> Result<(Call, &[u8]), PayloadFault>
     ensures { Gives (λ x. (x.0, x.1.now)) result (one_of (rows_of position_table) byte bytes.now) }
@@ -367,6 +419,9 @@ fn later_call(alloc: Global, byte: u8, bytes: &[u8]) -> Result<(Call, &[u8]), Pa
         29 => unlink_call(alloc, bytes),
         30 => fstat_call(bytes),
         31 => fork_call(bytes),
+        32 => getfl_call(bytes),
+        33 => setfl_call(bytes),
+        34 => rename_call(alloc, bytes),
         _ => position_call(alloc, byte, bytes),
     }
 }
@@ -409,6 +464,11 @@ pub(crate) fn fields_bytes(call: &Call) -> u32
         Call::Unlink { name } => 2 + name.as_slice().len() as u32,
         Call::Fstat { .. } => 5,
         Call::Fork => 1,
+        Call::Getfl { .. } => 5,
+        Call::Setfl { .. } => 6,
+        Call::Rename { old, new } => {
+            3 + old.as_slice().len() as u32 + new.as_slice().len() as u32
+        }
     }
 }
 
@@ -434,5 +494,8 @@ pub fn encode_call(out: &mut Vec<u8>, call: &Call) -> Result<(), AllocError>
         Call::Unlink { name } => put_unlink(out, name),
         Call::Fstat { fd } => put_fstat(out, *fd),
         Call::Fork => put_fork(out),
+        Call::Getfl { fd } => put_getfl(out, *fd),
+        Call::Setfl { fd, flags } => put_setfl(out, *fd, *flags),
+        Call::Rename { old, new } => put_rename(out, old, new),
     }
 }

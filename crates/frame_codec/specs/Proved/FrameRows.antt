@@ -1,7 +1,7 @@
 -- Requests, answers and records as frames, byte by byte: what the tables say by rules, said once more (own).
 use Rattle.std.specs.Prelude.{◌≡◌, ℕ, List, [], ◌∷◌, map, codes, bit_or, pos, negsuc}
 use Rattle.std.specs.List.{AllByRecursion}
-use Rattle.call_types.specs.Flags.{writing, creat, nonblocking}
+use Rattle.call_types.specs.Flags.{writing, creat, appending, nonblocking}
 use Rattle.call_types.specs.declared.act.Act.TheVariants as acts
 use Rattle.call_types.specs.declared.act.Record.{Record}
 use Rattle.call_types.specs.declared.call.Call.TheVariants as calls
@@ -45,7 +45,10 @@ request_frames =
     record { value = requests.Call (calls.Link (codes "a") (codes "b")); bytes = 0 ∷ 0 ∷ 0 ∷ 5 ∷ 28 ∷ 1 ∷ 97 ∷ 1 ∷ 98 ∷ [] } ∷
     record { value = requests.Call (calls.Unlink (codes "a")); bytes = 0 ∷ 0 ∷ 0 ∷ 3 ∷ 29 ∷ 1 ∷ 97 ∷ [] } ∷
     record { value = requests.Call (calls.Fstat (pos 3)); bytes = 0 ∷ 0 ∷ 0 ∷ 5 ∷ 30 ∷ 0 ∷ 0 ∷ 0 ∷ 3 ∷ [] } ∷
-    record { value = requests.Call calls.Fork; bytes = 0 ∷ 0 ∷ 0 ∷ 1 ∷ 31 ∷ [] } ∷ []
+    record { value = requests.Call calls.Fork; bytes = 0 ∷ 0 ∷ 0 ∷ 1 ∷ 31 ∷ [] } ∷
+    record { value = requests.Call (calls.Getfl (pos 0)); bytes = 0 ∷ 0 ∷ 0 ∷ 5 ∷ 32 ∷ 0 ∷ 0 ∷ 0 ∷ 0 ∷ [] } ∷
+    record { value = requests.Call (calls.Setfl (pos 1) (record { 0 = appending })); bytes = 0 ∷ 0 ∷ 0 ∷ 6 ∷ 33 ∷ 0 ∷ 0 ∷ 0 ∷ 1 ∷ 32 ∷ [] } ∷
+    record { value = requests.Call (calls.Rename (codes "a") (codes "b")); bytes = 0 ∷ 0 ∷ 0 ∷ 5 ∷ 34 ∷ 1 ∷ 97 ∷ 1 ∷ 98 ∷ [] } ∷ []
 
 -- a row for each kind of answer
 abbrev pub answer_frames : List (Row Answer)

@@ -23,3 +23,6 @@ returns-in-Link c = omega (arith, ap taken c.in-Link.is, ap length c.as_slice-in
 
 pub returns-in-Unlink : goal.returns-in-Unlink
 returns-in-Unlink c = omega (arith, ap taken c.in-Unlink.is, ap length c.as_slice-in-Unlink.ensures.value)
+
+pub returns-in-Rename : goal.returns-in-Rename
+returns-in-Rename c = omega (arith, ap taken c.in-Rename.is, ap length c.as_slice-in-Rename.ensures.value, ap length c.as_slice-in-Rename-2.ensures.value)
