@@ -20,9 +20,10 @@ abbrev pub HaveFrames : List Record → Type 0
 HaveFrames [] = Unit {0}
 HaveFrames (r ∷ h) = HasFrame r × HaveFrames h
 
--- the flags of an open have no bit past that of nonblock, the last one
+-- the flags of an open or a setfl have no bit past that of nonblock, the last one
 abbrev pub FlagsFit : Act → Type 0
 FlagsFit (acts.Call (calls.Open name flags)) = flags.0 < 2 * nonblocking
+FlagsFit (acts.Call (calls.Setfl fd flags)) = flags.0 < 2 * nonblocking
 FlagsFit other = Unit {0}
 
 -- a record with its fields in range, whether or not its actor may do its act

@@ -64,7 +64,7 @@ fn data_fits<const MOST: usize>(given: &Data<MOST>)
     }
 }
 
-/// The fields of a call are in range, if the flags of an open are.
+/// The fields of a call are in range, if its flags are.
 fn call_fits(call: &Call)
     ensures { FlagsFit (acts.Call call.now) → CallFits call.now }
 {
@@ -107,13 +107,19 @@ fn call_fits(call: &Call)
             name_fits(old);
             name_fits(new);
         }
+        Call::Rename { old, new } => {
+            name_fits(old);
+            name_fits(new);
+        }
         Call::Unlink { name } => name_fits(name),
         Call::Fstat { fd } => descriptor_fits(*fd),
+        Call::Getfl { fd } => descriptor_fits(*fd),
+        Call::Setfl { fd, .. } => descriptor_fits(*fd),
         Call::Pipe | Call::Fork => {}
     }
 }
 
-/// The fields of an act are in range, if the flags of an open are.
+/// The fields of an act are in range, if its flags are.
 fn act_fits(act: &Act)
     ensures { FlagsFit act.now → ActFits act.now }
 {
@@ -153,7 +159,7 @@ fn outcome_fits(outcome: &Outcome)
     }
 }
 
-/// Each field of a record is in the range that a frame has for it, if the flags of an open are. Their type has one bit more than there
+/// Each field of a record is in the range that a frame has for it, if its flags are. Their type has one bit more than there
 /// are flags; no call that was read from a frame or from a line has that bit.
 pub fn record_is_in_range(record: &Record)
     ensures { FlagsFit «record».now.act → IsInRange «record».now }

@@ -95,6 +95,7 @@ house_fits place w receipts is = subst ActsFit (sym is) (exits_fit place (orphan
 
 flags_fit : (act : Act) → ActFits act → FlagsFit act
 flags_fit (acts.Call (calls.Open name flags)) fits = fits.0
+flags_fit (acts.Call (calls.Setfl fd flags)) fits = fits.1.0
 flags_fit other fits = tt
 
 one_wanted : (p len : ℕ) → p < len → wanted len p ≡ 1

@@ -72,3 +72,17 @@ pub returns-in-Fstat : goal.returns-in-Fstat
 returns-in-Fstat c =
     let fd : FitsSigned w32 c.in-Fstat.fd = search rules in
     rw c.in-Fstat.is (λ h. (fd, tt))
+
+pub returns-in-Getfl : goal.returns-in-Getfl
+returns-in-Getfl c =
+    let fd : FitsSigned w32 c.in-Getfl.fd = search rules in
+    rw c.in-Getfl.is (λ h. (fd, tt))
+
+pub returns-in-Setfl : goal.returns-in-Setfl
+returns-in-Setfl c =
+    let fd : FitsSigned w32 c.in-Setfl.fd = search rules in
+    rw c.in-Setfl.is (λ h. (fd, (h, tt)))
+
+pub returns-in-Rename : goal.returns-in-Rename
+returns-in-Rename c =
+    rw c.in-Rename.is (λ h. (c.name_fits-in-Rename.ensures, (c.name_fits-in-Rename-2.ensures, tt)))
