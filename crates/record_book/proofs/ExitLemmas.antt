@@ -74,7 +74,7 @@ exits_process w on_process.Close none = refl
 
 exits_table : (w : World) (e : TableEdit) → exits_from 0 (with_table w e).processes ≡ exits_from 0 w.processes
 exits_table w on_table.Nothing = refl
-exits_table w (on_table.Offset number offset) = refl
+exits_table w (on_table.Describe number edit) = refl
 exits_table w (on_table.Open process fd d) = exits_edited 0 w.processes process (with_entry fd (Some (length w.descriptions)))
 exits_table w (on_table.OpenPair process reading writing) =
     let u = with_description (with_pipe w) process reading (end_of (length w.pipes) mode.Read) in

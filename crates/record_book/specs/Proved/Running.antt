@@ -5,7 +5,6 @@ use Rattle.record_book.specs.Seat.{SeatState}
 use Rattle.record_book.specs.Book.{BookState}
 use Rattle.record_book.specs.declared.resume.Resumed.{Resumed}
 use Rattle.record_book.specs.declared.resume.Resumed.TheVariants as resumed
-use Rattle.record_book.specs.declared.run.ScriptAnswer.TheVariants.{Recorded, Still}
 use Rattle.record_book.specs.Runs.{Seats, ResumeRuns, StaysStill}
 
 -- how a resume goes: it is told as still, recorded or refused
