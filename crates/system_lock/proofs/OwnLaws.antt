@@ -5,7 +5,7 @@ use Rattle.std.specs.List.{count_by}
 use Rattle.std.proofs.lemmas.Bool.{lt-ltb}
 use Rattle.std.proofs.lemmas.List.Sums.{get_or-le-sum_by}
 use Rattle.slots.specs.Slots.{slot, edited}
-use Rattle.call_types.specs.Descriptions.{at_offset}
+use Rattle.call_types.specs.Descriptions.{described}
 use Rattle.process_table.specs.Processes.{is_here, parked_of, table_of, process_with, with_connection, with_parked, with_total, with_entry}
 use Rattle.posix_model.specs.Types.{Bounds, Process, Parked, Description, Target}
 use Rattle.posix_model.specs.declared.world.World.{World}
@@ -23,10 +23,11 @@ use Rattle.posix_model.specs.Pipes.{pipe_at}
 use Rattle.posix_model.specs.Change.{with_files, with_processes, with_table, changed}
 use Rattle.posix_model.specs.Sweep.{is_referred, sweep}
 use Rattle.posix_model.specs.Proved.Laws.{SweepLeaves}
-use Rattle.posix_model.specs.Proved.Whole.{IsWhole}
+use Rattle.posix_model.specs.Proved.Whole.{IsWhole, StaysOpen}
 use Rattle.posix_model.specs.Resume.{try_on, try_opened, try_parked, is_ready}
 use Rattle.system_lock.specs.Proved.Stirred.{pipe_of, pipe_for, pipe_waited}
 use Rattle.posix_model.proofs.SlotLaws.{set_other}
+use Rattle.posix_model.proofs.ChangeLaws.{stays_open}
 
 -- what a process waits with: its call, and its descriptors
 record Waiter : Type 0 where
@@ -83,13 +84,21 @@ target_pushed [] d n t h = cc
 target_pushed (x ∷ ds) d zero t h = h
 target_pushed (x ∷ ds) d (suc n) t h = target_pushed ds d n t h
 
-target_moved : (ds : List (Option Description)) (m offset n : ℕ) → target_of (slot (edited m (at_offset offset) ds) n) ≡ target_of (slot ds n)
-target_moved [] m offset n = refl
-target_moved (None ∷ ds) zero offset zero = refl
-target_moved (Some d ∷ ds) zero offset zero = refl
-target_moved (x ∷ ds) zero offset (suc n) = refl
-target_moved (x ∷ ds) (suc m) offset zero = refl
-target_moved (x ∷ ds) (suc m) offset (suc n) = target_moved ds m offset n
+target_edited : (ds : List (Option Description)) (m : ℕ) (f : Description → Description) → StaysOpen f → (n : ℕ) → target_of (slot (edited m f ds) n) ≡ target_of (slot ds n)
+target_edited [] m f stays n = refl
+target_edited (None ∷ ds) zero f stays zero = refl
+target_edited (Some d ∷ ds) zero f stays zero = ap Some (stays.target d)
+target_edited (x ∷ ds) zero f stays (suc n) = refl
+target_edited (x ∷ ds) (suc m) f stays zero = refl
+target_edited (x ∷ ds) (suc m) f stays (suc n) = target_edited ds m f stays n
+
+-- an edit of a description that leaves what it is open on
+description_keeps : (a : ℕ) (w : World) (m : ℕ) (f : Description → Description) → StaysOpen f → Keeps a w (record w { descriptions = edited m f w.descriptions })
+description_keeps a w m f stays = record {
+  waiters = λ q other. refl;
+  live = λ q other there. there;
+  targets = λ n t h. target_edited w.descriptions m f stays n ∙ h;
+}
 
 -- an edit of a process is one of the act's own
 abbrev pub ProcessOwn : ℕ → ProcessEdit → Type 0
@@ -104,12 +113,11 @@ ProcessOwn a on_process.Close = Unit {0}
 
 -- and so is one of descriptors
 abbrev pub TableOwn : ℕ → TableEdit → Type 0
-TableOwn a on_table.Nothing = Unit {0}
-TableOwn a (on_table.Offset number offset) = Unit {0}
 TableOwn a (on_table.Open p fd d) = p ≡ a
 TableOwn a (on_table.OpenPair p reading writing) = p ≡ a
 TableOwn a (on_table.OpenEnd p fd f d) = p ≡ a
 TableOwn a (on_table.Entry p fd entry) = p ≡ a
+TableOwn a other = Unit {0}
 
 -- a change of these
 pub record IsOwn (a : ℕ) (c : Change) : Type 0 where
@@ -154,11 +162,7 @@ entry_keeps a w v p x d is processes descriptions = record {
 
 table_keeps : (a : ℕ) (w : World) (e : TableEdit) → TableOwn a e → Keeps a w (with_table w e)
 table_keeps a w on_table.Nothing own = keeps_same a w w refl refl
-table_keeps a w (on_table.Offset number offset) own = record {
-  waiters = λ q other. refl;
-  live = λ q other there. there;
-  targets = λ n t h. target_moved w.descriptions number offset n ∙ h;
-}
+table_keeps a w (on_table.Describe number edit) own = description_keeps a w number (described edit) (stays_open edit)
 table_keeps a w (on_table.Open p fd d) own = entry_keeps a w (with_table w (on_table.Open p fd d)) p _ (Some d) own refl refl
 table_keeps a w (on_table.OpenPair p reading writing) own = pair
   where

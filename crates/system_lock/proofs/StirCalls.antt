@@ -16,6 +16,7 @@ use Rattle.posix_model.specs.declared.change.Try.TheVariants.{Ends, Waits}
 use Rattle.posix_model.specs.declared.change.DataSource.TheVariants as source
 use Rattle.posix_model.specs.declared.change.FileEdit.TheVariants as on_files
 use Rattle.posix_model.specs.declared.change.TableEdit.TheVariants as on_table
+use Rattle.call_types.specs.declared.description.DescriptionEdit.TheVariants as on_description
 use Rattle.posix_model.specs.Pages.{Page, no_change, tells, does, refused, first_fault, unless, decided_by, on_open}
 use Rattle.posix_model.specs.Descriptors.{opened, held_in, bytes_of}
 use Rattle.posix_model.specs.Positions.{file_at}
@@ -122,7 +123,7 @@ same n = eq-eqb n n refl
 read_slight : (w : World) (process : ℕ) (c : Call) (count : ℕ) (o : OpenDescriptor) (x : Option ℕ) → Slight (stirred_at process x) (read_from w process c count o x)
 read_slight w process c count o None =
     let got = bytes_at (bytes_of w (file_at o)) o.description.offset count in
-    if_slight stirred.Nobody (eqb (length got) 0) (tells (Data got)) (does (Data got) on_files.Nothing (on_table.Offset o.number (o.description.offset + length got)))
+    if_slight stirred.Nobody (eqb (length got) 0) (tells (Data got)) (does (Data got) on_files.Nothing (on_table.Describe o.number (on_description.Offset (o.description.offset + length got))))
     (nothing_slight stirred.Nobody) (record { files = tt; process = tt; table = tt })
 read_slight w process c count o (Some pipe) =
     let s = stirred.Around process pipe in
@@ -135,7 +136,7 @@ puts_slight s bytes f start n moved slight =
 
 write_slight : (bounds : Bounds) (w : World) (process : ℕ) (c : Call) (start : ℕ) (bytes : List ℕ) (o : OpenDescriptor) (x : Option ℕ) → Slight (stirred_at process x) (write_to bounds w process c start bytes o x)
 write_slight bounds w process c start bytes o None =
-    puts_slight stirred.Nobody bytes (file_at o) start (fitting bounds start bytes) (on_table.Offset o.number (start + fitting bounds start bytes)) (record { files = tt; process = tt; table = tt })
+    puts_slight stirred.Nobody bytes (file_at o) start (fitting bounds start bytes) (on_table.Describe o.number (on_description.Offset (start + fitting bounds start bytes))) (record { files = tt; process = tt; table = tt })
 write_slight bounds w process c start bytes o (Some pipe) =
     let s = stirred.Around process pipe in
     let t = write_try bounds w pipe source.Act (length bytes) 0 in
@@ -169,6 +170,7 @@ call_slight bounds w process call.Pipe = call_own bounds w process call.Pipe
 call_slight bounds w process (call.Mkfifo name) = call_own bounds w process (call.Mkfifo name)
 call_slight bounds w process (call.Link from to) = call_own bounds w process (call.Link from to)
 call_slight bounds w process (call.Unlink name) = call_own bounds w process (call.Unlink name)
+call_slight bounds w process (call.Rename from to) = call_own bounds w process (call.Rename from to)
 call_slight bounds w process call.Fork = call_own bounds w process call.Fork
 call_slight bounds w process other = search (rules, slight_rules)
 

@@ -4,7 +4,7 @@ use Rattle.std.specs.Option.{option_map, is_some}
 use Rattle.std.specs.List.{sum_by}
 use Rattle.std.proofs.lemmas.List.Sums.{sum_by-cons}
 use Rattle.slots.specs.Slots.{slot, edited}
-use Rattle.call_types.specs.Descriptions.{at_offset}
+use Rattle.call_types.specs.Descriptions.{described}
 use Rattle.call_types.specs.declared.call.Call.TheVariants as call
 use Rattle.process_table.specs.Processes.{is_here, parked_of, table_of, with_parked, with_total}
 use Rattle.posix_model.specs.Types.{Call, Bounds, Process, Parked, Description, Target, Mode}
@@ -25,29 +25,34 @@ use Rattle.posix_model.specs.declared.change.FileEdit.TheVariants as on_files
 use Rattle.posix_model.specs.declared.change.ProcessEdit.TheVariants as on_process
 use Rattle.posix_model.specs.declared.change.TableEdit.TheVariants as on_table
 use Rattle.posix_model.specs.Counts.{links, refs, refs_of, holds, holders, reads, readers, writes, writers}
-use Rattle.posix_model.specs.Descriptors.{opened, opened_number, opened_description, with_offset}
+use Rattle.posix_model.specs.Descriptors.{opened, opened_number, opened_description}
 use Rattle.posix_model.specs.Pipes.{fifo_at, pipe_at, has_opposite}
 use Rattle.posix_model.specs.Change.{with_files, with_processes, with_table, changed, with_bytes}
 use Rattle.posix_model.specs.Sweep.{open_pipe, without_gone_pipe, sweep}
 use Rattle.posix_model.specs.Proved.Released.{SweptIsSettled, SettledStays}
 use Rattle.posix_model.specs.Kept.{IsSettled}
-use Rattle.posix_model.specs.Proved.Whole.{is_regular_file}
+use Rattle.posix_model.specs.Proved.Whole.{is_regular_file, StaysOpen}
 use Rattle.posix_model.specs.Proved.Fits.{FilesFit, Fits}
 use Rattle.posix_model.specs.Tries.{write_try}
 use Rattle.posix_model.specs.Resume.{read_ready, write_ready, fifo_of, open_ready, try_again, try_on, try_opened, try_parked}
 use Rattle.posix_model.proofs.SlotLaws.{test_set, set_other}
+use Rattle.posix_model.proofs.ChangeLaws.{stays_open}
 use Rattle.system_lock.specs.Proved.Stirred.{pipe_of, pipe_for, pipe_waited, is_by, is_on, is_on_its, Spares}
 use Rattle.system_lock.specs.declared.stirred.Stirred.{Stirred}
 
--- a description, but for its offset
-abbrev pub bare : Option Description → Option Description
-bare x = option_map (at_offset 0) x
+-- what a description is open on, and for what
+abbrev pub open_as : Description → Target × Mode
+open_as d = (d.target, d.mode)
 
--- two worlds that differ in the bytes of regular files, in offsets, in the call of one process, and in the bytes of one pipe
+abbrev pub seen_open : Option Description → Option (Target × Mode)
+seen_open x = option_map open_as x
+
+-- two worlds that differ in the bytes of regular files, in offsets and flags of descriptions, in the call of one process, and in the
+-- bytes of one pipe
 pub record Alike (s : Stirred) (w v : World) : Type 0 where
   pub processes : (q : ℕ) → is_by s q ≡ false → slot v.processes q ≡ slot w.processes q
   pub refs : (n : ℕ) → refs v.processes n ≡ refs w.processes n
-  pub descriptions : (n : ℕ) → bare (slot v.descriptions n) ≡ bare (slot w.descriptions n)
+  pub descriptions : (n : ℕ) → seen_open (slot v.descriptions n) ≡ seen_open (slot w.descriptions n)
   pub readers : (p : ℕ) → readers v.descriptions p ≡ readers w.descriptions p
   pub writers : (p : ℕ) → writers v.descriptions p ≡ writers w.descriptions p
   pub holders : (f : ℕ) → holders v.descriptions f ≡ holders w.descriptions f
@@ -97,7 +102,7 @@ sum_set f (x ∷ xs) (suc m) y e = omega (arith, sum_set f xs m y e, sum_by-cons
 apart_by : (t : ℕ → Bool) (n m : ℕ) → t n ≡ true → t m ≡ false → n ≢ m
 apart_by t n m passes fails same = let bad : true ≡ false = sym passes ∙ (ap t same ∙ fails) in cc
 
-some_mapped : {T : Type 0} (f : T → T) (x : Option T) → is_some (option_map f x) ≡ is_some x
+some_mapped : {S T : Type 0} (f : S → T) (x : Option S) → is_some (option_map f x) ≡ is_some x
 some_mapped f None = refl
 some_mapped f (Some x) = refl
 
@@ -156,10 +161,10 @@ ProcessSlight s (on_process.Total p moved) = is_by s p ≡ true
 ProcessSlight s (on_process.Unpark p) = is_by s p ≡ true
 ProcessSlight s other = ⊥
 
--- and one of descriptors that moves an offset at most
+-- and one of descriptors that moves an offset or sets flags at most
 abbrev pub TableSlight : TableEdit → Type 0
 TableSlight on_table.Nothing = Unit {0}
-TableSlight (on_table.Offset number offset) = Unit {0}
+TableSlight (on_table.Describe number edit) = Unit {0}
 TableSlight other = ⊥
 
 -- a change of these three
@@ -188,23 +193,23 @@ process_alike s w p edit keeps by = record {
   links = λ f. refl;
 }
 
--- what a test sees that sees no offset
-no_offset : {K : Type 0} (t : Option Description → K) → ((d : Description) (offset : ℕ) → t (Some (at_offset offset d)) ≡ t (Some d)) → (offset : ℕ) (x : Option Description) → t (option_map (at_offset offset) x) ≡ t x
-no_offset t sees offset None = refl
-no_offset t sees offset (Some d) = sees d offset
+-- what a test sees that sees no more of a description than what it is open on, and for what
+not_seen : {K : Type 0} (t : Option Description → K) (f : Description → Description) → ((d : Description) → t (Some (f d)) ≡ t (Some d)) → (x : Option Description) → t (option_map f x) ≡ t x
+not_seen t f sees None = refl
+not_seen t f sees (Some d) = sees d
 
-offset_alike : (s : Stirred) (w : World) (n offset : ℕ) → Alike s w (with_offset w n offset)
-offset_alike s w n offset =
+description_alike : (s : Stirred) (w : World) (n : ℕ) (f : Description → Description) → StaysOpen f → Alike s w (record w { descriptions = edited n f w.descriptions })
+description_alike s w n f stays =
     let ds = w.descriptions in
     let at = slot ds n in
-    let new = option_map (at_offset offset) at in
+    let new = option_map f at in
     record {
       processes = λ q other. refl;
       refs = λ n. refl;
-      descriptions = λ m. test_set bare ds n new m (no_offset bare (λ d o. refl) offset at);
-      readers = λ p. sum_set (λ x. cond (reads p x) 1 0) ds n new (no_offset (λ x. cond (reads p x) 1 0) (λ d o. refl) offset at);
-      writers = λ p. sum_set (λ x. cond (writes p x) 1 0) ds n new (no_offset (λ x. cond (writes p x) 1 0) (λ d o. refl) offset at);
-      holders = λ f. sum_set (λ x. cond (holds f x) 1 0) ds n new (no_offset (λ x. cond (holds f x) 1 0) (λ d o. refl) offset at);
+      descriptions = λ m. test_set seen_open ds n new m (not_seen seen_open f (λ d. rw (stays.target d, stays.mode d) refl) at);
+      readers = λ p. sum_set (λ x. cond (reads p x) 1 0) ds n new (not_seen (λ x. cond (reads p x) 1 0) f (λ d. rw (stays.target d, stays.mode d) refl) at);
+      writers = λ p. sum_set (λ x. cond (writes p x) 1 0) ds n new (not_seen (λ x. cond (writes p x) 1 0) f (λ d. rw (stays.target d, stays.mode d) refl) at);
+      holders = λ g. sum_set (λ x. cond (holds g x) 1 0) ds n new (not_seen (λ x. cond (holds g x) 1 0) f (λ d. rw (stays.target d) refl) at);
       pipes = λ p other. refl;
       pipes_there = λ p. refl;
       fifos = λ f. refl;
@@ -229,7 +234,7 @@ processes_alike s w other slight = absurd slight
 
 table_alike : (s : Stirred) (w : World) (e : TableEdit) → TableSlight e → Alike s w (with_table w e)
 table_alike s w on_table.Nothing slight = alike_same s w
-table_alike s w (on_table.Offset number offset) slight = offset_alike s w number offset
+table_alike s w (on_table.Describe number edit) slight = description_alike s w number (described edit) (stays_open edit)
 table_alike s w other slight = absurd slight
 
 change_alike : (s : Stirred) (w : World) (bytes : List ℕ) (c : Change) → IsSlight s c → Fits w bytes c → Alike s w (changed w bytes c)
@@ -258,7 +263,7 @@ same_fifo ds es same_readers same_writers (Some (file.Fifo a)) (Some (file.Fifo 
 alike_settled : (s : Stirred) (w v : World) → Alike s w v → IsSettled w → IsSettled v
 alike_settled s w v a settled = record {
   descriptions = λ n there.
-      let was : is_some (slot w.descriptions n) ≡ true = sym (some_mapped (at_offset 0) (slot w.descriptions n)) ∙ (sym (ap is_some (a.descriptions n)) ∙ (some_mapped (at_offset 0) (slot v.descriptions n) ∙ there)) in
+      let was : is_some (slot w.descriptions n) ≡ true = sym (some_mapped open_as (slot w.descriptions n)) ∙ (sym (ap is_some (a.descriptions n)) ∙ (some_mapped open_as (slot v.descriptions n) ∙ there)) in
       omega (arith, settled.descriptions n was, a.refs n);
   pipes = λ n there. omega (arith, settled.pipes n (sym (a.pipes_there n) ∙ there), a.readers n, a.writers n);
   fifos = λ n. same_fifo w.descriptions v.descriptions a.readers a.writers (slot w.files n) (slot v.files n) (a.fifos n) (settled.fifos n);
@@ -315,18 +320,18 @@ same_on : (s : Stirred) (bounds : Bounds) (w v : World) → Alike s w v → (q :
 same_on s bounds w v a q o p same parked None apart = refl
 same_on s bounds w v a q o p same parked (Some pipe) apart = same_again s bounds w v a q o p same parked pipe apart parked.call
 
--- what a descriptor leads to is the same, but for the offset
+-- what a descriptor leads to is the same, but for offset and flags
 data SameOpen (x y : Option OpenDescriptor) : Type 0 where
   none : x ≡ None → y ≡ None → SameOpen x y
   some : (o p : OpenDescriptor) → x ≡ Some o → y ≡ Some p → SameEnd o p → SameOpen x y
 
-same_description : (fd n : ℕ) (d e : Option Description) → bare e ≡ bare d → SameOpen (opened_description fd n d) (opened_description fd n e)
+same_description : (fd n : ℕ) (d e : Option Description) → seen_open e ≡ seen_open d → SameOpen (opened_description fd n d) (opened_description fd n e)
 same_description fd n None None same = none refl refl
 same_description fd n None (Some e) same = cc
 same_description fd n (Some d) None same = cc
 same_description fd n (Some d) (Some e) same =
-    let is : at_offset 0 e ≡ at_offset 0 d = cc in
-    some _ _ refl refl (record { target = ap (λ (x : Description). x.target) is; mode = ap (λ (x : Description). x.mode) is })
+    let is : open_as e ≡ open_as d = cc in
+    some _ _ refl refl (record { target = ap (λ (x : Target × Mode). x.0) is; mode = ap (λ (x : Target × Mode). x.1) is })
 
 same_number : (s : Stirred) (w v : World) → Alike s w v → (fd : ℕ) (n : Option ℕ) → SameOpen (opened_number w fd n) (opened_number v fd n)
 same_number s w v a fd None = none refl refl

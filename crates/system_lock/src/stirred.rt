@@ -55,6 +55,7 @@ impl Stirred {
             | Call::Mkfifo { .. }
             | Call::Link { .. }
             | Call::Unlink { .. }
+            | Call::Rename { .. }
             | Call::Fork => Stirred::Anybody { process },
             _ => Stirred::Nobody,
         }

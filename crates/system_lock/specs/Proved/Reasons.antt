@@ -1,12 +1,9 @@
 -- Why a kernel opens and ends processes, inside the lock (own).
 use Rattle.std.specs.Prelude.{◌≡◌, ◌⊎◌, Result, Ok, Err}
 use Rattle.call_types.specs.declared.request.Request.{Request}
-use Rattle.call_types.specs.declared.request.Request.TheVariants as request
 use Rattle.call_types.specs.declared.refusal.Refusal.{Refusal}
-use Rattle.call_types.specs.declared.refusal.Refusal.TheVariants as refusal
 use Rattle.record_book.specs.Seat.{SeatState}
 use Rattle.record_book.specs.Openings.{Opened}
-use Rattle.record_book.specs.declared.opening.Opened.TheVariants as opened
 use Rattle.system_lock.specs.declared.kernel.Why.{Why}
 use Rattle.system_lock.specs.declared.kernel.Why.TheVariants as why
 use Rattle.system_lock.specs.Kernel.{Ended, itself, IsWanting, IsOpenedAs, EndsBy}

@@ -66,6 +66,7 @@ stirred_by w process call.Pipe = stirred.Anybody process
 stirred_by w process (call.Mkfifo name) = stirred.Anybody process
 stirred_by w process (call.Link from to) = stirred.Anybody process
 stirred_by w process (call.Unlink name) = stirred.Anybody process
+stirred_by w process (call.Rename from to) = stirred.Anybody process
 stirred_by w process call.Fork = stirred.Anybody process
 stirred_by w process other = stirred.Nobody
 
