@@ -1,6 +1,6 @@
 //! The table of open file descriptions: held, dropped and moved.
 use bitflags::Flags;
-use call_types::description::{Description, Mode, Target};
+use call_types::description::{Description, DescriptionEdit, Mode, Target};
 use call_types::flags::OpenFlags;
 use description_table::{DescriptionTable, Dropped};
 use slots::ticket::Ticket;
@@ -60,7 +60,7 @@ fn offset_and_flags_are_told_while_it_lives(rt: HostRuntime) -> Result<(), Fail>
         (table.offset(&ticket), table.offset(&misled)),
         (Some(5), Some(5))
     );
-    table.set_offset(&misled, 9);
+    table.describe(&misled, DescriptionEdit::Offset { offset: 9 });
     assert_eq!(rt;
         table.flags(&ticket),
         Some(
@@ -83,7 +83,7 @@ fn ticket_with_the_key_of_another_finds_its_own(rt: HostRuntime) -> Result<(), F
     let first = table.add(reader_and_appender());
     let second = table.add(reader());
     let misled = Ticket::new(first.number(), second.key());
-    table.set_offset(&misled, 9);
+    table.describe(&misled, DescriptionEdit::Offset { offset: 9 });
     table.hold(&misled);
     assert_eq!(rt;
         (table.offset(&first), table.offset(&second)),
