@@ -158,6 +158,9 @@ CALLS = {
     29: Form("unlink", (NAME,)),
     30: Form("fstat", (FD,)),
     31: Form("fork"),
+    32: Form("getfl", (FD,)),
+    33: Form("setfl", (FD, FLAGS)),
+    34: Form("rename", (NAME, NAME)),
 }
 
 

@@ -305,6 +305,15 @@ class World:
         del self.names[name]
         return "ok"
 
+    def rename(self, process: Process, old: bytes, new: bytes) -> Reply:
+        """The call."""
+        check_name(old)
+        check_name(new)
+        require(old in self.names, "ENOENT")
+        if self.names.get(new) is not self.names[old]:
+            self.names[new] = self.names.pop(old)
+        return "ok"
+
     def links(self, file: Regular | Pipe | Fifo) -> int:
         """How many names a file has."""
         return sum(named is file for named in self.names.values())
@@ -344,6 +353,18 @@ class World:
         """The call."""
         at = find(process, fd)
         return f"{at.file.kind} {len((at.pipe or at.regular).data)} {self.links(at.file)}"
+
+    def getfl(self, process: Process, fd: int) -> Reply:
+        """The call."""
+        at = find(process, fd)
+        return ("r" in at.mode) + 2 * ("w" in at.mode) + 32 * at.append + 64 * at.nonblock
+
+    def setfl(self, process: Process, fd: int, flags: str) -> Reply:
+        """The call."""
+        at = find(process, fd)
+        at.append = "append" in flags.split(",")
+        at.nonblock = "nonblock" in flags.split(",")
+        return "ok"
 
     # -- bytes and offsets
 
@@ -637,6 +658,9 @@ FIELDS: dict[str, tuple[Reader, ...]] = {
     "unlink": (read_name,),
     "fstat": (read_fd,),
     "fork": (),
+    "getfl": (read_fd,),
+    "setfl": (read_fd, read_flags),
+    "rename": (read_name, read_name),
     "attach": (),
     "resume": (),
     "exit": (),

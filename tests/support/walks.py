@@ -16,16 +16,18 @@ ODD = 0.05
 MOODS = {
     "files": (
         "open 8 close 3 read 8 write 12 pread 4 pwrite 6 lseek 7 ftruncate 4 fstat 3 dup 2 dup2 2 link 1 unlink 2 "
+        "getfl 1 setfl 2 rename 2 "
         "fork 1 attach 2"
     ),
     "pipes": (
-        "pipe 4 read 14 write 16 resume 12 fork 3 attach 6 close 9 dup 1 dup2 2 exit 3 fstat 3 pwrite 1 pread 1 lseek 1"
+        "pipe 4 read 14 write 16 resume 12 fork 3 attach 6 close 9 dup 1 dup2 2 exit 3 fstat 3 pwrite 1 pread 1 lseek 1 "
+        "getfl 1 setfl 4"
     ),
     "fifos": (
         "mkfifo 3 open 18 read 8 write 9 resume 12 close 8 join 3 fork 1 attach 2 exit 3 link 1 unlink 2 fstat 3 dup 1 "
         "lseek 1"
     ),
-    "names": "open 8 mkfifo 6 link 14 unlink 6 fstat 4 close 5 write 2 read 2 fork 1 attach 1 exit 1",
+    "names": "open 8 mkfifo 6 link 14 unlink 6 rename 10 fstat 4 close 5 write 2 read 2 fork 1 attach 1 exit 1",
     "processes": "join 8 fork 8 attach 10 exit 3 pipe 2 open 3 read 3 write 3 resume 3 close 2 dup2 1 fstat 1",
     "descriptors": "open 10 pipe 4 dup 10 dup2 8 close 3 fstat 3 fork 1 attach 1 lseek 2 read 2 write 2",
 }
@@ -191,6 +193,7 @@ class Walk:
             "lseek": lambda: self.move(at),
             "ftruncate": lambda: [self.place(at)],
             "dup2": lambda: [self.target()],
+            "setfl": lambda: [flags_text(self.pick, "-", {"append": 0.3, "nonblock": 0.5, "creat": 0.1})],
         }
         return [fd, *(rest[word]() if word in rest else [])]
 
@@ -278,6 +281,8 @@ class Walk:
             names, flags = [name], [self.flags(None if name is None else self.world.names.get(name))]
         elif word == "link":
             names = [self.old_name(), self.new_name()]
+        elif word == "rename":
+            names = [self.old_name(), self.pick.choice([self.old_name, self.new_name])()]
         else:
             names = [self.new_name() if word == "mkfifo" else self.old_name()]
         return [*(None if name is None else name_text(self.pick, name) for name in names), *flags]
