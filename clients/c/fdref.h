@@ -2,7 +2,8 @@
 
    One file of a program defines FDREF_IMPLEMENTATION before it includes this, and has the code then; all others only
    include it. Each connection is a process. A call has the name, the arguments and the values of the function in
-   POSIX, with fdref_ before its name and the process before its arguments. Only the mode of a new file is missing.
+   POSIX, with fdref_ before its name and the process before its arguments. Only the mode of a new file is missing, and
+   of fcntl the commands F_GETFL and F_SETFL have names of their own.
 
        struct fdref *p = fdref_join("/tmp/fdref.socket");
        int fd = fdref_open(p, "a", O_RDWR | O_CREAT);
@@ -116,6 +117,15 @@ int fdref_mkfifo(struct fdref *p, const char *name);
 int fdref_link(struct fdref *p, const char *old_name, const char *new_name);
 int fdref_unlink(struct fdref *p, const char *name);
 int fdref_fstat(struct fdref *p, int fd, struct fdref_stat *stat);
+int fdref_rename(struct fdref *p, const char *old_name, const char *new_name);
+
+/* The mode of a description and its flags, as F_GETFL gives them: one of O_RDONLY, O_WRONLY and O_RDWR, with O_APPEND
+   and O_NONBLOCK where they are set. */
+int fdref_getfl(struct fdref *p, int fd);
+
+/* Sets O_APPEND and O_NONBLOCK of a description to those of the flags, as F_SETFL does. A mode, O_CREAT, O_EXCL and
+   O_TRUNC are ignored. */
+int fdref_setfl(struct fdref *p, int fd, int flags);
 
 /* Makes a child with the same open descriptors, and gives its number. It makes calls once it is attached. */
 pid_t fdref_fork(struct fdref *p);
@@ -171,7 +181,8 @@ int fdref_trace_close(struct fdref_trace *trace);
 enum fdref_act_kind {
     FDREF_JOIN = 1, FDREF_ATTACH, FDREF_RESUME, FDREF_EXIT, FDREF_CLOSE_RUN,
     FDREF_OPEN = 16, FDREF_CLOSE, FDREF_READ, FDREF_WRITE, FDREF_PREAD, FDREF_PWRITE, FDREF_LSEEK, FDREF_FTRUNCATE,
-    FDREF_DUP, FDREF_DUP2, FDREF_PIPE, FDREF_MKFIFO, FDREF_LINK, FDREF_UNLINK, FDREF_FSTAT, FDREF_FORK
+    FDREF_DUP, FDREF_DUP2, FDREF_PIPE, FDREF_MKFIFO, FDREF_LINK, FDREF_UNLINK, FDREF_FSTAT, FDREF_FORK, FDREF_GETFL,
+    FDREF_SETFL, FDREF_RENAME
 };
 struct fdref_act {
     int kind, fd, other;
@@ -221,6 +232,9 @@ struct fdref_act fdref_act_link(const char *old_name, const char *new_name);
 struct fdref_act fdref_act_unlink(const char *name);
 struct fdref_act fdref_act_fstat(int fd);
 struct fdref_act fdref_act_fork(void);
+struct fdref_act fdref_act_getfl(int fd);
+struct fdref_act fdref_act_setfl(int fd, int flags);
+struct fdref_act fdref_act_rename(const char *old_name, const char *new_name);
 
 /* What they may come to. */
 struct fdref_outcome fdref_done(void);
@@ -236,6 +250,9 @@ struct fdref_outcome fdref_part(uint32_t moved);
 struct fdref_outcome fdref_result(int64_t result);
 struct fdref_outcome fdref_result_done(int result);
 struct fdref_outcome fdref_result_data(const void *buffer, ssize_t result);
+
+/* The same, of what F_GETFL returned. No trace can hold flags that an open may not have either. */
+struct fdref_outcome fdref_result_flags(int result);
 
 #ifdef __cplusplus
 }
@@ -273,7 +290,7 @@ static const struct {
     {"fs", FDREF_NUMBER}, {"d", FDREF_DONE}, {"dn", FDREF_DATA}, {"db", FDREF_NUMBER}, {"dpn", FDREF_DATA},
     {"dpb", FDREF_NUMBER}, {"dpw", FDREF_NUMBER}, {"dp", FDREF_DONE}, {"d", FDREF_NUMBER}, {"dD", FDREF_NUMBER},
     {"", FDREF_DESCRIPTORS}, {"s", FDREF_DONE}, {"sS", FDREF_DONE}, {"s", FDREF_DONE}, {"d", FDREF_STAT},
-    {"", FDREF_NUMBER}
+    {"", FDREF_NUMBER}, {"d", FDREF_NUMBER}, {"df", FDREF_DONE}, {"sS", FDREF_DONE}
 };
 
 /* The errors from number 1 on, and the refusals from FDREF_NO_MEMORY on. */
@@ -295,7 +312,7 @@ static const struct fdref_named fdref_refusals[] = {
 enum { FDREF_ERRORS = sizeof fdref_errors / sizeof fdref_errors[0] };
 enum { FDREF_REFUSALS = sizeof fdref_refusals / sizeof fdref_refusals[0] };
 
-static int fdref_is_call(int act) { return act >= FDREF_OPEN && act <= FDREF_FORK; }
+static int fdref_is_call(int act) { return act >= FDREF_OPEN && act <= FDREF_RENAME; }
 static int fdref_is_refusal(int refusal) { return refusal >= FDREF_NO_MEMORY && refusal <= FDREF_FOREIGN; }
 
 /* The number of an error in frames, or 0. */
@@ -313,6 +330,37 @@ const char *fdref_error_name(int number)
     while (at < FDREF_REFUSALS && fdref_refusals[at].number != number)
         at++;
     return byte > 0 ? fdref_errors[byte - 1].name : at < FDREF_REFUSALS ? fdref_refusals[at].name : NULL;
+}
+
+/* ---- flags */
+
+/* The flags after the mode, from 4 on in a frame, where a mode is 0 to 3. */
+static const int fdref_flags[] = {O_CREAT, O_EXCL, O_TRUNC, O_APPEND, O_NONBLOCK};
+static const int fdref_modes[] = {FDREF_O_NEITHER, O_RDONLY, O_WRONLY, O_RDWR};
+enum { FDREF_FLAGS = sizeof fdref_flags / sizeof fdref_flags[0], FDREF_FLAGS_MOST = (4 << FDREF_FLAGS) - 1 };
+
+/* Flags as a frame has them, or -1 where fdref does not know them all. */
+static int fdref_flags_byte(int flags)
+{
+    int modes = O_RDONLY | O_WRONLY | O_RDWR, mode = flags & modes;
+    int byte = mode == O_RDWR ? 3 : mode == O_WRONLY ? 2 : mode == O_RDONLY ? 1 : 0;
+    flags &= ~modes;
+    for (int at = 0; at < FDREF_FLAGS; at++) {
+        if ((flags & fdref_flags[at]) == fdref_flags[at]) {
+            byte |= 4 << at;
+            flags &= ~fdref_flags[at];
+        }
+    }
+    return flags == 0 ? byte : -1;
+}
+
+/* The flags that a frame has, of at most FDREF_FLAGS_MOST. */
+static int fdref_flags_of(int byte)
+{
+    int flags = fdref_modes[byte & 3];
+    for (int at = 0; at < FDREF_FLAGS; at++)
+        flags |= byte & 4 << at ? fdref_flags[at] : 0;
+    return flags;
 }
 
 /* ---- acts and outcomes */
@@ -380,6 +428,13 @@ struct fdref_act fdref_act_link(const char *old_name, const char *new_name)
 struct fdref_act fdref_act_unlink(const char *name) { return fdref_act_named(FDREF_UNLINK, name, NULL, 0); }
 struct fdref_act fdref_act_fstat(int fd) { return fdref_act_plain(FDREF_FSTAT, fd); }
 struct fdref_act fdref_act_fork(void) { return fdref_act_plain(FDREF_FORK, 0); }
+struct fdref_act fdref_act_getfl(int fd) { return fdref_act_plain(FDREF_GETFL, fd); }
+struct fdref_act fdref_act_setfl(int fd, int flags) { return fdref_act_of(FDREF_SETFL, fd, flags, 0, NULL, 0); }
+
+struct fdref_act fdref_act_rename(const char *old_name, const char *new_name)
+{
+    return fdref_act_named(FDREF_RENAME, old_name, new_name, 0);
+}
 
 /* `number` is also how many bytes have moved. */
 static struct fdref_outcome fdref_outcome_of(int kind, uint64_t number)
@@ -429,6 +484,12 @@ struct fdref_outcome fdref_result_data(const void *buffer, ssize_t result)
     return result < 0 ? fdref_error(errno) : fdref_data(buffer, (size_t)result);
 }
 
+struct fdref_outcome fdref_result_flags(int result)
+{
+    int byte = result < 0 ? 0 : fdref_flags_byte(result);
+    return result < 0 ? fdref_error(errno) : fdref_outcome_of(byte < 0 ? 0 : FDREF_NUMBER, (uint64_t)byte);
+}
+
 /* ---- frames, written */
 
 /* The payload of a frame, after four bytes for its length, and the errno of the first thing that no frame holds. */
@@ -473,18 +534,9 @@ static void fdref_put_name(struct fdref_payload *to, const char *name)
 
 static void fdref_put_flags(struct fdref_payload *to, int flags)
 {
-    static const int bits[] = {O_CREAT, O_EXCL, O_TRUNC, O_APPEND, O_NONBLOCK};
-    int modes = O_RDONLY | O_WRONLY | O_RDWR, mode = flags & modes;
-    unsigned byte = mode == O_RDWR ? 3 : mode == O_WRONLY ? 2 : mode == O_RDONLY ? 1 : 0;
-    flags &= ~modes;
-    for (int at = 0; at < 5; at++) {
-        if ((flags & bits[at]) == bits[at]) {
-            byte |= 4u << at;
-            flags &= ~bits[at];
-        }
-    }
-    fdref_need(to, flags == 0, EINVAL);
-    fdref_put(to, byte, 1);
+    int byte = fdref_flags_byte(flags);
+    fdref_need(to, byte >= 0, EINVAL);
+    fdref_put(to, (uint64_t)byte, 1);
 }
 
 static void fdref_put_act(struct fdref_payload *to, const struct fdref_act *act)
@@ -884,6 +936,19 @@ int fdref_fstat(struct fdref *p, int fd, struct fdref_stat *stat)
         *stat = p->outcome.stat;
     return done;
 }
+
+int fdref_rename(struct fdref *p, const char *old_name, const char *new_name)
+{
+    return fdref_ask_int(p, fdref_act_rename(old_name, new_name));
+}
+
+int fdref_getfl(struct fdref *p, int fd)
+{
+    int byte = (int)fdref_ask(p, fdref_act_getfl(fd), NULL, FDREF_FLAGS_MOST);
+    return byte < 0 ? byte : fdref_flags_of(byte);
+}
+
+int fdref_setfl(struct fdref *p, int fd, int flags) { return fdref_ask_int(p, fdref_act_setfl(fd, flags)); }
 
 pid_t fdref_fork(struct fdref *p) { return fdref_ask_int(p, fdref_act_fork()); }
 

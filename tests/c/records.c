@@ -143,8 +143,8 @@ static void faults(const char *path)
     refuses(path, 0, fdref_act_fork(), fdref_error(0), EINVAL);
     if (sizeof(size_t) > 4)
         refuses(path, 0, fdref_act_read(0, (size_t)UINT32_MAX + 1), fdref_done(), EINVAL);
-    for (act.kind = -1; act.kind <= FDREF_FORK + 1; act.kind++)
-        if (act.kind < FDREF_JOIN || (act.kind > FDREF_CLOSE_RUN && act.kind < FDREF_OPEN) || act.kind > FDREF_FORK)
+    for (act.kind = -1; act.kind <= FDREF_RENAME + 1; act.kind++)
+        if (act.kind < FDREF_JOIN || (act.kind > FDREF_CLOSE_RUN && act.kind < FDREF_OPEN) || act.kind > FDREF_RENAME)
             refuses(path, 0, act, fdref_done(), EINVAL);
     outcome.kind = 0;
     refuses(path, 0, fdref_act_fork(), outcome, EINVAL);
