@@ -20,7 +20,8 @@
    that is told on standard error, and the program ends with status 124.
 
    Names. fdref has one folder. A name without `/`, or with only `./` before it, is asked of fdref, whatever the working
-   directory is. Every other path, `.` and `..` go to the kernel, and a link between the two is EXDEV.
+   directory is. Every other path, `.` and `..` go to the kernel, and a link or a rename between the two is EXDEV.
+   Folders are the kernel's, so a rename of one by a plain name is ENOENT.
 
    Numbers are those of a native run. What is open at the start, and each file that the kernel opens for a call of this
    library, is *real*: it has the same number in the kernel, and in fdref a placeholder, which is a file without a name.
@@ -34,24 +35,28 @@
      - stat of a name is an open for reading and writing, an fstat and a close. A name that is there and cannot be
        opened so is a FIFO; it is told to have 1 link and no bytes. statx and access are the same, and truncate has an
        ftruncate in between. None of these is logged, also in a native run. They are EMFILE where no descriptor is free.
-     - st_ino comes of the name by which a file was opened, so links of one file differ. Modes are 0644, times 0.
+     - st_ino comes of the name by which a file was opened, so links of one file differ, and a file that is renamed has
+       the number of its new name. Modes are 0644, times 0.
      - F_DUPFD is a dup2 to the lowest free descriptor from its argument on.
+     - F_GETFL has O_LARGEFILE, too, where the kernel would tell it. F_SETFL asks with the flags that fdref knows.
      - EPIPE raises SIGPIPE.
      - A child is a process of fdref, over a connection of its own. It is attached before it is there. vfork is fork.
      - An exit, and _exit, is recorded before the program has ended. That of a program that a signal ends, abort too,
        comes when the server sees the connection closed, so perhaps after its parent's wait.
 
-   What is ignored: the mode of a new file, O_NOCTTY, O_NOFOLLOW, O_SYNC and its kin, fsync. FD_CLOEXEC is only kept.
+   What is ignored: the mode of a new file, O_NOCTTY, O_NOFOLLOW, O_SYNC and its kin, fsync, and in F_SETFL each flag
+   that Linux ignores there. FD_CLOEXEC is only kept.
 
    What is left out, so that FDREF_STRICT tells it:
      - paths that go to the kernel, in calls that fdref has,
      - exec is not followed: a new program joins as a new process, which has the real files alone. So do system, popen
        and posix_spawn.
-     - of plain names: fopen, freopen, rename, symlink, readlink, mkdir, rmdir, opendir, mknod, mkstemp, chmod, chown,
-       utimensat, chdir, and open with other flags, as O_DIRECTORY. The kernel has these.
+     - of plain names: fopen, freopen, symlink, readlink, mkdir, rmdir, opendir, mknod, mkstemp, chmod, chown,
+       utimensat, chdir, and open with other flags, as O_DIRECTORY. The kernel has these. renameat2 with flags is
+       ENOSYS, so that mv does without them.
      - of descriptors of fdref: fdopen, mmap, ioctl, flock, lockf, poll, select, epoll_ctl, sendfile, copy_file_range,
-       splice, preadv, pwritev, fallocate, fchmod, fchown, futimens, and of fcntl an F_SETFL that changes something and
-       commands that are not named above, are ENOSYS; SEEK_DATA and SEEK_HOLE are EINVAL.
+       splice, preadv, pwritev, fallocate, fchmod, fchown, futimens, and of fcntl an F_SETFL with O_ASYNC, O_DIRECT or
+       O_NOATIME and commands that are not named above, are ENOSYS; SEEK_DATA and SEEK_HOLE are EINVAL.
      - pipe2 with O_NONBLOCK or O_DIRECT: it is a pipe of the kernel.
 
    What cannot be seen, and is not told: system calls that are made past the C library, and what it makes inside. So
@@ -109,16 +114,8 @@ int __cxa_atexit(void (*function)(void *), void *argument, void *library);
 
 enum {
     ASKED_FLAGS = O_ACCMODE | O_CREAT | O_EXCL | O_TRUNC | O_APPEND | O_NONBLOCK,
-    IGNORED_FLAGS = O_CLOEXEC | O_NOCTTY | O_LARGEFILE | O_NOFOLLOW | O_SYNC | O_DSYNC | O_RSYNC,
-    STATUS_FLAGS = O_ACCMODE | O_APPEND | O_NONBLOCK
+    IGNORED_FLAGS = O_CLOEXEC | O_NOCTTY | O_LARGEFILE | O_NOFOLLOW | O_SYNC | O_DSYNC | O_RSYNC
 };
-
-/* What the kernel adds to the flags of each open, and F_GETFL tells: its own O_LARGEFILE. */
-#if defined __x86_64__
-enum { ADDED_FLAGS = 0100000 };
-#else
-enum { ADDED_FLAGS = 0 };
-#endif
 
 static int64_t taken(int64_t fd, struct slot slot, int is_cloexec)
 {
@@ -151,7 +148,7 @@ static int open_in(int folder, const char *name, int flags, mode_t mode)
     const char *rest = name;
     enum way way = way_in(folder, &rest);
     int is_cloexec = (flags & O_CLOEXEC) != 0;
-    struct slot slot = {OURS, 0, (flags & STATUS_FLAGS) | ADDED_FLAGS, 0, 0};
+    struct slot slot = {OURS, 0, 0, 0};
     struct fdref_act act = fdref_act_open(rest, flags & ASKED_FLAGS);
     if (way != PASS && (flags & ~(ASKED_FLAGS | IGNORED_FLAGS)) != 0) {
         leave_out("path", "open with other flags", rest);
@@ -503,7 +500,7 @@ int truncate(const char *name, off_t length) { return cut_name(name, length); }
 
 static struct slot slot_of(int fd)
 {
-    struct slot slot = {FREE, 0, 0, 0, 0};
+    struct slot slot = {FREE, 0, 0, 0};
     return fd >= 0 && fd < NUMBERS ? slots[fd] : slot;
 }
 
@@ -610,9 +607,8 @@ static int dup_from(int fd, int command, int from)
 
 static int64_t take_pipe(int ends[2], int is_cloexec)
 {
-    struct slot slot = {OURS, 0, O_RDONLY, 1, inode_of_pipe()};
+    struct slot slot = {OURS, 0, 1, inode_of_pipe()};
     take(ends[0], slot, is_cloexec);
-    slot.flags = O_WRONLY;
     take(ends[1], slot, is_cloexec);
     return 0;
 }
@@ -698,6 +694,22 @@ int linkat(int folder, const char *name, int new_folder, const char *new_name, i
 }
 
 int link(const char *name, const char *new_name) { return linkat(AT_FDCWD, name, AT_FDCWD, new_name, 0); }
+
+int renameat(int folder, const char *name, int new_folder, const char *new_name)
+{
+    const char *rest = name, *new_rest = new_name;
+    enum way way = way_in(folder, &rest), new_way = way_in(new_folder, &new_rest);
+    struct fdref_act act = fdref_act_rename(rest, new_rest);
+    if (way == ASK && new_way == ASK)
+        return (int)ALONE(ask(act));
+    if (how == ASKED && (way == PASS) != (new_way == PASS))
+        return (int)fails(EXDEV);
+    if (way == NOTE && new_way == NOTE)
+        return (int)noted(act, system_renameat(folder, name, new_folder, new_name));
+    return system_renameat(folder, name, new_folder, new_name);
+}
+
+int rename(const char *name, const char *new_name) { return renameat(AT_FDCWD, name, AT_FDCWD, new_name); }
 
 int unlinkat(int folder, const char *name, int flags)
 {

@@ -107,19 +107,50 @@ static int set_cloexec(int fd, int is_cloexec)
     return 0;
 }
 
-static int control(int fd, int command, int argument)
+/* What the kernel adds to the flags of each open, and F_GETFL tells: its own O_LARGEFILE. */
+#if defined __x86_64__
+enum { ADDED_FLAGS = 0100000 };
+#else
+enum { ADDED_FLAGS = 0 };
+#endif
+
+/* Of F_GETFL's flags fdref tells these. Those that the kernel lets F_SETFL change beside them fdref leaves out. */
+enum {
+    STATUS_FLAGS = O_ACCMODE | O_APPEND | O_NONBLOCK,
+    LEFT_OUT_FLAGS = O_ASYNC | O_DIRECT | O_NOATIME
+};
+
+static int is_asked_to_set(int command, int flags) { return command == F_SETFL && (flags & LEFT_OUT_FLAGS) == 0; }
+
+static int64_t flags_ours(int fd)
 {
-    enum { CHANGEABLE = O_APPEND | O_NONBLOCK | O_ASYNC | O_DIRECT | O_NOATIME };
+    int64_t byte = ask_most(fdref_act_getfl(fd), NULL, FDREF_FLAGS_MOST);
+    return byte < 0 ? byte : fdref_flags_of((int)byte) | (slot_of(fd).is_pipe ? 0 : ADDED_FLAGS);
+}
+
+static int control_ours(int fd, int command, int argument)
+{
     struct slot slot = slot_of(fd);
+    if (command == F_GETFL)
+        return (int)ALONE(flags_ours(fd));
+    if (is_asked_to_set(command, argument))
+        return (int)ALONE(ask(fdref_act_setfl(fd, argument & ASKED_FLAGS)));
     if (slot.held == FREE)
         return (int)fails(EBADF);
     switch (command) {
     case F_GETFD: return slot.is_cloexec ? FD_CLOEXEC : 0;
     case F_SETFD: return set_cloexec(fd, (argument & FD_CLOEXEC) != 0);
-    case F_GETFL: return slot.flags;
-    case F_SETFL: return ((argument ^ slot.flags) & CHANGEABLE) == 0 ? 0 : refuse(fd, "fcntl with F_SETFL");
+    case F_SETFL: return refuse(fd, "fcntl with other flags");
     default: return refuse(fd, "fcntl with another command");
     }
+}
+
+static int control_noted(int fd, int command, void *argument)
+{
+    int given = system_fcntl(fd, command, argument), flags = (int)(intptr_t)argument;
+    if (command == F_GETFL)
+        return (int)ALONE(note(fdref_act_getfl(fd), fdref_result_flags(given & STATUS_FLAGS), given));
+    return is_asked_to_set(command, flags) ? (int)noted(fdref_act_setfl(fd, flags & ASKED_FLAGS), given) : given;
 }
 
 #define CONTROLS(name) \
@@ -133,7 +164,9 @@ static int control(int fd, int command, int argument)
         va_end(values); \
         if (command == F_DUPFD || command == F_DUPFD_CLOEXEC) \
             return dup_from(fd, command, (int)(intptr_t)argument); \
-        return way == ASK ? control(fd, command, (int)(intptr_t)argument) : system_fcntl(fd, command, argument); \
+        if (way == ASK) \
+            return control_ours(fd, command, (int)(intptr_t)argument); \
+        return way == NOTE ? control_noted(fd, command, argument) : system_fcntl(fd, command, argument); \
     }
 
 CONTROLS(fcntl)
@@ -297,9 +330,6 @@ static void passes(const char *kind, const char *what, const char *path)
 TELLS(FILE *, fopen, (const char *path, const char *mode), (path, mode), "stream", path, is_plain(path))
 TELLS(FILE *, freopen, (const char *path, const char *mode, FILE *file), (path, mode, file),
       "stream", path, is_plain(path))
-TELLS(int, rename, (const char *old, const char *new), (old, new), "path", old, is_plain(old) || is_plain(new))
-TELLS(int, renameat, (int from, const char *old, int to, const char *new), (from, old, to, new),
-      "path", old, is_plain_in(from, old) || is_plain_in(to, new))
 TELLS(int, symlink, (const char *text, const char *path), (text, path), "path", path, is_plain(path))
 TELLS(int, symlinkat, (const char *text, int to, const char *path), (text, to, path),
       "path", path, is_plain_in(to, path))
@@ -408,6 +438,22 @@ int statx(int folder, const char *name, int flags, unsigned wanted, struct statx
     if (done > 0)
         find(&next, "statx");
     return done > 0 ? next(folder, name, flags, wanted, to) : done;
+}
+
+/* No call of fdref does what flags ask for. After ENOSYS programs do without them. */
+int renameat2(int folder, const char *name, int new_folder, const char *new_name, unsigned flags)
+{
+    static __typeof__(&renameat2) next;
+    prepare();
+    if (flags == 0)
+        return renameat(folder, name, new_folder, new_name);
+    if (is_plain_in(folder, name) || is_plain_in(new_folder, new_name)) {
+        leave_out("call", "renameat2 with flags", NULL);
+        return (int)fails(ENOSYS);
+    }
+    passes("path", "renameat2", name);
+    find(&next, "renameat2");
+    return next(folder, name, new_folder, new_name, flags);
 }
 
 TELLS(int, execvpe, (const char *path, char *const list[], char *const env[]), (path, list, env),

@@ -25,6 +25,7 @@
     X(int, pipe2, "pipe2", (int *, int)) \
     X(int, mkfifoat, "mkfifoat", (int, const char *, mode_t)) \
     X(int, linkat, "linkat", (int, const char *, int, const char *, int)) \
+    X(int, renameat, "renameat", (int, const char *, int, const char *)) \
     X(int, unlinkat, "unlinkat", (int, const char *, int)) \
     X(int, remove, "remove", (const char *)) \
     X(int, fcntl, "fcntl", (int, int, ...)) \
@@ -225,7 +226,8 @@ static void make_way(int to)
 /* ---- the log: a line of a call is that of fdref */
 
 static const char *const words[] = {"open", "close", "read", "write", "pread", "pwrite", "lseek", "ftruncate", "dup",
-                                    "dup2", "pipe", "mkfifo", "link", "unlink", "fstat", "fork"};
+                                    "dup2", "pipe", "mkfifo", "link", "unlink", "fstat", "fork", "getfl", "setfl",
+                                    "rename"};
 
 /* The longest line has all bytes of a transfer, or two names. */
 static char line[2 * FDREF_TRANSFER_MOST + 2 * 3 * FDREF_NAME_MOST + 300];

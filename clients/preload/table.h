@@ -56,7 +56,7 @@ enum { NUMBERS = 32 };
 enum held { FREE, OURS, REAL };
 struct slot {
     enum held held;
-    int is_cloexec, flags, is_pipe;
+    int is_cloexec, is_pipe;
     uint64_t inode;
 };
 static struct slot slots[NUMBERS];
@@ -91,13 +91,13 @@ static void take(int fd, struct slot slot, int is_cloexec)
 
 static void take_real(int fd)
 {
-    struct slot slot = {REAL, 0, 0, 0, 0};
+    struct slot slot = {REAL, 0, 0, 0};
     take(fd, slot, 0);
 }
 
 static void set_free(int fd)
 {
-    struct slot slot = {FREE, 0, 0, 0, 0};
+    struct slot slot = {FREE, 0, 0, 0};
     take(fd, slot, 0);
 }
 

@@ -29,6 +29,13 @@ int __dup2(int fd, int to);
 int __pipe(int ends[2]);
 #endif
 
+/* What F_GETFL tells, but for O_LARGEFILE. */
+static int flags_of(int fd)
+{
+    int flags = fcntl(fd, F_GETFL);
+    return flags < 0 ? flags : flags & (O_ACCMODE | O_APPEND | O_NONBLOCK);
+}
+
 static void closes(int first, int last)
 {
     for (int fd = first; fd <= last; fd++)
@@ -105,6 +112,10 @@ static void errors(void)
     FAILS(fcntl(reading, F_DUPFD, -1), EINVAL);
     FAILS(fcntl(9, F_GETFD), EBADF);
     FAILS(fcntl(9, F_GETFL), EBADF);
+    FAILS(fcntl(-1, F_GETFL), EBADF);
+    FAILS(fcntl(9, F_SETFL, O_APPEND), EBADF);
+    FAILS(fcntl(-1, F_SETFL, 0), EBADF);
+    FAILS(fcntl(9, F_SETFL, O_ASYNC), EBADF);
     FAILS(fsync(9), EBADF);
     errno = 0;
     GIVES(write(writing, "ab", 2), 2);
@@ -152,8 +163,7 @@ static void duplicates(void)
     GIVES(fcntl(fd, F_DUPFD, 0), 5);
     GIVES(fcntl(fd, F_DUPFD_CLOEXEC, 20), 20);
     GIVES(fcntl(20, F_GETFD), FD_CLOEXEC);
-    CHECK((fcntl(20, F_GETFL) & (O_ACCMODE | O_APPEND | O_NONBLOCK)) == (O_RDWR | O_APPEND));
-    GIVES(fcntl(20, F_SETFL, O_APPEND), 0);
+    GIVES(flags_of(20), O_RDWR | O_APPEND);
     GIVES(lseek(fd, 1, SEEK_SET), 1);
     GIVES(lseek(20, 0, SEEK_CUR), 1);
     CHECK(isatty(fd) == 0 && errno == ENOTTY);
@@ -165,6 +175,32 @@ static void duplicates(void)
     GIVES(close(20), 0);
 }
 
+/* The flags of a description are those of all its descriptors, and of no other. */
+static void flags(void)
+{
+    int fd = open("a", O_RDWR | O_APPEND), other = dup(fd), own = open("a", O_RDONLY | O_NONBLOCK);
+    GIVES(ftruncate(fd, 4), 0);
+    GIVES(flags_of(fd), O_RDWR | O_APPEND);
+    GIVES(flags_of(own), O_RDONLY | O_NONBLOCK);
+    GIVES(fcntl(other, F_SETFL, O_NONBLOCK), 0);
+    GIVES(flags_of(fd), O_RDWR | O_NONBLOCK);
+    GIVES(write(fd, "x", 1), 1);
+    GIVES(lseek(fd, 0, SEEK_CUR), 1);
+    GIVES(fcntl(fd, F_SETFL, fcntl(fd, F_GETFL) | O_APPEND), 0);
+    GIVES(flags_of(other), O_RDWR | O_APPEND | O_NONBLOCK);
+    GIVES(write(other, "y", 1), 1);
+    GIVES(lseek(fd, 0, SEEK_CUR), 5);
+    GIVES(fcntl(own, F_SETFL, O_WRONLY | O_CREAT | O_EXCL | O_TRUNC | O_SYNC | O_NOCTTY | O_DIRECTORY), 0);
+    GIVES(flags_of(own), O_RDONLY);
+    GIVES(read(own, bytes, 9), 5);
+    FAILS(write(own, "z", 1), EBADF);
+    errno = 0;
+    GIVES(flags_of(fd), O_RDWR | O_APPEND | O_NONBLOCK);
+    GIVES(fcntl(fd, F_SETFL, 0), 0);
+    GIVES(flags_of(other), O_RDWR);
+    closes(fd, own);
+}
+
 static void pipes(void)
 {
     int ends[2], others[2];
@@ -173,7 +209,17 @@ static void pipes(void)
     GIVES(pipe2(others, O_CLOEXEC), 0);
     GIVES(others[0] * 100 + others[1], 506);
     GIVES(fcntl(5, F_GETFD), FD_CLOEXEC);
-    CHECK((fcntl(5, F_GETFL) & O_ACCMODE) == O_RDONLY && (fcntl(6, F_GETFL) & O_ACCMODE) == O_WRONLY);
+    GIVES(fcntl(5, F_GETFL), O_RDONLY);
+    GIVES(fcntl(6, F_GETFL), O_WRONLY);
+    GIVES(fcntl(3, F_SETFL, O_NONBLOCK), 0);
+    GIVES(fcntl(3, F_GETFL), O_RDONLY | O_NONBLOCK);
+    GIVES(fcntl(4, F_GETFL), O_WRONLY);
+    FAILS(read(3, bytes, 2), EAGAIN);
+    errno = 0;
+    GIVES(fcntl(4, F_SETFL, O_APPEND), 0);
+    GIVES(fcntl(4, F_GETFL), O_WRONLY | O_APPEND);
+    GIVES(fcntl(3, F_SETFL, O_RDONLY), 0);
+    GIVES(fcntl(3, F_GETFL), O_RDONLY);
     GIVES(write(4, "xyz", 3), 3);
     GIVES(read(3, bytes, 2), 2);
     GIVES(close(4), 0);
@@ -210,7 +256,76 @@ static void names(void)
     GIVES(open("f", O_WRONLY | O_NONBLOCK), 4);
     FAILS(read(3, bytes, 1), EAGAIN);
     errno = 0;
+    GIVES(fcntl(3, F_SETFL, 0), 0);
+    GIVES(flags_of(3), O_RDONLY);
+    GIVES(flags_of(4), O_WRONLY | O_NONBLOCK);
     closes(3, 4);
+}
+
+/* A name leads to the file that is renamed to it, and what is open stays. */
+static void renames(void)
+{
+    struct stat told;
+    int one = open("one", O_RDWR | O_CREAT, 0600), two = open("two", O_RDWR | O_CREAT, 0600);
+    GIVES(write(one, "one", 3), 3);
+    GIVES(write(two, "second", 6), 6);
+    GIVES(rename("one", "two"), 0);
+    FAILS(open("one", O_RDONLY), ENOENT);
+    errno = 0;
+    GIVES(pread(two, bytes, 9, 0), 6);
+    CHECK(memcmp(bytes, "second", 6) == 0);
+    CHECK(fstat(two, &told) == 0 && told.st_nlink == 0 && told.st_size == 6);
+    GIVES(close(two), 0);
+    GIVES(open("two", O_RDONLY), two);
+    GIVES(read(two, bytes, 9), 3);
+    CHECK(memcmp(bytes, "one", 3) == 0);
+    GIVES(link("two", "three"), 0);
+    GIVES(rename("two", "three"), 0);
+    GIVES(rename("three", "three"), 0);
+    CHECK(fstat(one, &told) == 0 && told.st_nlink == 2);
+    GIVES(unlink("two"), 0);
+    GIVES(renameat(AT_FDCWD, "./three", AT_FDCWD, ".//two"), 0);
+    CHECK(fstat(one, &told) == 0 && told.st_nlink == 1);
+    FAILS(rename("three", "two"), ENOENT);
+    FAILS(rename("three", "three"), ENOENT);
+    FAILS(rename("", "two"), ENOENT);
+    FAILS(rename("two", ""), ENOENT);
+    errno = 0;
+    closes(one, two);
+    GIVES(mkfifo("fifo", 0600), 0);
+    GIVES(rename("fifo", "two"), 0);
+    CHECK(lstat("two", &told) == 0 && S_ISFIFO(told.st_mode));
+    GIVES(open("two", O_RDONLY | O_NONBLOCK), one);
+    GIVES(rename("two", "fifo"), 0);
+    GIVES(open("fifo", O_WRONLY), two);
+    GIVES(write(two, "x", 1), 1);
+    GIVES(read(one, bytes, 9), 1);
+    closes(one, two);
+    GIVES(unlink("fifo"), 0);
+}
+
+/* Renames that fdref has not on both sides. The kernel has /dev as a file system of its own. */
+static void renames_between(void)
+{
+    int folder = open("/dev", O_RDONLY | O_DIRECTORY);
+    GIVES(open("one", O_RDWR | O_CREAT, 0600), folder + 1);
+    FAILS(rename("/dev/none", "one"), EXDEV);
+    FAILS(rename("one", "/dev/none"), EXDEV);
+    FAILS(rename("/dev/none", "/dev/other"), ENOENT);
+    FAILS(renameat(folder, "none", AT_FDCWD, "one"), EXDEV);
+    FAILS(renameat(AT_FDCWD, "one", folder, "none"), EXDEV);
+    FAILS(renameat(folder, "none", folder, "other"), ENOENT);
+    FAILS(renameat(AT_FDCWD, "none", AT_FDCWD, "one"), ENOENT);
+    errno = 0;
+#ifdef __GLIBC__
+    GIVES(renameat2(AT_FDCWD, "one", AT_FDCWD, "two", 0), 0);
+    GIVES(renameat2(AT_FDCWD, "two", AT_FDCWD, "one", 0), 0);
+    FAILS(renameat2(folder, "none", AT_FDCWD, "one", 0), EXDEV);
+    FAILS(renameat2(folder, "none", folder, "other", RENAME_NOREPLACE), ENOENT);
+    errno = 0;
+#endif
+    GIVES(unlink("one"), 0);
+    closes(folder, folder + 1);
 }
 
 /* What is told of a file by its name, and of its descriptor. */
@@ -311,6 +426,10 @@ static void further_names(void)
     GIVES(__open64("i", O_RDWR | O_CREAT, 0600), 8);
     GIVES(__lseek(8, 3, SEEK_SET), 3);
     GIVES(__fcntl(8, F_DUPFD, 0), 9);
+    GIVES(__fcntl(8, F_SETFL, O_APPEND), 0);
+    GIVES(flags_of(9), O_RDWR | O_APPEND);
+    GIVES(fcntl64(9, F_SETFL, O_NONBLOCK), 0);
+    GIVES(fcntl64(8, F_GETFL) & (O_APPEND | O_NONBLOCK), O_NONBLOCK);
     GIVES(__dup2(8, 7), 7);
     GIVES(__pipe(ends), 0);
     GIVES(__close(ends[0]), 0);
@@ -327,8 +446,11 @@ int main(void)
     errors();
     large_transfers();
     duplicates();
+    flags();
     pipes();
     names();
+    renames();
+    renames_between();
     looks();
     forks();
     further_names();

@@ -107,11 +107,11 @@ static int of_names(const char *word)
     struct timespec times[2] = {{0, UTIME_NOW}, {0, UTIME_NOW}};
     char name[] = "nameXXXXXX", *const list[] = {NULL};
     if (strcmp(word, "the path /dev/null") == 0) return of(open("/dev/null", O_RDONLY));
+    if (strcmp(word, "the path /dev/none") == 0) return of(rename("a", "/dev/none"));
     if (strcmp(word, "none in a folder") == 0) return of(openat(9, "none", O_RDONLY));
+    if (strcmp(word, "new in a folder") == 0) return of(renameat(AT_FDCWD, "a", 9, "new"));
     if (strcmp(word, "fopen") == 0) return fopen("none", "r") ? 0 : errno;
     if (strcmp(word, "freopen") == 0) return freopen("none", "r", stdin) ? 0 : errno;
-    if (strcmp(word, "rename") == 0) return of(rename("a", "b"));
-    if (strcmp(word, "renameat") == 0) return of(renameat(AT_FDCWD, "none", AT_FDCWD, "b"));
     if (strcmp(word, "symlink") == 0) return of(symlink("a", "b"));
     if (strcmp(word, "readlink") == 0) return of(readlink("a", bytes, 9));
     if (strcmp(word, "mkdir") == 0) return of(mkdir("b", 0700));
@@ -162,9 +162,11 @@ static int of_descriptors(const char *word)
     if (strcmp(word, "fchmod") == 0) return of(fchmod(fd, 0700));
     if (strcmp(word, "fchown") == 0) return of(fchown(fd, getuid(), getgid()));
     if (strcmp(word, "futimens") == 0) return of(futimens(fd, NULL));
-    if (strcmp(word, "fcntl with F_SETFL") == 0) return of(fcntl(fd, F_SETFL, O_APPEND));
+    if (strcmp(word, "fcntl with other flags") == 0) return of(fcntl(fd, F_SETFL, O_NONBLOCK | O_ASYNC));
     if (strcmp(word, "fcntl with another command") == 0) return of(fcntl(fd, F_GETOWN));
     if (strcmp(word, "lseek by SEEK_DATA and its kin") == 0) return of(lseek(fd, 0, SEEK_DATA));
+    if (strcmp(word, "renameat2 with flags") == 0)
+        return of(renameat2(AT_FDCWD, "a", AT_FDCWD, "b", RENAME_NOREPLACE));
     if (strcmp(word, "poll") == 0) return of(poll(&polled, 1, 0));
     if (strcmp(word, "ppoll") == 0) return of(ppoll(&polled, 1, &moment, NULL));
     if (strcmp(word, "select") == 0) return of(select(fd + 1, &set, NULL, NULL, NULL));

@@ -3,7 +3,7 @@
    usage: preload_forks
 
    It runs in an empty folder, by itself or with the library of clients/preload, with the descriptors 0, 1 and 2 alone.
-   Six more processes come of it. The line of each check that fails is printed, and the status is 1 then. */
+   Seven more processes come of it. The line of each check that fails is printed, and the status is 1 then. */
 
 #include "preload.h"
 
@@ -54,6 +54,32 @@ static void wait_for_a_child(void)
     errno = 0;
     GIVES(read(ends[0], bytes, 9), 0);
     GIVES(close(ends[0]), 0);
+}
+
+/* O_NONBLOCK, which a child sets, is its parent's too, but does not end the read that waits already. */
+static void share_flags(void)
+{
+    int ends[2];
+    pid_t child;
+    GIVES(pipe(ends), 0);
+    child = fork();
+    if (child == 0) {
+        usleep(200000);
+        GIVES(fcntl(ends[0], F_SETFL, O_NONBLOCK), 0);
+        FAILS(read(ends[0], bytes, 9), EAGAIN);
+        errno = 0;
+        GIVES(write(ends[1], "hi", 2), 2);
+        leave();
+    }
+    GIVES(read(ends[0], bytes, 9), 2);
+    CHECK(status_of(child) == 0);
+    errno = 0;
+    GIVES(fcntl(ends[0], F_GETFL), O_RDONLY | O_NONBLOCK);
+    GIVES(fcntl(ends[1], F_GETFL), O_WRONLY);
+    FAILS(read(ends[0], bytes, 9), EAGAIN);
+    errno = 0;
+    GIVES(close(ends[0]), 0);
+    GIVES(close(ends[1]), 0);
 }
 
 /* A child of a child opens a FIFO, for which the first process waits. */
@@ -123,6 +149,7 @@ int main(void)
     errno = 0;
     share_an_offset();
     wait_for_a_child();
+    share_flags();
     wait_in_an_open();
     share_real_files();
     kill_a_child();

@@ -32,7 +32,7 @@ from support.serving import A_WHILE, ALL_RECORDS, SECONDS, Process, Server, outc
 # A program, its words, how many processes it is, and what a shell does before.
 PROGRAMS: list[tuple[str, list[str], int, str]] = [
     ("preload_calls", [], 4, ""),
-    ("preload_forks", [], 7, ""),
+    ("preload_forks", [], 8, ""),
     ("preload_numbers", ["mixed"], 1, ""),
     ("preload_numbers", ["full"], 1, "ulimit -S -n 32"),
     ("preload_numbers", ["closed"], 1, "exec <&-"),
@@ -55,19 +55,19 @@ ENDS = {
 }
 
 NAMES = [
-    "fopen", "freopen", "rename", "renameat", "symlink", "readlink", "mkdir", "rmdir", "unlinkat of a directory",
-    "opendir", "mkstemp", "mknod", "chmod", "chown", "utimensat", "chdir", "open with other flags",
-    "pipe2 with other flags", "execve", "execv", "execvp", "execl", "execle", "execlp", "system", "popen",
-    "posix_spawn", "posix_spawnp", "the path /dev/null", "none in a folder",
+    "fopen", "freopen", "symlink", "readlink", "mkdir", "rmdir", "unlinkat of a directory", "opendir", "mkstemp",
+    "mknod", "chmod", "chown", "utimensat", "chdir", "open with other flags", "pipe2 with other flags", "execve",
+    "execv", "execvp", "execl", "execle", "execlp", "system", "popen", "posix_spawn", "posix_spawnp",
+    "the path /dev/null", "the path /dev/none", "none in a folder", "new in a folder",
 ]  # fmt: skip
 DESCRIPTORS = [
     "fdopen", "mmap", "ioctl", "flock", "lockf", "sendfile", "copy_file_range", "splice", "preadv", "pwritev",
-    "fallocate", "fchmod", "fchown", "futimens", "fcntl with F_SETFL", "fcntl with another command", "poll", "ppoll",
-    "select", "pselect", "epoll_ctl",
+    "fallocate", "fchmod", "fchown", "futimens", "fcntl with other flags", "fcntl with another command",
+    "renameat2 with flags", "poll", "ppoll", "select", "pselect", "epoll_ctl",
 ]  # fmt: skip
 SEEK = "lseek by SEEK_DATA and its kin"
 # What ends a strict program before the call that it leads to is noted.
-NOTED_BY_OTHERS = ["execl", "execle", "execlp", "none in a folder"]
+NOTED_BY_OTHERS = ["execl", "execle", "execlp", "none in a folder", "new in a folder"]
 
 
 def both(program: str, library: Library, name: str, words: Sequence[str], sessions: int, before: str) -> None:
