@@ -8,26 +8,14 @@
 
 #define _POSIX_C_SOURCE 200809L
 
+#include "judge.h"
+
 #include <errno.h>
 #include <fcntl.h>
 #include <stdio.h>
 #include <string.h>
 #include <sys/stat.h>
 #include <unistd.h>
-
-/* Ends the program where an answer is wrong. */
-static int is_right(int condition, const char *what)
-{
-    if (!condition)
-        fprintf(stderr, "not so: %s\n", what);
-    return condition;
-}
-
-#define CHECK(condition) \
-    do { \
-        if (!is_right(condition, #condition)) \
-            return 1; \
-    } while (0)
 
 /* Puts text into a file under two names and reads it by a descriptor of its own. */
 static int put_and_read(const char *text, size_t length)

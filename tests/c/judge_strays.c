@@ -26,7 +26,7 @@ static int passes(int fd)
     FILE *file = fopen("/dev/null", "r");
     int null = open("/dev/null", O_RDONLY), is_made = mkdir("d", 0700) == 0;
     int in = open("d/x", O_RDWR | O_CREAT, 0600);
-    fcntl(fd, F_SETFL, O_NONBLOCK);
+    fcntl(fd, F_SETFL, O_ASYNC);
     return !file || fclose(file) != 0 || !is_made || close(in) != 0 || close(null) != 0;
 }
 

@@ -84,6 +84,48 @@ LOGS = [
         ],
     ),
     Logs(
+        "flags and names that are the same",
+        "p0 open a rw,creat = 0; p0 setfl 0 rw,append = ok; p0 getfl 0 = 35; p0 rename a b = ok; "
+        "p0 rename a b = error ENOENT; p0 setfl 7 r,nonblock = error EBADF; p0 getfl -1 = error EBADF",
+        "0 p0 join = 0; 1 p0 open a rw,creat = 0; 2 p0 setfl 0 rw,append = ok; 3 p0 getfl 0 = 35; "
+        "4 p0 rename a b = ok; 5 p0 rename a b = error ENOENT; 6 p0 setfl 7 r,nonblock = error EBADF; "
+        "7 p0 getfl -1 = error EBADF",
+        [],
+    ),
+    Logs(
+        "a flag that the system does not set, and flags that are another call",
+        "p0 pipe = 0 1; p0 setfl 0 r,nonblock = ok; p0 getfl 0 = 1; p0 setfl 1 w = ok",
+        "0 p0 join = 0; 1 p0 pipe = 0 1; 2 p0 setfl 0 r,nonblock = ok; 3 p0 getfl 0 = 65; 4 p0 setfl 1 w,nonblock = ok",
+        ["p0 getfl 0: 1, 65: none", "p0 setfl 1 w,nonblock: setfl 1 w, ok: none"],
+    ),
+    Logs(
+        "a name that is still there after a rename",
+        "p0 open a w,creat = 0; p0 rename a b = ok; p0 open a r = 1",
+        "0 p0 join = 0; 1 p0 open a w,creat = 0; 2 p0 rename a b = ok; 3 p0 open a r = error ENOENT",
+        ["p0 open a r: 1, error ENOENT: none"],
+    ),
+    Logs(
+        "a rename to a name that the profile does not take, and what follows from it",
+        "p0 open a w,creat = 0; p0 rename a b%20c = ok; p0 open a r = error ENOENT",
+        "0 p0 join = 0; 1 p0 open a w,creat = 0; 2 p0 rename a b%20c = error EINVAL; 3 p0 open a r = 1",
+        [f"p0 rename a b%20c: ok, error EINVAL: {NAMES}", "p0 open a r: error ENOENT, 1: follows"],
+    ),
+    Logs(
+        "a pwrite under append that F_SETFL has set",
+        "p0 open a rw,creat = 0; p0 write 0 x6162 = 2; p0 setfl 0 r,append = ok; p0 pwrite 0 0 x63 = 1; "
+        "p0 fstat 0 = regular 3 1",
+        "0 p0 join = 0; 1 p0 open a rw,creat = 0; 2 p0 write 0 x6162 = 2; 3 p0 setfl 0 r,append = ok; "
+        "4 p0 pwrite 0 0 x63 = 1; 5 p0 fstat 0 = regular 2 1",
+        [f"p0 fstat 0: regular 3 1, regular 2 1: {APPENDS}"],
+    ),
+    Logs(
+        "a pwrite after F_SETFL has taken append away",
+        "p0 open a rw,creat,append = 0; p0 write 0 x6162 = 2; p0 setfl 0 r = ok; p0 pwrite 0 0 x63 = 1; "
+        "p0 fstat 0 = regular 3 1",
+        A_FILE + "3 p0 setfl 0 r = ok; 4 p0 pwrite 0 0 x63 = 1; 5 p0 fstat 0 = regular 2 1",
+        ["p0 fstat 0: regular 3 1, regular 2 1: none"],
+    ),
+    Logs(
         "another file than the one with a pwrite under append",
         "p0 open a rw,creat,append = 0; p0 write 0 x6162 = 2; p0 pwrite 0 0 x63 = 1; p0 open b r,creat = 1; "
         "p0 fstat 1 = regular 1 1",
@@ -138,6 +180,12 @@ LOGS = [
             "p1 write 1 x61: no call, 1: follows",
             f"p0 read 0 1: error EAGAIN, x61: {OF_TIME}",
         ],
+    ),
+    Logs(
+        "a read that F_SETFL keeps from waiting, before another process has written and after it",
+        "p0 pipe = 0 1; p0 fork = 1; p0 setfl 0 r,nonblock = ok; p0 read 0 1 = error EAGAIN; p1 write 1 x61 = 1",
+        A_PIPE + "4 p1 write 1 x61 = 1; 5 p0 setfl 0 r,nonblock = ok; 6 p0 read 0 1 = x61",
+        [f"p0 read 0 1: error EAGAIN, x61: {OF_TIME}"],
     ),
     Logs(
         "a write that is short although the file is small",

@@ -105,8 +105,10 @@ NEITHER = "neither ended in 2 seconds: both were killed"
 WELL = "both ended with status 0"
 
 PROGRAMS = [
-    Judged("agrees", ("word",), 0, (WELL, "16 calls of 1 process: no answer differs", "audit: legal")),
+    Judged("agrees", ("word",), 0, (WELL, "18 calls of 1 process: no answer differs", "audit: legal")),
     Judged("family", (), 0, (WELL, "53 calls of 7 processes: no answer differs", "audit: legal")),
+    Judged("replaces", (), 0, (WELL, "19 calls of 1 process: no answer differs", "audit: legal")),
+    Judged("nonblocks", (), 0, (WELL, "26 calls of 2 processes: no answer differs", "audit: legal")),
     Judged(
         "appends",
         (),
@@ -152,7 +154,7 @@ PROGRAMS = [
         (
             WELL,
             "3 calls of 1 process: no answer differs",
-            "past fdref: 3 paths (first /dev/null), 1 stream (fopen /dev/null), 1 other call (fcntl with F_SETFL)",
+            "past fdref: 3 paths (first /dev/null), 1 stream (fopen /dev/null), 1 other call (fcntl with other flags)",
             "audit: legal",
         ),
     ),
@@ -247,7 +249,7 @@ def is_illegal(bench: Bench) -> None:
     program = shlex.join(["sh", "-c", script, bench.program])
     ran = bench.judged("--shim", bench.shim(), "--strict", "--program", program, bench.compiled("judge_agrees"))
     same((1, b""), (ran.status, ran.stderr))
-    lines = [WELL, "16 calls of 1 process: no answer differs", "audit: illegal 5 expected 3"]
+    lines = [WELL, "18 calls of 1 process: no answer differs", "audit: illegal 5 expected 3"]
     same(lines, ran.stdout.decode("ascii").splitlines())
 
 
