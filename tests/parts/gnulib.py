@@ -26,16 +26,21 @@ SECONDS = 30
 SESSIONS = 4
 LEAST = 15
 
-# What gnulib's own configuration would find out: this C library needs nothing in its place.
+# What gnulib's own configuration would find out: this C library needs nothing in its place. No test runs a shell or
+# itself.
 CONFIG = """
 #define _GNU_SOURCE 1
 #include <stdbool.h>
 #include <stdlib.h>
 #include <sys/types.h>
+#include <unistd.h>
 #define system(command) 0
+#define execl(path, ...) 0
+#define xalloc_die abort
 #define O_BINARY 0
 #define O_TEXT 0
 #define PROMOTED_MODE_T mode_t
+#define GNULIB_FILENAMECAT 1
 #define GNULIB_NONBLOCKING 1
 #define _GL_INLINE_HEADER_BEGIN
 #define _GL_INLINE_HEADER_END
@@ -46,6 +51,7 @@ CONFIG = """
 #define _GL_ATTRIBUTE_MALLOC
 #define _GL_ATTRIBUTE_MAYBE_UNUSED
 #define _GL_ATTRIBUTE_PURE
+#define _GL_ATTRIBUTE_RETURNS_NONNULL
 #define _GL_UNUSED
 """
 
@@ -77,6 +83,7 @@ TESTS = [
     Test("dup2"),
     Test("dup3"),
     Test("faccessat", f"{LEFT_OUT}foo in a folder"),
+    Test("fcntl"),
     Test("fcntl-safer", f"{LEFT_OUT}the path nonexist.ent/", sources=(*SAFER, "open-safer")),
     Test("fdatasync"),
     Test("fopen", f"{LEFT_OUT}fopen"),
@@ -90,7 +97,7 @@ TESTS = [
     Test("lstat", f"{LEFT_OUT}the path ."),
     Test("mkfifo", f"{LEFT_OUT}the path ."),
     Test("mkfifoat", f"{LEFT_OUT}the path ."),
-    Test("nonblocking", f"{LEFT_OUT}the path .", sources=("nonblocking",)),
+    Test("nonblocking", sources=("nonblocking",)),
     Test("open", f"{LEFT_OUT}the path nonexist.ent/"),
     Test("openat", f"{LEFT_OUT}foo in a folder"),
     Test("pipe"),
@@ -100,6 +107,7 @@ TESTS = [
     Test("read"),
     Test("remove", f"{LEFT_OUT}mkdir"),
     Test("rename", f"{LEFT_OUT}mkdir"),
+    Test("renameat", f"{LEFT_OUT}foo in a folder", sources=("filenamecat", "filenamecat-lgpl", "basename-lgpl")),
     Test("stat", f"{LEFT_OUT}the path ."),
     Test("truncate", f"{LEFT_OUT}the path /nonexistent"),
     Test("unlink", f"{LEFT_OUT}mkdir", sources=("unlinkdir",)),
