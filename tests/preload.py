@@ -13,7 +13,7 @@ these
     library does by itself,
   - programs must end as they do natively, and be told where there is no answer: no server, a full run, a server that
     is gone. What fdref leaves out must be told to a strict program and noted, and fail for another,
-  - programs of the system must read and write the right bytes: Python, cat, head, dd, cp, ln, truncate, stat and sh.
+  - programs of the system must read and write the right bytes: Python, cat, head, dd, cp, ln, mv, truncate, stat, sh.
 
 Where no C compiler is there, it says so and leaves out all. The last line is `N passed, M failed`, and the exit status
 is 1 where M is above 0.

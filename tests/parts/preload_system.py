@@ -13,7 +13,7 @@ from support.serving import SECONDS, Client, Server
 
 # What Python makes of its functions: open64, fcntl for dup, pipe2, readv and so on.
 SCRIPT = """
-import os, stat
+import fcntl, os, stat
 a = os.open("a", os.O_RDWR | os.O_CREAT)
 print(a, os.write(a, b"hello world"), os.lseek(a, 0, os.SEEK_SET), os.read(a, 5), os.pread(a, 9, 6))
 b = os.dup(a)
@@ -36,6 +36,10 @@ os.link("a", "b")
 os.unlink("a")
 os.mkfifo("f")
 print(os.stat("b").st_nlink, stat.S_ISFIFO(os.stat("f").st_mode), os.dup2(a, 20), os.path.exists("a"))
+print(fcntl.fcntl(20, fcntl.F_SETFL, os.O_APPEND), hex(fcntl.fcntl(a, fcntl.F_GETFL)), os.get_blocking(r))
+os.rename("b", "c")
+os.replace("c", "f")
+print(os.path.exists("b"), os.path.exists("c"), stat.S_ISREG(os.stat("f").st_mode))
 try:
     os.open("a", os.O_RDONLY)
 except OSError as error:
@@ -67,6 +71,10 @@ class Asked:
         same(data_text(content), self.answer(f"pread {fd} 0 65536"))
         same("ok", self.answer(f"close {fd}"))
 
+    def lacks(self, name: str) -> None:
+        """A file is not there."""
+        same("error ENOENT", self.answer(f"open {name} r"))
+
     def leave(self) -> None:
         """Ends the client's process."""
         self.client.stop()
@@ -90,9 +98,9 @@ def command(
     library: Library,
     words: Sequence[str],
     stdout: bytes,
-    left: dict[str, bytes],
+    left: dict[str, bytes | None],
 ) -> None:
-    """A program prints the right bytes of the files `a` and `b`, and leaves these files."""
+    """A program prints the right bytes of the files `a` and `b`, and leaves these files, or none of a name."""
     with Server(program, 2) as server:
         beside = Asked(server.client())
         beside.write("a", b"first\n")
@@ -100,7 +108,10 @@ def command(
         given = asking(library, server, words)
         same(Ran(0, stdout, b""), given.ran)
         for name, content in left.items():
-            beside.holds(name, content)
+            if content is None:
+                beside.lacks(name)
+            else:
+                beside.holds(name, content)
         beside.leave()
 
 
@@ -111,7 +122,7 @@ def shell(program: str, library: Library) -> None:
         same(Ran(0, b"x\ny\n0\n", b""), given.ran)
 
 
-COMMANDS: list[tuple[list[str], bytes, dict[str, bytes]]] = [
+COMMANDS: list[tuple[list[str], bytes, dict[str, bytes | None]]] = [
     (["cat", "a", "./b"], b"first\nthe second\n", {}),
     (["head", "-c", "5", "b"], b"the s", {}),
     (["dd", "if=a", "of=c", "bs=3", "seek=2", "status=none"], b"", {"c": bytes(6) + b"first\n"}),
@@ -119,6 +130,8 @@ COMMANDS: list[tuple[list[str], bytes, dict[str, bytes]]] = [
     (["cp", "a", "c"], b"", {"a": b"first\n", "c": b"first\n"}),
     (["cp", "a", "b"], b"", {"b": b"first\n"}),
     (["ln", "a", "c"], b"", {"c": b"first\n"}),
+    (["mv", "a", "c"], b"", {"a": None, "c": b"first\n"}),
+    (["mv", "a", "b"], b"", {"a": None, "b": b"first\n"}),
     (["truncate", "-s", "3", "a"], b"", {"a": b"fir"}),
     (["stat", "-c", "%s %h %F", "a"], b"6 1 regular file\n", {}),
 ]
