@@ -39,6 +39,7 @@
        the number of its new name. Modes are 0644, times 0.
      - F_DUPFD is a dup2 to the lowest free descriptor from its argument on.
      - F_GETFL has O_LARGEFILE, too, where the kernel would tell it. F_SETFL asks with the flags that fdref knows.
+     - pipe2 with O_NONBLOCK is a pipe, and a setfl of each end.
      - EPIPE raises SIGPIPE.
      - A child is a process of fdref, over a connection of its own. It is attached before it is there. vfork is fork.
      - An exit, and _exit, is recorded before the program has ended. That of a program that a signal ends, abort too,
@@ -57,7 +58,7 @@
      - of descriptors of fdref: fdopen, mmap, ioctl, flock, lockf, poll, select, epoll_ctl, sendfile, copy_file_range,
        splice, preadv, pwritev, fallocate, fchmod, fchown, futimens, and of fcntl an F_SETFL with O_ASYNC, O_DIRECT or
        O_NOATIME and commands that are not named above, are ENOSYS; SEEK_DATA and SEEK_HOLE are EINVAL.
-     - pipe2 with O_NONBLOCK or O_DIRECT: it is a pipe of the kernel.
+     - pipe2 with O_DIRECT: it is a pipe of the kernel.
 
    What cannot be seen, and is not told: system calls that are made past the C library, and what it makes inside. So
    stdio does not reach standard output while that is a file of fdref (FDREF_PAST tells that it is), and clone is no
@@ -605,21 +606,35 @@ static int dup_from(int fd, int command, int from)
     return (int)taken(done, slot_of(fd), is_cloexec);
 }
 
-static int64_t take_pipe(int ends[2], int is_cloexec)
+static void set_nonblock_at(int end)
+{
+    struct fdref_act act = fdref_act_setfl(end, O_NONBLOCK);
+    if (how == NATIVE)
+        note(act, fdref_done(), 0);
+    else
+        ask(act);
+}
+
+/* The call of fdref has no flags, so O_NONBLOCK is set after it. */
+static int64_t take_pipe(int ends[2], int flags)
 {
     struct slot slot = {OURS, 0, 1, inode_of_pipe()};
-    take(ends[0], slot, is_cloexec);
-    take(ends[1], slot, is_cloexec);
+    take(ends[0], slot, (flags & O_CLOEXEC) != 0);
+    take(ends[1], slot, (flags & O_CLOEXEC) != 0);
+    if (flags & O_NONBLOCK) {
+        set_nonblock_at(ends[0]);
+        set_nonblock_at(ends[1]);
+    }
     return 0;
 }
 
-static int64_t pipe_ours(int ends[2], int is_cloexec)
+static int64_t pipe_ours(int ends[2], int flags)
 {
     int64_t done = ask(fdref_act_pipe());
     if (done < 0)
         return done;
     memcpy(ends, process->outcome.ends, sizeof process->outcome.ends);
-    return take_pipe(ends, is_cloexec);
+    return take_pipe(ends, flags);
 }
 
 static int64_t pipe_noted(int ends[2], int flags)
@@ -627,7 +642,7 @@ static int64_t pipe_noted(int ends[2], int flags)
     int64_t done = system_pipe2(ends, flags);
     struct fdref_outcome outcome = done < 0 ? fdref_error(errno) : fdref_descriptors(ends[0], ends[1]);
     note(fdref_act_pipe(), outcome, done);
-    return done < 0 ? done : take_pipe(ends, flags & O_CLOEXEC);
+    return done < 0 ? done : take_pipe(ends, flags);
 }
 
 /* A pipe of the kernel: both ends get their numbers, or none. */
@@ -649,7 +664,7 @@ int pipe2(int ends[2], int flags)
 {
     enum way way = (prepare(), way_of_ours());
     int made[2] = {-1, -1}, done;
-    if (way != PASS && (flags & ~O_CLOEXEC) != 0) {
+    if (way != PASS && (flags & ~(O_CLOEXEC | O_NONBLOCK)) != 0) {
         leave_out("call", "pipe2 with other flags", NULL);
         way = PASS;
     }

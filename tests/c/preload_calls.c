@@ -230,6 +230,15 @@ static void pipes(void)
     errno = 0;
     GIVES(close(3), 0);
     closes(5, 6);
+    GIVES(pipe2(ends, O_NONBLOCK | O_CLOEXEC), 0);
+    GIVES(ends[0] * 100 + ends[1], 304);
+    GIVES(fcntl(3, F_GETFL), O_RDONLY | O_NONBLOCK);
+    GIVES(fcntl(4, F_GETFL), O_WRONLY | O_NONBLOCK);
+    GIVES(fcntl(3, F_GETFD), FD_CLOEXEC);
+    GIVES(fcntl(4, F_GETFD), FD_CLOEXEC);
+    FAILS(read(3, bytes, 1), EAGAIN);
+    errno = 0;
+    closes(3, 4);
 }
 
 static void names(void)

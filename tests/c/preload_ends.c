@@ -125,7 +125,7 @@ static int of_names(const char *word)
     if (strcmp(word, "utimensat") == 0) return of(utimensat(AT_FDCWD, "a", times, 0));
     if (strcmp(word, "chdir") == 0) return of(chdir("a"));
     if (strcmp(word, "open with other flags") == 0) return of(open("a", O_RDONLY | O_DIRECTORY));
-    if (strcmp(word, "pipe2 with other flags") == 0) return of(pipe2(pipe_ends, O_NONBLOCK));
+    if (strcmp(word, "pipe2 with other flags") == 0) return of(pipe2(pipe_ends, O_DIRECT));
     if (strcmp(word, "execve") == 0) return of(execve("/no/such/program", list, list));
     if (strcmp(word, "execv") == 0) return of(execv("/no/such/program", list));
     if (strcmp(word, "execvp") == 0) return of(execvp("/no/such/program", list));

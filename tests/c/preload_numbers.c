@@ -103,7 +103,7 @@ static void redirect(void)
 static void close_ends(int is_by_dup2)
 {
     int ends[2];
-    GIVES(pipe2(ends, O_NONBLOCK), 0);
+    GIVES(pipe2(ends, O_NONBLOCK | O_DIRECT), 0);
     GIVES(ends[0] * 100 + ends[1], 1617);
     FAILS(read(ends[0], bytes, 1), EAGAIN);
     errno = 0;
