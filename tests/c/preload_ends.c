@@ -100,6 +100,23 @@ static int outlive(const char *way)
     return child == 7 ? 0 : 97;
 }
 
+/* Moves or links a file from one folder to another, or back. */
+static int between_folders(const char *word)
+{
+    int in = mkdir("d", 0700) == 0 ? open("d", O_RDONLY | O_DIRECTORY) : -1;
+    if (in < 0 || open("d/x", O_WRONLY | O_CREAT, 0600) < 0)
+        return 97;
+    errno = 0;
+    if (strcmp(word, "rename out") == 0) return of(rename("a", "d/y"));
+    if (strcmp(word, "rename in") == 0) return of(rename("d/x", "b"));
+    if (strcmp(word, "renameat out") == 0) return of(renameat(AT_FDCWD, "a", in, "y"));
+    if (strcmp(word, "renameat in") == 0) return of(renameat(in, "x", AT_FDCWD, "a"));
+    if (strcmp(word, "rename beside") == 0) return of(rename("d/x", "./d/y"));
+    if (strcmp(word, "link out") == 0) return of(link("a", "d/y"));
+    if (strcmp(word, "link in") == 0) return of(link("d/x", "b"));
+    return 99;
+}
+
 /* ---- what is left out */
 
 static int of_names(const char *word)
@@ -201,6 +218,8 @@ int main(int count, char **given)
     if (strcmp(word, "many calls") == 0)
         while (lseek(fd, 0, SEEK_SET) == 0)
             bytes[0] = 0;
+    if (strncmp(word, "between: ", 9) == 0)
+        return between_folders(word + 9);
     count = end_softly(word);
     return count == 99 ? of_descriptors(word) : count;
 }

@@ -54,6 +54,17 @@ ENDS = {
     "broken pipe, ignored": (errno.EPIPE, b""),
 }
 
+# Moves and links from one folder to another, and what comes of them with fdref, which has one of the two.
+BETWEEN = {
+    "rename out": errno.EXDEV,
+    "rename in": errno.EXDEV,
+    "renameat out": errno.EXDEV,
+    "renameat in": errno.EXDEV,
+    "rename beside": 0,
+    "link out": errno.EXDEV,
+    "link in": errno.EXDEV,
+}
+
 NAMES = [
     "fopen", "freopen", "symlink", "readlink", "mkdir", "rmdir", "unlinkat of a directory", "opendir", "mkstemp",
     "mknod", "chmod", "chown", "utimensat", "chdir", "open with other flags", "pipe2 with other flags", "execve",
@@ -183,6 +194,18 @@ def refuses(program: str, library: Library) -> None:
         ended(server, len(words), log)
 
 
+def is_between(program: str, library: Library, word: str) -> None:
+    """A file of one folder comes into another natively. Where fdref has one of the two that is another file system."""
+    command = [library.program("preload_ends"), f"between: {word}"]
+    native = natively(library, command)
+    same(Ran(0, b"", b""), native.ran)
+    with Server(program, 1) as server:
+        asked = asking(library, server, command)
+        same(Ran(BETWEEN[word], b"", b""), asked.ran)
+        same(native.of_processes(), asked.of_processes())
+        ended(server, 1, asked.log)
+
+
 def is_without_server(library: Library) -> None:
     """Without a server the program does not begin."""
     command = [library.program("preload_numbers"), "mixed"]
@@ -250,6 +273,8 @@ def endings(program: str, library: Library) -> Iterator[Case]:
         yield f"{word}, {library.name}", partial(ends, program, library, word)
     for way in ("exit", "_exit", "_Exit", "quick_exit"):
         yield f"a child's {way}, {library.name}", partial(exits_first, program, library, way)
+    for word in BETWEEN:
+        yield f"{word}, {library.name}", partial(is_between, program, library, word)
     yield f"handlers of signals, {library.name}", partial(is_interrupted, program, library)
     yield f"no server, {library.name}", partial(is_without_server, library)
     yield f"a run that is full, {library.name}", partial(is_full, program, library)
