@@ -39,7 +39,7 @@
        the number of its new name. Modes are 0644, times 0.
      - F_DUPFD is a dup2 to the lowest free descriptor from its argument on.
      - F_GETFL has O_LARGEFILE, too, where the kernel would tell it. F_SETFL asks with the flags that fdref knows.
-     - pipe2 with O_NONBLOCK is a pipe, and a setfl of each end.
+     - pipe2 with O_NONBLOCK is a pipe, and a setfl of each end. ioctl with FIONBIO is a getfl and a setfl.
      - EPIPE raises SIGPIPE.
      - A child is a process of fdref, over a connection of its own. It is attached before it is there. vfork is fork.
      - An exit, and _exit, is recorded before the program has ended. That of a program that a signal ends, abort too,
@@ -55,9 +55,9 @@
      - of plain names: fopen, freopen, symlink, readlink, mkdir, rmdir, opendir, mknod, mkstemp, chmod, chown,
        utimensat, chdir, and open with other flags, as O_DIRECTORY. The kernel has these. renameat2 with flags is
        ENOSYS, so that mv does without them.
-     - of descriptors of fdref: fdopen, mmap, ioctl, flock, lockf, poll, select, epoll_ctl, sendfile, copy_file_range,
-       splice, preadv, pwritev, fallocate, fchmod, fchown, futimens, and of fcntl an F_SETFL with O_ASYNC, O_DIRECT or
-       O_NOATIME and commands that are not named above, are ENOSYS; SEEK_DATA and SEEK_HOLE are EINVAL.
+     - of descriptors of fdref: fdopen, mmap, flock, lockf, poll, select, epoll_ctl, sendfile, copy_file_range, splice,
+       preadv, pwritev, fallocate, fchmod, fchown, futimens, an F_SETFL with O_ASYNC, O_DIRECT or O_NOATIME, and
+       commands of fcntl and ioctl that are not named here, are ENOSYS; SEEK_DATA and SEEK_HOLE are EINVAL.
      - pipe2 with O_DIRECT: it is a pipe of the kernel.
 
    What cannot be seen, and is not told: system calls that are made past the C library, and what it makes inside. So

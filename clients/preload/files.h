@@ -171,6 +171,13 @@ static int control_noted(int fd, int command, void *argument)
 
 CONTROLS(fcntl)
 
+/* Sets O_NONBLOCK alone. */
+static int set_nonblock(int fd, const int *is_set)
+{
+    int flags = fcntl(fd, F_GETFL);
+    return flags < 0 ? flags : fcntl(fd, F_SETFL, *is_set ? flags | O_NONBLOCK : flags & ~O_NONBLOCK);
+}
+
 #ifdef __GLIBC__
 int ioctl(int fd, unsigned long command, ...)
 #else
@@ -183,6 +190,8 @@ int ioctl(int fd, int command, ...)
     va_start(values, command);
     argument = va_arg(values, void *);
     va_end(values);
+    if (way != PASS && command == FIONBIO)
+        return set_nonblock(fd, (const int *)argument);
     if (way != ASK)
         return system_ioctl(fd, (unsigned long)command, argument);
     if (slot_of(fd).held != FREE && (command == FIOCLEX || command == FIONCLEX))

@@ -203,7 +203,7 @@ static void flags(void)
 
 static void pipes(void)
 {
-    int ends[2], others[2];
+    int ends[2], others[2], on = 1, off = 0;
     GIVES(pipe(ends), 0);
     GIVES(ends[0] * 100 + ends[1], 304);
     GIVES(pipe2(others, O_CLOEXEC), 0);
@@ -218,8 +218,14 @@ static void pipes(void)
     errno = 0;
     GIVES(fcntl(4, F_SETFL, O_APPEND), 0);
     GIVES(fcntl(4, F_GETFL), O_WRONLY | O_APPEND);
+    GIVES(ioctl(4, FIONBIO, &on), 0);
+    GIVES(fcntl(4, F_GETFL), O_WRONLY | O_APPEND | O_NONBLOCK);
     GIVES(fcntl(3, F_SETFL, O_RDONLY), 0);
     GIVES(fcntl(3, F_GETFL), O_RDONLY);
+    GIVES(ioctl(4, FIONBIO, &off), 0);
+    GIVES(fcntl(4, F_GETFL), O_WRONLY | O_APPEND);
+    FAILS(ioctl(9, FIONBIO, &on), EBADF);
+    errno = 0;
     GIVES(write(4, "xyz", 3), 3);
     GIVES(read(3, bytes, 2), 2);
     GIVES(close(4), 0);
