@@ -12,6 +12,21 @@ static char bytes[4000];
 /* A child ends with 0 where all its checks hold. */
 static void leave(void) { _exit(failures > 0); }
 
+/* Waits until a process sleeps in a call, and a while longer, so that fdref has the call. */
+static void let_wait(pid_t process)
+{
+    char name[40], text[400] = "";
+    const char *state;
+    snprintf(name, sizeof name, "/proc/%ld/stat", (long)process);
+    do {
+        int fd = open(name, O_RDONLY);
+        CHECK(read(fd, text, sizeof text - 1) > 0);
+        GIVES(close(fd), 0);
+        state = strrchr(text, ')');
+    } while (failures == 0 && state && state[2] != 'S');
+    usleep(200000);
+}
+
 /* Both write at one offset; what the child opens later has its own. */
 static void share_an_offset(void)
 {
@@ -60,11 +75,11 @@ static void wait_for_a_child(void)
 static void share_flags(void)
 {
     int ends[2];
-    pid_t child;
+    pid_t child, parent = getpid();
     GIVES(pipe(ends), 0);
     child = fork();
     if (child == 0) {
-        usleep(200000);
+        let_wait(parent);
         GIVES(fcntl(ends[0], F_SETFL, O_NONBLOCK), 0);
         FAILS(read(ends[0], bytes, 9), EAGAIN);
         errno = 0;
