@@ -20,17 +20,18 @@
 enum { LINE_MOST = 300000, BYTES_MOST = 70000, WORDS_MOST = 4 };
 
 enum call {
-    OPEN, CLOSE, READ, WRITE, PREAD, PWRITE, LSEEK, FTRUNCATE, DUP, DUP2, PIPE, MKFIFO, LINK, UNLINK, FSTAT, FORK, CALLS
+    OPEN, CLOSE, READ, WRITE, PREAD, PWRITE, LSEEK, FTRUNCATE, DUP, DUP2, PIPE, MKFIFO, LINK, UNLINK, FSTAT, FORK, GETFL,
+    SETFL, RENAME, CALLS
 };
 
-/* The word of each call, and what it gives: n a number, o nothing, b bytes, e two ends, t what fstat tells. */
+/* The word of each call, and what it gives: n a number, o nothing, b bytes, e two ends, t what fstat tells, f flags. */
 static const struct {
     const char *word;
     char gives;
 } calls[CALLS] = {
     {"open", 'n'}, {"close", 'o'}, {"read", 'b'}, {"write", 'n'}, {"pread", 'b'}, {"pwrite", 'n'}, {"lseek", 'n'},
     {"ftruncate", 'o'}, {"dup", 'n'}, {"dup2", 'n'}, {"pipe", 'e'}, {"mkfifo", 'o'}, {"link", 'o'}, {"unlink", 'o'},
-    {"fstat", 't'}, {"fork", 'n'}
+    {"fstat", 't'}, {"fork", 'n'}, {"getfl", 'f'}, {"setfl", 'o'}, {"rename", 'o'}
 };
 
 static char line[LINE_MOST], *words[WORDS_MOST];
@@ -90,6 +91,9 @@ static long long called(enum call call)
     case LINK: return fdref_link(process, name(1), name(2));
     case UNLINK: return fdref_unlink(process, name(1));
     case FSTAT: return fdref_fstat(process, small(1), &file);
+    case GETFL: return fdref_getfl(process, small(1));
+    case SETFL: return fdref_setfl(process, small(1), small(2));
+    case RENAME: return fdref_rename(process, name(1), name(2));
     default: return fdref_fork(process);
     }
 }
@@ -110,6 +114,7 @@ static void put_value(char gives, long long value)
     case 'b': put_bytes(buffer, (size_t)value); break;
     case 'e': printf("%d %d", ends[0], ends[1]); break;
     case 't': printf("%s %llu %lu", kinds[file.kind], (unsigned long long)file.size, (unsigned long)file.links); break;
+    case 'f': printf("%d", fdref_flags_byte((int)value)); break;
     default: printf("%lld", value);
     }
 }
