@@ -8,9 +8,9 @@
         print(process.pread(fd, 5, 0), "at place", process.place)
 
 `join` opens a connection as a new process, `attach` as a child that a process has forked. The calls
-are methods that have the names, the arguments and the values of the functions in the module `os`. A
-process makes one call at a time, so only one thread at a time may use it; give each process a thread
-of its own.
+are methods that have the names, the arguments and the values of the functions in the module `os`;
+`getfl` and `setfl` are F_GETFL and F_SETFL of `fcntl`. A process makes one call at a time, so only
+one thread at a time may use it; give each process a thread of its own.
 
 Each answer has a place in the record of the run, and `process.place` is that of the last one. A call
 that has to wait is answered more than once: first that it waits, and at last its reply. Its method
@@ -199,6 +199,9 @@ class Process:
     def unlink(self, name: str | bytes) -> None:
         return self._call("unlink", name)
 
+    def rename(self, src: str | bytes, dst: str | bytes) -> None:
+        return self._call("rename", src, dst)
+
     # -- bytes and offsets
 
     def read(self, fd: int, n: int) -> bytes:
@@ -240,6 +243,14 @@ class Process:
 
     def fstat(self, fd: int) -> Stat:
         return self._call("fstat", fd)
+
+    def getfl(self, fd: int) -> int:
+        """Returns O_RDONLY, O_WRONLY or O_RDWR, with O_APPEND and O_NONBLOCK where these are set."""
+        return self._call("getfl", fd)
+
+    def setfl(self, fd: int, flags: int) -> None:
+        """Sets O_APPEND and O_NONBLOCK as they are in `flags`. Of these, what else an open may have is ignored."""
+        return self._call("setfl", fd, flags)
 
     def fork(self) -> int:
         """Makes a child that has the same open descriptors, and returns its number; `attach` lets it make calls."""
@@ -309,6 +320,8 @@ class Process:
         waits = isinstance(outcome, Parked | Part)
         if asked not in _MAY_WAIT if waits else type(outcome) is not _GIVES[asked]:
             raise KeyError(asked)
+        if asked == _GETFL:
+            outcome = _os_flags(outcome)
         self.place = place
         return waits, outcome.moved if waits else outcome
 
@@ -424,17 +437,29 @@ def _data(data: bytes | bytearray | memoryview, most: int = DATA_MOST) -> bytes:
     return _number(len(data), 4) + data
 
 
-def _flags(flags: int) -> bytes:
-    """The flags of an open, as a request has them."""
-    byte = MODES[flags & O_NEITHER]
+def flag_bits(flags: int) -> int:
+    """Flags of `os` as requests and records have them. So it is the outcome of a getfl in a record."""
+    bits = MODES[flags & O_NEITHER]
     flags &= ~O_NEITHER
     for flag, bit in FLAGS.items():
         if flags & flag:
-            byte |= bit
+            bits |= bit
             flags &= ~flag
     if flags:
         raise ValueError(f"flags that no request holds: {_flag_names(flags)}")
-    return bytes([byte])
+    return bits
+
+
+def _os_flags(bits: int) -> int:
+    """The flags of `os` that requests and records have as this number. One that has none is a KeyError."""
+    if bits > 127:
+        raise KeyError(bits)
+    mode = next(flag for flag, number in MODES.items() if number == bits & 3)
+    return mode | sum(flag for flag, bit in FLAGS.items() if bits & bit)
+
+
+def _flags(flags: int) -> bytes:
+    return bytes([flag_bits(flags)])
 
 
 def _flag_names(flags: int) -> str:
@@ -495,12 +520,7 @@ class _Reader:
         return self.take(count)
 
     def flags(self) -> int:
-        """The flags of an open, as `os` has them."""
-        byte = self.number(1)
-        if byte > 127:
-            raise KeyError(byte)
-        mode = next(flag for flag, bits in MODES.items() if bits == byte & 3)
-        return mode | sum(flag for flag, bit in FLAGS.items() if byte & bit)
+        return _os_flags(self.number(1))
 
 
 class _Field(NamedTuple):
@@ -546,11 +566,16 @@ _CALLS = {
     "unlink": _Form(29, (_NAME,), (0,)),
     "fstat": _Form(30, (_FD,), (0,), Stat),
     "fork": _Form(31, gives=int),
+    "getfl": _Form(32, (_FD,), (0,), int),
+    "setfl": _Form(33, (_FD, _FLAGS), (0, 1)),
+    "rename": _Form(34, (_NAME, _NAME), (0, 1)),
 }
 _CALLS_BY_BYTE = {form.byte: name for name, form in _CALLS.items()}
 # The type of the value of each request, by its byte, and the requests that may have to wait: open, read and write.
 _GIVES = {1: int, 2: type(None)} | {form.byte: form.gives for form in _CALLS.values()}
 _MAY_WAIT = (16, 18, 19)
+# The request of which the value is flags.
+_GETFL = 32
 
 
 def _call_bytes(name: str, values: Sequence[Any]) -> bytes:
@@ -579,7 +604,8 @@ class Record(NamedTuple):
     `pid` is the number of the process. `act` is "join", "attach", "resume", "exit", "close-run", or the name of a call,
     whose arguments `args` are those of its method, in their order. `outcome` is
 
-      - what the method returns: None (`ok`), a number, bytes, a pair of descriptors, or a Stat;
+      - what the method returns: None (`ok`), a number, bytes, a pair of descriptors, or a Stat; of a getfl, `flag_bits`
+        of that;
       - Error, or an OSError with an `errno`, where the call failed;
       - Parked where it has to wait; its reply is then the outcome of a later "resume";
       - Part where it waits on after a resume.

@@ -2,7 +2,7 @@
 
    usage: api PATH
 
-   PATH is where a server of 5 sessions and 60 records listens that nobody else uses, or will within ten seconds. The
+   PATH is where a server of 5 sessions and 69 records listens that nobody else uses, or will within ten seconds. The
    line of each check that fails is printed, and the status is 1 then. */
 
 #include <limits.h>
@@ -173,6 +173,22 @@ static void waiting(struct fdref *p, const char *path)
     CHECK(fdref_read(p, 1, bytes, 9) == 0 && fdref_place(p) == 49);
 }
 
+/* The flags of the end behind 0, which writes to f, and another name for f. */
+static void flags_and_rename(struct fdref *p)
+{
+    CHECK(fdref_getfl(p, 0) == O_WRONLY);
+    CHECK(fdref_setfl(p, 0, O_RDWR | O_CREAT | O_EXCL | O_TRUNC | O_APPEND | O_NONBLOCK) == 0);
+    CHECK(fdref_getfl(p, 0) == (O_WRONLY | O_APPEND | O_NONBLOCK));
+    CHECK(fdref_setfl(p, 0, FDREF_O_NEITHER) == 0 && fdref_getfl(p, 0) == O_WRONLY);
+    FAILS(fdref_getfl(p, 7), EBADF);
+    FAILS(fdref_setfl(p, 7, O_APPEND), EBADF);
+    CHECK(fdref_rename(p, "f", "g") == 0);
+    FAILS(fdref_rename(p, "f", "g"), ENOENT);
+    CHECK(fdref_place(p) == 66 && fdref_refusal(p) == FDREF_RECORDED);
+    FAILS(fdref_setfl(p, 0, O_SYNC), EINVAL);
+    CHECK(fdref_place(p) == 66 && fdref_refusal(p) == FDREF_UNSENT);
+}
+
 /* An exit of a process that waits, and an open that does. */
 static void exits(struct fdref *p, const char *path)
 {
@@ -191,9 +207,10 @@ static void exits(struct fdref *p, const char *path)
     CHECK(errno == EXDEV);
     FAILS(fdref_write(other, 0, "x", 1), EPIPE);
     CHECK(fdref_place(other) == 57);
-    /* 60 records are 58, the exit and the closing */
+    flags_and_rename(other);
+    /* 69 records are 67, the exit and the closing */
     FAILS(fdref_close(other, 0), EDQUOT);
-    CHECK(fdref_refusal(other) == FDREF_RUN_FULL && fdref_place(other) == 57);
+    CHECK(fdref_refusal(other) == FDREF_RUN_FULL && fdref_place(other) == 66);
     CHECK(fdref_join(path) == NULL && errno == EDQUOT);
     fdref_exit(other);
 }

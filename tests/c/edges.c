@@ -51,21 +51,27 @@ static const char *name_edge(char *name)
     return below(20) == 0 ? NULL : name;
 }
 
-static int other_edge(int kind)
+static int flags_edge(void)
 {
     static const int flags[] = {O_CREAT, O_EXCL, O_TRUNC, O_APPEND, O_NONBLOCK, O_SYNC};
-    static const int bases[] = {SEEK_SET, SEEK_CUR, SEEK_END, 7};
     static const int modes[] = {O_RDONLY, O_WRONLY, O_RDWR, FDREF_O_NEITHER};
     int value = modes[below(4)];
-    for (int at = 0; kind == FDREF_OPEN && at < 6; at++)
+    for (int at = 0; at < 6; at++)
         value |= below(at < 5 ? 2 : 20) == 0 ? flags[at] : 0;
-    value = kind == FDREF_LSEEK ? bases[below(4)] : kind == FDREF_OPEN ? value : small_edge();
+    return value;
+}
+
+static int other_edge(int kind)
+{
+    static const int bases[] = {SEEK_SET, SEEK_CUR, SEEK_END, 7};
+    int has_flags = kind == FDREF_OPEN || kind == FDREF_SETFL;
+    int value = kind == FDREF_LSEEK ? bases[below(4)] : has_flags ? flags_edge() : small_edge();
     return below(20) == 0 ? small_edge() : value;
 }
 
 static struct fdref_act act_edge(void)
 {
-    int kind = below(4) == 0 ? (int)below(7) : FDREF_OPEN + (int)below(17);
+    int kind = below(4) == 0 ? (int)below(7) : FDREF_OPEN + (int)below(FDREF_RENAME + 2 - FDREF_OPEN);
     struct fdref_act act = fdref_act_plain(below(50) == 0 ? small_edge() : kind, small_edge());
     act.other = other_edge(kind);
     act.name = name_edge(names[0]);
@@ -80,7 +86,7 @@ static struct fdref_outcome outcome_edge(void)
 {
     static const int errors[] = {EBADF, ESRCH, EAGAIN, EPIPE, EPERM, 0, -1, INT_MAX};
     struct fdref_outcome outcome = fdref_outcome_of(0, 0);
-    switch (below(10)) {
+    switch (below(11)) {
     case 0: return fdref_done();
     case 1: return fdref_number((uint64_t)edge());
     case 2: return fdref_data(below(20) == 0 ? NULL : bytes, (size_t)size_edge());
@@ -90,6 +96,7 @@ static struct fdref_outcome outcome_edge(void)
     case 6: return fdref_parked((uint32_t)edge());
     case 7: return fdref_part((uint32_t)edge());
     case 8: return fdref_result(edge());
+    case 9: return fdref_result_flags(below(20) == 0 ? small_edge() : flags_edge());
     default: outcome.kind = small_edge(); return outcome;
     }
 }

@@ -67,6 +67,15 @@ static void each(struct fdref_trace *to)
     fdref_record(to, 1, fdref_act_fstat(0), fdref_told(FDREF_KIND_FIFO, 5, 1));
     fdref_record(to, 1, fdref_act_fstat(0), fdref_told(FDREF_KIND_REGULAR, 5, 1));
     fdref_record(to, 1, fdref_act_fork(), fdref_number(2));
+    fdref_record(to, 1, fdref_act_getfl(0), fdref_result_flags(O_RDWR | O_APPEND));
+    fdref_record(to, 1, fdref_act_getfl(0), fdref_result_flags(O_WRONLY | O_CREAT));
+    fdref_record(to, 1, fdref_act_getfl(0), fdref_number(UINT64_MAX));
+    errno = EBADF;
+    fdref_record(to, 1, fdref_act_getfl(-1), fdref_result_flags(-1));
+    fdref_record(to, 1, fdref_act_setfl(0, O_WRONLY | O_CREAT | O_EXCL | O_TRUNC | O_APPEND | O_NONBLOCK),
+                 fdref_result_done(0));
+    fdref_record(to, 1, fdref_act_setfl(0, FDREF_O_NEITHER | O_NONBLOCK), fdref_done());
+    fdref_record(to, 1, fdref_act_rename("a", "b"), fdref_result_done(0));
     for (size_t at = 0; at < sizeof errors / sizeof errors[0]; at++)
         fdref_record(to, 1, fdref_act_fork(), fdref_error(errors[at]));
     CHECK(fdref_trace_close(to) == 0);
@@ -135,7 +144,10 @@ static void faults(const char *path)
     refuses(path, 0, fdref_act_read(0, 1), fdref_data(bytes, FDREF_TRANSFER_MOST + 1), EINVAL);
     refuses(path, 0, fdref_act_write(0, bytes, FDREF_DATA_MOST), fdref_data(bytes, FDREF_TRANSFER_MOST), EINVAL);
     refuses(path, 0, fdref_act_open("a", O_RDWR | O_SYNC), fdref_number(0), EINVAL);
+    refuses(path, 0, fdref_act_setfl(0, O_SYNC), fdref_done(), EINVAL);
+    refuses(path, 0, fdref_act_getfl(0), fdref_result_flags(O_RDWR | O_SYNC), EINVAL);
     refuses(path, 0, fdref_act_lseek(0, 0, 9), fdref_number(0), EINVAL);
+    refuses(path, 0, fdref_act_rename("a", name), fdref_done(), ENAMETOOLONG);
     refuses(path, 0, fdref_act_pipe(), fdref_descriptors(-1, 0), EINVAL);
     refuses(path, 0, fdref_act_pipe(), fdref_descriptors(0, -1), EINVAL);
     refuses(path, 0, fdref_act_fstat(0), fdref_told(3, 0, 0), EINVAL);

@@ -149,6 +149,11 @@ REPLIES = [
     ("fstat 0", "fifo 0 2"),
     ("fstat 0", "pipe 18446744073709551615 4294967295"),
     ("fork", "2147483647"),
+    ("getfl 0", "1"),
+    ("getfl 0", "98"),
+    ("getfl 0", "35"),
+    ("setfl 0 -,append", "ok"),
+    ("rename a b", "ok"),
     *(("fork", f"error {name}") for name in ERRORS),
 ]
 NUMBERS = {"NoMemory": "ENOMEM", "RunFull": "EDQUOT", "Waiting": "EBUSY", "NotHere": "ECHILD", "Foreign": "ESTALE"}
@@ -184,16 +189,20 @@ def no_answers() -> Iterator[tuple[str, bytes]]:
         yield "close 0", start + outcome
     for outcome in (b"\6", b"\6\0", b"\6\x11", b"\6\xff", b"\6\1\0"):
         yield "close 0", start + outcome
-    for line in ("fork", "pipe", "fstat 0", "lseek 0 0 set", "pread 0 0 5", "pwrite 0 0 x61"):
+    for line in ("fork", "pipe", "fstat 0", "lseek 0 0 set", "pread 0 0 5", "pwrite 0 0 x61", "getfl 0"):
         yield line, start + b"\1"
         yield line, start + outcome_bytes("parked 0")
-    for line in ("open a r", "fork", "dup 0", "write 0 x", "lseek 0 0 set"):
+    for line in ("open a r", "fork", "dup 0", "write 0 x", "lseek 0 0 set", "getfl 0"):
         yield line, start + b"\2" + u64(2**63)
         yield line, start + b"\2" + u64(2**64 - 1)
         yield line, start + b"\2" + bytes(7)
         yield line, start + b"\2" + bytes(9)
     yield "open a r", start + outcome_bytes(f"{2**31}")
     yield "fork", start + outcome_bytes(f"{2**31}")
+    yield "getfl 0", start + outcome_bytes("128")
+    for line in ("setfl 0 -", "rename a b"):
+        yield line, start + outcome_bytes("0")
+        yield line, start + outcome_bytes("parked 0")
     yield "write 0 x6869", start + outcome_bytes("3")
     yield "read 0 2", start + outcome_bytes("x616263")
     yield "read 0 5", start + outcome_bytes("parked 0") + b"\0"
@@ -282,9 +291,9 @@ class Driving(Server):
 
 def functions(program: str, build: Build) -> None:
     """What each function gives to a program in C."""
-    with Server(program, 5, 60) as server:
+    with Server(program, 5, 69) as server:
         same(b"", build.prints("api", server.path))
-        server.ended(report(5, 60, 67_548, 67_547))
+        server.ended(report(5, 69, 67_548, 67_547))
 
 
 # Each call, and then the errors that want only a few calls.
@@ -299,6 +308,9 @@ mkfifo nnnnnnnnnnnnnnnnnnnnnnnnnnnnnnnnnnnnnnnnnnnnnnnnnnnnnnnnnnnnnnnnn; mkfifo
 close 3; pipe; close 1; write 3 x61; close 3; close -2147483648; dup2 0 2147483647; pread 0 -1 1; read 0 4294967295
 write 0 61*65536; pread 0 0 65536; pread 0 1 65536; lseek 0 0 set; read 0 65536; read 0 1; write 0 61*65537
 write 0 61*65700; pwrite 0 983041 62*65536; pread 0 983040 65536; read 0 65537; pread 0 9223372036854775807 65536
+getfl 0; setfl 0 w,creat,excl,trunc,append,nonblock; getfl 9; setfl 9 -; getfl 0; getfl 2; setfl 2 r,nonblock; getfl 2
+getfl -1; setfl 7 -; rename b j; rename f n; open f r; rename n f; rename c f; open f r; open c r; rename b b; rename o b
+rename % b; rename b %ff; rename f .; rename f nnnnnnnnnnnnnnnnnnnnnnnnnnnnnnnnnnnnnnnnnnnnnnnnnnnnnnnnnnnnnnnnn
 """
 
 

@@ -114,7 +114,7 @@ def call_of(line: str) -> tuple[str, list[Any]]:
     """The name of the call of a line, and its arguments as the functions in C and in Python have them."""
     act = plain_model.read_act(f"p0 {line}".encode())
     values = list(act.fields)
-    if act.word == "open":
+    if act.word in ("open", "setfl"):
         values[1] = sum(FLAGS[word] for word in values[1].split(","))
     elif act.word == "lseek":
         values[2] = BASES[values[2]]
@@ -139,6 +139,13 @@ def outcome_text(value: Any) -> str:
     if isinstance(value, fdref.Stat):
         return f"{value.kind} {value.st_size} {value.st_nlink}"
     return " ".join(map(str, value)) if isinstance(value, tuple) else str(value)
+
+
+def called(process: fdref.Process, line: str) -> str:
+    """What the call of a line comes to, made by the client in Python."""
+    word, values = call_of(line)
+    value = getattr(process, word)(*values)
+    return outcome_text(fdref.flag_bits(value) if word == "getfl" else value)
 
 
 # ---- clients
@@ -246,9 +253,8 @@ class Called(Client):
     def call(self, line: str) -> None:
         """Makes a call, and keeps its answers."""
         assert self.made
-        word, values = call_of(line)
         try:
-            outcome = outcome_text(getattr(self.made, word)(*values))
+            outcome = called(self.made, line)
         except fdref.CallError as error:
             outcome = f"error {error.name}"
         except fdref.Refused as refused:

@@ -32,9 +32,14 @@ CALLS = [
     "unlink a",
     "fstat 0",
     "fork",
+    "getfl 0",
+    "setfl 0 -,nonblock",
+    "rename a b",
 ]
 MAY_WAIT = ("open", "read", "write")
-GIVES_NUMBER = ("open", "write", "pwrite", "lseek", "dup", "dup2", "fork", "join")
+GIVES_NUMBER = ("open", "write", "pwrite", "lseek", "dup", "dup2", "fork", "join", "getfl")
+# The greatest number that has flags.
+FLAGS_MOST = 127
 EDGES = [0, 1, 2, 2**31 - 1, 2**31, 2**32 - 1, 2**32, 2**63 - 1, 2**63, 2**64 - 1]
 LENGTHS = [0, 1, 9, 10, 65_535, 65_536, 66_047, 66_048, 66_049, 2**31 - 1, 2**31, 2**32 - 1]
 
@@ -54,6 +59,8 @@ def most_of(request: str) -> int:
         return int(fields[-1])
     if word in ("write", "pwrite"):
         return len(plain_model.read_data(fields[-1].encode()) or b"")
+    if word == "getfl":
+        return FLAGS_MOST
     return 2**63 - 1 if word == "lseek" else 2**31 - 1
 
 
@@ -178,8 +185,8 @@ def wanted_kind(request: str) -> str:
     return "number" if word in GIVES_NUMBER else kinds.get(word, "done")
 
 
-def is_held_in_c(request: str, text: str) -> bool:
-    """Whether a value is not greater than what a call in C may give."""
+def is_held(request: str, text: str) -> bool:
+    """Whether a value is not greater than what a call in C may give, or flags in Python."""
     if kind_of(text) == "data":
         return len(plain_model.read_data(text.encode()) or b"") <= most_of(request)
     limits = {"number": most_of(request), "descriptors": 2**31 - 1}
@@ -240,7 +247,8 @@ class Hearing:
             waits.append((self.place, int(other)))
             return None
         is_right = word not in ("parked", "part") and kind_of(text) == wanted_kind(request)
-        if not is_right or (self.is_in_c and not is_held_in_c(request, text)):
+        is_limited = self.is_in_c or word_of(request) == "getfl"
+        if not is_right or (is_limited and not is_held(request, text)):
             return self.lost("EPROTO", waits)
         return Given("value", text, self.place, tuple(waits))
 

@@ -11,7 +11,7 @@ from collections.abc import Iterator, Sequence
 from functools import partial
 
 from parts.c_calls import NUMBERS, Told
-from parts.c_programs import Build, call_of, outcome_text
+from parts.c_programs import Build, called, outcome_text
 from parts.garbage_answers import Exchange, Given, Hearing, exchange, pieces
 from support.counting import Case, Failure, require, same
 from support.frames import framed, recorded, u32
@@ -103,8 +103,7 @@ class Caller:
                 self.process.on_wait = lambda place, moved: self.told.append((place, moved))
             return outcome_text(self.process.pid if word == "join" else None)
         assert self.process
-        name, values = call_of(request)
-        return outcome_text(getattr(self.process, name)(*values))
+        return called(self.process, request)
 
     def place(self) -> int:
         """The place of the last answer, where there is a process."""
@@ -250,6 +249,10 @@ GIVEN_UP: list[tuple[str, bytes]] = [
     ("fork", recorded(1, "ok")),
     ("pipe", recorded(1, "3")),
     ("fstat 0", recorded(1, "ok")),
+    ("getfl 0", recorded(1, "ok")),
+    ("getfl 0", recorded(1, "128")),
+    ("setfl 0 -,nonblock", recorded(1, "0")),
+    ("rename a b", recorded(1, "parked 0")),
     ("dup 0", recorded(1, "regular 5 1")),
     ("close 3", b"\2\x11\0"),
     ("close 3", b"\2\x15"),

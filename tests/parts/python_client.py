@@ -93,8 +93,23 @@ def calls(program: str) -> None:
             same(waited, process.waits)
             same(b"x" * 476, process.read(1, 9_999))
             same([], process.waits)
+        flags_and_rename(process)
         process.exit()
-        server.ended(report(2, 33, 2_007, 2_005))
+        server.ended(report(2, 42, 2_007, 2_005))
+
+
+def flags_and_rename(process: fdref.Process) -> None:
+    """Flags of the descriptions behind 0, which is also behind 9, and behind 3 and 4; and b becomes f."""
+    same(os.O_RDWR, process.getfl(0))
+    creation = os.O_CREAT | os.O_EXCL | os.O_TRUNC
+    same(None, process.setfl(0, os.O_WRONLY | creation | os.O_APPEND | os.O_NONBLOCK))
+    same(os.O_RDWR | os.O_APPEND | os.O_NONBLOCK, process.getfl(9))
+    same(None, process.setfl(4, fdref.O_NEITHER))
+    same(os.O_WRONLY, process.getfl(4))
+    same(os.O_RDONLY | os.O_NONBLOCK, process.getfl(3))
+    same(None, process.rename("b", b"f"))
+    same(("fifo", stat.S_IFIFO, 0, 0), tuple(process.fstat(3)))
+    same(errno.ENOENT, raises(fdref.CallError, process.open, "b", os.O_RDONLY).errno)
 
 
 def faults(program: str) -> None:
@@ -106,23 +121,27 @@ def faults(program: str) -> None:
             (errno.ENOENT, process.open, ("", os.O_RDONLY)),
             (errno.ENAMETOOLONG, process.mkfifo, ("n" * 65,)),
             (errno.EBADF, process.dup2, (-1, 2)),
+            (errno.EBADF, process.getfl, (0,)),
+            (errno.EBADF, process.setfl, (0, os.O_APPEND)),
+            (errno.ENOENT, process.rename, ("a", "b")),
         ]
         for number, call, values in refused:
             raised = raises(fdref.CallError, call, *values)
             same((number, process.place), (raised.errno, raised.place))
-        same(5, process.place)
+        same(8, process.place)
         same((0, 1), process.pipe())
         process.close(0)
         same(errno.EPIPE, raises(fdref.CallError, process.write, 1, b"x").errno)
-        same(8, process.place)
+        same(11, process.place)
         raises(ValueError, process.mkfifo, "n" * 256)
         raises(ValueError, process.write, 1, bytes(65_701))
         raises(ValueError, process.open, "a", os.O_RDONLY | os.O_SYNC)
+        raises(ValueError, process.setfl, 1, os.O_SYNC)
         raises(OverflowError, process.close, 2**31)
         raises(OverflowError, process.read, 0, -1)
         raised = raises(fdref.CallError, fdref.attach, server.path, 7)
-        same((errno.ESRCH, 9), (raised.errno, raised.place))
-        for _ in range(48):
+        same((errno.ESRCH, 12), (raised.errno, raised.place))
+        for _ in range(45):
             raises(fdref.CallError, process.close, 7)
         same("RunFull", raises(fdref.Refused, process.close, 7).reason)
         same(57, process.place)
@@ -210,6 +229,13 @@ REQUESTS: list[tuple[str, Callable[[fdref.Process], object]]] = [
     ("unlink a", lambda it: it.unlink("a")),
     ("fstat 0", lambda it: it.fstat(0)),
     ("fork", lambda it: it.fork()),
+    ("getfl 0", lambda it: it.getfl(0)),
+    ("setfl -1 -,nonblock", lambda it: it.setfl(-1, fdref.O_NEITHER | os.O_NONBLOCK)),
+    (
+        "setfl 0 rw,creat,excl,trunc,append",
+        lambda it: it.setfl(0, os.O_RDWR | os.O_CREAT | os.O_EXCL | os.O_TRUNC | os.O_APPEND),
+    ),
+    ("rename a %ff", lambda it: it.rename("a", b"\xff")),
 ]
 
 # A call of each outcome of a reply, and the value that the client has of it.
@@ -222,6 +248,9 @@ REPLIES: list[tuple[Callable[[fdref.Process], object], str, object]] = [
     (lambda it: it.fstat(0), "regular 5 1", ("regular", stat.S_IFREG, 5, 1)),
     (lambda it: it.fstat(0), "fifo 0 2", ("fifo", stat.S_IFIFO, 0, 2)),
     (lambda it: it.fstat(0), "pipe 18446744073709551615 0", ("pipe", stat.S_IFIFO, 2**64 - 1, 0)),
+    (lambda it: it.getfl(0), "1", os.O_RDONLY),
+    (lambda it: it.getfl(0), "66", os.O_WRONLY | os.O_NONBLOCK),
+    (lambda it: it.getfl(0), "35", os.O_RDWR | os.O_APPEND),
 ]
 
 

@@ -52,6 +52,13 @@ RECORDS = [
     (fdref.Record(1, "fstat", (0,), fdref.Stat("fifo", 0o010000, 5, 1)), "p1 fstat 0 = fifo 5 1"),
     (fdref.Record(1, "fstat", (0,), fdref.Stat("regular", 0o100000, 5, 1)), "p1 fstat 0 = regular 5 1"),
     (fdref.Record(1, "fork", (), 2), "p1 fork = 2"),
+    (fdref.Record(1, "getfl", (0,), fdref.flag_bits(os.O_RDWR | os.O_APPEND)), "p1 getfl 0 = 35"),
+    (fdref.Record(1, "getfl", (0,), fdref.flag_bits(os.O_WRONLY | os.O_CREAT)), "p1 getfl 0 = 6"),
+    (fdref.Record(1, "getfl", (0,), 2**64 - 1), f"p1 getfl 0 = {2**64 - 1}"),
+    (fdref.Record(1, "getfl", (-1,), fdref.Error("EBADF")), "p1 getfl -1 = error EBADF"),
+    (fdref.Record(1, "setfl", (0, os.O_WRONLY | O_ALL)), "p1 setfl 0 w,creat,excl,trunc,append,nonblock = ok"),
+    (fdref.Record(1, "setfl", (0, fdref.O_NEITHER | os.O_NONBLOCK)), "p1 setfl 0 -,nonblock = ok"),
+    (fdref.Record(1, "rename", ("a", "b")), "p1 rename a b = ok"),
 ]
 RECORDS += [(fdref.Record(1, "fork", (), fdref.Error(error)), f"p1 fork = error {error}") for error in ERRORS]
 REFUSED: list[tuple[fdref.Record, str]] = [
@@ -70,6 +77,7 @@ REFUSED: list[tuple[fdref.Record, str]] = [
     (fdref.Record(0, "write", (0, bytes(65_700)), bytes(65_536)), "131254 bytes are more than a record has"),
     (fdref.Record(0, "open", ("a", os.O_SYNC), 0), "flags that no request holds: O_SYNC"),
     (fdref.Record(0, "open", ("a", os.O_CLOEXEC | 1 << 33)), "flags that no request holds: O_CLOEXEC, 0o100000000000"),
+    (fdref.Record(0, "setfl", (0, os.O_SYNC)), "flags that no request holds: O_SYNC"),
     (fdref.Record(0, "mkfifo", ("n" * 256,)), "a name of 256 bytes, and a request holds 255"),
     (fdref.Record(0, "write", (0, bytes(65_701)), 0), "65701 bytes, and at most 65700 have a place here"),
     (fdref.Record(0, "read", (0, 1), bytes(65_537)), "65537 bytes, and at most 65536 have a place here"),
