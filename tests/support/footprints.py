@@ -20,7 +20,8 @@ CHANGE_DESCRIPTORS = ("open", "close", "dup", "dup2", "pipe", "fork", "exit")
 
 
 class Opened(NamedTuple):
-    """An open file description: the call that made it and which of its ends it is, its file, and its flags."""
+    """An open file description: the call that made it and which of its ends it is, its file, and the flags that it was
+    opened with."""
 
     made_by: tuple[int, int, int]
     file: object
@@ -31,6 +32,11 @@ class Opened(NamedTuple):
     def offset(self) -> Thing:
         """Its offset."""
         return "offset", self.made_by
+
+    @property
+    def status(self) -> Thing:
+        """Whether it appends, and whether it waits."""
+        return "status", self.made_by
 
     @property
     def data(self) -> Thing:
@@ -76,13 +82,13 @@ class Touch:
 
 
 class Names:
-    """Names, of which those that a link may join are one; and which of them may lead to a FIFO."""
+    """Names, of which those that a link or a rename may join are one; and which of them may lead to a FIFO."""
 
     def __init__(self, history: Iterable[Noted]) -> None:
         self.same: dict[bytes, bytes] = {}
         acts = [noted.act for noted in history]
         for act in acts:
-            if act.word == "link":
+            if act.word in ("link", "rename"):
                 one, other = map(self.first, act.fields)
                 if one != other:
                     self.same[one] = other
@@ -142,6 +148,8 @@ def touch_read(asked: Asked, touch: Touch) -> None:
         touch.both(at.offset)
         touch.looks |= {at.data} | at.ends
         touch.changes |= {at.data} if at.may_be_pipe else set()
+    if at and at.may_be_pipe:
+        touch.looks.add(at.status)
 
 
 def touch_write(asked: Asked, touch: Touch) -> None:
@@ -149,7 +157,7 @@ def touch_write(asked: Asked, touch: Touch) -> None:
     at = asked.opened()
     if at and asked.noted.act.fields[1]:
         touch.both(at.offset, at.data)
-        touch.looks |= at.ends
+        touch.looks |= {at.status} | at.ends
 
 
 def touch_pread(asked: Asked, touch: Touch) -> None:
@@ -182,6 +190,18 @@ def touch_fstat(asked: Asked, touch: Touch) -> None:
     """An fstat looks at how long a file is, and at its names."""
     at = asked.opened()
     touch.looks |= {at.data, ("names", at.file)} if at else set()
+
+
+def touch_getfl(asked: Asked, touch: Touch) -> None:
+    """A getfl looks at flags."""
+    at = asked.opened()
+    touch.looks |= {at.status} if at else set()
+
+
+def touch_setfl(asked: Asked, touch: Touch) -> None:
+    """A setfl changes flags."""
+    at = asked.opened()
+    touch.changes |= {at.status} if at else set()
 
 
 def touch_close(asked: Asked, touch: Touch) -> None:
@@ -238,7 +258,10 @@ TOUCHES: dict[str, Callable[[Asked, Touch], None]] = {
     "mkfifo": touch_names,
     "link": touch_names,
     "unlink": touch_names,
+    "rename": touch_names,
     "fstat": touch_fstat,
+    "getfl": touch_getfl,
+    "setfl": touch_setfl,
     "fork": touch_fork,
     "exit": touch_exit,
 }
