@@ -1,7 +1,7 @@
 #!/usr/bin/env python3
 """Does the program print what a plain model prints, on random scripts? (a minute)
 
-usage: tests/random_runs.py [--seed S] [--scripts N] [--program PATH] [--jobs J]
+usage: tests/random_runs.py [--seed S] [--scripts N] [--often WORDS] [--program PATH] [--jobs J]
 
 The model is tests/support/plain_model.py. It is written from docs/PROFILE.md and docs/FORMATS.md alone, so
 a difference is a fault of the program, of the model, or of the two documents.
@@ -9,7 +9,7 @@ a difference is a fault of the program, of the model, or of the two documents.
 Of six scripts four are walks: each act is chosen beside a run of the model, with fields that mostly
 make sense in the world that it has come to. One has good lines in all spellings, and one a bad line
 among good ones. Some runs have few records, so that they fill up. Script K of seed S is always the
-same.
+same. WORDS are words of calls, as `getfl,setfl,rename`, of which a third of all calls are to be.
 
 A difference in exit status, standard output or standard error is shrunk to a short script, for at
 most a minute, and told with what both gave. In a run of 4,000 scripts or more it is a failure, too,
@@ -21,24 +21,27 @@ import multiprocessing
 import random
 import re
 import sys
+from argparse import ArgumentTypeError
+from collections import Counter
 from collections.abc import Callable, Iterator, Sequence
 from typing import NamedTuple
 
 from support import plain_model
 from support.counting import Count
 from support.frames import ERRORS
-from support.options import PROGRAM, SEED, asked, count_option
+from support.options import PROGRAM, SEED, Option, asked, count_option
 from support.plain_model import FIELDS, RECORDS_DEFAULT
 from support.running import Ran, StillRunning, run
 from support.shrinking import shrunk
 from support.sources import numbered, source
-from support.walks import FLAGS, NAMES, ODD_NAMES, flags_text, name_text, walked
+from support.walks import FLAGS, NAMES, ODD_NAMES, OFTEN, flags_text, name_text, walked
 
 SECONDS = 20
 TELL_MOST = 10
 SHRINK_MOST = 5_000
 SHRINK_SECONDS = 60
 KILLED = -9
+NO_CALLS = (b"attach", b"resume", b"exit")
 
 # what a run of so many scripts has to meet, each at least once
 MEETS_ALL = 4_000
@@ -117,9 +120,11 @@ ODD_WORDS = (
 ).split(b"|")
 
 
-def good_line(pick: random.Random) -> bytes:
+def good_line(pick: random.Random, often: Sequence[str] = ()) -> bytes:
     """A line that is an act, whatever comes of it."""
     word = pick.choice(["join", "close-run", *FIELDS, *FIELDS, *FIELDS])
+    if often and pick.random() < OFTEN:
+        word = pick.choice(often)
     if word not in FIELDS:
         return word.encode()
     actor = any_number(0, 2**32 - 1)(pick) if pick.random() < 0.2 else pick.randrange(3)
@@ -155,15 +160,15 @@ def damaged(pick: random.Random, line: bytes) -> bytes:
     return pick.choice(ways)
 
 
-def good_lines(pick: random.Random, length: int) -> list[bytes]:
+def good_lines(pick: random.Random, length: int, often: Sequence[str] = ()) -> list[bytes]:
     """Lines that are acts."""
     lines = [b"join"] * pick.randrange(3)
-    return lines + [b"" if pick.random() < 0.1 else good_line(pick) for _ in range(length)]
+    return lines + [b"" if pick.random() < 0.1 else good_line(pick, often) for _ in range(length)]
 
 
-def bad_lines(pick: random.Random, length: int) -> list[bytes]:
+def bad_lines(pick: random.Random, length: int, often: Sequence[str] = ()) -> list[bytes]:
     """Good lines among which one or a few are mostly bad."""
-    lines = good_lines(pick, length) or [b"join"]
+    lines = good_lines(pick, length, often) or [b"join"]
     for at in pick.choices(range(len(lines)), k=pick.choice([1, 1, 1, 2, 3])):
         lines[at] = pick.choice([damaged(pick, lines[at]), with_odd_field(pick), with_odd_field(pick)])
     return lines
@@ -173,10 +178,11 @@ def bad_lines(pick: random.Random, length: int) -> list[bytes]:
 
 
 class Checked(NamedTuple):
-    """Whether a script passes, how many acts it runs, and how they end."""
+    """Whether a script passes, how many acts it runs, how often each call is among them, and how they end."""
 
     passes: bool
     acts: int
+    calls: Counter[str]
     ends: set[str]
 
 
@@ -208,8 +214,9 @@ class Script:
         """How it passes."""
         ran = self.given(program)
         ends = {(told or fault).decode() for told, fault in END.findall(ran.stdout + ran.stderr)}
-        acts = sum(map(bool, self.lines)) if ran.status == 0 else 0
-        return Checked(self.wanted() == ran, acts, ends)
+        acts = [line.split(b" ") for line in self.lines if line and ran.status == 0]
+        calls = Counter(words[1].decode() for words in acts if len(words) > 1 and words[1] not in NO_CALLS)
+        return Checked(self.wanted() == ran, len(acts), calls, ends)
 
     def shrunk(self, program: str) -> "Script":
         """A short script that differs as well."""
@@ -220,19 +227,19 @@ class Script:
         return Script(shrunk(self.lines, differs, SHRINK_SECONDS, SHRINK_MOST), self.records)
 
 
-def script_of(seed: str, number: int) -> Script:
-    """The script with a number of a seed."""
+def script_of(seed: str, number: int, often: Sequence[str] = ()) -> Script:
+    """The script with a number of a seed, in which some calls come often."""
     pick = source(seed, number)
     records = RECORDS_DEFAULT
     if number % 6 == 0:
-        lines = good_lines(pick, pick.randrange(40))
+        lines = good_lines(pick, pick.randrange(40), often)
     elif number % 6 == 1:
-        lines = bad_lines(pick, pick.randrange(20))
+        lines = bad_lines(pick, pick.randrange(20), often)
     elif pick.random() < 0.25:
         records = pick.choice([pick.randrange(1, 6), pick.randrange(5, 40), pick.randrange(20, 200)])
-        lines = walked(pick, records, records + 15)
+        lines = walked(pick, records, records + 15, often)
     else:
-        lines = walked(pick, records, pick.choice([5, 10, 20, 40, 60, 100, 150, 300]))
+        lines = walked(pick, records, pick.choice([5, 10, 20, 40, 60, 100, 150, 300]), often)
     return Script(lines if pick.random() < 0.1 else [*lines, b""], records)
 
 
@@ -257,14 +264,17 @@ def difference(script: Script, program: str) -> str:
 
 # ---- the whole
 
+# The program, and what a script is made of: a seed, a number, and the calls that come often.
+Task = tuple[str, str, int, Sequence[str]]
 
-def check(task: tuple[str, int, str]) -> Checked:
+
+def check(task: Task) -> Checked:
     """How a script passes."""
-    seed, number, program = task
-    return script_of(seed, number).checked(program)
+    program, seed, number, often = task
+    return script_of(seed, number, often).checked(program)
 
 
-def checked(tasks: list[tuple[str, int, str]], jobs: int) -> Iterator[Checked]:
+def checked(tasks: list[Task], jobs: int) -> Iterator[Checked]:
     """How each script passes, in their order."""
     if jobs == 1:
         yield from map(check, tasks)
@@ -273,26 +283,45 @@ def checked(tasks: list[tuple[str, int, str]], jobs: int) -> Iterator[Checked]:
             yield from pool.imap(check, tasks, chunksize=20)
 
 
+def words_of_calls(text: str) -> list[str]:
+    """The words of an option, which are those of calls."""
+    words = text.split(",")
+    wrong = [word for word in words if word not in FIELDS or word.encode() in NO_CALLS]
+    if wrong:
+        raise ArgumentTypeError(f"no call is {wrong[0]!r}")
+    return words
+
+
+OFTEN_OPTION = Option(
+    "--often",
+    {"metavar": "WORDS", "type": words_of_calls, "default": [], "help": "calls that come often, as getfl,setfl,rename"},
+)
+
+
 def main(words: Sequence[str]) -> int:
     """Makes all checks: the exit status."""
     about = "Runs random scripts on the built program and on a plain model."
     scripts, jobs = count_option("--scripts", 1_000, "how many"), count_option("--jobs", 1, "how many run at a time")
-    args = asked(words, about, SEED, scripts, PROGRAM, jobs)
-    program = args.program
+    args = asked(words, about, SEED, scripts, OFTEN_OPTION, PROGRAM, jobs)
+    program, often = args.program, args.often
     count = Count()
     acts = 0
+    calls: Counter[str] = Counter()
     ends: set[str] = set()
-    tasks = [(args.seed, number, program) for number in range(args.scripts)]
+    tasks: list[Task] = [(program, args.seed, number, often) for number in range(args.scripts)]
     for number, it in enumerate(checked(tasks, args.jobs)):
         acts += it.acts
+        calls += it.calls
         ends |= it.ends
         if it.passes:
             count.add(1, 0)
         elif count.failed < TELL_MOST:
-            count.fail(numbered("script", args.seed, number), difference(script_of(args.seed, number), program))
+            count.fail(numbered("script", args.seed, number), difference(script_of(args.seed, number, often), program))
         else:
             count.fail(numbered("script", args.seed, number), "it differs")
-    print(f"{args.scripts} scripts, of which those that were run have {acts} acts")
+    print(f"{args.scripts} scripts, of which those that were run have {acts} acts, {calls.total()} of them calls")
+    for word in often:
+        print(f"{word}: {calls[word]} calls")
     missed = [end for end in ENDS if end not in ends]
     if missed and args.scripts >= MEETS_ALL:
         count.fail("all scripts", f"none has met {', '.join(missed)}")

@@ -306,7 +306,7 @@ class World:
         return "ok"
 
     def rename(self, process: Process, old: bytes, new: bytes) -> Reply:
-        """The call."""
+        """The call, which does nothing where both names lead to one file."""
         check_name(old)
         check_name(new)
         require(old in self.names, "ENOENT")
@@ -360,10 +360,10 @@ class World:
         return ("r" in at.mode) + 2 * ("w" in at.mode) + 32 * at.append + 64 * at.nonblock
 
     def setfl(self, process: Process, fd: int, flags: str) -> Reply:
-        """The call."""
+        """The call, which heeds two of the flags."""
         at = find(process, fd)
-        at.append = "append" in flags.split(",")
-        at.nonblock = "nonblock" in flags.split(",")
+        given = flags.split(",")
+        at.append, at.nonblock = "append" in given, "nonblock" in given
         return "ok"
 
     # -- bytes and offsets

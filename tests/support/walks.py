@@ -1,7 +1,7 @@
 """Random scripts: each act is chosen beside a run of the plain model, with fields that mostly make sense there."""
 
 import random
-from collections.abc import Callable
+from collections.abc import Callable, Sequence
 
 from support import plain_model
 from support.plain_model import FIELDS, FILE_SIZE_MAX, OFFSET_MAX, OPEN_MAX
@@ -12,12 +12,14 @@ Field = int | str
 # how often a choice makes no sense on purpose
 ODD = 0.05
 
+# how often one of the words that are to come often is tried first
+OFTEN = 0.33
+
 # how often a walk takes each act; it changes its mood on the way
 MOODS = {
     "files": (
         "open 8 close 3 read 8 write 12 pread 4 pwrite 6 lseek 7 ftruncate 4 fstat 3 dup 2 dup2 2 link 1 unlink 2 "
-        "getfl 1 setfl 2 rename 2 "
-        "fork 1 attach 2"
+        "rename 2 getfl 1 setfl 3 fork 1 attach 2"
     ),
     "pipes": (
         "pipe 4 read 14 write 16 resume 12 fork 3 attach 6 close 9 dup 1 dup2 2 exit 3 fstat 3 pwrite 1 pread 1 lseek 1 "
@@ -25,11 +27,11 @@ MOODS = {
     ),
     "fifos": (
         "mkfifo 3 open 18 read 8 write 9 resume 12 close 8 join 3 fork 1 attach 2 exit 3 link 1 unlink 2 fstat 3 dup 1 "
-        "lseek 1"
+        "lseek 1 rename 2 getfl 1 setfl 2"
     ),
     "names": "open 8 mkfifo 6 link 14 unlink 6 rename 10 fstat 4 close 5 write 2 read 2 fork 1 attach 1 exit 1",
     "processes": "join 8 fork 8 attach 10 exit 3 pipe 2 open 3 read 3 write 3 resume 3 close 2 dup2 1 fstat 1",
-    "descriptors": "open 10 pipe 4 dup 10 dup2 8 close 3 fstat 3 fork 1 attach 1 lseek 2 read 2 write 2",
+    "descriptors": "open 10 pipe 4 dup 10 dup2 8 close 3 fstat 3 getfl 2 setfl 2 fork 1 attach 1 lseek 2 read 2 write 2",
 }
 
 FLAGS = ["creat", "excl", "trunc", "append", "nonblock"]
@@ -90,6 +92,7 @@ class Walk:
         self.pick = pick
         self.run = run
         self.world = run.world
+        self.often: Sequence[str] = ()
         self.most_live = 70
         self.lines: list[bytes] = []
         self.say("join")
@@ -119,6 +122,8 @@ class Walk:
         """One act: the first word chosen for which there are sensible fields."""
         words = mood.split()
         chosen = self.pick.choices(words[::2], [int(weight) for weight in words[1::2]], k=4)
+        if self.often and self.pick.random() < OFTEN:
+            chosen[:0] = self.pick.sample(self.often, len(self.often))
         for word in [*self.first_words(), *chosen, "resume", "attach", "join"]:
             line = self.line(word)
             if line:
@@ -193,7 +198,7 @@ class Walk:
             "lseek": lambda: self.move(at),
             "ftruncate": lambda: [self.place(at)],
             "dup2": lambda: [self.target()],
-            "setfl": lambda: [flags_text(self.pick, "-", {"append": 0.3, "nonblock": 0.5, "creat": 0.1})],
+            "setfl": lambda: [self.status_flags()],
         }
         return [fd, *(rest[word]() if word in rest else [])]
 
@@ -282,7 +287,7 @@ class Walk:
         elif word == "link":
             names = [self.old_name(), self.new_name()]
         elif word == "rename":
-            names = [self.old_name(), self.pick.choice([self.old_name, self.new_name])()]
+            names = self.names_to_change()
         else:
             names = [self.new_name() if word == "mkfifo" else self.old_name()]
         return [*(None if name is None else name_text(self.pick, name) for name in names), *flags]
@@ -301,6 +306,18 @@ class Walk:
             return self.pick.choice(NAMES + ODD_NAMES)
         fit = [name for name in NAMES if name not in self.world.names]
         return self.pick.choice(fit) if fit else None
+
+    def names_to_change(self) -> list[bytes | None]:
+        """A name to change, and what it is to be: often a name that is there, at times of the same file."""
+        old = self.old_name()
+        file = None if old is None else self.world.names.get(old)
+        ways: list[Callable[[], bytes | None]] = [
+            self.new_name,
+            self.old_name,
+            lambda: self.old_name(self.is_half),
+            lambda: self.old_name(lambda other: other is file),
+        ]
+        return [old, self.pick.choice(ways)()]
 
     def is_half(self, file: plain_model.Named) -> bool:
         """Whether it is a FIFO that is open at one end only."""
@@ -331,6 +348,11 @@ class Walk:
         nonblock = 0.9 if waits and not self.may_wait() else 0.3
         likely = {"nonblock": nonblock, "append": 0.1, "creat": 0.1, "trunc": 0.1 * (mode == "w")}
         return flags_text(self.pick, mode, likely)
+
+    def status_flags(self) -> str:
+        """FLAGS for a description that is open, of which a call heeds append and nonblock."""
+        likely = {"append": 0.4, "nonblock": 0.4, "creat": 0.05, "excl": 0.05, "trunc": 0.1}
+        return flags_text(self.pick, self.pick.choice(["-", "-", "r", "w", "rw"]), likely)
 
     # -- beginnings that lead to a limit
 
@@ -387,9 +409,10 @@ def is_fifo(file: object) -> bool:
     return isinstance(file, plain_model.Fifo)
 
 
-def walked(pick: random.Random, records: int, length: int) -> list[bytes]:
-    """The lines of a walk of about a length."""
+def walked(pick: random.Random, records: int, length: int, often: Sequence[str] = ()) -> list[bytes]:
+    """The lines of a walk of about a length, in which some words come often."""
     walk = Walk(pick, plain_model.Run(records))
+    walk.often = often
     beginning = pick.choices(list(BEGINNINGS), list(BEGINNINGS.values()))[0]
     if beginning:
         beginning(walk)
