@@ -135,6 +135,23 @@ PLAYS = [
         (11, 0, 0),
     ),
     (
+        "a read that waits on while its end is made nonblocking",
+        100,
+        """a join | 0 0; a pipe | 1 0 1; a fork | 2 1; b attach 1 | 3 ok; a read 0 4 | 4 parked 0
+        b setfl 0 -,nonblock | 5 ok; a waits; b read 0 4 | 6 error EAGAIN; b getfl 0 | 7 65; b write 1 x6869 | 8 2
+        a | 9 x6869; a read 0 1 | 10 error EAGAIN; b setfl 0 - | 11 ok; a read 0 1 | 12 parked 0; a waits
+        b write 1 x21 | 13 1; a | 14 x21""",
+        (18, 3, 3),
+    ),
+    (
+        "an open that waits on while its FIFO gets another name, and loses it",
+        100,
+        """a join | 0 0; a mkfifo f | 1 ok; b join | 2 1; b open f w | 3 parked 0; a rename f g | 4 ok; b waits
+        a open a rw,creat | 5 0; a open g r,nonblock | 6 1; b | 7 0; a rename a g | 8 ok; b write 0 x6869 | 9 2
+        a fstat 1 | 10 fifo 2 0; a open g r | 11 2; a fstat 2 | 12 regular 0 1; a read 1 9 | 13 x6869""",
+        (17, 2, 2),
+    ),
+    (
         "a short write that a read wakes",
         100,
         """a join | 0 0; a pipe | 1 0 1; a fork | 2 1; b attach 1 | 3 ok; a write 1 61*1024 | 4 1024
@@ -220,8 +237,10 @@ PLAYS = [
         a pwrite 0 4 x2121 | 4 2; a lseek 0 0 cur | 5 5; a ftruncate 0 3 | 6 ok; a dup 0 | 7 1; a dup2 0 5 | 8 5
         a close 1 | 9 ok; a pipe | 10 1 2; a mkfifo f | 11 ok; a link a b | 12 ok; a unlink a | 13 ok
         a fstat 5 | 14 regular 3 1; a fork | 15 1; a read 0 9 | 16 x; a open f - | 17 error EINVAL
-        a open f r,nonblock | 18 3; a fstat 3 | 19 fifo 0 1""",
-        (23, 7, 3),
+        a open f r,nonblock | 18 3; a fstat 3 | 19 fifo 0 1; a getfl 5 | 20 3; a setfl 0 w,creat,append | 21 ok
+        a getfl 5 | 22 35; a getfl 3 | 23 65; a rename b f | 24 ok; a fstat 3 | 25 fifo 0 0; a open b r | 26 error ENOENT
+        a fstat 0 | 27 regular 3 1""",
+        (31, 7, 3),
     ),
 ]
 

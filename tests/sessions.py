@@ -721,7 +721,8 @@ def every_call() -> bytes:
     """A session with every call in it, and a few more."""
     lines = """p0 open a rw,creat|p0 write 0 x68656c6c6f|p0 lseek 0 1 set|p0 read 0 2|p0 pwrite 0 3 x21|p0 pread 0 0 9
         |p0 ftruncate 0 2|p0 fstat 0|p0 dup 0|p0 dup2 0 5|p0 close 5|p0 link a b|p0 unlink a|p0 mkfifo f|p0 open f rw
-        |p0 open f r,nonblock|p0 pipe|p0 fork|p0 write 4 61*2000|p0 read 3 9|p0 close 9"""
+        |p0 open f r,nonblock|p0 pipe|p0 fork|p0 write 4 61*2000|p0 read 3 9|p0 close 9|p0 getfl 2
+        |p0 setfl 2 r,append|p0 rename b f"""
     return session_frames(line.strip() for line in lines.split("|"))
 
 
@@ -938,10 +939,12 @@ def judged(right: Lines, given: Lines, number: int) -> str:
 CALLS = (
     "open {n} {f}|close {d}|read {d} {c}|write {d} {x}|pread {d} {p} {c}|pwrite {d} {p} {x}|lseek {d} {p} {w}"
     "|ftruncate {d} {p}|dup {d}|dup2 {d} {d}|pipe|pipe|mkfifo {n}|link {n} {n}|unlink {n}|fstat {d}|fork"
-    "|read {d} {c}|write {d} {x}|open {n} {f}"
+    "|read {d} {c}|write {d} {x}|open {n} {f}|getfl {d}|setfl {d} {f}|rename {n} {n}"
 ).split("|")
 
-OTHERS = "read {d} {c}|write {d} {x}|close {d}|resume|open {n} {f}|exit|fork|fstat {d}".split("|")
+OTHERS = (
+    "read {d} {c}|write {d} {x}|close {d}|resume|open {n} {f}|exit|fork|fstat {d}|setfl {d} {f}|rename {n} {n}"
+).split("|")
 
 
 def filled(pick: random.Random, call: str) -> str:

@@ -177,7 +177,9 @@ p0 read 0 1 = ff*65536; p0 pread 0 -9223372036854775808 5 = error EINVAL; p0 pwr
 p0 lseek 0 -1 set = 0; p0 lseek 0 0 cur = 0; p0 lseek 0 1 end = error EOVERFLOW; p0 ftruncate 0 0 = ok; p0 dup 0 = 1
 p0 dup2 2147483647 -1 = 0; p0 pipe = 4294967295 0; p0 mkfifo f = ok; p0 link a b = error EEXIST; p0 unlink a = ok
 p0 fstat 0 = regular 18446744073709551615 4294967295; p0 fstat 1 = fifo 0 0; p0 fstat 2 = pipe 1 1
-p0 fork = 4294967295"""
+p0 fork = 4294967295; p0 getfl 0 = 35; p0 getfl -2147483648 = 18446744073709551615; p0 getfl 1 = error EBADF
+p0 setfl 2147483647 -,creat,excl,trunc,append,nonblock = ok; p0 setfl 0 rw = 5; p0 rename a/b%25%00%ff % = ok
+p0 rename b a = error EINVAL"""
 
 
 def any_records() -> list[str]:

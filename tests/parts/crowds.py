@@ -16,12 +16,13 @@ from support.sources import numbered, source
 
 PAIRS = 31
 FILES, FIFOS, BAD_NAMES = ["a", "b", "c", "d"], ["f", "g"], ["%", "a%2f", ".", "n" * 65]
-# Each open of these names has nonblock, so none of these calls waits; they leave alone the ends of a pipe that are
-# descriptors 0 and 1.
+# Each open of these names and each setfl has nonblock, so none of these calls waits; they leave alone the ends of a pipe
+# that are descriptors 0 and 1.
 RANDOM_CALLS = (
     "open {n} {f}|open {n} {f}|open {n} {f}|close {d}|read {d} {c}|read {d} {c}|write {d} {x}|write {d} {x}"
     "|pread {e} {p} {c}|pread {e} {p} {c}|pwrite {e} {p} {x}|pwrite {e} {p} {x}|lseek {e} {o} {w}|lseek {e} {o} {w}"
     "|ftruncate {e} {p}|dup {d}|dup2 {d} {t}|mkfifo {m}|link {n} {n}|unlink {n}|fstat {e}|fstat {e}|fork"
+    "|getfl {e}|setfl {d} {f}|rename {n} {n}"
 ).split("|")
 ODDS = {"creat": 0.6, "excl": 0.1, "trunc": 0.15, "append": 0.25}
 
@@ -30,7 +31,7 @@ Told = tuple[int, plain_model.Act, str]
 
 
 def flags(pick: random.Random) -> str:
-    """Flags that never let an open wait."""
+    """Flags that never let a call wait."""
     mode = pick.choice(["r", "w", "rw", "rw", "rw", "rw"] if pick.random() < 0.95 else ["-"])
     return ",".join([mode, *(word for word, odds in ODDS.items() if pick.random() < odds), "nonblock"])
 

@@ -235,6 +235,7 @@ def ends(it: Talker) -> None:
 CALLS = (
     "pipe|open e rw,creat|open e r|write 0 x6869|write 1 61*700|read 0 5|lseek 0 1 cur|fstat 0|dup 0|close 1|close 0"
     "|mkfifo e|unlink e|open e w,nonblock|pwrite 0 5 61*9000|pread 0 0 70000|ftruncate 0 9|dup2 0 9|fork"
+    "|getfl 0|setfl 0 -,nonblock|setfl 1 w,append|rename e e2|rename e2 e"
 ).split("|")
 
 
@@ -429,7 +430,7 @@ def chosen(pick: random.Random, count: int) -> list[Act]:
 OWN_CALLS = (
     "open {n} {f}|open {n} {f}|open {n} {f}|write {d} {x}|write {d} {x}|write {d} {x}|read {d} {c}|read {d} {c}"
     "|pread {d} {p} {c}|pread {d} {p} {c}|pwrite {d} {p} {x}|lseek {d} {p} {w}|lseek {d} 0 set|ftruncate {d} {p}"
-    "|fstat {d}|dup {d}|dup2 {d} {d}|close {d}|link {n} {n}|unlink {n}"
+    "|fstat {d}|dup {d}|dup2 {d} {d}|close {d}|link {n} {n}|unlink {n}|rename {n} {n}|getfl {d}|setfl {d} {f}"
 ).split("|")
 
 

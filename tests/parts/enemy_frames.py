@@ -57,7 +57,8 @@ p0 write 2 61*1023|p0 write 2 61*512|p0 pread 0 1 3|p0 pwrite 0 3 x2122|p0 pwrit
 p0 lseek 0 -1 end|p0 ftruncate 0 3|p0 dup 0|p0 dup2 0 31|p0 pipe|p0 mkfifo g|p0 link a b|p0 unlink a|p0 fstat 0
 p0 fstat 1|p0 open f r,nonblock; p0 fstat 3|p0 fork|p1 write 2 61*2000; p0 read 1 500; p1 resume
 p1 write 2 61*2000; p0 read 1 999; p1 resume|p0 read 1 2; p1 read 1 5; p0 write 2 x6869; p1 resume
-p0 open f w; p1 open f r; p0 resume
+p0 open f w; p1 open f r; p0 resume|p0 getfl 0|p0 setfl 2 w,append,nonblock; p0 getfl 2|p0 setfl 0 rw,creat,append
+p0 rename a f|p0 rename f g|p0 link a b; p0 rename a b
 p1 close 1; p1 write 2 61*1000; p1 write 2 61*512; p0 close 1; p2 attach; p2 close 1; p1 resume"""
 # What comes after it, as far as it can.
 END = ["p1 fstat 0", "p0 close 0", "close-run"]
@@ -71,6 +72,7 @@ EVERY_VALUE = {
     "p0 lseek 0 2 set": 17,
     "p0 fstat 0": 10,
     "p0 close 3": 10,
+    "p0 setfl 0 rw,creat,append": 9,
 }
 
 

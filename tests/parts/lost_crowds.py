@@ -33,7 +33,7 @@ A_CHILD = 1
 RANDOM_CALLS = (
     "read 0 {c}|read 0 {c}|read 0 {c}|read {d} {c}|write 1 {x}|write 1 {x}|write 1 {x}|write {d} {x}|open {n} r"
     "|open {n} w|open {n} {f}|open {n} {f}|open s rw,creat|pread {d} 0 {c}|close {e}|dup2 {d} {e}|dup2 {d} {e}"
-    "|fstat {d}|lseek {d} 1 cur|mkfifo {n}|unlink {n}|link {n} s"
+    "|fstat {d}|lseek {d} 1 cur|mkfifo {n}|unlink {n}|link {n} s|getfl {d}|setfl {d} {s}|rename {n} {n}"
 ).split("|")
 FORKS = 0.01
 FIELDS = {
@@ -42,6 +42,7 @@ FIELDS = {
     "e": "0 1 2 2 3 3 4 4 5".split(),
     "f": "r,nonblock w,nonblock".split(),
     "n": "f f g h".split(),
+    "s": "- - r,nonblock -,append".split(),
 }
 
 # Numbers of children that nobody has attached yet.
