@@ -212,6 +212,19 @@ WRITTEN_OUT = [
     ("all flags", "requests", "00000004107f0161", ["- p0 open a rw,creat,excl,trunc,append,nonblock = still", "more"]),
     ("a flag that is none", "requests", "0000000410800161", ["malformed 0"]),
     ("a base that is none", "requests", "0000000e1600000000000000000000000003", ["malformed 0"]),
+    ("what asks for flags", "requests", "00000005 20 00000000", ["- p0 getfl 0 = still", "more"]),
+    ("what sets append", "requests", "00000006 21 00000001 20", ["- p0 setfl 1 -,append = still", "more"]),
+    (
+        "what sets all flags",
+        "requests",
+        "00000006 21 ffffffff 7f",
+        ["- p0 setfl -1 rw,creat,excl,trunc,append,nonblock = still", "more"],
+    ),
+    ("a flag to set that is none", "requests", "00000006 21 00000001 80", ["malformed 0"]),
+    ("what sets no flags", "requests", "00000005 21 00000001", ["malformed 0"]),
+    ("a rename", "requests", "00000005 22 01 61 01 62", ["- p0 rename a b = still", "more"]),
+    ("a rename without a second name", "requests", "00000003 22 01 61", ["malformed 0"]),
+    ("the byte after the last call", "requests", "00000001 23", ["malformed 0"]),
     ("a fault after a join", "requests", "00000001010000000103", ["join", "malformed 5"]),
     ("what a fault follows is not read", "requests", "000000000000000101", ["malformed 0"]),
     ("an error that is none", "answers", "0000000b01000000000000000006ff", ["malformed 0"]),
@@ -231,6 +244,12 @@ WRITTEN_OUT = [
         ["0 p0 join = 0", "1 p0 pipe = 0 1", "2 p0 exit = ok", "more"],
     ),
     ("a resume", "records", "0000000a 00000001 03 08 00000201", ["0 p1 resume = part 513", "more"]),
+    (
+        "flags that are told",
+        "records",
+        "00000012 00000000 20 00000000 02 0000000000000023",
+        ["0 p0 getfl 0 = 35", "more"],
+    ),
     ("the closing", "records", "00000006 ffffffff 05 01", ["0 house close-run = ok", "more"]),
     ("a closing by a process", "records", "00000006 00000000 05 01", ["malformed 0"]),
     (
@@ -290,7 +309,7 @@ def conversations() -> Iterator[tuple[str, Stream]]:
 def cut_everywhere(trial: str) -> Iterator[Case]:
     """Runs conversations, cut at every byte."""
     for what, stream in conversations():
-        if len(stream.frames) < 18 or stream.fault:
+        if len(stream.frames) < 2 + len(CALLS) or stream.fault:
             raise SystemExit(f"{what} is not what it should be: {stream.fault}")
         for first in range(len(stream.stream) + 1):
             yield f"{what}, cut at {first}", partial(check, trial, stream, first, ALL)
