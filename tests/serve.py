@@ -509,6 +509,7 @@ def hostile(program: str) -> Iterator[Case]:
         ("a frame that is too long", JOIN + u32(65_793), ["0 0"], 3),
         ("an empty frame", JOIN + u32(0), ["0 0"], 3),
         ("a request that is none", JOIN + framed(b"\xff"), ["0 0"], 3),
+        ("a flag to set that is none", JOIN + framed(bytes.fromhex("210000000080")), ["0 0"], 3),
         ("a call before a join", call, nothing, 1),
         ("a second join", JOIN + call + JOIN, ["0 0", "1 error EBADF"], 4),
         ("a byte too many", JOIN + framed(call[4:] + b"\0"), ["0 0"], 3),
