@@ -208,7 +208,7 @@ def process_is_quiet(program: str) -> None:
 
 # ---- scripts
 
-LATER_FLAGS = ",creat ,excl ,trunc ,append ,nonblock"
+ANY_FLAGS = "r, w, rw or -, and after it ,creat ,excl ,trunc ,append ,nonblock in this order"
 
 
 @case("nothing but NUL", b"\0" * 1000)
@@ -222,8 +222,12 @@ LATER_FLAGS = ",creat ,excl ,trunc ,append ,nonblock"
 @case("no count", b"p0 read 0 -1", 1, 11, "a count of bytes, from 0 to 4294967295")
 @case("no name", b"p0 unlink %4", 1, 11, "a name of at most 255 bytes, as a or a%20b")
 @case("no data", b"p0 write 0 hello", 1, 12, "data of at most 65700 bytes, as x6869 or 61*512")
-@case("no flags", b"p0 open a +", 1, 11, f"r, w, rw or -, and after it {LATER_FLAGS} in this order")
+@case("no flags", b"p0 open a +", 1, 11, ANY_FLAGS)
 @case("no base", b"p0 lseek 0 0 at", 1, 14, "set, cur or end")
+@case("no flags to set", b"p0 setfl 0", 1, 11, ANY_FLAGS)
+@case("flags to set out of order", b"p0 setfl 0 -,nonblock,append", 1, 12, ANY_FLAGS)
+@case("flags that are not asked for", b"p0 getfl 0 r", 1, 12, "the end of the line")
+@case("no second name", b"p0 rename a", 1, 12, "a name of at most 255 bytes, as a or a%20b")
 @case("a word too many", b"p0 fork 1", 1, 9, "the end of the line")
 @case("an empty word at the end", b"join ", 1, 6, "the end of the line")
 def is_bad_line(
