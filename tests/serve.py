@@ -238,8 +238,8 @@ PLAYS = [
         a close 1 | 9 ok; a pipe | 10 1 2; a mkfifo f | 11 ok; a link a b | 12 ok; a unlink a | 13 ok
         a fstat 5 | 14 regular 3 1; a fork | 15 1; a read 0 9 | 16 x; a open f - | 17 error EINVAL
         a open f r,nonblock | 18 3; a fstat 3 | 19 fifo 0 1; a getfl 5 | 20 3; a setfl 0 w,creat,append | 21 ok
-        a getfl 5 | 22 35; a getfl 3 | 23 65; a rename b f | 24 ok; a fstat 3 | 25 fifo 0 0; a open b r | 26 error ENOENT
-        a fstat 0 | 27 regular 3 1""",
+        a getfl 5 | 22 35; a getfl 3 | 23 65; a rename b f | 24 ok; a fstat 3 | 25 fifo 0 0
+        a open b r | 26 error ENOENT; a fstat 0 | 27 regular 3 1""",
         (31, 7, 3),
     ),
 ]

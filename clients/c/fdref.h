@@ -251,7 +251,8 @@ struct fdref_outcome fdref_result(int64_t result);
 struct fdref_outcome fdref_result_done(int result);
 struct fdref_outcome fdref_result_data(const void *buffer, ssize_t result);
 
-/* The same, of what F_GETFL returned. No trace can hold flags that an open may not have either. */
+/* The same, of the flags that F_GETFL returned. A trace holds no other flags than an open has; what else a system tells
+   has to be left out before. */
 struct fdref_outcome fdref_result_flags(int result);
 
 #ifdef __cplusplus

@@ -20,8 +20,8 @@
 enum { LINE_MOST = 300000, BYTES_MOST = 70000, WORDS_MOST = 4 };
 
 enum call {
-    OPEN, CLOSE, READ, WRITE, PREAD, PWRITE, LSEEK, FTRUNCATE, DUP, DUP2, PIPE, MKFIFO, LINK, UNLINK, FSTAT, FORK, GETFL,
-    SETFL, RENAME, CALLS
+    OPEN, CLOSE, READ, WRITE, PREAD, PWRITE, LSEEK, FTRUNCATE, DUP, DUP2, PIPE, MKFIFO, LINK, UNLINK, FSTAT, FORK,
+    GETFL, SETFL, RENAME, CALLS
 };
 
 /* The word of each call, and what it gives: n a number, o nothing, b bytes, e two ends, t what fstat tells, f flags. */

@@ -309,8 +309,9 @@ close 3; pipe; close 1; write 3 x61; close 3; close -2147483648; dup2 0 21474836
 write 0 61*65536; pread 0 0 65536; pread 0 1 65536; lseek 0 0 set; read 0 65536; read 0 1; write 0 61*65537
 write 0 61*65700; pwrite 0 983041 62*65536; pread 0 983040 65536; read 0 65537; pread 0 9223372036854775807 65536
 getfl 0; setfl 0 w,creat,excl,trunc,append,nonblock; getfl 9; setfl 9 -; getfl 0; getfl 2; setfl 2 r,nonblock; getfl 2
-getfl -1; setfl 7 -; rename b j; rename f n; open f r; rename n f; rename c f; open f r; open c r; rename b b; rename o b
-rename % b; rename b %ff; rename f .; rename f nnnnnnnnnnnnnnnnnnnnnnnnnnnnnnnnnnnnnnnnnnnnnnnnnnnnnnnnnnnnnnnnn
+getfl -1; setfl 7 -; rename b j; rename f n; open f r; rename n f; rename c f; open f r; open c r; rename b b
+rename o b; rename % b; rename b %ff; rename f .
+rename f nnnnnnnnnnnnnnnnnnnnnnnnnnnnnnnnnnnnnnnnnnnnnnnnnnnnnnnnnnnnnnnnn
 """
 
 

@@ -16,8 +16,8 @@ from support.sources import numbered, source
 
 PAIRS = 31
 FILES, FIFOS, BAD_NAMES = ["a", "b", "c", "d"], ["f", "g"], ["%", "a%2f", ".", "n" * 65]
-# Each open of these names and each setfl has nonblock, so none of these calls waits; they leave alone the ends of a pipe
-# that are descriptors 0 and 1.
+# Each open of these names has nonblock, and each setfl, so none of these calls waits; they leave alone the ends of a
+# pipe that are descriptors 0 and 1.
 RANDOM_CALLS = (
     "open {n} {f}|open {n} {f}|open {n} {f}|close {d}|read {d} {c}|read {d} {c}|write {d} {x}|write {d} {x}"
     "|pread {e} {p} {c}|pread {e} {p} {c}|pwrite {e} {p} {x}|pwrite {e} {p} {x}|lseek {e} {o} {w}|lseek {e} {o} {w}"

@@ -22,8 +22,8 @@ MOODS = {
         "rename 2 getfl 1 setfl 3 fork 1 attach 2"
     ),
     "pipes": (
-        "pipe 4 read 14 write 16 resume 12 fork 3 attach 6 close 9 dup 1 dup2 2 exit 3 fstat 3 pwrite 1 pread 1 lseek 1 "
-        "getfl 1 setfl 4"
+        "pipe 4 read 14 write 16 resume 12 fork 3 attach 6 close 9 dup 1 dup2 2 exit 3 fstat 3 pwrite 1 pread 1 "
+        "lseek 1 getfl 1 setfl 4"
     ),
     "fifos": (
         "mkfifo 3 open 18 read 8 write 9 resume 12 close 8 join 3 fork 1 attach 2 exit 3 link 1 unlink 2 fstat 3 dup 1 "
@@ -31,7 +31,9 @@ MOODS = {
     ),
     "names": "open 8 mkfifo 6 link 14 unlink 6 rename 10 fstat 4 close 5 write 2 read 2 fork 1 attach 1 exit 1",
     "processes": "join 8 fork 8 attach 10 exit 3 pipe 2 open 3 read 3 write 3 resume 3 close 2 dup2 1 fstat 1",
-    "descriptors": "open 10 pipe 4 dup 10 dup2 8 close 3 fstat 3 getfl 2 setfl 2 fork 1 attach 1 lseek 2 read 2 write 2",
+    "descriptors": (
+        "open 10 pipe 4 dup 10 dup2 8 close 3 fstat 3 getfl 2 setfl 2 fork 1 attach 1 lseek 2 read 2 write 2"
+    ),
 }
 
 FLAGS = ["creat", "excl", "trunc", "append", "nonblock"]
