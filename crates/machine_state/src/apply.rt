@@ -1,4 +1,4 @@
-ghost use Rattle.std.specs.Prelude.{◌≡◌, false};
+ghost use Rattle.std.specs.Prelude.{◌≡◌, ℕ, List, false, true};
 ghost use Rattle.call_types.specs.Proved.Stored.{span_bytes};
 ghost use Rattle.posix_model.specs.Change.{with_files, with_processes, with_table, changed};
 ghost use Rattle.posix_model.specs.Proved.Fits.{FilesFit, ProcessFits, TableFits, is_of_names, ends, Fits, FilesProper, ProcessProper, TableProper, IsProper, PutsWithin};
@@ -12,6 +12,14 @@ use call_types::span::Span;
 use file_table::stored_file::FileBody;
 use posix_model::change::{Change, FileEdit, ProcessEdit, TableEdit};
 use posix_model::laws::sweep_releases;
+
+/// Whether an edit is one of names.
+#[inline(always)]
+fn is_of_names(edit: &FileEdit) -> bool
+    ensures { result ≡ is_of_names edit.now }
+{
+    matches!(edit, FileEdit::Names(_))
+}
 
 impl Machine {
     /// Makes an edit of files but one of names, with the bytes of the act. Nothing waits for a sweep after it.
@@ -104,31 +112,19 @@ impl Machine {
         self.is_settled();
     }
 
-    /// Makes a change of no names, and sweeps after it.
-    #[inline(always)]
-    fn apply_keeping(
-        &mut self,
-        bytes: Span<'_>,
-        files: FileEdit,
-        process: ProcessEdit,
-        table: TableEdit,
-    )
-        requires stays { is_of_names files ≡ false }
-        requires fits { Fits self.old.world (span_bytes bytes) (record { files = files; process = process; table = table }) }
-        requires proper { IsProper self.old.world (span_bytes bytes) (record { files = files; process = process; table = table }) }
-        requires room { HasRoom self.old (record { files = files; process = process; table = table }) }
-        requires holds { PutsWithin self.old.room.capacity self.old.world files }
-        requires ends { EachThere (λ description. IsItsFifo self.old.world.files description.target) self.old.world.descriptions }
-        ensures world { self.new.world ≡ sweep (changed self.old.world (span_bytes bytes.entry) (record { files = files; process = process; table = table })) }
+    /// Makes an edit of names, and sweeps after it.
+    fn apply_names(&mut self, edit: FileEdit)
+        requires names { is_of_names edit ≡ true }
+        requires fits { FilesFit self.old.world edit }
+        requires proper { (bytes : List ℕ) × FilesProper self.old.world bytes edit }
+        requires room { HasFileRoom self.old.room edit }
+        ensures world { (bytes : List ℕ) → self.new.world ≡ sweep (with_files self.old.world bytes edit) }
         ensures capacity { self.new.room.capacity ≡ self.old.room.capacity }
     {
-        if let ProcessEdit::Exit { process } = process {
-            self.exit(process);
-            return;
+        match edit {
+            FileEdit::Names(edit) => self.edit_names(edit),
+            _ => unreachable!(),
         }
-        self.apply_files(bytes, files);
-        self.apply_process(process);
-        self.apply_table(table);
     }
 
     /// Makes a change, and sweeps after it. It cannot fail for want of memory: its room stands reserved.
@@ -147,9 +143,16 @@ impl Machine {
             process,
             table,
         } = change;
-        match files {
-            FileEdit::Names(edit) => self.edit_names(edit),
-            files => self.apply_keeping(bytes, files, process, table),
+        if is_of_names(&files) {
+            self.apply_names(files);
+            return;
         }
+        if let ProcessEdit::Exit { process } = process {
+            self.exit(process);
+            return;
+        }
+        self.apply_files(bytes, files);
+        self.apply_process(process);
+        self.apply_table(table);
     }
 }
