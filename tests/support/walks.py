@@ -13,7 +13,7 @@ Field = int | str
 ODD = 0.05
 
 # how often one of the words that are to come often is tried first
-OFTEN = 0.33
+OFTEN = 0.36
 
 # how often a walk takes each act; it changes its mood on the way
 MOODS = {
