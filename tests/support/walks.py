@@ -12,8 +12,8 @@ Field = int | str
 # how often a choice makes no sense on purpose
 ODD = 0.05
 
-# how often one of the words that are to come often is tried first
-OFTEN = 0.36
+# how often one of the words that are to come often is tried first: some have no sensible fields then, and a third stays
+OFTEN = 0.4
 
 # how often a walk takes each act; it changes its mood on the way
 MOODS = {
