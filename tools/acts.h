@@ -31,11 +31,12 @@ enum { USAGE = 2, BAD_SCRIPT, STREAM_FAILED, SYSTEM_REFUSED, PROCESS_LOST, CALL_
 
 enum call {
     OPEN, CLOSE, READ, WRITE, PREAD, PWRITE, LSEEK, FTRUNCATE, DUP, DUP2, PIPE, MKFIFO, LINK, UNLINK, FSTAT,
-    FORK, ATTACH, RESUME, EXIT, JOIN, CLOSE_RUN, CALLS
+    GETFL, SETFL, RENAME, FORK, ATTACH, RESUME, EXIT, JOIN, CLOSE_RUN, CALLS
 };
 
 /* The word of each act, the kinds of its fields (d a descriptor, n a count, p a position, b bytes, s a name, f
-   flags, w where an offset begins) and of what it gives (o ok, n a number, b bytes, e two ends, t what fstat tells). */
+   flags to open with, g flags to set, w where an offset begins) and of what it gives (o ok, n a number, b bytes, e two
+   ends, t what fstat tells). */
 static const struct {
     const char *word, *fields;
     char gives;
@@ -43,6 +44,7 @@ static const struct {
     {"open", "sf", 'n'}, {"close", "d", 'o'}, {"read", "dn", 'b'}, {"write", "db", 'n'}, {"pread", "dpn", 'b'},
     {"pwrite", "dpb", 'n'}, {"lseek", "dpw", 'n'}, {"ftruncate", "dp", 'o'}, {"dup", "d", 'n'}, {"dup2", "dd", 'n'},
     {"pipe", "", 'e'}, {"mkfifo", "s", 'o'}, {"link", "ss", 'o'}, {"unlink", "s", 'o'}, {"fstat", "d", 't'},
+    {"getfl", "d", 'n'}, {"setfl", "dg", 'o'}, {"rename", "ss", 'o'},
     {"fork", "", 'n'}, {"attach", "", 'o'}, {"resume", "", 'o'}, {"exit", "", 'o'}, {"join", "", 'n'},
     {"close-run", "", 'o'}
 };
@@ -157,20 +159,23 @@ static int read_name(const char *word, char *name, char *text, int *is_askable)
     return is_empty || size > 0;
 }
 
-/* Reads flags, as open takes them. Of neither reading nor writing nobody is asked. */
+/* The flags beside the mode. A number of fdref has 4 for the first, 8 for the second, and so on. */
+enum { FLAGS = 5 };
+static const int flag_bits[FLAGS] = {O_CREAT, O_EXCL, O_TRUNC, O_APPEND, O_NONBLOCK};
+
+/* Reads flags. An open for neither reading nor writing is not asked. */
 static int read_flags(const char *word, long long *flags, int *is_askable)
 {
-    static const char *const words[] = {",creat", ",excl", ",trunc", ",append", ",nonblock"};
-    static const int bits[] = {O_CREAT, O_EXCL, O_TRUNC, O_APPEND, O_NONBLOCK};
+    static const char *const words[FLAGS] = {",creat", ",excl", ",trunc", ",append", ",nonblock"};
     size_t size = strcspn(word, ",");
     if (size == 2 ? strncmp(word, "rw", 2) != 0 : size != 1 || !strchr("rw-", *word))
         return 0;
     *is_askable &= *word != '-';
     *flags = size == 2 ? O_RDWR : *word == 'w' ? O_WRONLY : O_RDONLY;
-    for (int at = 0; at < 5; at++) {
+    for (int at = 0; at < FLAGS; at++) {
         word += size;
         size = strncmp(word, words[at], strlen(words[at])) == 0 ? strlen(words[at]) : 0;
-        *flags |= size > 0 ? bits[at] : 0;
+        *flags |= size > 0 ? flag_bits[at] : 0;
     }
     return word[size] == 0;
 }
@@ -179,6 +184,7 @@ static int read_field(char kind, int place, const char *word, struct act *act)
 {
     long long *value = &act->numbers[place];
     char *text = act->texts[place];
+    int is_any = 1;
     snprintf(text, sizeof act->texts[place], "%s", word);
     switch (kind) {
     case 'd': return read_number(word, INT_MIN, INT_MAX, value);
@@ -187,6 +193,7 @@ static int read_field(char kind, int place, const char *word, struct act *act)
     case 'b': return read_bytes(word, &act->size);
     case 's': return read_name(word, act->names[place], text, &act->is_askable);
     case 'f': return read_flags(word, value, &act->is_askable);
+    case 'g': return read_flags(word, value, &is_any);
     default:
         *value = strcmp(word, "set") == 0 ? SEEK_SET : strcmp(word, "cur") == 0 ? SEEK_CUR : SEEK_END;
         return *value != SEEK_END || strcmp(word, "end") == 0;
@@ -331,6 +338,25 @@ static int make_pipe(struct answer *answer)
     return made == 0 ? ends[0] : -1;
 }
 
+/* Tells the mode and the flags of a description as a number of fdref. What else F_GETFL may tell by its page, as
+   O_LARGEFILE, is left out. */
+static long long get_flags(int fd)
+{
+    int flags = fcntl(fd, F_GETFL), mode = flags & O_ACCMODE;
+    long long told = mode == O_RDWR ? 3 : mode == O_WRONLY ? 2 : 1;
+    for (int at = 0; at < FLAGS; at++)
+        told |= flags & flag_bits[at] ? 4 << at : 0;
+    return flags < 0 ? -1 : told;
+}
+
+/* Sets O_APPEND and O_NONBLOCK as in these flags. Mode and creation flags are given too, which the system has to
+   ignore; all other flags stay as they are. */
+static int set_flags(int fd, int flags)
+{
+    int old = fcntl(fd, F_GETFL);
+    return old < 0 ? -1 : fcntl(fd, F_SETFL, (old & ~(O_ACCMODE | O_APPEND | O_NONBLOCK)) | flags);
+}
+
 /* Makes a call, or exits; a fork is made elsewhere. Of so many bytes at most, what is read goes to `into`. */
 static long long called(const struct act *act, const unsigned char *bytes, unsigned char *into, struct answer *answer)
 {
@@ -352,6 +378,9 @@ static long long called(const struct act *act, const unsigned char *bytes, unsig
     case LINK: return link(act->names[0], act->names[1]);
     case UNLINK: return unlink(act->names[0]);
     case FSTAT: return stat_file(fd, answer);
+    case GETFL: return get_flags(fd);
+    case SETFL: return set_flags(fd, (int)second);
+    case RENAME: return rename(act->names[0], act->names[1]);
     default: _exit(0);
     }
 }
