@@ -6,8 +6,8 @@ usage: tools/compare.py SCRIPT-OR-FOLDER...
 
 Each script is run by tools/ask_kernel.c, with a real process for each of its processes. The acts of
 the run that happened are then given to `fdref replay`, and the two are compared line by line; a `?`
-fits any number. At the end of each script acts are added that look at all that can be reached: size
-and links, offset and contents of each descriptor and of each name.
+fits any number. At the end of each script acts are added that look at all that can be reached: flags,
+size and links, offset and contents of each descriptor and of each name.
 
 A difference is told with the lines before it and with its reason, if there is one: the page of the
 standard, and whether the system departs from it or the profile chose (own). Where system and fdref are
@@ -117,7 +117,7 @@ class Difference:
 
     def is_settled(self) -> bool:
         """Whether system and fdref are in the same state after it, so that the run can go on."""
-        is_look = self.words("fstat") and not follows_append(self)
+        is_look = self.words("fstat", "getfl") and not follows_append(self)
         return self.are_errors() or is_look or self.system == "not asked"
 
 
@@ -477,6 +477,7 @@ def last_looks(world: plain_model.World) -> list[str]:
     looks += [f"p{it.number} resume" for it in live if it.waits]
     for it in awake:
         for fd, at in sorted(it.table.items()):
+            looks.append(f"p{it.number} getfl {fd}")
             # what fstat tells of a pipe without a name is the profile's own
             looks += [f"p{it.number} fstat {fd}"] if at.file.kind != "pipe" else []
             looks += [f"p{it.number} lseek {fd} 0 cur", *contents(it, fd, at.regular)] if not at.pipe else []
