@@ -207,6 +207,41 @@ def names(pick: random.Random, processes: int, calls: int) -> Parts:
     return Parts(forked(["open a rw,creat"], processes), many(pick, processes, calls, choice))
 
 
+def renames(pick: random.Random, processes: int, calls: int) -> Parts:
+    """Names that are renamed over others, with what is behind them."""
+
+    def choice(process: int, number: int) -> Sequence[str]:
+        one, other = pick.sample("abc", 2)
+        opens = [f"open {one} r", f"open {one} rw,creat", f"open {one} rw,creat,excl"]
+        return [*[f"rename {one} {other}"] * 3, *opens, f"unlink {one}", f"link {one} {other}", "fstat 0", "fstat 1"]
+
+    first = ["open a rw,creat", "open b rw,creat", "write 1 x61"]
+    return Parts(forked(first, processes), many(pick, processes, calls, choice))
+
+
+def append_is_set(pick: random.Random, processes: int, calls: int) -> Parts:
+    """Setfls of a file, with reads and writes of one description, and writes of another one."""
+
+    def choice(process: int, number: int) -> Sequence[str]:
+        sets = [f"setfl 0 {flags}" for flags in ("-", "rw,append", "-,append,nonblock")]
+        writes = [f"write {fd} {data(process, number, 2)}" for fd in (0, 0, 1)]
+        return [*sets, *writes, "read 0 3", "getfl 0", "lseek 0 0 cur", LOOK]
+
+    first = ["open a rw,creat", "open a w,append", "write 0 x61626364", "lseek 0 0 set"]
+    return Parts(forked(first, processes), many(pick, processes, calls, choice))
+
+
+def nonblock_is_set(pick: random.Random, processes: int, calls: int) -> Parts:
+    """Setfls of both ends of a pipe, with reads and writes."""
+
+    def choice(process: int, number: int) -> Sequence[str]:
+        sets = [f"setfl {fd} {flags}" for fd in (0, 1) for flags in ("-", "-,nonblock")]
+        writes = [f"write 1 {data(process, number, count)}" for count in (2, 400, 600)]
+        return [*sets, *writes, *READS, "getfl 0"]
+
+    return Parts(forked(["pipe"], processes), many(pick, processes, calls, choice))
+
+
 def descriptors(pick: random.Random, processes: int, calls: int) -> Parts:
     """Uses of two files, of which now one and now the other is behind a descriptor."""
 
@@ -265,6 +300,9 @@ EVERY: list[Race] = [
     blind_appends,
     overlapping,
     names,
+    renames,
+    append_is_set,
+    nonblock_is_set,
     descriptors,
     one_reader,
     two_readers,

@@ -21,10 +21,13 @@ SIX_BYTES = f"p0 join = 0; p0 open a rw,creat = 0; p0 write 0 x616263646566 = 6;
 PIPE = f"p0 join = 0; p0 pipe = 0 1; {FORKED}"
 THREE_AT_A_PIPE = f"{PIPE}; p0 fork = 2; p2 attach = ok"
 FIFO = f"p0 join = 0; p0 mkfifo f = ok; {FORKED}"
+# Here `a` is empty, and `b` has a byte.
+TWO_NAMES = f"p0 join = 0; p0 open a rw,creat = 0; p0 open b rw,creat = 1; p0 write 1 x61 = 1; {FORKED}"
 # The first calls end before this.
 BEGIN = 1_000
 
 ATOMIC = "XSH 2.9.7: calls on regular files are atomic to each other; page of "
+REPLACED = "page of rename: a name that is replaced is never missing"
 SMALL = "page of write: at most PIPE_BUF bytes are not interleaved; page of read"
 
 
@@ -83,6 +86,25 @@ EXPLAINED = [
         "1 2 p0 open f r,nonblock = 0; 3 4 p1 open f w = 0; 5 6 p1 write 0 x61 = 1; 7 8 p0 close 0 = ok; "
         "7 8 p1 close 0 = ok; 9 10 p0 open f r,nonblock = 0; 11 12 p1 open f w = 0; "
         "13 14 p1 write 0 x62 = 1; 15 16 p0 read 0 9 = x62",
+    ),
+    Told(
+        "a name of two files, one of which is renamed",
+        TWO,
+        "1 2 p0 open b rw,creat,append = 1; 3 4 p0 write 1 x61 = 1; 5 6 p0 pread 1 0 9 = x61; "
+        "7 8 p1 rename b c = ok; 9 10 p1 open b rw,creat,append = 1; 11 12 p1 write 1 x62 = 1; "
+        "13 14 p1 pread 1 0 9 = x62",
+    ),
+    Told(
+        "a file that is renamed over a FIFO",
+        FIFO,
+        "1 2 p0 open h w,creat = 0; 3 4 p0 write 0 x61 = 1; 5 6 p0 lseek 0 0 set = 0; 7 8 p0 write 0 x62 = 1; "
+        "9 10 p1 rename h f = ok; 11 12 p1 open f r = 0; 13 14 p1 read 0 9 = x62",
+    ),
+    Told(
+        "a file that does not only grow any more",
+        TWO_APPENDING,
+        "1 2 p0 write 0 x6162 = 2; 3 4 p1 pread 0 0 9 = x6162; 5 6 p1 setfl 0 - = ok; 7 8 p1 lseek 0 0 set = 0; "
+        "9 10 p0 write 0 x63 = 1; 11 12 p1 pread 0 0 9 = x6362",
     ),
     Told("nothing at once", TWO, ""),
     Told(
@@ -154,6 +176,36 @@ EXPLAINED = [
         TWO,
         "1 9 p0 open b rw,creat,excl = error EEXIST; 1 9 p1 open b rw,creat,excl = 1",
     ),
+    Told(
+        "an open of a name before it is replaced",
+        TWO_NAMES,
+        "1 9 p0 rename b a = ok; 2 8 p1 open a r = 2; 10 11 p1 fstat 2 = regular 0 0",
+    ),
+    Told(
+        "an open of a name after it is replaced",
+        TWO_NAMES,
+        "1 9 p0 rename b a = ok; 2 8 p1 open a r = 2; 10 11 p1 fstat 2 = regular 1 1",
+    ),
+    Told("an fstat after a late rename", TWO_NAMES, "1 5 p0 fstat 0 = regular 0 0; 2 9 p1 rename b a = ok"),
+    Told("one of two renames finds the name", TWO, "1 9 p0 rename a b = ok; 1 9 p1 rename a c = error ENOENT"),
+    Told(
+        "a rename of two names of one file",
+        f"{TWO}; p0 link a b = ok",
+        "1 9 p0 rename a b = ok; 2 8 p1 open a r = 1; 10 11 p1 fstat 0 = regular 0 2",
+    ),
+    Told("flags after a late setfl", TWO, "1 5 p0 getfl 0 = 99; 2 9 p1 setfl 0 r,append,nonblock = ok"),
+    Told(
+        "a write before setfl",
+        SIX_BYTES,
+        "1 9 p0 write 0 x41 = 1; 2 8 p1 setfl 0 -,append = ok; 10 11 p1 lseek 0 0 cur = 1",
+    ),
+    Told(
+        "a write after setfl",
+        SIX_BYTES,
+        "1 9 p0 write 0 x41 = 1; 2 8 p1 setfl 0 -,append = ok; 10 11 p1 lseek 0 0 cur = 7",
+    ),
+    Told("a read after setfl", PIPE, "1 9 p0 read 0 9 = error EAGAIN; 2 8 p1 setfl 0 -,nonblock = ok"),
+    Told("a read that waits from before setfl", PIPE, "1 - p0 read 0 9 = parked ?; 2 3 p1 setfl 0 -,nonblock = ok"),
     Told("two joins at once", "p0 join = 0", "1 8 p2 join = 2; 1 9 p1 join = 1"),
     Told("a child is faster than its fork", "p0 join = 0", "1 9 p0 fork = 1; 2 3 p1 attach = ok; 4 5 p1 mkfifo f = ok"),
 ]
@@ -274,6 +326,78 @@ IMPOSSIBLE = [
         TWO,
         "1 9 p0 open b rw,creat,excl = 1; 2 8 p1 open b rw,creat,excl = 1",
         ("p0 open b rw,creat,excl", ATOMIC + "open"),
+    ),
+    Told(
+        "a name that is missing while it is replaced",
+        TWO_NAMES,
+        "1 9 p0 rename b a = ok; 2 8 p1 open a r = error ENOENT",
+        ("p1 open a r", REPLACED),
+    ),
+    Told(
+        "a link of a name that is missing while it is replaced",
+        TWO_NAMES,
+        "1 9 p0 rename b a = ok; 2 8 p1 link a c = error ENOENT",
+        ("p1 link a c", REPLACED),
+    ),
+    Told(
+        "a name that is missing",
+        TWO_NAMES,
+        "1 3 p0 rename b a = ok; 4 8 p1 open a r = error ENOENT",
+        ("p1 open a r", ATOMIC + "open"),
+    ),
+    Told(
+        "an old name after the rename",
+        TWO_NAMES,
+        "1 3 p0 rename b a = ok; 4 8 p1 open b r = 2",
+        ("p1 open b r", ATOMIC + "open"),
+    ),
+    Told(
+        "an old file after the rename",
+        TWO_NAMES,
+        "1 3 p0 rename b a = ok; 4 5 p1 open a r = 2; 6 7 p1 fstat 2 = regular 0 0",
+        ("p1 fstat 2", ATOMIC + "fstat"),
+    ),
+    Told(
+        "both renames find the name",
+        TWO,
+        "1 9 p0 rename a b = ok; 1 8 p1 rename a c = ok",
+        ("p0 rename a b", ATOMIC + "rename"),
+    ),
+    Told(
+        "flags of one descriptor alone",
+        TWO,
+        "1 3 p0 setfl 0 -,append = ok; 4 5 p1 getfl 0 = 3",
+        ("p1 getfl 0", ATOMIC + "fcntl"),
+    ),
+    Told(
+        "half of the flags",
+        TWO,
+        "1 9 p0 setfl 0 -,append,nonblock = ok; 2 8 p1 getfl 0 = 35",
+        ("p1 getfl 0", ATOMIC + "fcntl"),
+    ),
+    Told(
+        "flags of one end alone",
+        PIPE,
+        "1 3 p0 setfl 0 -,nonblock = ok; 4 5 p1 getfl 0 = 1",
+        ("p1 getfl 0", "page of fcntl: a pipe or FIFO"),
+    ),
+    Told(
+        "a write at the offset after setfl",
+        SIX_BYTES,
+        "1 3 p0 setfl 0 -,append = ok; 4 5 p1 write 0 x41 = 1; 6 7 p0 lseek 0 0 cur = 1",
+        ("p0 lseek 0 0 cur", ATOMIC + "lseek"),
+    ),
+    Told(
+        "a read that waits after setfl",
+        PIPE,
+        "1 3 p0 setfl 0 -,nonblock = ok; 4 - p1 read 0 9 = parked ?",
+        ("p1 read 0 9", "page of read: it waits until there are data, or no writer"),
+    ),
+    Told(
+        "a read that does not wait after setfl",
+        PIPE,
+        "1 2 p0 setfl 0 -,nonblock = ok; 3 4 p0 setfl 0 - = ok; 5 6 p1 read 0 9 = error EAGAIN",
+        ("p1 read 0 9", "page of read: a pipe or FIFO"),
     ),
     Told(
         "an error that the profile does not know",

@@ -1,9 +1,10 @@
 """What later answers tell of the bytes that a write puts somewhere, so that a wrong order is known at once.
 
 Two kinds of files are looked at. In a regular file that only grows no byte is changed once it is there: all writes
-append, or all are made at one offset that nothing moves back. So each byte must be the one that is read at its place,
-whenever that is; and the file is never longer than it is told to be later. From a pipe the bytes come in the order in
-which they went in: so those that are in it must be what the processes that read from it are given next.
+append, or all are made at one offset that nothing moves back, and nothing sets its flags. So each byte must be the one
+that is read at its place, whenever that is; and the file is never longer than it is told to be later. From a pipe the
+bytes come in the order in which they went in: so those that are in it must be what the processes that read from it are
+given next.
 """
 
 from collections.abc import Iterable, Iterator, Mapping, Sequence
@@ -142,6 +143,8 @@ class Foretold:
         """What is known of the bytes of a file, if it only grows."""
         writes = [call for call in calls if call.noted.act.word == "write" and changes(call.noted)]
         is_appended = all("append" in call.at.flags for call in writes)
+        if any(call.noted.act.word == "setfl" for call in calls):
+            return None
         if not writes or not (is_appended or len({call.at.made_by for call in writes}) == 1):
             return None
         used = [call.noted for call in calls if call in writes or call.noted.act.word in ("pread", "read")]
@@ -171,7 +174,8 @@ class Foretold:
     def keeps_name(self, file: object, used: Sequence[Noted]) -> bool:
         """Whether a name leads to one file as long as that is used, which nothing makes empty after its first use."""
         first = self.footprints.names.first
-        named = [noted for noted in self.history if noted.act.word in ("open", "link", "unlink") and changes(noted)]
+        words = ("open", "link", "unlink", "rename")
+        named = [noted for noted in self.history if noted.act.word in words and changes(noted)]
         named = [noted for noted in named if first(noted.act.fields[0]) == file]
         opens = [noted for noted in named if noted.act.word == "open"]
         for noted in named:
@@ -207,7 +211,7 @@ class Foretold:
         """Whether there is one pipe, of which one description reads: so nothing in it is lost before it is read."""
         first = self.footprints.names.first
         acts = [noted.act for noted in self.history if not noted.outcome.startswith("error ")]
-        named = [act for act in acts if act.word in ("open", "link", "unlink", "mkfifo")]
+        named = [act for act in acts if act.word in ("open", "link", "unlink", "rename", "mkfifo")]
         words = [act.word for act in named if first(act.fields[0]) == file and is_reading(act)]
         return isinstance(file, tuple) or sorted(words) == ["mkfifo", "open"]
 

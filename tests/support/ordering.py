@@ -130,7 +130,12 @@ ENDS_OF_WAITING = {
     "open": "page of open: it waits until the other end is opened",
 }
 # XSH 2.9.7 names these of the calls, where they are made on regular files.
-ATOMIC = ("close", "dup2", "fstat", "ftruncate", "link", "lseek", "open", "pread", "pwrite", "read", "unlink", "write")
+ATOMIC = """
+    close dup2 fstat ftruncate getfl link lseek open pread pwrite read rename setfl unlink write
+""".split()
+# Calls whose page has another name.
+PAGES = {"getfl": "page of fcntl", "setfl": "page of fcntl"}
+REPLACED = "page of rename: a name that is replaced is never missing"
 
 
 def page_of(history: Sequence[Noted], blamed: Noted) -> str:
@@ -139,14 +144,29 @@ def page_of(history: Sequence[Noted], blamed: Noted) -> str:
     at = footprints.touches[list(history).index(blamed)].at
     word = blamed.act.word
     if blamed.outcome == WAITS:
-        return ENDS_OF_WAITING.get(word, f"page of {word}")
+        return ENDS_OF_WAITING.get(word, page_name(word))
+    if is_missing(history, blamed):
+        return REPLACED
     if word == "open" and footprints.names.first(blamed.act.fields[0]) in footprints.names.fifos:
         return "page of open: a FIFO"
     if at and at.may_be_pipe:
         return page_of_pipe(history, footprints, blamed, at)
     if word in ATOMIC:
-        return f"XSH 2.9.7: calls on regular files are atomic to each other; page of {word}"
-    return f"page of {word}"
+        return f"XSH 2.9.7: calls on regular files are atomic to each other; {page_name(word)}"
+    return page_name(word)
+
+
+def page_name(word: str) -> str:
+    """The page of a call."""
+    return PAGES.get(word, f"page of {word}")
+
+
+def is_missing(history: Sequence[Noted], blamed: Noted) -> bool:
+    """Whether a call finds no file of a name that a rename replaces meanwhile."""
+    if blamed.outcome != "error ENOENT":
+        return False
+    renames = [noted for noted in history if noted.act.word == "rename" and noted.act.fields[1] == blamed.act.fields[0]]
+    return any(not it.precedes(blamed) and not blamed.precedes(it) for it in renames if it is not blamed)
 
 
 def page_of_pipe(history: Sequence[Noted], footprints: Footprints, blamed: Noted, at: Opened) -> str:
@@ -158,4 +178,4 @@ def page_of_pipe(history: Sequence[Noted], footprints: Footprints, blamed: Noted
     ]
     if blamed.act.word in ("read", "write") and sizes and max(sizes) <= PIPE_BUF:
         return f"page of write: at most PIPE_BUF bytes are not interleaved; page of {blamed.act.word}"
-    return f"page of {blamed.act.word}: a pipe or FIFO"
+    return f"{page_name(blamed.act.word)}: a pipe or FIFO"

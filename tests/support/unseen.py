@@ -13,7 +13,7 @@ from support.histories import Noted
 
 # Calls on a descriptor whose answers do not depend on bytes and offsets.
 BLIND = ("write", "pwrite", "ftruncate")
-CHANGES_NO_BYTES = ("close", "dup", "dup2")
+CHANGES_NO_BYTES = ("close", "dup", "dup2", "getfl", "setfl")
 
 
 def last_looks(history: Sequence[Noted], footprints: Footprints) -> dict[int, int]:
