@@ -61,6 +61,9 @@ WRONG = {
     "stale": "append",
     "lost": "pipe",
     "interleave": "pipe",
+    "gap": "rename",
+    "own": "setfl",
+    "halves": "setfl",
 }
 
 
@@ -224,6 +227,8 @@ def answers_are_whole(bench: Bench) -> None:
     """Bytes and errors are spelled as fdref spells them."""
     calls = ["open a rw,creat", "write 0 x" + "61" * 17, "pread 0 0 20", "read 9 1", "lseek 0 0 set", "read 0 3"]
     answers = ["0", "17", "61*17", "error EBADF", "0", "x616161"]
+    calls += ["setfl 0 w,append", "getfl 0", "setfl 9 -", "rename a b", "rename a b", "fstat 0"]
+    answers += ["ok", "35", "error EBADF", "ok", "error ENOENT", "regular 17 1"]
     (history,) = bench.races("join\nrace\n" + "".join(f"p0 {call}\n" for call in calls))
     same(answers, [noted.outcome for noted in history[1:]])
 
@@ -397,6 +402,40 @@ SHARED = [
 ]
 
 
+NAMED = [
+    "0 1 p0 join = 0",
+    "2 3 p1 join = 1",
+    "4 5 p0 open a rw,creat = 0",
+    "6 7 p0 open b rw,creat = 1",
+]
+# What two processes do at once with these names, as above.
+RENAMED = [
+    ("100 900 p0 rename b a = ok", "200 300 p1 link a c = error ENOENT", "a link finds its file"),
+    ("100 900 p0 rename a c = ok", "200 300 p1 link a c = error EEXIST", "a link finds its file"),
+    ("100 900 p0 unlink a = ok", "200 950 p1 link a c = error EEXIST", None),
+    # without an overlap, of other calls, and of a name that nothing replaces
+    ("100 150 p0 rename b a = ok", "200 300 p1 link a c = error ENOENT", None),
+    ("100 900 p0 rename b a = ok", "200 300 p1 open a r = error ENOENT", None),
+    ("100 900 p0 rename b a = ok", "200 300 p1 rename a c = error ENOENT", None),
+    ("100 900 p0 rename b d = ok", "200 300 p1 link a c = error ENOENT", None),
+]
+# Here a process looks at a file that is replaced, and then opens what its name leads to.
+LOOKED = [
+    "0 1 p0 join = 0",
+    "2 3 p1 join = 1",
+    "4 5 p0 open b rw,creat = 0",
+    "6 7 p0 write 0 x61 = 1",
+    "8 9 p1 open a rw,creat = 0",
+]
+LOOKS = "200 300 p1 fstat 0 = regular 0 0\n400 450 p1 open a r = 1\n500 550 p1 fstat 1 = regular 0 0"
+REPLACED = [
+    ("100 900 p0 rename b a = ok", "links are told before"),
+    # without an overlap, and of a name that is taken away
+    ("100 150 p0 rename b a = ok", None),
+    ("100 900 p0 unlink a = ok", None),
+]
+
+
 def has_reason(before: list[str], one: str, other: str, reason: str | None) -> None:
     """A history that no order explains has this reason, or none."""
     (history,) = histories.read_histories("\n".join([*before, one, other]))
@@ -411,6 +450,12 @@ def reason_cases() -> Iterator[Case]:
     """Histories that no order explains, each with its reason, and near ones without."""
     for one, other, reason in MEANWHILE:
         yield f"{one} and {other}", partial(has_reason, OWN, one, other, reason)
+    for one, other, reason in RENAMED:
+        yield f"{one} and {other}", partial(has_reason, NAMED, one, other, reason)
+    for one, reason in REPLACED:
+        yield f"{one} and looks", partial(has_reason, LOOKED, one, LOOKS, reason)
+    late = "100 900 p0 rename b a = ok", f"{LOOKS}\n600 650 p2 link a c = error ENOENT"
+    yield "a late link and early looks", partial(has_reason, [*LOOKED, "10 11 p2 join = 2"], *late, "late links, and")
     shared = "100 900 p0 write 0 x6162 = 2", "200 300 p1 read 0 2 = x6130"
     yield "a read under the lock of one offset", partial(has_reason, SHARED, *shared, None)
     large = "100 900 p0 write 1 62*1000 = 1000"

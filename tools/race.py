@@ -126,6 +126,14 @@ class RoomReason(Reason):
         return ordering.by_room(race.history, STATES_MOST, SEARCH_SECONDS) is not None
 
 
+class LinkReason(Reason):
+    """The reason that a link is made in two halves: an order explains all where another call may come between."""
+
+    def fits(self, race: Race) -> bool:
+        """Whether an order explains a history with such links, and without what is doubted."""
+        return ordering.by_late_links(without(race.history, self.doubted(race)), STATES_MOST, SEARCH_SECONDS)
+
+
 def overlap(one: Noted, other: Noted) -> bool:
     """Whether two calls overlap in time."""
     return not one.precedes(other) and not other.precedes(one)
@@ -151,6 +159,16 @@ def is_growing(race: Race, one: Noted, other: Noted) -> bool:
     return race.are_apart(one, other) and length.isdigit() and int(length) % PAGE == 0
 
 
+def is_early(_: Race, one: Noted, other: Noted) -> bool:
+    """The links of a file that are told while a rename goes on, which may take one away."""
+    return one.act.word == "fstat" and one.outcome.startswith("regular ") and other.act.word == "rename"
+
+
+def is_never(*_: object) -> bool:
+    """Nothing is doubted."""
+    return False
+
+
 def is_either(race: Race, one: Noted, other: Noted) -> bool:
     """Either of both."""
     return is_torn(race, one, other) or is_growing(race, one, other)
@@ -158,10 +176,13 @@ def is_either(race: Race, one: Noted, other: Noted) -> bool:
 
 # Each reason, the narrow ones first: only what was seen on a system.
 REASONS = [
+    LinkReason("a link finds its file before it makes the name", "XSH 2.9.7; pages of link and rename", is_never),
+    Reason("links are told before a name is replaced", "XSH 2.9.7; pages of fstat and rename", is_early),
+    LinkReason("late links, and links told early", "XSH 2.9.7", is_early),
     Reason("a length grows by pages while a write goes on", "XSH 2.9.7; pages of fstat, lseek and write", is_growing),
     Reason("a read gives a part of what is written meanwhile", "XSH 2.9.7; pages of read and write", is_torn),
     Reason("both at once", "XSH 2.9.7", is_either),
-    RoomReason("room of a pipe (own)", "page of write", lambda *_: False),
+    RoomReason("room of a pipe (own)", "page of write", is_never),
 ]
 
 

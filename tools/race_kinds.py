@@ -116,6 +116,24 @@ def ftruncate(fd: int, most: int) -> Way:
     return lambda script: f"ftruncate {fd} {script.pick.choice([0, script.pick.randrange(most)])}"
 
 
+def pipe_write() -> Way:
+    """Writes of at most PIPE_BUF bytes into a pipe, which all together do not fill it."""
+    room = PIPE_ROOM
+
+    def one_write(script: Script) -> str:
+        nonlocal room
+        count = script.pick.choice([size for size in PIPE_SIZES if size <= max(room, 1)])
+        room -= count
+        return f"write 1 {script.own_bytes(count)}"
+
+    return one_write
+
+
+def pipe_read() -> Way:
+    """A read of a pipe."""
+    return lambda script: f"read 0 {script.pick.choice([*PIPE_SIZES, PIPE_ROOM])}"
+
+
 def says(*calls: str) -> Way:
     """One of these calls."""
     return lambda script: script.pick.choice(calls)
@@ -213,21 +231,59 @@ def names(script: Script) -> None:
     script.all_parts([opens, says("unlink a", "unlink b"), says("link a b", "link b a"), *looks], 2, 4)
 
 
+def renames(script: Script) -> None:
+    """A name that is renamed over another one, while both are opened, linked and taken away, and both files looked at.
+
+    They have one byte and two. In half of the scripts nothing takes `a` away, so that it is never missing.
+    """
+    script.joins()
+    script.before("p0 open a rw,creat", "p0 write 0 61*1", "p0 open b rw,creat", "p0 write 1 62*2", "p0 link b c")
+    script.before(*(f"p{process} open {name} rw" for process in range(1, script.processes) for name in "ab"))
+    over = ["rename b a", "rename b a", "rename c a", "rename c b"]
+    gone = ["unlink b", "unlink c"]
+    if script.pick.random() < 0.5:
+        over += ["rename a b", "rename a c"]
+        gone += ["unlink a"]
+    opens = says("open a r", "open a r", "open b r", "open a rw,creat,excl", "open b rw,creat")
+    looks = says("fstat 0", "fstat 1", "fstat 2", "pread 2 0 3")
+    links = says("link a b", "link b c", "link a c", "link c b")
+    script.all_parts([says(*over), says(*over), opens, opens, looks, looks, links, says(*gone)], 2, 4)
+
+
+def status_flags(script: Script) -> None:
+    """O_APPEND or O_NONBLOCK of a description that all processes share, set while they write and read."""
+    script.pick.choice([append_is_set, nonblock_is_set])(script)
+
+
+def append_is_set(script: Script) -> None:
+    """Setfls of a regular file, whose end is told too. Others write to it by descriptions of their own now and then."""
+    script.before("join", "p0 open f rw,creat", "p0 write 0 30*8", "p0 lseek 0 0 set")
+    script.forks()
+    sets = says("setfl 0 -,append", "setfl 0 -", "setfl 0 -,append,nonblock")
+    looks = ["getfl 0", "lseek 0 0 cur", "lseek 0 2 set", "fstat 0"]
+    writes = [write(0), write(0)]
+    if script.pick.random() < 0.3:
+        script.before(*(f"p{process} open f rw,append" for process in range(script.processes)))
+        writes.append(write(1))
+    script.all_parts([sets, sets, *writes, read(0), says(*looks)], 2, 4)
+
+
+def nonblock_is_set(script: Script) -> None:
+    """Setfls of both ends of a pipe, whose reads wait or do not."""
+    script.before("join", "p0 pipe")
+    script.forks()
+    sets = says("setfl 0 -,nonblock", "setfl 0 -,nonblock", "setfl 0 -", "setfl 1 -,nonblock", "setfl 0 -,append")
+    one_write, one_read = pipe_write(), pipe_read()
+    for process in range(script.processes):
+        way = one_read if process % 2 else one_write
+        script.part(process, [sets, way, way, says("getfl 0", "getfl 1"), one_read], 2, 4)
+
+
 def pipe_writes(script: Script) -> None:
     """Writes of at most PIPE_BUF bytes by several processes on one pipe, and its readers."""
     script.before("join", "p0 pipe")
     script.forks()
-    room = PIPE_ROOM
-
-    def one_write(it: Script) -> str:
-        nonlocal room
-        count = it.pick.choice([size for size in PIPE_SIZES if size <= max(room, 1)])
-        room -= count
-        return f"write 1 {it.own_bytes(count)}"
-
-    def one_read(it: Script) -> str:
-        return f"read 0 {it.pick.choice([*PIPE_SIZES, PIPE_ROOM])}"
-
+    one_write, one_read = pipe_write(), pipe_read()
     readers = script.pick.randint(1, script.processes - 1)
     for process in range(script.processes):
         script.part(process, [one_read] if process < readers else [one_write, one_write, says("close 1", "exit")])
@@ -268,6 +324,8 @@ KINDS: dict[str, Kind] = {
     "ftruncate": lengths,
     "dup2": duplicates,
     "names": names,
+    "rename": renames,
+    "setfl": status_flags,
     "pipe": pipe_writes,
     "fifo": fifos,
 }

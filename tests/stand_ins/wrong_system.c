@@ -6,7 +6,11 @@
    late        a read moves the offset only after it has its bytes
    stale       a write under O_APPEND goes where the end was before
    lost        a read of an empty pipe is not woken by what is written then
-   interleave  a write to a pipe goes in byte by byte */
+   interleave  a write to a pipe goes in byte by byte
+   gap         a rename takes the new name away before it gives it again
+   own         F_SETFL changes the flags of its own descriptor alone
+   halves      F_SETFL changes O_APPEND first, and O_NONBLOCK after it
+   creation    F_GETFL tells O_CREAT */
 
 #define _GNU_SOURCE
 #define _FILE_OFFSET_BITS 64
@@ -14,6 +18,7 @@
 #include <fcntl.h>
 #include <poll.h>
 #include <sched.h>
+#include <stdarg.h>
 #include <stdio.h>
 #include <stdlib.h>
 #include <string.h>
@@ -70,15 +75,20 @@ static ssize_t put_pieces(int fd, const char *bytes, size_t size, off64_t at, si
     return (ssize_t)done;
 }
 
+/* Opens anew what a descriptor leads to. */
+static int open_again(int fd, int flags)
+{
+    char path[64];
+    snprintf(path, sizeof path, "/proc/self/fd/%d", fd);
+    return open(path, flags);
+}
+
 /* Writes where the end was before others had their turn: by a description of its own, which is not under O_APPEND. */
 static ssize_t put_stale(int fd, const void *bytes, size_t size)
 {
-    char path[64];
     struct stat file;
     ssize_t moved;
-    int own;
-    snprintf(path, sizeof path, "/proc/self/fd/%d", fd);
-    own = open(path, O_WRONLY);
+    int own = open_again(fd, O_WRONLY);
     if (own < 0 || fstat(fd, &file) != 0)
         return -1;
     give_way();
@@ -123,4 +133,48 @@ ssize_t read(int fd, void *bytes, size_t size)
             sleep(SLEEP_SECONDS);
     }
     return syscall(SYS_read, fd, bytes, size);
+}
+
+int rename(const char *old, const char *new)
+{
+    struct stat one, other;
+    if (is_wrong("gap") && stat(old, &one) == 0 && stat(new, &other) == 0 && one.st_ino != other.st_ino) {
+        unlink(new);
+        give_way();
+    }
+    return (int)syscall(SYS_renameat2, AT_FDCWD, old, AT_FDCWD, new, 0);
+}
+
+static int get_flags(int fd) { return (int)syscall(SYS_fcntl, fd, F_GETFL, 0L); }
+static int set_flags(int fd, int flags) { return (int)syscall(SYS_fcntl, fd, F_SETFL, (long)flags); }
+
+/* Sets the flags of a new description, which the descriptor then leads to alone. */
+static int set_own(int fd, int flags)
+{
+    off64_t at = lseek(fd, 0, SEEK_CUR);
+    int own = open_again(fd, (get_flags(fd) & O_ACCMODE) | O_NONBLOCK);
+    if (own < 0 || dup2(own, fd) < 0)
+        return -1;
+    close(own);
+    if (at >= 0)
+        lseek(fd, at, SEEK_SET);
+    return set_flags(fd, flags);
+}
+
+int fcntl(int fd, int command, ...)
+{
+    va_list rest;
+    int value;
+    va_start(rest, command);
+    value = command == F_GETFL ? 0 : va_arg(rest, int);
+    va_end(rest);
+    if (command == F_SETFL && get_flags(fd) >= 0 && is_wrong("own"))
+        return set_own(fd, value);
+    if (command == F_SETFL && is_wrong("halves")) {
+        set_flags(fd, (get_flags(fd) & ~O_APPEND) | (value & O_APPEND));
+        give_way();
+    }
+    if (command == F_GETFL && get_flags(fd) >= 0 && is_wrong("creation"))
+        return get_flags(fd) | O_CREAT;
+    return (int)syscall(SYS_fcntl, fd, command, (long)value);
 }

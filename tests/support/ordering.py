@@ -13,6 +13,7 @@ from typing import NamedTuple
 from support import plain_model
 from support.footprints import Footprints, Opened
 from support.histories import WAITS, Noted
+from support.late_links import late_links
 from support.plain_model import PIPE_BUF
 from support.searching import Search, Step, TooLong
 from support.shortening import Shortening
@@ -97,6 +98,15 @@ def by_room(history: Sequence[Noted], states_most: int = STATES_MOST, seconds: f
     with roomy_pipes():
         result = explain(history, states_most, seconds, 0)
     return ByRoom(result.steps) if isinstance(result, Explained) else None
+
+
+def by_late_links(history: Sequence[Noted], states_most: int = STATES_MOST, seconds: float = SECONDS) -> bool:
+    """Whether an order explains a history of regular files where a link finds its file first, and names it later."""
+    words = {noted.act.word for noted in history}
+    if "link" not in words or "mkfifo" in words:
+        return False
+    with late_links():
+        return isinstance(explain(history, states_most, seconds, 0), Explained)
 
 
 # ---- who is to blame

@@ -11,6 +11,7 @@ however often a search comes by there.
 from typing import NamedTuple
 
 from support import plain_model
+from support.late_links import WaitingLink
 from support.plain_model import Description, Fifo, Pipe, Process, Regular, World
 
 # What a world is made of: bytes are a regular file, ("p", bytes) a pipe, and ("f", number of its pipe or None) a FIFO.
@@ -82,6 +83,8 @@ class Freezer:
             return "r", self.file(call.pipe), call.count
         if isinstance(call, plain_model.WaitingWrite):
             return "w", self.file(call.pipe), call.data, call.moved
+        if isinstance(call, WaitingLink):
+            return "l", self.file(call.file), call.new
         assert isinstance(call, plain_model.WaitingOpen)
         has_opened = call.fifo.opened[call.other] > call.seen
         return "o", self.file(call.fifo), call.fd, call.other, has_opened
@@ -137,6 +140,8 @@ def thawed_wait(told: tuple[object, ...], files: list[Regular | Pipe | Fifo]) ->
         writing = plain_model.WaitingWrite(file, rest[0])  # type: ignore[arg-type]
         writing.moved = rest[1]  # type: ignore[assignment]
         return writing
+    if kind == "l":
+        return WaitingLink(file, *rest)  # type: ignore[arg-type]
     opening = plain_model.WaitingOpen(rest[0], file, rest[1])  # type: ignore[arg-type]
     opening.seen -= bool(rest[2])
     return opening
