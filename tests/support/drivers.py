@@ -67,8 +67,9 @@ class Driver:
         return found
 
     def working(self) -> list[int]:
-        """Those of a script, which work in a folder of their own."""
-        return [number for number, folder in self.processes().items() if folder.endswith("/names")]
+        """Those of a script, which work in a folder of their own. A driver that begins is in that of all."""
+        names = os.path.realpath(self.names)
+        return [number for number, folder in self.processes().items() if folder.endswith("/names") and folder != names]
 
     def is_clean(self) -> None:
         """No process of a script is left, and no folder, or they go by themselves in a moment."""
