@@ -7,7 +7,8 @@ The driver is compiled with every warning as an error. Then tools/compare.py run
 those of tests/rows that neither a number of records nor a bad line decides: no difference may be
 without a reason. Deadlocks have to end, a process that is ended from outside has to be told, and
 after a signal no process and no folder may be left. Last, each rule of
-tests/stand_ins/wrong_oracle.py has to be found out by random scripts.
+tests/stand_ins/wrong_oracle.py has to be found out by random scripts, and so have two systems of
+tests/stand_ins/wrong_system.c.
 
 Where no C compiler is there, it says so and leaves all of it out. The last line is `N passed, M
 failed`, and the exit status is 1 where M is above 0.
@@ -43,6 +44,8 @@ SECONDS = 60
 SEED = "acceptance"
 RULE_SEED = "rules"
 RULE_SCRIPTS = 120
+# The ways of tests/stand_ins/wrong_system.c that show without a race.
+WRONG_SYSTEMS = ("own", "creation")
 WARNINGS = ["-std=c99", "-O2", "-Wall", "-Wextra", "-pedantic", "-Werror"]
 
 CASES: list[tuple[str, Callable[["Bench"], None]]] = []
@@ -107,6 +110,8 @@ def is_usage(bench: Bench, status: int, *words: str) -> None:
 @case("an empty word", b"p0  pipe\n", b"", 1)
 @case("flags out of order", b"p0 open a r,nonblock,append\n", b"", 1)
 @case("an empty flag", b"p0 open a r,,append\n", b"", 1)
+@case("flags without a mode", b"p0 setfl 0 append\n", b"", 1)
+@case("no flags", b"join\np0 setfl 0\n", b"0 p0 join = 0\n", 2)
 @case("upper case", b"p0 write 0 xAB\n", b"", 1)
 @case("a zero byte", b"join\0\n", b"", 1)
 @case("a word is missing", b"\np0 close\n", b"", 2)
@@ -124,6 +129,39 @@ def spellings_are_fdrefs(bench: Bench) -> None:
     gives(bench.run(script), lines)
 
 
+@case(
+    "flags of files and pipes",
+    b"p0 open a rw,creat,excl\np0 open a w,trunc,append\np0 open a r,nonblock\np0 pipe\np0 mkfifo f\n"
+    b"p0 open f r,append,nonblock\np0 open f w\n",
+    {0: 3, 1: 34, 2: 65, 3: 1, 4: 2, 5: 97, 6: 2},
+)
+@case("setfl without flags", b"p0 open a rw,creat,append,nonblock\np0 setfl 0 -\n", {0: 3})
+@case("setfl with both", b"p0 open a r,creat\np0 setfl 0 -,append,nonblock\n", {0: 97})
+@case("setfl with one in place of the other", b"p0 open a w,creat,append\np0 setfl 0 -,nonblock\n", {0: 66})
+@case("a mode that setfl ignores", b"p0 open a r,creat\np0 setfl 0 rw,append\np0 setfl 0 w,append\n", {0: 33})
+@case("flags that setfl ignores", b"p0 open a rw,creat\np0 write 0 x61\np0 setfl 0 w,creat,excl,trunc\n", {0: 3})
+@case("setfl of a description", b"p0 open a rw,creat\np0 dup 0\np0 open a r\np0 setfl 1 -,append\n", {0: 35, 2: 1})
+@case("setfl of a pipe", b"p0 pipe\np0 setfl 1 -,append,nonblock\n", {0: 1, 1: 98})
+def flags_are(bench: Bench, calls: bytes, flags: dict[int, int]) -> None:
+    """What F_GETFL tells after these calls, by the page of fcntl."""
+    looks = b"".join(b"p0 getfl %d\n" % fd for fd in flags)
+    done = bench.run(b"join\n" + calls + looks)
+    told = [line.split(b" ", 1)[1] for line in done.stdout.splitlines()[-1 - len(flags) : -1]]
+    require(told == [b"p0 getfl %d = %d" % it for it in flags.items()], f"{done.stdout!r}")
+
+
+@case("a rename over an open file")
+def rename_is_asked(bench: Bench) -> None:
+    """A rename takes the old name away, and leaves what was open; one of two names of a file changes nothing."""
+    script = b"join\np0 open a rw,creat\np0 write 0 x61\np0 open b rw,creat\np0 rename b a\np0 fstat 0\n"
+    script += b"p0 pread 0 0 9\np0 fstat 1\np0 rename b a\np0 link a c\np0 rename a c\np0 fstat 1\n"
+    lines = b"0 p0 join = 0\n1 p0 open a rw,creat = 0\n2 p0 write 0 x61 = 1\n3 p0 open b rw,creat = 1\n"
+    lines += b"4 p0 rename b a = ok\n5 p0 fstat 0 = regular 1 0\n6 p0 pread 0 0 9 = x61\n7 p0 fstat 1 = regular 0 1\n"
+    lines += b"8 p0 rename b a = error ENOENT\n9 p0 link a c = ok\n10 p0 rename a c = ok\n"
+    lines += b"11 p0 fstat 1 = regular 0 2\nrecords 12 in 1 out 1\n"
+    gives(bench.run(script), lines)
+
+
 @case("a name that leads out of the folder", "../left")
 @case("a path", "names/left")
 @case("the folder itself", ".")
@@ -131,14 +169,16 @@ def spellings_are_fdrefs(bench: Bench) -> None:
 @case("a name with a zero byte", "left%00")
 def is_not_asked(bench: Bench, name: str) -> None:
     """A name that the driver gives to no system."""
-    done = bench.run(b"join\np0 open %s rw,creat\np0 mkfifo %s\np0 link %s a\np0 unlink %s\n" % ((name.encode(),) * 4))
-    require(done.status == 0 and done.stdout.count(b" = not asked\n") == 4, f"{done.stdout!r}")
+    script = b"join\np0 open %s rw,creat\np0 mkfifo %s\np0 link %s a\np0 unlink %s\np0 rename %s a\np0 rename a %s\n"
+    done = bench.run(script % ((name.encode(),) * 6))
+    require(done.status == 0 and done.stdout.count(b" = not asked\n") == 6, f"{done.stdout!r}")
 
 
 @case("the driver's own descriptors are nobody's")
 def channels_are_out_of_reach(bench: Bench) -> None:
     """Descriptors past those of the profile are refused, and the driver goes on."""
     calls = [b"close %d", b"dup %d", b"fstat %d", b"write %d x61", b"read %d 1", b"dup2 %d 0", b"dup2 0 %d"]
+    calls += [b"getfl %d", b"setfl %d -"]
     script = (
         b"join\np0 pipe\n"
         + b"".join(b"p0 %s\n" % (call % fd) for fd in range(32, 80) for call in calls)
@@ -365,6 +405,28 @@ def is_found(bench: Bench, rule: str, text: str) -> None:
     raise Failure(f"{RULE_SCRIPTS} scripts do not find that {text}")
 
 
+# ---- wrong systems
+
+
+def wrong_systems(bench: Bench) -> Iterator[Case]:
+    """Each wrong system that one call after another finds out."""
+    if IS_LINUX:
+        library = os.path.join(os.path.dirname(bench.driver), "wrong_system")
+        words = [os.environ.get("CC", "cc"), "-std=c11", "-O2", "-shared", "-fPIC", "-o", library]
+        subprocess.run([*words, str(STAND_INS / "wrong_system.c")], check=True)
+        yield from ((f"a wrong system: {way}", partial(is_wrong_system, bench, library, way)) for way in WRONG_SYSTEMS)
+
+
+def is_wrong_system(bench: Bench, library: str, way: str) -> None:
+    """Random scripts find a system that is wrong in a way."""
+    driver = ["env", f"WRONG_SYSTEM={way}", f"LD_PRELOAD={library}", *bench.asks()]
+    asked = compare.Asked([bench.program], driver)
+    for number in range(RULE_SCRIPTS):
+        if compare.checked(asked, compare.random_lines(RULE_SEED, number, 60, "small")).unexplained:
+            return
+    raise Failure(f"{RULE_SCRIPTS} scripts do not find it")
+
+
 # ---- the whole
 
 
@@ -374,6 +436,7 @@ def all_cases(bench: Bench) -> Iterator[Case]:
     yield from row_cases(bench)
     yield from random_scripts(bench)
     yield from rules(bench)
+    yield from wrong_systems(bench)
 
 
 def main(words: Sequence[str]) -> int:

@@ -456,7 +456,8 @@ def in_other_order(asked: Asked, lines: list[Line], place: int, known: set[int])
 
 
 def with_looks(lines: list[bytes]) -> list[bytes]:
-    """A script with acts that look at what a pwrite under append did and, at the end, at all that is there."""
+    """A script with acts that look at what a pwrite under append did, at calls that wait on from before a setfl and, at
+    the end, at all that is there."""
     beside = Settled()
     looked: list[bytes] = []
     for line in lines:
@@ -465,6 +466,8 @@ def with_looks(lines: list[bytes]) -> list[bytes]:
         looked.append(line)
         if process and act.word == "pwrite" and is_append(act, process.table.get(act.fields[0])):
             looked.append(b"p%d fstat %d" % (process.number, act.fields[0]))
+        elif act.word == "setfl":
+            looked += [b"p%d resume" % it.number for it in beside.world.processes.values() if it.waits]
         beside.take(act)
     return looked + [text.encode() for text in last_looks(beside.world)]
 
@@ -529,14 +532,22 @@ class Walk(walks.Walk):
                 if len(self.lines) >= count or (self.world.is_closed and not self.world.processes):
                     return
 
+    def first_words(self) -> list[str]:
+        """As in each walk, and at times a setfl while somebody waits."""
+        is_waited = any(it.waits for it in self.world.processes.values())
+        return ["setfl"] if is_waited and self.pick.random() < 0.1 else super().first_words()
+
     def descriptor(self, who: plain_model.Process, word: str) -> int | None:
         """As in each walk, and more often one for which a call is refused.
 
-        It is an end of a broken pipe, that of a dry one under nonblock, or for calls on files alone any.
+        It is an end of a broken pipe, that of a dry one under nonblock, or for calls on files alone any. The flags that
+        are set are those of a pipe at which somebody waits.
         """
+        waited = [it.waits.pipe for it in self.world.processes.values() if it.waits]
         wishes: dict[str, Callable[[plain_model.Description], object]] = {
             "write": lambda at: at.pipe and at.mode == "w" and not self.world.has_end(at.pipe, "r"),
             "read": lambda at: at.pipe and at.mode == "r" and at.nonblock and not at.pipe.data,
+            "setfl": lambda at: at.pipe in waited,
         }
         likely = 0.3 if word in wishes else 0.05
         fit = [fd for fd, at in who.table.items() if word not in wishes or wishes[word](at)]
@@ -555,7 +566,7 @@ class Walk(walks.Walk):
     def begin_with_two_ends(self) -> None:
         """Two processes with both ends of a pipe, or with one each, or with a read that waits."""
         ends = ["p0 close 0", "p1 close 1"]
-        ways: list[list[str]] = [[], ends, [*ends, "p1 read 0 9"]]
+        ways: list[list[str]] = [[], ends, ["p1 read 0 9"], [*ends, "p1 read 0 9"]]
         self.say("p0 pipe", "p0 fork", "p1 attach", *self.pick.choice(ways))
 
     def count_into(self, at: plain_model.Description) -> int:

@@ -96,7 +96,90 @@ def fork_copies_nothing() -> None:
         return number
 
 
+@rule("setfl changes the flags of one descriptor alone")
+def setfl_parts_descriptors() -> None:
+    @wraps(World, "setfl")
+    def setfl(right: Function, world: World, process: Process, fd: int, flags: str) -> Any:
+        if fd in process.table:
+            process.table[fd] = copy.copy(process.table[fd])
+        return right(world, process, fd, flags)
+
+
+@rule("setfl changes the mode")
+def setfl_changes_the_mode() -> None:
+    @wraps(World, "setfl")
+    def setfl(right: Function, world: World, process: Process, fd: int, flags: str) -> Any:
+        done = right(world, process, fd, flags)
+        mode = flags.partition(",")[0]
+        process.table[fd].mode = process.table[fd].mode if mode == "-" else mode
+        return done
+
+
+@rule("setfl adds flags and takes none away")
+def setfl_clears_nothing() -> None:
+    @wraps(World, "setfl")
+    def setfl(right: Function, world: World, process: Process, fd: int, flags: str) -> Any:
+        at = process.table.get(fd)
+        kept = [word for word in ("append", "nonblock") if at and getattr(at, word)]
+        return right(world, process, fd, ",".join([flags, *kept]))
+
+
+@rule("getfl tells flags that made a file")
+def getfl_tells_creation_flags() -> None:
+    creating = set()
+
+    @wraps(World, "open")
+    def open_file(right: Function, world: World, process: Process, name: bytes, flags: str) -> Any:
+        fd = right(world, process, name, flags)
+        if "creat" in flags.split(","):
+            creating.add(process.table[fd])
+        return fd
+
+    @wraps(World, "getfl")
+    def getfl(right: Function, world: World, process: Process, fd: int) -> Any:
+        return right(world, process, fd) + 4 * (process.table[fd] in creating)
+
+
 # ---- files
+
+
+@rule("a rename leaves the old name")
+def rename_leaves_the_old_name() -> None:
+    @wraps(World, "rename")
+    def rename(right: Function, world: World, process: Process, old: bytes, new: bytes) -> Any:
+        file = world.names.get(old)
+        done = right(world, process, old, new)
+        world.names[old] = file or world.names[new]
+        return done
+
+
+@rule("a rename of two names of one file takes one away")
+def rename_drops_one_of_two_names() -> None:
+    @wraps(World, "rename")
+    def rename(right: Function, world: World, process: Process, old: bytes, new: bytes) -> Any:
+        done = right(world, process, old, new)
+        if old != new:
+            world.names.pop(old, None)
+        return done
+
+
+@rule("a rename over a name is EEXIST")
+def rename_replaces_nothing() -> None:
+    @wraps(World, "rename")
+    def rename(right: Function, world: World, process: Process, old: bytes, new: bytes) -> Any:
+        plain_model.require(new not in world.names or old not in world.names, "EEXIST")
+        return right(world, process, old, new)
+
+
+@rule("rename empties an open file whose last name it takes")
+def rename_frees_an_open_file() -> None:
+    @wraps(World, "rename")
+    def rename(right: Function, world: World, process: Process, old: bytes, new: bytes) -> Any:
+        file = world.names.get(new)
+        done = right(world, process, old, new)
+        if isinstance(file, plain_model.Regular) and not world.links(file):
+            file.data.clear()
+        return done
 
 
 @rule("a file with several names has one link too few")
@@ -206,6 +289,14 @@ def nonblock_waits() -> None:
     def read_end(right: Function, world: World, process: Process, at: Description, count: int) -> Any:
         at.nonblock = False
         return right(world, process, at, count)
+
+
+@rule("setfl ends a read that waits")
+def setfl_wakes_a_waiting_read() -> None:
+    @wraps(plain_model.WaitingRead, "is_ready")
+    def is_ready(right: Function, call: plain_model.WaitingRead, world: World) -> bool:
+        ends = [at for at in world.descriptions() if at.pipe is call.pipe and at.mode == "r"]
+        return right(call, world) or all(at.nonblock for at in ends)
 
 
 @rule("an open of a FIFO does not wait for the other end")
