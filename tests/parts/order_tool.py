@@ -50,6 +50,30 @@ which this call makes impossible, with those that overlap it:
   90 95 p1 write 1 x61 = ?
 page of write: at most PIPE_BUF bytes are not interleaved; page of read
 """
+# One with flags that are set and a name that is replaced.
+RENAMED = """10 20 p0 join = 0
+30 40 p1 join = 1
+50 60 p0 open a rw,creat = 0
+70 75 p0 open b rw,creat = 1
+80 85 p0 write 1 x61 = 1
+90 120 p0 rename b a = ok
+95 100 p1 open a r,nonblock = 0
+105 110 p1 setfl 0 -,append = ok
+115 130 p1 fstat 0 = regular 0 1
+140 150 p1 getfl 0 = 33
+"""
+RENAMED_LINES = """an order explains it
+0 p0 join = 0
+1 p1 join = 1
+2 p0 open a rw,creat = 0
+3 p0 open b rw,creat = 1
+4 p0 write 1 x61 = 1
+5 p1 open a r,nonblock = 0
+6 p1 setfl 0 -,append = ok
+7 p1 fstat 0 = regular 0 1
+8 p0 rename b a = ok
+9 p1 getfl 0 = 33
+"""
 WAITING = GOOD.replace("80 99 p0 read 0 4 = x61\n90 95 p1 write 1 x61 = 1", "80 - p0 read 0 9 = parked ?")
 
 
@@ -156,6 +180,7 @@ def cases(program: str) -> Iterator[Case]:
     several = f"history 1: {GOOD_LINES}history 2: {BAD_LINES}history 3: as history 1\nhistory 4: {EARLY_LINES}{totals}"
     four = "\n".join([GOOD, BAD, LATER, EARLY])
     yield "an order", partial(prints, program, GOOD, 0, GOOD_LINES)
+    yield "an order with flags and names", partial(prints, program, RENAMED, 0, RENAMED_LINES)
     yield "no order", partial(prints, program, BAD, 1, BAD_LINES)
     yield "several histories", partial(prints, program, four, 1, several)
     yield "a larger pipe", partial(prints, program, ROOMY, 0, ROOMY_LINES)
