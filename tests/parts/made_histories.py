@@ -109,6 +109,9 @@ def walked(pick: random.Random, count: int, slack: float) -> Made:
         act = plain_model.read_act(line)
         if act.word == "close-run" or (act.word == "attach" and not is_child(made, act)):
             continue
+        # in a history nothing comes after a call that waits
+        if act.word == "exit" and isinstance(act.actor, int) and made.waits(act.actor):
+            continue
         made.act(act)
     for number in list(made.stepper.world.processes):
         while made.waits(number) and made.is_able(number, ()):
