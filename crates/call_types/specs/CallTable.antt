@@ -100,13 +100,17 @@ setfl_entry = record { word = codes "setfl"; byte = 33; fields = a_descriptor �
 abbrev pub rename_entry : Entry
 rename_entry = record { word = codes "rename"; byte = 34; fields = a_name ∷ a_name ∷ []; make = calls.Rename }
 
--- the calls that name a position, an offset or a length
+-- the calls that are rare
+abbrev pub rare_table : List Entry
+rare_table = getfl_entry ∷ setfl_entry ∷ rename_entry ∷ []
+
+-- the calls that name a position, an offset or a length, and those that are rare
 abbrev pub position_table : List Entry
-position_table = pread_entry ∷ pwrite_entry ∷ lseek_entry ∷ ftruncate_entry ∷ []
+position_table = pread_entry ∷ pwrite_entry ∷ lseek_entry ∷ ftruncate_entry ∷ rare_table
 
 -- the calls that are less common
 abbrev pub later_table : List Entry
-later_table = dup_entry ∷ dup2_entry ∷ pipe_entry ∷ mkfifo_entry ∷ link_entry ∷ unlink_entry ∷ fstat_entry ∷ fork_entry ∷ getfl_entry ∷ setfl_entry ∷ rename_entry ∷ position_table
+later_table = dup_entry ∷ dup2_entry ∷ pipe_entry ∷ mkfifo_entry ∷ link_entry ∷ unlink_entry ∷ fstat_entry ∷ fork_entry ∷ position_table
 
 -- the calls
 abbrev pub call_table : List Entry

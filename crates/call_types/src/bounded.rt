@@ -269,6 +269,7 @@ impl<const MOST: usize> Data<MOST> {
 impl<const MOST: usize> Clone for Data<MOST> {
     ghost is_clone = { λ old new. new ≡ old };
 
+    #[inline(always)]
     fn clone(&self) -> Result<Self, AllocError> {
         let stored = match &self.stored {
             StoredData::Few(few) => StoredData::Few(few.copy()),

@@ -1,5 +1,5 @@
-ghost use Rattle.std.specs.Prelude.{◌≡◌, ◌≤◌, ◌↔◌, ◌-◌, ◌^◌, IsOk, IfOk};
-ghost use Rattle.call_types.specs.declared.limits.TheConstants.{OFFSET_MAX, RECORDS_MAX};
+ghost use Rattle.std.specs.Prelude.{◌≡◌, ◌≤◌, ◌<◌, ◌⊎◌, ◌↔◌, ◌-◌, ◌^◌, Err, IsOk, IfOk};
+ghost use Rattle.call_types.specs.declared.limits.TheConstants.{FILE_SIZE_MAX, OFFSET_MAX, RECORDS_MAX, PIPE_CAPACITY_MIN, PIPE_CAPACITY_MAX};
 
 use crate::act::HOUSE;
 
@@ -34,13 +34,22 @@ pub const GIVEN_BYTES_MAX: usize = 65_700;
 pub const OFFSET_MAX: u64 = 9_223_372_036_854_775_807;
 
 /// Bytes of a regular file; a write at this offset or past it is EFBIG.
-pub const FILE_SIZE_MAX: u64 = 1_048_576;
+pub const FILE_SIZE_MAX: u64 = 1_099_511_627_776;
+
+/// Bytes of a regular file in a run whose trace is of version 1.
+pub const FILE_SIZE_1: u64 = 1_048_576;
 
 /// Bytes of a write to a pipe that go in all at once or not at all (page of write, PIPE_BUF).
 pub const PIPE_BUF: usize = 512;
 
-/// Bytes that a pipe holds at most.
+/// Bytes that a pipe holds at most, where a run chooses no other number, and in a run whose trace is of version 1.
 pub const PIPE_CAPACITY: u64 = 1024;
+
+/// The least capacity of pipes, in bytes, that a run may choose: a write of `PIPE_BUF` bytes fits into an empty pipe.
+pub const PIPE_CAPACITY_MIN: u64 = 512;
+
+/// The greatest capacity of pipes, in bytes, that a run may choose.
+pub const PIPE_CAPACITY_MAX: u64 = 65_536;
 
 /// Bytes of a record in a trace, at most.
 pub const RECORD_LENGTH_MAX: usize = 66_048;
@@ -60,9 +69,12 @@ pub fn numbers_of_the_profile()
     ensures given_name_max { GIVEN_NAME_MAX ≡ 255 }
     ensures given_bytes_max { GIVEN_BYTES_MAX ≡ 65700 }
     ensures offset_max { OFFSET_MAX ≡ 2 ^ 63 - 1 }
-    ensures file_size_max { FILE_SIZE_MAX ≡ 1048576 }
+    ensures file_size_max { FILE_SIZE_MAX ≡ 2 ^ 40 }
+    ensures file_size_1 { FILE_SIZE_1 ≡ 1048576 }
     ensures pipe_buf { PIPE_BUF ≡ 512 }
     ensures pipe_capacity { PIPE_CAPACITY ≡ 1024 }
+    ensures pipe_capacity_min { PIPE_CAPACITY_MIN ≡ 512 }
+    ensures pipe_capacity_max { PIPE_CAPACITY_MAX ≡ 65536 }
     ensures record_length_max { RECORD_LENGTH_MAX ≡ 66048 }
     ensures records_max { RECORDS_MAX ≡ 1000000 }
     ensures house { HOUSE ≡ 4294967295 }
@@ -76,25 +88,26 @@ pub struct Bounds {
 }
 
 impl Bounds {
-    /// The limits of this profile.
-    pub fn standard() -> Self
-        ensures exact { result ≡ record { file_size = FILE_SIZE_MAX; pipe_capacity = PIPE_CAPACITY } }
+    /// The limits of a run whose trace is of version 1.
+    pub fn version_1() -> Self
+        ensures exact { result ≡ record { file_size = FILE_SIZE_1; pipe_capacity = PIPE_CAPACITY } }
         ensures plain { result ≡ record { file_size = 1048576; pipe_capacity = 1024 } }
     {
         Bounds {
-            file_size: FILE_SIZE_MAX,
+            file_size: FILE_SIZE_1,
             pipe_capacity: PIPE_CAPACITY,
         }
     }
 }
 
-/// What a run may take: its records, from 1 to 1,000,000, and the limits of its definitions.
+/// What a run may take: its records, from 1 to 1,000,000, and the limits of its definitions: files of 2^40 bytes, and pipes of 512 to 65,536.
 #[derive(Clone, Copy, Debug)]
 pub struct Limits {
     records: u64,
     bounds: Bounds,
     ghost within: { (1 ≤ records) × (records ≤ RECORDS_MAX) },
-    ghost small: { bounds.file_size ≤ OFFSET_MAX },
+    ghost sized: { bounds.file_size ≡ FILE_SIZE_MAX },
+    ghost holds: { (PIPE_CAPACITY_MIN ≤ bounds.pipe_capacity) × (bounds.pipe_capacity ≤ PIPE_CAPACITY_MAX) },
 }
 
 /// Why `Limits::new` refuses.
@@ -102,21 +115,30 @@ pub struct Limits {
 pub enum LimitFault {
     /// The number of records is not from 1 to 1,000,000.
     Records,
+    /// The capacity of a pipe is not from 512 to 65,536 bytes.
+    PipeCapacity,
 }
 
 impl Limits {
-    /// The limits of a run of so many records.
-    pub fn new(records: u64) -> Result<Self, LimitFault>
-        ensures accepted { IsOk result ↔ (1 ≤ records × records ≤ RECORDS_MAX) }
-        ensures plain { IsOk result ↔ (1 ≤ records × records ≤ 1000000) }
-        ensures value { IfOk result (λ limits. (limits.records ≡ records) × (limits.bounds ≡ record { file_size = FILE_SIZE_MAX; pipe_capacity = PIPE_CAPACITY })) }
+    /// The limits of a run of so many records, in which a pipe holds so many bytes. A wrong number of records is told first.
+    pub fn new(records: u64, pipe_capacity: u64) -> Result<Self, LimitFault>
+        ensures accepted { IsOk result ↔ ((1 ≤ records × records ≤ RECORDS_MAX) × (PIPE_CAPACITY_MIN ≤ pipe_capacity × pipe_capacity ≤ PIPE_CAPACITY_MAX)) }
+        ensures plain { IsOk result ↔ ((1 ≤ records × records ≤ 1000000) × (512 ≤ pipe_capacity × pipe_capacity ≤ 65536)) }
+        ensures records_first { (result ≡ Err LimitFault.Records) ↔ ((records ≡ 0) ⊎ (RECORDS_MAX < records)) }
+        ensures value { IfOk result (λ limits. (limits.records ≡ records) × (limits.bounds ≡ record { file_size = FILE_SIZE_MAX; pipe_capacity = pipe_capacity })) }
     {
         if records == 0 || records > RECORDS_MAX {
             return Err(LimitFault::Records);
         }
+        if pipe_capacity < PIPE_CAPACITY_MIN || pipe_capacity > PIPE_CAPACITY_MAX {
+            return Err(LimitFault::PipeCapacity);
+        }
         Ok(Limits {
             records,
-            bounds: Bounds::standard(),
+            bounds: Bounds {
+                file_size: FILE_SIZE_MAX,
+                pipe_capacity,
+            },
         })
     }
 
@@ -132,6 +154,8 @@ impl Limits {
     pub fn bounds(self) -> Bounds
         ensures exact { result ≡ self.bounds }
         ensures small { result.file_size ≤ OFFSET_MAX }
+        ensures sized { result.file_size ≡ FILE_SIZE_MAX }
+        ensures holds { (PIPE_CAPACITY_MIN ≤ result.pipe_capacity) × (result.pipe_capacity ≤ PIPE_CAPACITY_MAX) }
     {
         self.bounds
     }

@@ -15,7 +15,7 @@ pub enum FileType {
 /// What fstat tells: the size in bytes, the number of names and the kind.
 #[derive(Clone, Copy, Debug, PartialEq, Eq)]
 pub struct Stat {
-    /// The size in bytes, at most 1,048,576.
+    /// The size in bytes, at most 1,099,511,627,776.
     pub size: u64,
     /// How many names the file has.
     pub links: u32,
