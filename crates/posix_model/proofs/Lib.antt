@@ -1,3 +1,4 @@
+pub mod RunLaws
 pub mod SlotLaws
 pub mod SweepLaws
 pub mod ChangeLaws
@@ -15,6 +16,7 @@ pub mod SoundActs
 pub mod ProcessLaws
 pub mod LengthLaws
 pub mod HistoryLaws
+pub mod ReserveLaws
 pub mod KeptLaws
 pub mod Waiting
 pub mod ReadyLaws

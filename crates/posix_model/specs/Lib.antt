@@ -34,6 +34,7 @@ pub mod Exit
 pub mod Resume
 pub mod Step
 pub mod History
+pub mod Reserve
 pub mod Turns
 pub mod PipeRecord
 pub mod Proved

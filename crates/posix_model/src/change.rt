@@ -1,6 +1,7 @@
 ghost use Rattle.std.specs.Prelude.{◌≡◌};
 ghost use Rattle.posix_model.specs.Pages.{tells, does, acts, refused};
 
+use crate::kept_name::KeptName;
 use call_types::bounded::Name;
 use call_types::description::{Description, DescriptionEdit};
 use call_types::errno::Errno;
@@ -26,7 +27,7 @@ pub enum NameEdit {
     /// A name is taken away.
     Remove { name: Name },
     /// A file has the new name in place of the old one. What the new one led to has one name less.
-    Move { old: Name, new: Name },
+    Move { old: Name, new: KeptName },
 }
 
 /// What an act changes in names, files and pipes; new pipes come with their ends, in a `TableEdit`. All numbers are found already; positions and lengths are in bytes.

@@ -1,4 +1,4 @@
-ghost use Rattle.std.specs.Prelude.{◌≡◌, ◌+◌, ◌≤◌, ◌<◌, ◌^◌, [], List, ℕ, length, replicate, vec_len, vec_capacity, OnOk, OnErr};
+ghost use Rattle.std.specs.Prelude.{◌≡◌, ◌+◌, ◌≤◌, ◌<◌, ◌^◌, [], ◌++◌, List, ℕ, length, replicate, vec_len, vec_capacity, IfOk, OnOk, OnErr};
 ghost use Rattle.call_types.specs.Proved.Stored.{span_bytes};
 ghost use Rattle.posix_model.specs.Bytes.{padded_to, overwritten, splice, bytes_at, resized};
 
@@ -77,7 +77,7 @@ pub fn overwrite(bytes: &mut Vec<u8>, start: usize, new: Span<'_>)
     }
 }
 
-/// The bytes of a regular file. Contracts see their list.
+/// Bytes in one piece, as a pipe or a run of a regular file holds them. Contracts see their list.
 #[derive(Drop)]
 pub struct Contents {
     bytes: Vec<u8>,
@@ -90,7 +90,7 @@ impl Model for Contents {
 }
 
 impl Contents {
-    /// The contents of a new file.
+    /// No bytes.
     pub fn new(alloc: Global) -> Self
         ensures { result ≡ [] }
     {
@@ -99,18 +99,37 @@ impl Contents {
         }
     }
 
-    /// The length of the file, in bytes.
+    /// A copy of some bytes. An error says that memory ran out.
+    pub(crate) fn copied(alloc: Global, bytes: Span<'_>) -> Result<Self, AllocError>
+        requires { length (span_bytes bytes) < 2 ^ 63 }
+        ensures { IfOk result (λ copy. copy ≡ span_bytes bytes.entry) }
+    {
+        let mut copy = Contents::new(alloc);
+        copy.append(bytes)?;
+        Ok(copy)
+    }
+
+    /// How many bytes there are.
     pub fn len(&self) -> usize
         ensures { result ≡ length self.now }
     {
         self.bytes.len()
     }
 
-    /// The bytes of the file.
+    /// The bytes, in their order.
     pub fn as_slice(&self) -> &[u8]
         ensures { result.now ≡ self.now }
     {
         self.bytes.as_slice()
+    }
+
+    /// Adds `new` at the end. An error says that memory ran out.
+    pub(crate) fn append(&mut self, new: Span<'_>) -> Result<(), AllocError>
+        requires { length self.old + length (span_bytes new) < 2 ^ 63 }
+        ensures { OnOk result (self.new ≡ self.old ++ span_bytes new.entry) }
+    {
+        let end = self.len();
+        self.write_at(end, new)
     }
 
     /// Writes `new` from `start` on; a gap before it is filled with zeros.

@@ -4,7 +4,7 @@ ghost use Rattle.posix_model.specs.Proved.Sound.{CallsAreSound, ActsAreSound};
 ghost use Rattle.posix_model.specs.Proved.Lengths.{StepIsShort};
 ghost use Rattle.posix_model.specs.Proved.Released.{SweptIsSettled, SettledStays, SweepReleases, NamesRelease, SweepCounts};
 ghost use Rattle.posix_model.specs.Proved.Drops.{ExitCloses, ClosedIsBare, CloseThenSet};
-ghost use Rattle.posix_model.specs.Proved.Laws.{StepRaisesNumbers, StepKeepsWhole, HistoryIsWhole, HistoryRaisesNumbers, SweepSettles, StepSettles, HistorySettles, HistoryKeepsExactly, SweepLeaves, StepTellsProcesses, StepPlansProcesses};
+ghost use Rattle.posix_model.specs.Proved.Laws.{StepRaisesNumbers, StepKeepsWhole, HistoryIsWhole, HistoryRaisesNumbers, SweepSettles, StepSettles, HistorySettles, HistoryKeepsExactly, SweepLeaves, StepTellsProcesses, StepPlansProcesses, ReserveWasKept};
 
 /// Whatever an act comes to can be applied, within all limits. A refusal changes nothing (for a resume see
 /// `resume_breaks_alone`). An act moves no offset but that of its own descriptor, changes no file, name or pipe that it
@@ -76,4 +76,9 @@ pub fn records_are_short()
 pub fn processes_are_counted()
     ensures told { StepTellsProcesses }
     ensures planned { StepPlansProcesses }
+{}
+
+/// Where a history leaves records enough for the exits and the closing of its run, each front of it did.
+pub fn reserve_was_kept()
+    ensures { ReserveWasKept }
 {}

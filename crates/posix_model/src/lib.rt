@@ -4,10 +4,12 @@
 pub mod change;
 pub mod contents;
 pub mod counts;
+pub mod kept_name;
 pub mod laws;
 pub mod names;
 pub mod opened;
 pub mod pipe_laws;
 pub mod plain_reader;
 pub mod reader;
+pub mod runs;
 pub mod world;

@@ -2,7 +2,7 @@
 
 ghost use Rattle.std.specs.Prelude.{◌≡◌, option_copied};
 ghost use Rattle.slots.specs.Slots.{slot};
-ghost use Rattle.posix_model.specs.Descriptors.{opened_number, bytes_of};
+ghost use Rattle.posix_model.specs.Descriptors.{opened_number};
 ghost use Rattle.process_table.specs.Processes.{table_of};
 ghost use Rattle.posix_model.specs.Pipes.{held_bytes};
 
@@ -38,16 +38,6 @@ fn opened_number(world: &World, fd: usize, number: Option<&Ticket>) -> Option<Op
         number: number.again(),
         description,
     })
-}
-
-/// The bytes of the regular file of a number; none where there is no such file.
-pub fn bytes_of(world: &World, number: usize) -> &[u8]
-    ensures { result.now ≡ bytes_of world.now number }
-{
-    match world.files.get(number) {
-        Some(File::Regular(contents)) => contents.as_slice(),
-        _ => &[],
-    }
 }
 
 /// The bytes that a pipe holds; none where it is gone.
@@ -89,7 +79,10 @@ impl WorldReader for World {
     }
 
     fn length_of(&self, file: usize) -> usize {
-        bytes_of(self, file).len()
+        match self.files.get(file) {
+            Some(File::Regular(runs)) => runs.len(),
+            _ => 0,
+        }
     }
 
     fn read_at(
@@ -99,10 +92,10 @@ impl WorldReader for World {
         start: usize,
         count: usize,
     ) -> Result<Content, AllocError> {
-        Content::copied(
-            alloc,
-            crate::contents::bytes_at(bytes_of(self, file), start, count),
-        )
+        match self.files.get(file) {
+            Some(File::Regular(runs)) => runs.read_at(alloc, start, count),
+            _ => Ok(Content::empty()),
+        }
     }
 
     fn file_of(&self, name: &[u8]) -> Option<usize> {

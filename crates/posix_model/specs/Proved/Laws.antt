@@ -1,5 +1,5 @@
 -- What holds of every step and history.
-use Rattle.std.specs.Prelude.{◌≡◌, ℕ, ◌+◌, ◌||◌, Bool, List, ◌++◌, None, Some, length, if◌then◌else◌}
+use Rattle.std.specs.Prelude.{◌≡◌, ℕ, ◌+◌, ◌||◌, Bool, true, List, ◌++◌, None, Some, length, if◌then◌else◌}
 use Rattle.posix_model.specs.Types.{Act, Record, Bounds, World}
 use Rattle.slots.specs.Slots.{slot, live}
 use Rattle.posix_model.specs.Kept.{KeptExactly}
@@ -9,6 +9,7 @@ use Rattle.posix_model.specs.Sweep.{is_referred, is_open, is_wanted, without_gon
 use Rattle.posix_model.specs.Step.{Stepped, step}
 use Rattle.posix_model.specs.Proved.Sound.{added, ended, closes, adds}
 use Rattle.posix_model.specs.History.{world_of}
+use Rattle.posix_model.specs.Reserve.{has_reserve, CanEnd}
 
 -- from a world in which nothing refers to what is gone, a step uses no number again (own)
 abbrev pub StepRaisesNumbers : Type 0
@@ -51,6 +52,10 @@ StepTellsProcesses = (bounds : Bounds) (w : World) (actor : ℕ) (act : Act) (s 
 -- as many as are known before it
 abbrev pub StepPlansProcesses : Type 0
 StepPlansProcesses = (bounds : Bounds) (w : World) (actor : ℕ) (act : Act) (s : Stepped) → step bounds w actor act ≡ Some s → Counts w s.world (adds w act) (ended act) (closes act)
+
+-- a run that can be ended after a history could be ended after each record of it
+abbrev pub ReserveWasKept : Type 0
+ReserveWasKept = (bounds : Bounds) (most : ℕ) (h : List Record) → has_reserve most (world_of bounds h) (length h) ≡ true → CanEnd bounds (Some most) h
 
 -- what a sweep leaves, as it was and under its number: of the descriptions those with a descriptor, of the pipes those with
 -- an open end, of the files those with a name or a live description; a FIFO forgets a pipe that is gone (page of close)
