@@ -1,7 +1,7 @@
 //! Laws of steps and histories, and worked runs. None of these functions does anything; each contract is its law.
 
 ghost use Rattle.plain_world.specs.Proved.Laws.{RefusedStepKeepsWorld, RefusedNextKeepsWorld, JoinAdds, FullJoinRefused, LowestIsLeast, NoLowestIsFull, OffsetsAreApart, OffsetsStayApart, TakesFew, StepKeepsLimits, LimitsHold, LegalIsAnswered, AnsweredIsLegal};
-ghost use Rattle.plain_world.specs.Proved.Rows.{Runs, standard, small, path, hole, greatest_offset, size_limit, pwrite_under_append, opening, deferred_removal, duplicates, renames, flags_of_descriptors, nonblock_under_a_read, shared_offset, closing, nonblocking_fifo, exit_in_a_write_that_waits, last_reader_goes, fifo_rendezvous, parts_of_a_large_write};
+ghost use Rattle.plain_world.specs.Proved.Rows.{Runs, standard, small, narrow, path, hole, greatest_offset, size_limit, pwrite_under_append, opening, deferred_removal, duplicates, renames, flags_of_descriptors, nonblock_under_a_read, shared_offset, closing, nonblocking_fifo, narrow_fifo, exit_in_a_write_that_waits, last_reader_goes, fifo_rendezvous, parts_of_a_large_write};
 
 use posix_model::laws::{
     acts_are_sound, numbers_rise, sweep_leaves_wanted, sweep_releases, sweep_settles,
@@ -82,6 +82,7 @@ pub fn worked_runs()
     ensures shared_offset { Runs standard shared_offset 4 4 }
     ensures closing { Runs standard closing 0 0 }
     ensures nonblocking_fifo { Runs standard nonblocking_fifo 1025 1 }
+    ensures narrow_fifo { Runs narrow narrow_fifo 1024 512 }
     ensures exit_in_a_write_that_waits { Runs standard exit_in_a_write_that_waits 1025 1025 }
     ensures last_reader_goes { Runs standard last_reader_goes 1024 0 }
     ensures fifo_rendezvous { Runs standard fifo_rendezvous 0 0 }

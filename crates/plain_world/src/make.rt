@@ -22,6 +22,7 @@ use call_types::description::{Description, DescriptionEdit, Mode};
 use call_types::span::Span;
 use posix_model::change::{Change, DataSource, FileEdit, NameEdit, ProcessEdit, TableEdit};
 use posix_model::contents::Contents;
+use posix_model::runs::Runs;
 use posix_model::world::{Fifo, File, World};
 use process_table::process::{Parked, Process};
 use slots::dense::Slots;
@@ -36,13 +37,13 @@ const UNOPENED: Fifo = Fifo {
 };
 
 /// Takes the bytes out of a regular file; none where there is no such file.
-fn take_bytes(alloc: Global, files: &mut Slots<File>, file: usize) -> Contents
+fn take_bytes(alloc: Global, files: &mut Slots<File>, file: usize) -> Runs
     ensures bytes { result ≡ file_bytes (slot files.old file) }
     ensures taken { files.new ≡ slice_set files.old file None }
 {
     match files.take(file) {
-        Some(File::Regular(contents)) => contents,
-        _ => Contents::new(alloc),
+        Some(File::Regular(runs)) => runs,
+        _ => Runs::new(alloc),
     }
 }
 
@@ -57,19 +58,20 @@ fn write_bytes(
     requires { start + length (span_bytes bytes) < 2 ^ 63 }
     ensures { OnOk result (files.new ≡ slice_set files.old file (Some (File.Regular (splice (file_bytes (slot files.old file)) start (span_bytes bytes.entry))))) }
 {
-    let mut contents = take_bytes(alloc, files, file);
-    contents.write_at(start, bytes)?;
-    files.put(file, Some(File::Regular(contents)));
+    let mut runs = take_bytes(alloc, files, file);
+    runs.write_at(alloc, start, bytes)?;
+    files.put(file, Some(File::Regular(runs)));
     Ok(())
 }
 
 /// Gives a regular file a length, in bytes.
 fn resize(alloc: Global, files: &mut Slots<File>, file: usize, len: usize) -> Result<(), AllocError>
+    requires { len < 2 ^ 63 }
     ensures { OnOk result (files.new ≡ slice_set files.old file (Some (File.Regular (resized (file_bytes (slot files.old file)) len)))) }
 {
-    let mut contents = take_bytes(alloc, files, file);
-    contents.set_len(len)?;
-    files.put(file, Some(File::Regular(contents)));
+    let mut runs = take_bytes(alloc, files, file);
+    runs.set_len(alloc, len)?;
+    files.put(file, Some(File::Regular(runs)));
     Ok(())
 }
 
@@ -115,6 +117,7 @@ fn make_names(world: &mut World, edit: NameEdit) -> Result<(), AllocError>
             Ok(())
         }
         NameEdit::Move { old, new } => {
+            let new = new.into_name();
             let file = world.names.file_of(old.as_slice()).unwrap_or(0);
             world.names.remove(new.as_slice());
             world.names.remove(old.as_slice());
@@ -140,9 +143,7 @@ fn make_files(
         }
         FileEdit::Resize { file, len } => resize(alloc, &mut world.files, file, len),
         FileEdit::Names(edit) => make_names(world, edit),
-        FileEdit::MakeFile { name } => {
-            make_file(world, name, File::Regular(Contents::new(alloc)))
-        }
+        FileEdit::MakeFile { name } => make_file(world, name, File::Regular(Runs::new(alloc))),
         FileEdit::MakeFifo { name } => make_file(world, name, File::Fifo(UNOPENED)),
         FileEdit::Put {
             pipe,

@@ -182,7 +182,7 @@ fn opened_file(mode: Mode, pipe: usize, file: File) -> Result<File, AllocError>
     ensures { IfOk result (λ opened. opened ≡ opened_file mode pipe file) }
 {
     match file {
-        File::Regular(contents) => Ok(File::Regular(contents)),
+        File::Regular(runs) => Ok(File::Regular(runs)),
         File::Fifo(fifo) => Ok(File::Fifo(opened_once(mode, pipe, fifo)?)),
     }
 }

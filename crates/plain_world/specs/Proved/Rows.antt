@@ -4,6 +4,7 @@ use Rattle.plain_world.specs.Proved.Types.{Call, Record, Reply, OpenFlags, Bound
 use Rattle.call_types.specs.declared.call.Call.TheVariants.{Open, Close, Read, Write, Pread, Pwrite, Lseek, Ftruncate, Dup, Dup2, Pipe, Mkfifo, Link, Unlink, Fstat, Fork, Getfl, Setfl, Rename}
 use Rattle.call_types.specs.declared.whence.Whence.TheVariants.{Set, Cur, End}
 use Rattle.call_types.specs.declared.act.TheConstants.{HOUSE}
+use Rattle.call_types.specs.declared.limits.TheConstants.{FILE_SIZE_MAX, PIPE_CAPACITY}
 use Rattle.call_types.specs.declared.act.Act.TheVariants as act
 use Rattle.call_types.specs.declared.outcome.Outcome.TheVariants as outcome
 use Rattle.call_types.specs.declared.outcome.Reply.TheVariants as reply
@@ -11,13 +12,17 @@ use Rattle.call_types.specs.declared.outcome.FileType.TheVariants.{Regular}
 use Rattle.posix_model.specs.History.{legal}
 use Rattle.posix_model.specs.Turns.{bytes_in, bytes_out}
 
--- the limits of this profile, in bytes
+-- the standard limits, in bytes
 abbrev pub standard : Bounds
-standard = record { file_size = 1048576; pipe_capacity = 1024 }
+standard = record { file_size = FILE_SIZE_MAX; pipe_capacity = PIPE_CAPACITY }
 
 -- files of 16 bytes at most
 abbrev pub small : Bounds
-small = record { file_size = 16; pipe_capacity = 1024 }
+small = record standard { file_size = 16 }
+
+-- pipes of 512 bytes at most
+abbrev pub narrow : Bounds
+narrow = record standard { pipe_capacity = 512 }
 
 -- the model answers so, and the run takes and gives so many bytes
 pub record Runs (bounds : Bounds) (h : List Record) (taken given : ℕ) : Type 0 where
@@ -275,6 +280,21 @@ nonblocking_fifo =
     ∷ answers (Write (pos 1) (letters 600)) (reply.Error EAGAIN)
     ∷ answers (Read (pos 0) 1) (reply.Data (letters 1))
     ∷ answers (Write (pos 1) (letters 600)) (reply.Number 1)
+    ∷ []
+
+-- a pipe of 512 bytes is filled by one write of so many, and until they are read any other is EAGAIN; then a longer one moves
+-- what fits
+abbrev pub narrow_fifo : List Record
+narrow_fifo =
+    joins
+    ∷ answers (Mkfifo (codes "q")) reply.Done
+    ∷ answers (Open (codes "q") (bits 65)) (reply.Number 0)
+    ∷ answers (Open (codes "q") (bits 66)) (reply.Number 1)
+    ∷ answers (Write (pos 1) (letters 512)) (reply.Number 512)
+    ∷ answers (Write (pos 1) (letters 1)) (reply.Error EAGAIN)
+    ∷ answers (Write (pos 1) (letters 513)) (reply.Error EAGAIN)
+    ∷ answers (Read (pos 0) 512) (reply.Data (letters 512))
+    ∷ answers (Write (pos 1) (letters 600)) (reply.Number 512)
     ∷ []
 
 -- what a write moved before its process ended stays in the pipe, and the end of the data comes after it

@@ -18,6 +18,7 @@ returns c = record {
   shared_offset = record { is_legal = (refl, (refl, (refl, (refl, (refl, (refl, (refl, (refl, (refl, (refl, tt)))))))))); takes = refl; gives = refl };
   closing = record { is_legal = (refl, (refl, (refl, (refl, (refl, (refl, (refl, (refl, (refl, (refl, tt)))))))))); takes = refl; gives = refl };
   nonblocking_fifo = record { is_legal = (refl, (refl, (refl, (refl, (refl, (refl, (refl, (refl, (refl, (refl, (refl, tt))))))))))); takes = refl; gives = refl };
+  narrow_fifo = record { is_legal = (refl, (refl, (refl, (refl, (refl, (refl, (refl, (refl, (refl, tt))))))))); takes = refl; gives = refl };
   exit_in_a_write_that_waits = record { is_legal = (refl, (refl, (refl, (refl, (refl, (refl, (refl, (refl, (refl, (refl, (refl, tt))))))))))); takes = refl; gives = refl };
   last_reader_goes = record { is_legal = (refl, (refl, (refl, (refl, (refl, (refl, (refl, (refl, (refl, tt))))))))); takes = refl; gives = refl };
   fifo_rendezvous = record { is_legal = (refl, (refl, (refl, (refl, (refl, (refl, (refl, (refl, (refl, tt))))))))); takes = refl; gives = refl };
