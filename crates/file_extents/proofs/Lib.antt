@@ -3,3 +3,4 @@ pub mod Places
 pub mod Rooms
 pub mod Pieces
 pub mod Rows
+pub mod Tiers

@@ -105,6 +105,11 @@ kept_contents len F G keeps = is_contents len G (contents len F) (length_content
 pub kept_zero : (len : ℕ) (F G : ℕ → ChunkState) → Keeps F G → ZeroFrom len F → ZeroFrom len G
 kept_zero len F G keeps zeros = record { zero = λ p past. kept_byte F G p keeps ∙ zeros.zero p past }
 
+-- a copy of each chunk
+pub copied_contents : (len : ℕ) (F G : ℕ → ChunkState) → ((k : ℕ) → (G k).bytes ≡ (F k).bytes) → contents len G ≡ contents len F
+copied_contents len F G same = is_contents len G (contents len F) (length_contents len F)
+    (λ i below. contents_within len F i below ∙ sym (ap (λ b. get_or b (i % 65536) 0) (same (i / 65536))))
+
 -- what is past a length goes
 cut_last : (len : ℕ) (F G : ℕ → ChunkState) (p : ℕ) → Cuts (len / 65536) (len % 65536) F G → p / 65536 ≡ len / 65536 → byte_of G p ≡ get_or (take (len % 65536) (F (p / 65536)).bytes) (p % 65536) 0
 cut_last len F G p cuts same = rw same (cuts.here (p % 65536))

@@ -1,12 +1,12 @@
--- Chunks of rows: those that are added without a byte, the one that is edited, and copies.
-use Rattle.std.proofs.Common.{◌≡◌, ◌≢◌, ℕ, zero, suc, ◌-◌, ◌<◌, ◌/◌, ◌%◌, ◌∙◌, List, [], ◌∷◌, ◌++◌, false, ◌==◌, length, get_or, slice_set, refl, ap, sym, arith, inl, inr}
+-- Chunks of a row: those that are added without a byte, the one that is edited, and copies.
+use Rattle.std.proofs.Common.{◌≡◌, ℕ, zero, suc, ◌-◌, ◌<◌, ◌∙◌, List, [], ◌∷◌, ◌++◌, false, ◌==◌, length, get_or, slice_set, refl, ap, sym, arith, inl, inr}
 use Rattle.std.specs.List.{AllZip}
 use Rattle.std.proofs.lemmas.Bool.{cases_lt, cases_eq}
 use Rattle.std.proofs.lemmas.Bool.Decides.{nat_tests}
 use Rattle.std.proofs.lemmas.List.{get_or_past, get_or_append_left, get_or-append_right, get_or-set_same, get_or-set_other}
 use Rattle.std.proofs.lemmas.List.Elements.{AllZip-get_or, length_all_zip}
 use Rattle.posix_model.specs.Bytes.{splice}
-use Rattle.file_extents.specs.Proved.Chunks.{ChunkState, TableState, HasPlaces, KeepsPlaces, Keeps, Edits, no_chunk, chunk_in, row_in, placed, chunk_at, byte_in}
+use Rattle.file_extents.specs.Proved.Chunks.{ChunkState, TableState, HasPlaces, KeepsPlaces, Keeps, Edits, no_chunk, chunk_in, placed, chunk_at, byte_in}
 
 no_byte : (c : ChunkState) (j i : ℕ) → c.bytes ≡ [] → byte_in (get_or (c ∷ []) j no_chunk) i ≡ 0
 no_byte c zero i none = rw none refl
@@ -24,7 +24,7 @@ added_byte row c k i none = elim (cases_lt k (length row)) [
       ap (λ x. byte_in x i) there ∙ (no_byte c (k - length row) i none ∙ sym (ap (λ x. byte_in x i) gone))
 ]
 
-kept_if_same : (x y : ChunkState) → y ≡ x → KeepsPlaces x y
+pub kept_if_same : (x y : ChunkState) → y ≡ x → KeepsPlaces x y
 kept_if_same x y same = record { low = λ i from till. rw same from; high = λ i from till. rw same till }
 
 no_room : (x y : ChunkState) → x ≡ no_chunk → KeepsPlaces x y
@@ -55,12 +55,6 @@ column_there row n s end has some = elim (cases_lt n (length row)) [
   | inr past ↦ let none : (chunk_in row n).high ≡ 0 = rw (get_or_past row n no_chunk past) refl in omega (arith, none, has.high, some)
 ]
 
-pub row_there : (rows : List (List ChunkState)) (n s end : ℕ) → HasPlaces (placed rows n) s end → s < end → n / 1024 < length rows
-row_there rows n s end has some = elim (cases_lt (n / 1024) (length rows)) [
-  | inl there ↦ there
-  | inr past ↦ let none : (placed rows n).high ≡ 0 = rw (get_or_past rows (n / 1024) [] past) refl in omega (arith, none, has.high, some)
-]
-
 -- an edit of one chunk of a row
 kept_if_edited : (row : List ChunkState) (n : ℕ) (c : ChunkState) (k : ℕ) → n < length row → KeepsPlaces (chunk_in row n) c → KeepsPlaces (chunk_in row k) (chunk_in (slice_set row n c) k)
 kept_if_edited row n c k there keeps = elim (cases_eq k n) [
@@ -76,32 +70,6 @@ edited_row row n c s new there is keeps = record {
   room = λ k. kept_if_edited row n c k there keeps;
 }
 
--- an edit of one row
-same_place : (k n : ℕ) → k / 1024 ≡ n / 1024 → k % 1024 ≡ n % 1024 → k ≡ n
-same_place k n row column = omega (arith, row, column)
-
-pub edited_rows : (rows : List (List ChunkState)) (n : ℕ) (row : List ChunkState) (s : ℕ) (new : List ℕ) → n / 1024 < length rows →
-    Edits s new (n % 1024) (chunk_in (row_in rows (n / 1024))) (chunk_in row) → Edits s new n (placed rows) (placed (slice_set rows (n / 1024) row))
-edited_rows rows n row s new there edits = record { here = here; elsewhere = elsewhere; room = room }
-  where
-    set_there : row_in (slice_set rows (n / 1024) row) (n / 1024) ≡ row
-    set_there = get_or-set_same rows (n / 1024) row [] there
-
-    here : (placed (slice_set rows (n / 1024) row) n).bytes ≡ splice (placed rows n).bytes s new
-    here = rw set_there edits.here
-
-    elsewhere : (k : ℕ) → (k ≢ n) → (placed (slice_set rows (n / 1024) row) k).bytes ≡ (placed rows k).bytes
-    elsewhere k apart = elim (cases_eq (k / 1024) (n / 1024)) [
-      | inl same ↦ rw (same, set_there) (edits.elsewhere (k % 1024) (λ column. apart (same_place k n same column)))
-      | inr other ↦ rw (get_or-set_other rows (n / 1024) (k / 1024) row [] other) refl
-    ]
-
-    room : (k : ℕ) → KeepsPlaces (placed rows k) (placed (slice_set rows (n / 1024) row) k)
-    room k = elim (cases_eq (k / 1024) (n / 1024)) [
-      | inl same ↦ rw (same, set_there) (edits.room (k % 1024))
-      | inr other ↦ rw (get_or-set_other rows (n / 1024) (k / 1024) row [] other) (kept_if_same (placed rows k) (placed rows k) refl)
-    ]
-
 -- copies
 pub copied_row : (xs ys : List ChunkState) → AllZip (λ x y. y.bytes ≡ x.bytes) xs ys → (k : ℕ) → (chunk_in ys k).bytes ≡ (chunk_in xs k).bytes
 copied_row xs ys zip k = elim (cases_lt k (length xs)) [
@@ -109,13 +77,7 @@ copied_row xs ys zip k = elim (cases_lt k (length xs)) [
   | inr past ↦ ap (λ x. x.bytes) (get_or_past ys k no_chunk (omega (arith, past, length_all_zip (λ x y. y.bytes ≡ x.bytes) xs ys zip)) ∙ sym (get_or_past xs k no_chunk past))
 ]
 
-pub copied_rows : (xs ys : List (List ChunkState)) → AllZip (λ x y. (k : ℕ) → (chunk_in y k).bytes ≡ (chunk_in x k).bytes) xs ys → (k : ℕ) → (placed ys k).bytes ≡ (placed xs k).bytes
-copied_rows xs ys zip k = elim (cases_lt (k / 1024) (length xs)) [
-  | inl below ↦ AllZip-get_or (λ x y. (j : ℕ) → (chunk_in y j).bytes ≡ (chunk_in x j).bytes) xs ys (k / 1024) [] [] zip below (k % 1024)
-  | inr past ↦ ap (λ row. (chunk_in row (k % 1024)).bytes) (get_or_past ys (k / 1024) [] (omega (arith, past, length_all_zip (λ x y. (j : ℕ) → (chunk_in y j).bytes ≡ (chunk_in x j).bytes) xs ys zip)) ∙ sym (get_or_past xs (k / 1024) [] past))
-]
-
-pub copied_table : (s t : TableState) → t.first.bytes ≡ s.first.bytes → ((k : ℕ) → (placed t.rows k).bytes ≡ (placed s.rows k).bytes) → (k : ℕ) → (chunk_at t k).bytes ≡ (chunk_at s k).bytes
+pub copied_table : (s t : TableState) → t.first.bytes ≡ s.first.bytes → ((k : ℕ) → (placed t.shelves k).bytes ≡ (placed s.shelves k).bytes) → (k : ℕ) → (chunk_at t k).bytes ≡ (chunk_at s k).bytes
 copied_table s t first rest k = elim (cases_eq k 0) [
   | inl same ↦ rw same first
   | inr apart ↦

@@ -9,7 +9,7 @@ use std::alloc::{AllocError, Global};
 use std::marker::Model;
 
 /// How many chunks a row has at most.
-pub(crate) const COLUMNS: usize = 1024;
+pub(crate) const COLUMNS: usize = 256;
 
 /// Chunks by their column. Contracts see the list of them.
 #[derive(Drop)]
@@ -55,7 +55,7 @@ impl Row {
         start: usize,
         end: usize,
     ) -> Result<(), AllocError>
-        requires there { column < 1024 }
+        requires there { column < 256 }
         requires some { start < end }
         requires within { end ≤ 65536 }
         ensures kept { Keeps (chunk_in self.old) (chunk_in self.new) }
@@ -79,7 +79,7 @@ impl Row {
 
     /// Keeps what stands before the place `len` of the chunk of a column.
     pub(crate) fn cut(&mut self, column: usize, len: usize)
-        requires { column < 1024 }
+        requires { column < 256 }
         ensures { Cuts column len (chunk_in self.old) (chunk_in self.new) }
     {
         self.chunks.truncate(column + 1);

@@ -1,45 +1,45 @@
 ghost use Rattle.std.specs.Prelude.{◌≡◌, ℕ, ◌+◌, ◌≤◌, ◌<◌, [], ◌++◌, length, vec_len, vec_capacity, OnOk, IsOk, IfSome};
 ghost use Rattle.call_types.specs.Proved.Stored.{span_bytes};
-ghost use Rattle.file_extents.specs.Proved.Chunks.{TableState, chunk_at, row_in, placed, window, HasPlaces, Keeps, Edits, Cuts};
+ghost use Rattle.file_extents.specs.Proved.Chunks.{TableState, chunk_at, shelf_in, placed, window, HasPlaces, Keeps, Edits, Cuts};
 
 use crate::chunk::Chunk;
 use crate::room::append_zeros;
-use crate::row::{COLUMNS, Row};
+use crate::shelf::{PLACES, Shelf};
 use call_types::span::Span;
 use std::alloc::{AllocError, Global};
 use std::marker::Model;
 
-/// Chunks by number: the first one, and rows with all others.
+/// Chunks by number: the first one, and shelves with all others. Shelf s has the numbers from s * `PLACES` on.
 #[derive(Drop)]
 pub(crate) struct Table {
     first: Chunk,
-    rows: Vec<Row>,
+    shelves: Vec<Shelf>,
 }
 
 impl Model for Table {
     ghost Value = { TableState };
 
-    ghost view = { λ table. record { first = table.first; rows = table.rows.items } };
+    ghost view = { λ table. record { first = table.first; shelves = table.shelves.items } };
 }
 
-/// Adds empty rows, up to so many.
-fn add_rows(rows: &mut Vec<Row>, alloc: Global, len: usize) -> Result<(), AllocError>
-    ensures kept { (k : ℕ) → row_in rows.new.items k ≡ row_in rows.old.items k }
-    ensures grown { OnOk result (len ≤ vec_len rows.new) }
+/// Adds empty shelves, up to so many.
+fn add_shelves(shelves: &mut Vec<Shelf>, alloc: Global, len: usize) -> Result<(), AllocError>
+    ensures kept { (k : ℕ) → shelf_in shelves.new.items k ≡ shelf_in shelves.old.items k }
+    ensures grown { OnOk result (len ≤ vec_len shelves.new) }
 {
-    if rows.len() < len {
-        rows.reserve(len - rows.len())?;
+    if shelves.len() < len {
+        shelves.reserve(len - shelves.len())?;
     }
-    while rows.len() < len {
-        rows.push(Row::new(alloc))?;
+    while shelves.len() < len {
+        shelves.push(Shelf::new(alloc))?;
     }
     Ok(())
 }
 
-/// Makes room in a chunk of the rows from the place `start` up to `end`.
+/// Makes room in a chunk on the shelves from the place `start` up to `end`.
 #[inline]
 fn reserve_in(
-    rows: &mut Vec<Row>,
+    shelves: &mut Vec<Shelf>,
     alloc: Global,
     number: usize,
     start: usize,
@@ -47,59 +47,59 @@ fn reserve_in(
 ) -> Result<(), AllocError>
     requires some { start < end }
     requires within { end ≤ 65536 }
-    ensures kept { Keeps (placed rows.old.items) (placed rows.new.items) }
-    ensures room { OnOk result (HasPlaces (placed rows.new.items number) start end) }
-    ensures succeeds { HasPlaces (placed rows.old.items number) start end → IsOk result }
+    ensures kept { Keeps (placed shelves.old.items) (placed shelves.new.items) }
+    ensures room { OnOk result (HasPlaces (placed shelves.new.items number) start end) }
+    ensures succeeds { HasPlaces (placed shelves.old.items number) start end → IsOk result }
 {
-    let row = number / COLUMNS;
-    if rows.len() <= row {
-        add_rows(rows, alloc, row + 1)?;
+    let shelf = number / PLACES;
+    if shelves.len() <= shelf {
+        add_shelves(shelves, alloc, shelf + 1)?;
     }
-    rows[row].reserve(alloc, number % COLUMNS, start, end)
+    shelves[shelf].reserve(alloc, number % PLACES, start, end)
 }
 
-/// Writes `new` into a chunk of the rows from the place `start` on.
+/// Writes `new` into a chunk on the shelves from the place `start` on.
 #[inline]
-fn write_in(rows: &mut Vec<Row>, number: usize, start: usize, new: Span<'_>)
+fn write_in(shelves: &mut Vec<Shelf>, number: usize, start: usize, new: Span<'_>)
     requires some { 0 < length (span_bytes new) }
-    requires room { HasPlaces (placed rows.old.items number) start (start + length (span_bytes new)) }
-    ensures { Edits start (span_bytes new.entry) number (placed rows.old.items) (placed rows.new.items) }
+    requires room { HasPlaces (placed shelves.old.items number) start (start + length (span_bytes new)) }
+    ensures { Edits start (span_bytes new.entry) number (placed shelves.old.items) (placed shelves.new.items) }
 {
-    rows[number / COLUMNS].write(number % COLUMNS, start, new);
+    shelves[number / PLACES].write(number % PLACES, start, new);
 }
 
-/// Keeps what stands before the place `len` of a chunk of the rows.
-fn cut_in(rows: &mut Vec<Row>, number: usize, len: usize)
-    ensures { Cuts number len (placed rows.old.items) (placed rows.new.items) }
+/// Keeps what stands before the place `len` of a chunk on the shelves.
+fn cut_in(shelves: &mut Vec<Shelf>, number: usize, len: usize)
+    ensures { Cuts number len (placed shelves.old.items) (placed shelves.new.items) }
 {
-    let row = number / COLUMNS;
-    rows.truncate(row + 1);
-    if row < rows.len() {
-        rows[row].cut(number % COLUMNS, len);
+    let shelf = number / PLACES;
+    shelves.truncate(shelf + 1);
+    if shelf < shelves.len() {
+        shelves[shelf].cut(number % PLACES, len);
     }
 }
 
-/// Appends `count` bytes of a chunk of the rows from the place `start` on.
+/// Appends `count` bytes of a chunk on the shelves from the place `start` on.
 #[inline(never)]
-fn append_in(rows: &[Row], number: usize, start: usize, count: usize, out: &mut Vec<u8>)
+fn append_in(shelves: &[Shelf], number: usize, start: usize, count: usize, out: &mut Vec<u8>)
     requires { vec_len out.old + count ≤ vec_capacity out.old }
-    ensures items { out.new.items ≡ out.old.items ++ window (placed rows.now number).bytes start count }
+    ensures items { out.new.items ≡ out.old.items ++ window (placed shelves.now number).bytes start count }
     ensures len { vec_len out.new ≡ vec_len out.old + count }
     ensures capacity { vec_capacity out.old ≤ vec_capacity out.new }
 {
-    match rows.get(number / COLUMNS) {
-        Some(row) => row.append_to(number % COLUMNS, start, count, out),
+    match shelves.get(number / PLACES) {
+        Some(shelf) => shelf.append_to(number % PLACES, start, count, out),
         None => append_zeros(out, count),
     }
 }
 
-/// `count` bytes of a chunk of the rows from the place `start` on, where all of them are stored.
+/// `count` bytes of a chunk on the shelves from the place `start` on, where all of them are stored.
 #[inline(never)]
-fn stored_in(rows: &[Row], number: usize, start: usize, count: usize) -> Option<&[u8]>
-    ensures { IfSome result (λ bytes. bytes.now ≡ window (placed rows.now number).bytes start count) }
+fn stored_in(shelves: &[Shelf], number: usize, start: usize, count: usize) -> Option<&[u8]>
+    ensures { IfSome result (λ bytes. bytes.now ≡ window (placed shelves.now number).bytes start count) }
 {
-    match rows.get(number / COLUMNS) {
-        Some(row) => row.stored(number % COLUMNS, start, count),
+    match shelves.get(number / PLACES) {
+        Some(shelf) => shelf.stored(number % PLACES, start, count),
         None => None,
     }
 }
@@ -111,7 +111,7 @@ impl Table {
     {
         Table {
             first: Chunk::new(alloc),
-            rows: Vec::new(alloc),
+            shelves: Vec::new(alloc),
         }
     }
 
@@ -133,7 +133,7 @@ impl Table {
         if number == 0 {
             self.first.reserve(alloc, start, end)
         } else {
-            reserve_in(&mut self.rows, alloc, number, start, end)
+            reserve_in(&mut self.shelves, alloc, number, start, end)
         }
     }
 
@@ -147,7 +147,7 @@ impl Table {
         if number == 0 {
             self.first.write(start, new);
         } else {
-            write_in(&mut self.rows, number, start, new);
+            write_in(&mut self.shelves, number, start, new);
         }
     }
 
@@ -157,9 +157,9 @@ impl Table {
     {
         if number == 0 {
             self.first.cut(len);
-            self.rows.clear();
+            self.shelves.clear();
         } else {
-            cut_in(&mut self.rows, number, len);
+            cut_in(&mut self.shelves, number, len);
         }
     }
 
@@ -171,7 +171,7 @@ impl Table {
         if number == 0 {
             self.first.stored(start, count)
         } else {
-            stored_in(self.rows.as_slice(), number, start, count)
+            stored_in(self.shelves.as_slice(), number, start, count)
         }
     }
 
@@ -186,7 +186,7 @@ impl Table {
         if number == 0 {
             self.first.append_to(start, count, out);
         } else {
-            append_in(self.rows.as_slice(), number, start, count, out);
+            append_in(self.shelves.as_slice(), number, start, count, out);
         }
     }
 }
@@ -200,7 +200,7 @@ impl Clone for Table {
     fn clone(&self) -> Result<Self, AllocError> {
         Ok(Table {
             first: self.first.clone()?,
-            rows: self.rows.clone()?,
+            shelves: self.shelves.clone()?,
         })
     }
 }

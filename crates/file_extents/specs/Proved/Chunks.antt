@@ -38,22 +38,30 @@ pub record KeepsPlaces (old new : ChunkState) : Type 0 where
 abbrev pub chunk_in : List ChunkState → ℕ → ChunkState
 chunk_in row column = slice_index_or row column no_chunk
 
--- the row at an index (own)
+-- the row of a shelf at an index (own)
 abbrev pub row_in : List (List ChunkState) → ℕ → List ChunkState
 row_in rows index = slice_index_or rows index []
 
--- the first chunk apart, and rows with all others (own)
+-- the chunk of a shelf at a place (own)
+abbrev pub shelved : List (List ChunkState) → ℕ → ChunkState
+shelved rows place = chunk_in (row_in rows (place / 256)) (place % 256)
+
+-- the shelf at an index (own)
+abbrev pub shelf_in : List (List (List ChunkState)) → ℕ → List (List ChunkState)
+shelf_in shelves index = slice_index_or shelves index []
+
+-- the first chunk apart, and shelves with all others (own)
 pub record TableState : Type 0 where
   pub first : ChunkState
-  pub rows : List (List ChunkState)
+  pub shelves : List (List (List ChunkState))
 
--- the chunk of a number in the rows (own)
-abbrev pub placed : List (List ChunkState) → ℕ → ChunkState
-placed rows number = chunk_in (row_in rows (number / 1024)) (number % 1024)
+-- the chunk of a number on the shelves (own)
+abbrev pub placed : List (List (List ChunkState)) → ℕ → ChunkState
+placed shelves number = shelved (shelf_in shelves (number / 65536)) (number % 65536)
 
 -- the chunk of a number (own)
 abbrev pub chunk_at : TableState → ℕ → ChunkState
-chunk_at table number = if number == 0 then table.first else placed table.rows number
+chunk_at table number = if number == 0 then table.first else placed table.shelves number
 
 -- each byte of each chunk stays, and so does each place that there is room for (own)
 pub record Keeps (old new : ℕ → ChunkState) : Type 0 where

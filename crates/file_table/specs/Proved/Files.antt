@@ -18,7 +18,7 @@ file_in (body.Fifo fifo) = file.Fifo fifo
 
 -- no room for any byte
 abbrev pub no_room : TableState
-no_room = record { first = no_chunk; rows = [] }
+no_room = record { first = no_chunk; shelves = [] }
 
 -- where there is room for bytes in a file: its table of chunks; none in a FIFO
 abbrev pub room_in : FileBody → TableState

@@ -5,6 +5,9 @@ use Rattle.file_extents.proofs.Places.{two_parts, behind_all}
 use Rattle.file_extents.proofs.Rooms.{room_goes}
 use Rattle.file_extents.proofs.spread.put_across.Goals as goal
 
+pub put_within-requires-2-clause-some : goal.put_within-requires-2-clause-some
+put_within-requires-2-clause-some c = rw c.cut-2.ensures (omega (arith, length-take {A = ℕ}, length-drop {A = ℕ}))
+
 pub put_within-requires-2-clause-within : goal.put_within-requires-2-clause-within
 put_within-requires-2-clause-within c = rw c.cut-2.ensures (omega (arith, length-take {A = ℕ}, length-drop {A = ℕ}))
 

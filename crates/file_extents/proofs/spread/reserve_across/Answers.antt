@@ -1,8 +1,14 @@
 use Rattle.std.proofs.Common.{arith, ◌+◌, ◌-◌, ◌%◌}
 use Rattle.std.proofs.lemmas.Result.{on_ok_weaker}
 use Rattle.file_extents.specs.Proved.Contents.{HasRoom}
+use Rattle.file_extents.specs.Proved.Chunks.{chunk_at}
+use Rattle.file_extents.proofs.Rows.{kept_both}
 use Rattle.file_extents.proofs.Rooms.{room_joined, room_goes}
 use Rattle.file_extents.proofs.spread.reserve_across.Goals as goal
+
+pub returns-clause-kept : goal.returns-clause-kept
+returns-clause-kept c =
+    kept_both (chunk_at c.args.table.now) (chunk_at c.reserve_within.new.table) (chunk_at c.reserve_within-2.new.table) c.in_ok-reserve_within.ensures.kept c.reserve_within-2.ensures.kept
 
 pub returns-clause-room : goal.returns-clause-room
 returns-clause-room c =

@@ -1,6 +1,6 @@
 use Rattle.std.proofs.Common.{◌≡◌, ℕ, ◌-◌, vec_len}
 use Rattle.file_extents.specs.Proved.Chunks.{row_in}
-use Rattle.file_extents.proofs.table.add_rows.Given as goal
+use Rattle.file_extents.proofs.shelf.add_rows.Given as goal
 
 abbrev pub invariant-loop-alloc : goal.invariant-loop-alloc
 invariant-loop-alloc l = (k : ℕ) → row_in l.rows.items k ≡ row_in l.fn.rows.items k
