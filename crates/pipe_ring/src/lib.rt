@@ -1,21 +1,29 @@
-//! The bytes of one pipe, in a block that neither grows nor moves. They leave in the order in which they were put, each of them once, and none is
-//! overwritten.
+//! The bytes of one pipe. They leave in the order in which they were put, each of them once, and none is overwritten.
+//!
+//! They stand in one block, as a ring. A new pipe has no block: `reserve` makes places for bytes, and then putting and taking them wants no memory. A block that is
+//! too small is replaced by one of twice the size at least, but never of more places than the pipe can hold bytes. So all its blocks together move fewer bytes than
+//! twice its capacity, however long it lives. The block is given back with the pipe.
 #![tactic(auto)]
 
-ghost use Rattle.std.specs.Prelude.{◌≡◌, ◌-◌, ◌≤◌, [], ◌++◌, length, min, take, drop, replicate, IfOk};
+ghost use Rattle.std.specs.Prelude.{◌≡◌, ◌-◌, ◌≤◌, [], ◌++◌, length, min, take, drop, replicate, IfOk, OnOk, IsOk};
+ghost use Rattle.pipe_ring.specs.Proved.Ring.{HasPlaces};
 
 use circular_buffer::HeapCircularBuffer;
 use std::alloc::{AllocError, Global};
 use std::marker::Model;
 
 /// How many bytes are put at once where they are all the same.
-const BLOCK: usize = 512;
+const PIECE: usize = 512;
 
-/// The bytes that a pipe or FIFO holds; those written first are read first (page of pipe). Contracts see the list of them, in the order of reading, and
-/// the capacity in bytes.
+/// How many places the first block has at least, or as many as the pipe can hold bytes.
+const FIRST_BLOCK: usize = 512;
+
+/// The bytes that a pipe or FIFO holds; those written first are read first (page of pipe). Contracts see the list of them, in the order of reading, the
+/// capacity in bytes, and how many of these the block has places for.
 #[derive(Drop)]
 pub struct PipeRing {
     ring: HeapCircularBuffer<u8>,
+    capacity: usize,
 }
 
 impl Model for PipeRing {
@@ -24,19 +32,21 @@ impl Model for PipeRing {
 
     ghost Value = { Ring };
 
-    ghost view = { λ pipe. record { bytes = pipe.ring.items; capacity = pipe.ring.capacity } };
+    ghost view = { λ pipe. record { bytes = pipe.ring.items; capacity = pipe.capacity; block = pipe.ring.capacity } };
 
-    ghost invariant = { λ pipe. length pipe.ring.items ≤ pipe.ring.capacity };
+    ghost invariant = { λ pipe. (length pipe.ring.items ≤ pipe.ring.capacity) × (pipe.ring.capacity ≤ pipe.capacity) };
 }
 
 impl PipeRing {
-    /// No byte yet, and room for this many. All memory that the ring ever needs is taken here; an error says that it ran out.
+    /// No byte yet, and no place for one; it can hold this many. An error says that memory ran out.
     pub fn new(alloc: Global, capacity: usize) -> Result<Self, AllocError>
         ensures bytes { IfOk result (λ pipe. pipe.bytes ≡ []) }
         ensures capacity { IfOk result (λ pipe. pipe.capacity ≡ capacity) }
+        ensures block { IfOk result (λ pipe. pipe.block ≡ 0) }
     {
         Ok(PipeRing {
-            ring: HeapCircularBuffer::with_capacity(alloc, capacity)?,
+            ring: HeapCircularBuffer::with_capacity(alloc, 0)?,
+            capacity,
         })
     }
 
@@ -53,38 +63,93 @@ impl PipeRing {
         ensures room { result ≡ self.now.capacity - length self.now.bytes }
         ensures within { length self.now.bytes ≤ self.now.capacity }
     {
-        self.ring.capacity() - self.ring.len()
+        self.capacity - self.ring.len()
     }
 
-    /// Puts these bytes after those that it holds; there is room for all of them (page of write). It takes no memory.
+    /// Makes places for so many more bytes, or for as many more as it can hold. An error says that memory ran out.
+    #[inline(always)]
+    pub fn reserve(&mut self, count: usize) -> Result<(), AllocError>
+        ensures bytes { self.new.bytes ≡ self.old.bytes }
+        ensures capacity { self.new.capacity ≡ self.old.capacity }
+        ensures places { OnOk result (HasPlaces self.new count) }
+        ensures kept { self.old.block ≤ self.new.block }
+        ensures succeeds { HasPlaces self.old count → IsOk result }
+    {
+        if count <= self.ring.capacity() - self.ring.len() {
+            return Ok(());
+        }
+        self.grow(count)
+    }
+
+    /// Takes a block with places for so many more bytes, or for as many more as it can hold, unless it has them.
+    #[cold]
+    #[inline(never)]
+    fn grow(&mut self, count: usize) -> Result<(), AllocError>
+        ensures bytes { self.new.bytes ≡ self.old.bytes }
+        ensures capacity { self.new.capacity ≡ self.old.capacity }
+        ensures places { OnOk result (HasPlaces self.new count) }
+        ensures kept { self.old.block ≤ self.new.block }
+        ensures succeeds { HasPlaces self.old count → IsOk result }
+    {
+        let wanted = self.ring.len() + count.min(self.room());
+        if wanted <= self.ring.capacity() {
+            return Ok(());
+        }
+        let twice = self.ring.capacity().saturating_mul(2).max(FIRST_BLOCK);
+        self.move_to(wanted.max(twice.min(self.capacity)))
+    }
+
+    /// Takes a block with so many places, and moves the bytes into it.
+    fn move_to(&mut self, block: usize) -> Result<(), AllocError>
+        requires larger { self.old.block ≤ block }
+        requires within { block ≤ self.old.capacity }
+        ensures bytes { self.new.bytes ≡ self.old.bytes }
+        ensures capacity { self.new.capacity ≡ self.old.capacity }
+        ensures moved { OnOk result (self.new.block ≡ block) }
+        ensures kept { self.old.block ≤ self.new.block }
+    {
+        let mut larger = HeapCircularBuffer::with_capacity(*self.ring.allocator(), block)?;
+        let (front, back) = self.ring.as_slices();
+        larger.fill_from_slice(front);
+        larger.fill_from_slice(back);
+        self.ring = larger;
+        Ok(())
+    }
+
+    /// Puts these bytes after those that it holds; there are places for all of them (page of write). It takes no memory.
     pub fn put_all(&mut self, bytes: &[u8])
-        requires { length bytes.now ≤ self.old.capacity - length self.old.bytes }
+        requires { length bytes.now ≤ self.old.block - length self.old.bytes }
         ensures bytes { self.new.bytes ≡ self.old.bytes ++ bytes.now }
         ensures capacity { self.new.capacity ≡ self.old.capacity }
+        ensures block { self.new.block ≡ self.old.block }
     {
         self.put_some(bytes);
     }
 
-    /// Puts as many of these bytes as fit, from the first on, and gives their number (page of write). It takes no memory.
+    /// Puts as many of these bytes as it can hold, from the first on, and gives their number (page of write). There are places for them. It takes no memory.
     pub fn put_some(&mut self, bytes: &[u8]) -> usize
+        requires { HasPlaces self.old (length bytes.now) }
         ensures count { result ≡ min (length bytes.now) (self.old.capacity - length self.old.bytes) }
         ensures bytes { self.new.bytes ≡ self.old.bytes ++ take result bytes.now }
         ensures capacity { self.new.capacity ≡ self.old.capacity }
+        ensures block { self.new.block ≡ self.old.block }
+        ensures within { self.old.block ≤ self.old.capacity }
     {
         self.ring.fill_from_slice(bytes)
     }
 
-    /// Puts one byte, so many times, after those that it holds; there is room for all of them (page of write). It takes no memory.
+    /// Puts one byte, so many times, after those that it holds; there are places for all of them (page of write). It takes no memory.
     pub fn put_same(&mut self, byte: u8, count: usize)
-        requires { count ≤ self.old.capacity - length self.old.bytes }
+        requires { count ≤ self.old.block - length self.old.bytes }
         ensures bytes { self.new.bytes ≡ self.old.bytes ++ replicate count byte }
         ensures capacity { self.new.capacity ≡ self.old.capacity }
+        ensures block { self.new.block ≡ self.old.block }
     {
-        let block = [byte; BLOCK];
+        let piece = [byte; PIECE];
         let mut left = count;
         while left > 0 {
-            let here = left.min(BLOCK);
-            self.put_all(&block[..here]);
+            let here = left.min(PIECE);
+            self.put_all(&piece[..here]);
             left -= here;
         }
     }
@@ -106,6 +171,7 @@ impl PipeRing {
         ensures taken { target.new ≡ take result self.old.bytes ++ drop result target.old }
         ensures bytes { self.new.bytes ≡ drop result self.old.bytes }
         ensures capacity { self.new.capacity ≡ self.old.capacity }
+        ensures block { self.new.block ≡ self.old.block }
     {
         self.ring.read_into(target)
     }
@@ -114,6 +180,7 @@ impl PipeRing {
     pub fn skip(&mut self, count: usize)
         ensures bytes { self.new.bytes ≡ drop count self.old.bytes }
         ensures capacity { self.new.capacity ≡ self.old.capacity }
+        ensures block { self.new.block ≡ self.old.block }
     {
         let left = self.ring.len().saturating_sub(count);
         self.ring.truncate_front(left);

@@ -4,15 +4,16 @@
 //! read in the order of writing and each of them once (pages of write and read). An end is a live open file description, and may read, write or both. What the counts
 //! tell: with no writer left a reader of an empty pipe is at the end of the file, and with no reader left a write breaks (pages of read and write).
 //!
-//! A ring never grows: all its memory is taken when it is made. So only `reserve` and `peek` take memory, and nothing else in here can fail.
+//! Room is made first: `reserve` for one more pipe, `reserve_bytes` for more bytes in one that is there. Besides these only `peek` takes memory, for the copy that
+//! it gives, and nothing else in here can fail.
 #![tactic(auto)]
 
-ghost use Rattle.std.specs.Prelude.{◌≡◌, ◌+◌, ◌-◌, ◌<◌, ◌≤◌, ◌^◌, ◌∷◌, [], ◌++◌, Some, true, is_some, length, take, drop, IfOk, OnOk, IsOk};
+ghost use Rattle.std.specs.Prelude.{◌≡◌, ℕ, ◌+◌, ◌-◌, ◌<◌, ◌≤◌, ◌^◌, ◌∷◌, [], ◌++◌, Some, true, is_some, length, take, drop, IfOk, OnOk, IsOk};
 ghost use Rattle.call_types.specs.declared.limits.TheConstants.{TRANSFER_MAX};
 ghost use Rattle.call_types.specs.Proved.Stored.{span_bytes};
 ghost use Rattle.slots.specs.Slots.{slot, edited};
 ghost use Rattle.slots.specs.Proved.Uses.{uses_at, value_at, values_in, last_value, used_once, use_added, use_dropped, with_value};
-ghost use Rattle.pipe_table.specs.Proved.Pipes.{held_at, readers_at, writers_at, room_left, edited_ring, endless, with_end, without_end, HasEnd, HasEndAt};
+ghost use Rattle.pipe_table.specs.Proved.Pipes.{held_at, readers_at, writers_at, block_slots, block_at, places_left, edited_ring, with_block, endless, with_end, without_end, HasEnd, HasEndAt, HasPlacesAt};
 
 use call_types::bounded::Content;
 use call_types::description::Mode;
@@ -75,10 +76,10 @@ impl StoredPipe {
     }
 }
 
-/// Puts bytes into a ring, after those that it holds; there is room for all of them.
+/// Puts bytes into a ring, after those that it holds; there are places for all of them.
 fn put_all(ring: &mut PipeRing, bytes: Span<'_>)
-    requires { length (span_bytes bytes) ≤ ring.old.capacity - length ring.old.bytes }
-    ensures { ring.new ≡ record { bytes = ring.old.bytes ++ span_bytes bytes.entry; capacity = ring.old.capacity } }
+    requires { length (span_bytes bytes) ≤ ring.old.block - length ring.old.bytes }
+    ensures { ring.new ≡ record { bytes = ring.old.bytes ++ span_bytes bytes.entry; capacity = ring.old.capacity; block = ring.old.block } }
 {
     match bytes {
         Span::Slice(bytes) => ring.put_all(bytes),
@@ -174,10 +175,22 @@ impl PipeTable {
         self.pipes.reserve()
     }
 
-    /// Puts bytes into a pipe, after those that it holds; there is room for all of them (page of write).
+    /// Makes places for so many more bytes in a pipe, or for as many more as it can hold. An error says that memory ran out.
+    #[inline(always)]
+    pub fn reserve_bytes(&mut self, pipe: usize, count: usize) -> Result<(), AllocError>
+        requires { is_some (slot self.old.0 pipe) ≡ true }
+        ensures slots { (block : ℕ) × (self.new.0 ≡ edited pipe (with_value (with_block block)) self.old.0) }
+        ensures places { OnOk result (HasPlacesAt self.new.0 pipe count) }
+        ensures kept { (n : ℕ) → block_at (block_slots (values_in self.old.0)) n ≤ block_at (block_slots (values_in self.new.0)) n }
+        ensures room { self.new.1 ≡ self.old.1 }
+    {
+        self.pipes.value_mut(pipe).value.ring.reserve(count)
+    }
+
+    /// Puts bytes into a pipe, after those that it holds; there are places for all of them (page of write).
     pub fn put(&mut self, pipe: usize, bytes: Span<'_>)
         requires there { is_some (slot self.old.0 pipe) ≡ true }
-        requires room { length (span_bytes bytes) ≤ room_left (value_at (slot self.old.0 pipe)) }
+        requires places { length (span_bytes bytes) ≤ places_left (value_at (slot self.old.0 pipe)) }
         ensures slots { self.new.0 ≡ edited pipe (with_value (edited_ring (λ held. held ++ span_bytes bytes.entry))) self.old.0 }
         ensures room { self.new.1 ≡ self.old.1 }
     {

@@ -1,10 +1,10 @@
 -- Pipes, each with the counts of its open ends.
-use Rattle.std.specs.Prelude.{◌≡◌, ℕ, ◌+◌, ◌-◌, ◌<◌, List, [], Option, None, Some, length}
+use Rattle.std.specs.Prelude.{◌≡◌, ℕ, ◌+◌, ◌-◌, ◌<◌, List, [], Option, None, Some, map, length, slice_index_or}
 use Rattle.slots.specs.Slots.{slot}
 use Rattle.slots.specs.declared.used.Used.{Used}
 use Rattle.call_types.specs.declared.description.Mode.{Mode}
 use Rattle.call_types.specs.declared.description.Mode.TheVariants as mode
-use Rattle.pipe_ring.specs.Proved.Ring.{Ring}
+use Rattle.pipe_ring.specs.Proved.Ring.{Ring, HasPlaces}
 use Rattle.pipe_table.specs.declared.StoredPipe.{StoredPipe}
 
 -- the bytes of the pipe at a slot; none where it is gone
@@ -22,14 +22,34 @@ abbrev pub writers_at : Option StoredPipe → ℕ
 writers_at None = 0
 writers_at (Some pipe) = pipe.writers
 
--- for how many more bytes there is room in the pipe at a slot
-abbrev pub room_left : Option StoredPipe → ℕ
-room_left None = 0
-room_left (Some pipe) = pipe.ring.capacity - length pipe.ring.bytes
+-- how many bytes the pipe at a slot has places for
+abbrev pub block_in : Option StoredPipe → ℕ
+block_in None = 0
+block_in (Some pipe) = pipe.ring.block
+
+-- the same for each slot
+abbrev pub block_slots : List (Option StoredPipe) → List ℕ
+block_slots slots = map block_in slots
+
+-- how many bytes the pipe of a number has places for
+abbrev pub block_at : List ℕ → ℕ → ℕ
+block_at blocks number = slice_index_or blocks number 0
+
+-- for how many more bytes the pipe at a slot has places
+abbrev pub places_left : Option StoredPipe → ℕ
+places_left slot = block_in slot - length (held_at slot)
+
+-- the pipe at this number is there, and has places for so many more bytes, or for as many more as it can hold
+abbrev pub HasPlacesAt : List (Option (Used StoredPipe)) → ℕ → ℕ → Type 0
+HasPlacesAt pipes number count = (used : Used StoredPipe) × (slot pipes number ≡ Some used) × HasPlaces used.value.ring count
 
 -- a pipe with other bytes
 abbrev pub edited_ring : (List ℕ → List ℕ) → StoredPipe → StoredPipe
-edited_ring edit pipe = record pipe { ring = record { bytes = edit pipe.ring.bytes; capacity = pipe.ring.capacity } }
+edited_ring edit pipe = record pipe { ring = record { bytes = edit pipe.ring.bytes; capacity = pipe.ring.capacity; block = pipe.ring.block } }
+
+-- a pipe with places for so many bytes
+abbrev pub with_block : ℕ → StoredPipe → StoredPipe
+with_block block pipe = record pipe { ring = record { bytes = pipe.ring.bytes; capacity = pipe.ring.capacity; block = block } }
 
 -- a pipe that no end was opened of
 abbrev pub endless : Ring → StoredPipe

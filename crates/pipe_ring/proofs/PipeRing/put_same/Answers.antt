@@ -18,5 +18,6 @@ loop-left-preserved c =
     record {
       bytes = shown ∙ c.loop-left.invariant.bytes;
       capacity = c.put_all.ensures.capacity ∙ c.loop-left.invariant.capacity;
-      room = omega (arith, ap length put, length-append before (replicate here byte), length-replicate here byte);
+      block = c.put_all.ensures.block ∙ c.loop-left.invariant.block;
+      places = omega (arith, c.loop-left.invariant.places, ap length put, length-append before (replicate here byte), length-replicate here byte, c.put_all.ensures.block);
     }
