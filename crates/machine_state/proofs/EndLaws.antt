@@ -16,7 +16,7 @@ use Rattle.call_types.specs.declared.description.Target.TheVariants as target
 use Rattle.call_types.specs.declared.description.Mode.TheVariants as mode
 use Rattle.description_table.specs.declared.Dropped.TheVariants.{Gone}
 use Rattle.machine_state.specs.Proved.Uses.{with_use, without_use}
-use Rattle.pipe_table.specs.Proved.Pipes.{readers_at, writers_at, edited_ring, endless, with_end, without_end, HasEnd, HasEndAt}
+use Rattle.pipe_table.specs.Proved.Pipes.{readers_at, writers_at, endless, with_end, without_end, HasEnd, HasEndAt}
 use Rattle.machine_state.specs.Proved.Pipes.{is_end, open_ends, pipe_slots, with_end_at, counted_less}
 use Rattle.machine_state.specs.Proved.Targets.{pipes_left}
 use Rattle.slots.proofs.SlotLaws.{is_itself}
@@ -63,6 +63,12 @@ module _ (ds : List (Option Description)) (p : ℕ) where
 
   pub closed_of : open_ends ds p ≡ 0 → is_open ds p ≡ false
   closed_of nothing = let zero_left : readers ds p + writers ds p ≡ 0 = omega (arith, nothing, (ends_within p ds).1, (ends_within p ds).2) in ap (ltb 0) zero_left
+
+-- a pipe has the ends that it had, and can hold as many bytes
+pub record KeepsEnds (f : StoredPipe → StoredPipe) : Type 0 where
+  pub readers : (x : StoredPipe) → (f x).readers ≡ x.readers
+  pub writers : (x : StoredPipe) → (f x).writers ≡ x.writers
+  pub capacity : (x : StoredPipe) → (f x).ring.capacity ≡ x.ring.capacity
 
 -- the pipes as they are stored, with the counts of these descriptions
 pub record PipeFacts (xs : Pipes) (ds : List (Option Description)) (capacity : ℕ) : Type 0 where
@@ -133,14 +139,14 @@ module _ (xs : Pipes) (ds : List (Option Description)) (capacity : ℕ) (facts :
       (λ p. count_edited (writes p) refl ds n f (λ d. rw (stays.target d, stays.mode d) refl))
 
   -- a pipe has other bytes
-  pub pipes_written : (n : ℕ) (edit : List ℕ → List ℕ) → PipeFacts (edited n (with_value (edited_ring edit)) xs) ds capacity
-  pipes_written n edit =
-      let values = values_edited xs n (edited_ring edit) in
+  pub pipes_kept : (n : ℕ) (f : StoredPipe → StoredPipe) → KeepsEnds f → PipeFacts (edited n (with_value f) xs) ds capacity
+  pipes_kept n f same =
+      let values = values_edited xs n f in
       record {
-        ends = counted_edited xs (λ p. open_ends ds p) n (edited_ring edit) facts.ends;
-        readers = rw values (tallies_kept readers_at refl (values_in xs) (λ p. readers ds p) n (edited_ring edit) (λ x. refl) facts.readers);
-        writers = rw values (tallies_kept writers_at refl (values_in xs) (λ p. writers ds p) n (edited_ring edit) (λ x. refl) facts.writers);
-        capacities = rw values (each_edited (λ (pipe : StoredPipe). pipe.ring.capacity ≡ capacity) (values_in xs) n (edited_ring edit) facts.capacities (λ x h. h));
+        ends = counted_edited xs (λ p. open_ends ds p) n f facts.ends;
+        readers = rw values (tallies_kept readers_at refl (values_in xs) (λ p. readers ds p) n f same.readers facts.readers);
+        writers = rw values (tallies_kept writers_at refl (values_in xs) (λ p. writers ds p) n f same.writers facts.writers);
+        capacities = rw values (each_edited (λ (pipe : StoredPipe). pipe.ring.capacity ≡ capacity) (values_in xs) n f facts.capacities (λ x h. same.capacity x ∙ h));
       }
 
   -- a pipe has one end more

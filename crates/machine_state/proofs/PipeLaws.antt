@@ -10,7 +10,7 @@ use Rattle.posix_model.specs.Descriptors.{pipe_bytes}
 use Rattle.machine_state.specs.Proved.Types.{Mode, Used, StoredPipe}
 use Rattle.call_types.specs.declared.description.Mode.TheVariants as mode
 use Rattle.slots.specs.Proved.Uses.{value_at, values_in, with_value}
-use Rattle.pipe_table.specs.Proved.Pipes.{held_at, with_end, without_end}
+use Rattle.pipe_table.specs.Proved.Pipes.{held_at, block_in, block_slots, block_at, with_end, without_end}
 use Rattle.machine_state.specs.Proved.Pipes.{pipe_slot, pipe_slots}
 use Rattle.machine_state.proofs.UseLaws.{slot_values, there_values, values_edited}
 
@@ -23,6 +23,13 @@ slot_pipes slots n = get_or-map pipe_slot slots n None
 module _ (xs : Pipes) (n : ℕ) where
   pub held_there : (used : Used StoredPipe) → slot xs n ≡ Some used → pipe_bytes (slot (pipe_slots (values_in xs)) n) ≡ used.value.ring.bytes
   held_there used is = ap pipe_bytes (slot_pipes (values_in xs) n ∙ ap pipe_slot (slot_values xs n ∙ ap value_at is))
+
+-- the places of a pipe are those of its ring
+pub block_is : (xs : Pipes) (n : ℕ) → block_at (block_slots (values_in xs)) n ≡ block_in (value_at (slot xs n))
+block_is xs n = get_or-map block_in (values_in xs) n None ∙ ap block_in (slot_values xs n)
+
+pub block_there : (xs : Pipes) (n : ℕ) (used : Used StoredPipe) → slot xs n ≡ Some used → block_at (block_slots (values_in xs)) n ≡ used.value.ring.block
+block_there xs n used is = block_is xs n ∙ ap (λ x. block_in (value_at x)) is
 
 -- the bytes of a pipe are those of the pipe of the world
 pub held_is : (xs : Pipes) (n : ℕ) → pipe_bytes (slot (pipe_slots (values_in xs)) n) ≡ held_at (slot (values_in xs) n)

@@ -1,4 +1,4 @@
-use Rattle.std.proofs.Common.{◌≡◌, ℕ, ◌+◌, ◌-◌, ◌≤◌, ◌<◌, ◌∙◌, Bool, true, false, ◌&&◌, cond, List, [], ◌∷◌, ◌++◌, Option, None, Some, length, length-set, set, refl, ap, sym, subst, arith, inl, inr}
+use Rattle.std.proofs.Common.{◌≡◌, ℕ, ◌+◌, ◌-◌, ◌≤◌, ◌<◌, min, ◌∙◌, Bool, true, false, ◌&&◌, cond, List, [], ◌∷◌, ◌++◌, Option, None, Some, length, length-set, set, refl, ap, sym, subst, arith, inl, inr}
 use Rattle.std.specs.Prelude.{is_some, ◌==◌}
 use Rattle.std.proofs.lemmas.Bool.{lt-ltb}
 use Rattle.call_types.specs.declared.limits.TheConstants.{OPEN_MAX, NAMES_MAX, DESCRIPTIONS_MAX, PROCESSES_MAX}
@@ -11,10 +11,10 @@ use Rattle.process_table.specs.Processes.{with_entry}
 use Rattle.posix_model.specs.Descriptors.{held_in}
 use Rattle.posix_model.specs.Proved.Whole.{EachThere, StaysOpen}
 use Rattle.posix_model.specs.Kept.{IsThere, IsSettled}
-use Rattle.machine_state.specs.Proved.Types.{Process, Description, Used, Ring, TableState, FileBody, StoredFile, StoredPipe}
+use Rattle.machine_state.specs.Proved.Types.{Process, Description, Ring, TableState, FileBody, StoredFile, StoredPipe}
 use Rattle.slots.specs.Proved.Uses.{uses_at, value_at, values_in, used_once, use_added, with_value}
 use Rattle.file_table.specs.declared.stored_file.FileBody.TheVariants as body
-use Rattle.pipe_table.specs.Proved.Pipes.{readers_at, writers_at, edited_ring, room_left}
+use Rattle.pipe_table.specs.Proved.Pipes.{held_at, readers_at, writers_at, block_slots, block_at, places_left, edited_ring, with_block, HasPlacesAt}
 use Rattle.machine_state.specs.Proved.Pipes.{is_end, open_ends}
 use Rattle.file_table.specs.Proved.Files.{named, file_in, edited_body, edited_bytes, links_at}
 use Rattle.machine_state.specs.Proved.Held.{Stored, world_in}
@@ -24,8 +24,8 @@ use Rattle.slots.proofs.SlotLaws.{same_or_not}
 use Rattle.machine_state.proofs.SlotLaws.{one, slot_set, slot_added, set_none, each_edited}
 use Rattle.machine_state.proofs.UseLaws.{Counted, slot_values, there_edited, there_values, counted_as, counted_more, values_more, counted_added, values_added, length_values, counted_edited, values_edited}
 use Rattle.machine_state.proofs.FileLaws.{Files, slot_files, files_there, files_same, known, known_open, open_stays}
-use Rattle.machine_state.proofs.PipeLaws.{pipes_there, pipes_edited, held_there}
-use Rattle.machine_state.proofs.EndLaws.{PipeFacts, open_of, some_of, ends_within, pipes_moved, pipes_written}
+use Rattle.machine_state.proofs.PipeLaws.{pipes_there, pipes_edited, pipes_same, held_there, held_is, block_there, block_is}
+use Rattle.machine_state.proofs.EndLaws.{PipeFacts, open_of, some_of, ends_within, KeepsEnds, pipes_moved, pipes_kept}
 use Rattle.machine_state.proofs.LinkLaws.{Tallies, tallies_more, tallies_kept, tallies_added}
 use Rattle.machine_state.proofs.CountLaws.{refs_most, holders_most, count_most, holders_same, links_added, count_live, names_longer, live_edited}
 
@@ -202,15 +202,15 @@ module _ (s : Stored) (all : IsConsistent s) where
       alike (body.Regular bytes) = refl
       alike (body.Fifo fifo) = refl
 
-  -- a pipe has other bytes
-  pub after_written : (n : ℕ) (edit : List ℕ → List ℕ) → IsConsistent (record s { pipes = edited n (with_value (edited_ring edit)) s.pipes })
-  after_written n edit =
+  -- a pipe is another, with the same ends
+  after_ring : (n : ℕ) (f : StoredPipe → StoredPipe) → KeepsEnds f → IsConsistent (record s { pipes = edited n (with_value f) s.pipes })
+  after_ring n f same =
       let facts = facts_of s all in
-      consistent_of (record s { pipes = edited n (with_value (edited_ring edit)) s.pipes }) (record {
+      consistent_of (record s { pipes = edited n (with_value f) s.pipes }) (record {
         references = facts.references;
         uses = facts.uses;
         links = facts.links;
-        pipes = pipes_written s.pipes ds s.capacity facts.pipes n edit;
+        pipes = pipes_kept s.pipes ds s.capacity facts.pipes n f same;
         fifos = facts.fifos;
         spare = facts.spare;
         tables = facts.tables;
@@ -219,19 +219,33 @@ module _ (s : Stored) (all : IsConsistent s) where
         few_names = facts.few_names;
       })
 
+  -- a pipe has other bytes
+  pub after_written : (n : ℕ) (edit : List ℕ → List ℕ) → IsConsistent (record s { pipes = edited n (with_value (edited_ring edit)) s.pipes })
+  after_written n edit = after_ring n (edited_ring edit) (record { readers = λ x. refl; writers = λ x. refl; capacity = λ x. refl })
+
+  -- a pipe has another block
+  pub after_block : (n block : ℕ) → IsConsistent (record s { pipes = edited n (with_value (with_block block)) s.pipes })
+  after_block n block = after_ring n (with_block block) (record { readers = λ x. refl; writers = λ x. refl; capacity = λ x. refl })
+
+  pub block_world : (n block : ℕ) → world_in (record s { pipes = edited n (with_value (with_block block)) s.pipes }) ≡ world_in s
+  block_world n block = ap (λ pipes. record (world_in s) { pipes = pipes }) (pipes_same s.pipes n (with_block block) (λ x. refl))
+
   pub written_world : (n : ℕ) (edit : List ℕ → List ℕ) → world_in (record s { pipes = edited n (with_value (edited_ring edit)) s.pipes }) ≡ record (world_in s) { pipes = edited n edit (world_in s).pipes }
   written_world n edit = ap (λ pipes. record (world_in s) { pipes = pipes }) (pipes_edited s.pipes n (edited_ring edit) edit (λ x. refl))
 
-  -- what is put fits into the ring
-  pub fits_ring : (n count : ℕ) → IsThere (world_in s).pipes n → count ≤ s.capacity - held_in (world_in s) n → count ≤ room_left (value_at (slot s.pipes n))
-  fits_ring n count there few = by_slot (slot s.pipes n) refl (sym (pipes_there s.pipes n) ∙ there)
-    where
-      by_slot : (x : Option (Used StoredPipe)) → slot s.pipes n ≡ x → is_some (slot s.pipes n) ≡ true → count ≤ room_left (value_at (slot s.pipes n))
-      by_slot None is stored = let bad : false ≡ true = sym (ap is_some is) ∙ stored in cc
-      by_slot (Some used) is stored =
-          let holds : held_in (world_in s) n ≡ length used.value.ring.bytes = ap length (held_there s.pipes n used is) in
-          let right : used.value.ring.capacity ≡ s.capacity = all.capacities n used.value (slot_values s.pipes n ∙ ap value_at is) in
-          rw is (omega (arith, holds, right, few))
+  -- a ring with places for bytes is a pipe with room for them
+  pub put_room : (n count : ℕ) → HasPlacesAt s.pipes n count → min count (s.capacity - held_in (world_in s) n) ≤ block_at (block_slots (values_in s.pipes)) n - held_in (world_in s) n
+  put_room n count has =
+      let held : held_in (world_in s) n ≡ length has.0.value.ring.bytes = ap length (held_there s.pipes n has.0 has.1) in
+      let right : has.0.value.ring.capacity ≡ s.capacity = all.capacities n has.0.value (slot_values s.pipes n ∙ ap value_at has.1) in
+      omega (arith, held, right, block_there s.pipes n has.0 has.1, has.2)
+
+  -- what is put has places in the ring
+  pub fits_ring : (n count : ℕ) → count ≤ s.capacity - held_in (world_in s) n →
+      min count (s.capacity - held_in (world_in s) n) ≤ block_at (block_slots (values_in s.pipes)) n - held_in (world_in s) n → count ≤ places_left (value_at (slot s.pipes n))
+  fits_ring n count few room =
+      let held : held_in (world_in s) n ≡ length (held_at (value_at (slot s.pipes n))) = ap length (held_is s.pipes n ∙ ap held_at (slot_values s.pipes n)) in
+      omega (arith, few, room, held, block_is s.pipes n)
 
   -- a new file has a new name
   pub after_create : (name : List ℕ) (stored : StoredFile) → stored.links ≡ 1 → known (Some stored) ≡ None → file_of name s.names ≡ None → length s.names < NAMES_MAX →

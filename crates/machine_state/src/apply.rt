@@ -27,7 +27,7 @@ impl Machine {
     fn apply_files(&mut self, bytes: Span<'_>, edit: FileEdit)
         requires fits { FilesFit self.old.world edit }
         requires proper { FilesProper self.old.world (span_bytes bytes) edit }
-        requires room { HasFileRoom self.old.room edit }
+        requires room { HasFileRoom self.old edit }
         requires holds { PutsWithin self.old.room.capacity self.old.world edit }
         requires stays { is_of_names edit ≡ false }
         ensures world { self.new.world ≡ with_files self.old.world (span_bytes bytes.entry) edit }
@@ -117,7 +117,7 @@ impl Machine {
         requires names { is_of_names edit ≡ true }
         requires fits { FilesFit self.old.world edit }
         requires proper { (bytes : List ℕ) × FilesProper self.old.world bytes edit }
-        requires room { HasFileRoom self.old.room edit }
+        requires room { HasFileRoom self.old edit }
         ensures world { (bytes : List ℕ) → self.new.world ≡ sweep (with_files self.old.world bytes edit) }
         ensures capacity { self.new.room.capacity ≡ self.old.room.capacity }
     {

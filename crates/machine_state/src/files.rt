@@ -155,7 +155,7 @@ impl Machine {
                 self.is_settled();
             }
             NameEdit::Remove { name } => self.unlink(name.as_slice()),
-            NameEdit::Move { old, new } => self.rename(old.as_slice(), new),
+            NameEdit::Move { old, new } => self.rename(old.as_slice(), new.into_name()),
         }
     }
 

@@ -11,7 +11,7 @@ use posix_model::change::{Change, FileEdit, NameEdit, ProcessEdit, TableEdit};
 use std::alloc::AllocError;
 
 impl Machine {
-    /// Makes room for one more pipe: its number, and the ring of its bytes.
+    /// Makes room for one more pipe: its number, and a ring that has no place for a byte yet.
     fn reserve_pipe(&mut self) -> Result<(), AllocError>
         ensures world { self.new.world ≡ self.old.world }
         ensures room { OnOk result (0 < self.new.room.pipes) }
@@ -104,7 +104,7 @@ impl Machine {
         requires fits { FilesFit self.old.world edit.now }
         requires proper { (bytes : List ℕ) × FilesProper self.old.world bytes edit.now }
         ensures world { self.new.world ≡ self.old.world }
-        ensures room { OnOk result (HasFileRoom self.new.room edit.now) }
+        ensures room { OnOk result (HasFileRoom self.new edit.now) }
         ensures tables { KeepsTableRoom self.old self.new }
         ensures kept { KeepsRoom self.old.room self.new.room }
     {
@@ -113,7 +113,8 @@ impl Machine {
             FileEdit::Bytes { file, start, count } => self.reserve_bytes(*file, *start, *count),
             FileEdit::Names(NameEdit::Remove { .. }) => Ok(()),
             FileEdit::Names(_) => self.names.reserve(),
-            FileEdit::Put { .. } | FileEdit::Take { .. } => Ok(()),
+            FileEdit::Put { pipe, count, .. } => self.reserve_put(*pipe, *count),
+            FileEdit::Take { .. } => Ok(()),
             FileEdit::MakeFile { .. } | FileEdit::MakeFifo { .. } => {
                 self.files.reserve()?;
                 self.names.reserve()

@@ -4,11 +4,12 @@ use Rattle.call_types.specs.Names.{Entries}
 use Rattle.machine_state.specs.Proved.Types.{World, Process, Description, Used, Ring, TableState, StoredFile, StoredPipe}
 use Rattle.slots.specs.Proved.Uses.{values_in}
 use Rattle.file_table.specs.Proved.Files.{file_slots, room_slots}
+use Rattle.pipe_table.specs.Proved.Pipes.{block_slots}
 use Rattle.machine_state.specs.Proved.Pipes.{pipe_slots, pipe_room}
 use Rattle.machine_state.specs.declared.machine.Machine.TheInside.{Inside}
 
--- for how many more files, pipes, descriptions, processes and names there is room, for which bytes in each file, and
--- how many bytes each pipe holds, which never changes
+-- for how many more files, pipes, descriptions, processes and names there is room, for which bytes in each file, how many
+-- bytes each pipe has places for, and how many each can hold, which never changes
 pub record Room : Type 0 where
   pub files : ℕ
   pub pipes : ℕ
@@ -16,6 +17,7 @@ pub record Room : Type 0 where
   pub processes : ℕ
   pub names : ℕ
   pub bytes : List TableState
+  pub blocks : List ℕ
   pub capacity : ℕ
 
 -- a machine, as contracts see it
@@ -69,6 +71,7 @@ held_by m = record {
     processes = m.processes.1;
     names = m.names.1;
     bytes = room_slots (values_in m.files.0);
+    blocks = block_slots (values_in m.pipes.0);
     capacity = m.capacity;
   };
 }

@@ -1,6 +1,7 @@
 -- The room that changes take.
-use Rattle.std.specs.Prelude.{◌≡◌, ℕ, ◌+◌, ◌<◌, ◌≤◌, ◌^◌, None}
+use Rattle.std.specs.Prelude.{◌≡◌, ℕ, ◌+◌, ◌-◌, ◌<◌, ◌≤◌, ◌^◌, min, None}
 use Rattle.slots.specs.Slots.{slot}
+use Rattle.posix_model.specs.Descriptors.{held_in}
 use Rattle.posix_model.specs.Pipes.{fifo_at, pipe_of_fifo}
 use Rattle.machine_state.specs.Proved.Types.{Mode, NameEdit, FileEdit, ProcessEdit, TableEdit, Change}
 use Rattle.posix_model.specs.declared.change.NameEdit.TheVariants as on_names
@@ -9,6 +10,7 @@ use Rattle.posix_model.specs.declared.change.ProcessEdit.TheVariants as on_proce
 use Rattle.posix_model.specs.declared.change.TableEdit.TheVariants as on_table
 use Rattle.file_extents.specs.Proved.Contents.{HasRoom as HasBytes, KeepsRoom as KeepsBytes}
 use Rattle.file_table.specs.Proved.Files.{room_at, openings}
+use Rattle.pipe_table.specs.Proved.Pipes.{block_at}
 use Rattle.machine_state.specs.Proved.Held.{Room, Held}
 
 -- the room of an edit of names stands reserved
@@ -16,13 +18,18 @@ abbrev pub HasNameRoom : Room → NameEdit → Type 0
 HasNameRoom room (on_names.Remove name) = Unit {0}
 HasNameRoom room other = 0 < room.names
 
+-- a pipe has places for so many more bytes, or for as many more as it can hold
+abbrev pub HasPutRoom : Held → ℕ → ℕ → Type 0
+HasPutRoom m pipe count = min count (m.room.capacity - held_in m.world pipe) ≤ block_at m.room.blocks pipe - held_in m.world pipe
+
 -- the room of an edit of files stands reserved
-abbrev pub HasFileRoom : Room → FileEdit → Type 0
-HasFileRoom room (on_files.Bytes file start count) = HasBytes (room_at room.bytes file) start count
-HasFileRoom room (on_files.Names edit) = HasNameRoom room edit
-HasFileRoom room (on_files.MakeFile name) = (0 < room.files) × (0 < room.names)
-HasFileRoom room (on_files.MakeFifo name) = (0 < room.files) × (0 < room.names)
-HasFileRoom room other = Unit {0}
+abbrev pub HasFileRoom : Held → FileEdit → Type 0
+HasFileRoom m (on_files.Bytes file start count) = HasBytes (room_at m.room.bytes file) start count
+HasFileRoom m (on_files.Names edit) = HasNameRoom m.room edit
+HasFileRoom m (on_files.MakeFile name) = (0 < m.room.files) × (0 < m.room.names)
+HasFileRoom m (on_files.MakeFifo name) = (0 < m.room.files) × (0 < m.room.names)
+HasFileRoom m (on_files.Put pipe source count) = HasPutRoom m pipe count
+HasFileRoom m other = Unit {0}
 
 -- the room of an edit of processes stands reserved, where there is room for so many more
 abbrev pub HasProcessRoom : ℕ → ProcessEdit → Type 0
@@ -44,7 +51,7 @@ HasTableRoom m other = Unit {0}
 
 -- the room of a change stands reserved
 pub record HasRoom (m : Held) (c : Change) : Type 0 where
-  pub files : HasFileRoom m.room c.files
+  pub files : HasFileRoom m c.files
   pub process : HasProcessRoom m.room.processes c.process
   pub table : HasTableRoom m c.table
 
@@ -56,6 +63,7 @@ pub record KeepsRoom (old new : Room) : Type 0 where
   pub processes : old.processes ≤ new.processes
   pub names : old.names ≤ new.names
   pub bytes : (file : ℕ) → KeepsBytes (room_at old.bytes file) (room_at new.bytes file)
+  pub blocks : (pipe : ℕ) → block_at old.blocks pipe ≤ block_at new.blocks pipe
   pub capacity : new.capacity ≡ old.capacity
 
 -- descriptions and pipes have the room that they had, and a pipe holds as many bytes

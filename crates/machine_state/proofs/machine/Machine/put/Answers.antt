@@ -11,12 +11,12 @@ use Rattle.machine_state.proofs.machine.Machine.put.Goals as goal
 pub put-requires-clause-there : goal.put-requires-clause-there
 put-requires-clause-there c = sym (pipes_there c.self.inside.pipes.0 c.args.pipe) ∙ (rw (← c.self.view_is) at c.requires.there)
 
-pub put-requires-clause-room : goal.put-requires-clause-room
-put-requires-clause-room c =
-    let there = rw (← c.self.view_is) at c.requires.there in
+pub put-requires-clause-places : goal.put-requires-clause-places
+put-requires-clause-places c =
     let holds = rw (← c.self.view_is) at c.requires.holds in
+    let room = rw (← c.self.view_is) at c.requires.room in
     let given = rw c.in-Act.is at c.requires.given in
-    omega (arith, ap length c.cut.ensures, length-take-le c.args.count (span_bytes c.args.bytes), fits_ring (stored_in c.self.inside) c.self.invariant c.args.pipe c.args.count there holds)
+    omega (arith, ap length c.cut.ensures, length-take-le c.args.count (span_bytes c.args.bytes), fits_ring (stored_in c.self.inside) c.self.invariant c.args.pipe c.args.count holds room)
 
 pub invariant_of-self : goal.invariant_of-self
 invariant_of-self c = rw (c.put.ensures.slots, c.cut.ensures) (after_written (stored_in c.self.inside) c.self.invariant c.args.pipe (after_those (take c.args.count (span_bytes c.args.bytes))))
@@ -24,12 +24,12 @@ invariant_of-self c = rw (c.put.ensures.slots, c.cut.ensures) (after_written (st
 pub put-requires-in-Parked-clause-there : goal.put-requires-in-Parked-clause-there
 put-requires-in-Parked-clause-there c = sym (pipes_there c.self.inside.pipes.0 c.args.pipe) ∙ (rw (← c.self.view_is) at c.requires.there)
 
-pub put-requires-in-Parked-clause-room : goal.put-requires-in-Parked-clause-room
-put-requires-in-Parked-clause-room c =
-    let there = rw (← c.self.view_is) at c.requires.there in
+pub put-requires-in-Parked-clause-places : goal.put-requires-in-Parked-clause-places
+put-requires-in-Parked-clause-places c =
     let holds = rw (← c.self.view_is) at c.requires.holds in
+    let room = rw (← c.self.view_is) at c.requires.room in
     let rest = rest_of (parked_of (slot c.self.inside.processes.0 c.in-Parked.process)) in
-    omega (arith, ap length c.parked_bytes.ensures, length-take c.args.count rest, fits_ring (stored_in c.self.inside) c.self.invariant c.args.pipe c.args.count there holds)
+    omega (arith, ap length c.parked_bytes.ensures, length-take c.args.count rest, fits_ring (stored_in c.self.inside) c.self.invariant c.args.pipe c.args.count holds room)
 
 pub invariant_of-self-in-Parked : goal.invariant_of-self-in-Parked
 invariant_of-self-in-Parked c =

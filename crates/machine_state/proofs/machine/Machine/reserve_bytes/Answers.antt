@@ -18,5 +18,6 @@ returns-clause-kept c =
       processes = omega arith;
       names = omega arith;
       bytes = c.reserve_bytes.ensures.kept;
+      blocks = λ pipe. omega arith;
       capacity = refl;
     })
