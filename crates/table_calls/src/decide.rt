@@ -80,7 +80,7 @@ pub fn decide_call<R: WorldReader>(
         Call::Fork => decide_fork(state, alloc, process),
         Call::Getfl { fd } => Ok(decide_getfl(state, process, *fd)),
         Call::Setfl { fd, flags } => Ok(decide_setfl(state, process, *fd, *flags)),
-        Call::Rename { old, new } => decide_rename(state, old, new),
+        Call::Rename { old, new } => decide_rename(state, alloc, old, new),
     }
 }
 

@@ -7,8 +7,9 @@ use call_types::errno::Errno;
 use call_types::outcome::Reply;
 use file_calls::opening::name_fault;
 use posix_model::change::{Decided, FileEdit, NameEdit, TableEdit, does, refused, tells};
+use posix_model::kept_name::KeptName;
 use posix_model::reader::WorldReader;
-use std::alloc::AllocError;
+use std::alloc::{AllocError, Global};
 
 /// The first refusal of two names, of which the old one leads to `found`.
 fn rename_fault(old: &[u8], new: &[u8], found: Option<usize>) -> Option<Errno>
@@ -34,6 +35,7 @@ fn leads_to(file: usize, found: Option<usize>) -> bool
 /// The file of the old name has the new one in its place, unless both lead to it. An error says that memory for the names ran out.
 fn moves_name<R: WorldReader>(
     state: &R,
+    alloc: Global,
     old: &Name,
     new: &Name,
     file: usize,
@@ -43,7 +45,7 @@ fn moves_name<R: WorldReader>(
     if leads_to(file, state.file_of(new.as_slice())) {
         return Ok(tells(Reply::Done));
     }
-    let (old, new) = (old.clone()?, new.clone()?);
+    let (old, new) = (old.clone()?, KeptName::copied(alloc, new)?);
     let edit = NameEdit::Move { old, new };
     Ok(does(Reply::Done, FileEdit::Names(edit), TableEdit::Nothing))
 }
@@ -53,6 +55,7 @@ fn moves_name<R: WorldReader>(
 #[inline(always)]
 pub fn decide_rename<R: WorldReader>(
     state: &R,
+    alloc: Global,
     old: &Name,
     new: &Name,
 ) -> Result<Decided, AllocError>
@@ -63,5 +66,5 @@ pub fn decide_rename<R: WorldReader>(
     if let Some(error) = rename_fault(old.as_slice(), new.as_slice(), found) {
         return Ok(refused(error));
     }
-    moves_name(state, old, new, found.unwrap_or(0))
+    moves_name(state, alloc, old, new, found.unwrap_or(0))
 }
