@@ -13,3 +13,4 @@ pub mod ReadingOn
 pub mod StreamLaws
 pub mod KindStreams
 pub mod ShortRecords
+pub mod HeaderLaws

@@ -6,3 +6,4 @@ pub mod Laws
 pub mod FrameRows
 pub mod Filling
 pub mod FrameTable
+pub mod Headers

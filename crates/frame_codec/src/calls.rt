@@ -3,7 +3,7 @@
 
 ghost use Rattle.std.specs.Prelude.{◌≡◌, ◌+◌, ◌≤◌, ◌∷◌, ◌++◌, length};
 ghost use Rattle.std.specs.Int.{w32, w64, cast_unsigned};
-ghost use Rattle.call_types.specs.CallTable.{parts, fields_length, close_entry, read_entry, write_entry, pread_entry, pwrite_entry, lseek_entry, ftruncate_entry, dup_entry, dup2_entry, pipe_entry, mkfifo_entry, link_entry, unlink_entry, fstat_entry, fork_entry, getfl_entry, setfl_entry, rename_entry, later_table, position_table};
+ghost use Rattle.call_types.specs.CallTable.{parts, fields_length, close_entry, read_entry, write_entry, pread_entry, pwrite_entry, lseek_entry, ftruncate_entry, dup_entry, dup2_entry, pipe_entry, mkfifo_entry, link_entry, unlink_entry, fstat_entry, fork_entry, getfl_entry, setfl_entry, rename_entry, later_table, position_table, rare_table};
 ghost use Rattle.call_types.specs.Writing.{Appends};
 ghost use Rattle.call_types.specs.declared.call.Call.TheVariants as calls;
 ghost use Rattle.frame_codec.specs.Fields.{number_bytes, whence_byte};
@@ -393,7 +393,19 @@ fn put_rename(out: &mut Vec<u8>, old: &Name, new: &Name) -> Result<(), AllocErro
     Ok(())
 }
 
-/// The fields of the call of a byte, of those with a position, an offset or a length.
+/// The fields of the call of a byte, of those that are rare.
+fn rare_call(alloc: Global, byte: u8, bytes: &[u8]) -> Result<(Call, &[u8]), PayloadFault>
+    ensures { Gives (λ x. (x.0, x.1.now)) result (one_of (rows_of rare_table) byte bytes.now) }
+{
+    match byte {
+        32 => getfl_call(bytes),
+        33 => setfl_call(bytes),
+        34 => rename_call(alloc, bytes),
+        _ => Err(PayloadFault::Malformed),
+    }
+}
+
+/// The fields of the call of a byte, of those with a position, an offset or a length and of those that are rare.
 fn position_call(alloc: Global, byte: u8, bytes: &[u8]) -> Result<(Call, &[u8]), PayloadFault>
     ensures { Gives (λ x. (x.0, x.1.now)) result (one_of (rows_of position_table) byte bytes.now) }
 {
@@ -402,7 +414,7 @@ fn position_call(alloc: Global, byte: u8, bytes: &[u8]) -> Result<(Call, &[u8]),
         21 => pwrite_call(alloc, bytes),
         22 => lseek_call(bytes),
         23 => ftruncate_call(bytes),
-        _ => Err(PayloadFault::Malformed),
+        _ => rare_call(alloc, byte, bytes),
     }
 }
 
@@ -419,9 +431,6 @@ fn later_call(alloc: Global, byte: u8, bytes: &[u8]) -> Result<(Call, &[u8]), Pa
         29 => unlink_call(alloc, bytes),
         30 => fstat_call(bytes),
         31 => fork_call(bytes),
-        32 => getfl_call(bytes),
-        33 => setfl_call(bytes),
-        34 => rename_call(alloc, bytes),
         _ => position_call(alloc, byte, bytes),
     }
 }

@@ -263,7 +263,14 @@ impl<K: FrameKind> Decoder<K> {
         }
     }
 
-    /// How many bytes it holds: those after the last whole frame, where there is no fault.
+    /// The bytes that it holds: those after the last whole frame, where there is no fault.
+    pub fn held(&self) -> &[u8]
+        ensures { result.now ≡ self.now.held }
+    {
+        self.held.as_slice()
+    }
+
+    /// How many bytes it holds.
     pub fn held_len(&self) -> usize
         ensures { result ≡ length self.now.held }
     {
