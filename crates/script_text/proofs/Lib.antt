@@ -5,6 +5,7 @@ pub mod Fronts
 pub mod Hex
 pub mod Repeated
 pub mod Numerals
+pub mod ShortNumbers
 pub mod WordTests
 pub mod WordLaws
 pub mod NameLaws
@@ -18,3 +19,6 @@ pub mod WrittenWords
 pub mod RoundTrip
 pub mod ScriptLaws
 pub mod Rooms
+pub mod NumbersAhead
+pub mod LastFields
+pub mod CommonCalls

@@ -4,7 +4,7 @@
 
 ghost use Rattle.std.specs.Prelude.{◌≡◌, ◌++◌, ◌+◌, ◌<◌, ◌^◌, ◌≤◌};
 ghost use Rattle.std.specs.Option.{option_copied};
-ghost use Rattle.call_types.specs.CallTable.{open_entry, close_entry, read_entry, write_entry, pread_entry, pwrite_entry, lseek_entry, ftruncate_entry, dup_entry, dup2_entry, pipe_entry, mkfifo_entry, link_entry, unlink_entry, fstat_entry, fork_entry, getfl_entry, setfl_entry, rename_entry, later_table, position_table};
+ghost use Rattle.call_types.specs.CallTable.{open_entry, close_entry, read_entry, write_entry, pread_entry, pwrite_entry, lseek_entry, ftruncate_entry, dup_entry, dup2_entry, pipe_entry, mkfifo_entry, link_entry, unlink_entry, fstat_entry, fork_entry, getfl_entry, setfl_entry, rename_entry, later_table, position_table, rare_table};
 ghost use Rattle.script_text.specs.Reading.{Gives, Word};
 ghost use Rattle.script_text.specs.ReadingCalls.{entry_at, one_of, named_call};
 ghost use Rattle.script_text.specs.Lines.{call_text};
@@ -30,7 +30,7 @@ pub(crate) const CALL_ROOM: usize = 96;
 
 /// `open NAME FLAGS`, after its first word.
 #[inline(never)]
-fn open_call(alloc: Global, left: Unread<'_>) -> Result<Call, WordFault>
+pub(crate) fn open_call(alloc: Global, left: Unread<'_>) -> Result<Call, WordFault>
     ensures { Gives (λ x. x) result (entry_at open_entry (option_copied left.entry)) }
 {
     let (name, left) = fields::name(alloc, left)?;
@@ -282,7 +282,7 @@ fn put_mkfifo(out: &mut Vec<u8>, name: &Name)
 }
 
 /// `link NAME NAME`
-fn link_call(alloc: Global, left: Unread<'_>) -> Result<Call, WordFault>
+pub(crate) fn link_call(alloc: Global, left: Unread<'_>) -> Result<Call, WordFault>
     ensures { Gives (λ x. x) result (entry_at link_entry (option_copied left.entry)) }
 {
     let (old, left) = fields::name(alloc, left)?;
@@ -304,7 +304,7 @@ fn put_link(out: &mut Vec<u8>, old: &Name, new: &Name)
 }
 
 /// `unlink NAME`
-fn unlink_call(alloc: Global, left: Unread<'_>) -> Result<Call, WordFault>
+pub(crate) fn unlink_call(alloc: Global, left: Unread<'_>) -> Result<Call, WordFault>
     ensures { Gives (λ x. x) result (entry_at unlink_entry (option_copied left.entry)) }
 {
     let (name, left) = fields::name(alloc, left)?;
@@ -459,18 +459,12 @@ fn later_call(alloc: Global, word: Next<'_>) -> Result<Call, WordFault>
         fstat_call(word.after)
     } else if word.is(b"fork") {
         fork_call(word.after)
-    } else if word.is(b"getfl") {
-        getfl_call(word.after)
-    } else if word.is(b"setfl") {
-        setfl_call(word.after)
-    } else if word.is(b"rename") {
-        rename_call(alloc, word.after)
     } else {
         position_call(alloc, word)
     }
 }
 
-/// The call with a position, an offset or a length that a first word names.
+/// The call that a first word names, of those with a position, an offset or a length and of those that are rare.
 #[inline(never)]
 fn position_call(alloc: Global, word: Next<'_>) -> Result<Call, WordFault>
     ensures { Gives (λ x. x) result (one_of position_table (record { text = word.entry.text.now; remaining = word.entry.remaining; after = option_copied word.entry.after })) }
@@ -483,6 +477,22 @@ fn position_call(alloc: Global, word: Next<'_>) -> Result<Call, WordFault>
         lseek_call(word.after)
     } else if word.is(b"ftruncate") {
         ftruncate_call(word.after)
+    } else {
+        rare_call(alloc, word)
+    }
+}
+
+/// The call that a first word names, of those that are rare.
+#[inline(never)]
+fn rare_call(alloc: Global, word: Next<'_>) -> Result<Call, WordFault>
+    ensures { Gives (λ x. x) result (one_of rare_table (record { text = word.entry.text.now; remaining = word.entry.remaining; after = option_copied word.entry.after })) }
+{
+    if word.is(b"getfl") {
+        getfl_call(word.after)
+    } else if word.is(b"setfl") {
+        setfl_call(word.after)
+    } else if word.is(b"rename") {
+        rename_call(alloc, word.after)
     } else {
         Err(WordFault::At {
             remaining: word.remaining,
@@ -500,6 +510,7 @@ fn room_of_name(name: &Name) -> usize
 }
 
 /// Room in which a call can be written.
+#[inline(always)]
 pub(crate) fn room_of_call(call: &Call) -> usize
     ensures enough { call_room call.now ≤ result }
     ensures small { result < 2 ^ 32 }

@@ -1,7 +1,9 @@
 //! Scripts and record lines: reading the lines of a script, and writing the lines of a run.
 #![tactic(auto)]
 
+mod ahead;
 mod calls;
+mod common;
 mod cutting;
 pub mod fault;
 mod fields;

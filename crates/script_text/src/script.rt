@@ -7,6 +7,7 @@ ghost use Rattle.call_types.specs.declared.act.ScriptAct.{ScriptAct};
 ghost use Rattle.script_text.specs.ReadingResults.{Opens, NextGives};
 ghost use Rattle.script_text.specs.Proved.Scripts.{ScriptGives};
 
+use crate::common::common_act;
 use crate::cutting::{Unread, cut_at};
 use crate::fault::{ReadFault, ScriptFault};
 use crate::reading::read_act;
@@ -43,6 +44,9 @@ impl<'a> Model for Script<'a> {
 fn line_act(alloc: Global, number: usize, line: &[u8]) -> Result<ScriptAct, ScriptFault>
     ensures { ScriptGives (λ act. act ∷ []) result (numbered number (reading line.now)) }
 {
+    if let Some(act) = common_act(alloc, line) {
+        return Ok(act);
+    }
     match read_act(alloc, line) {
         Ok(act) => Ok(act),
         Err(ReadFault::NoMemory) => Err(ScriptFault::NoMemory),
