@@ -13,7 +13,7 @@ mod trial;
 mod trial_fault;
 
 use byte_ledger::ledgers::Blanks;
-use call_types::limits::Limits;
+use call_types::limits::{Limits, PIPE_CAPACITY};
 use giver::Way;
 use std::alloc::Global;
 use std::io;
@@ -42,7 +42,7 @@ fn job_of(words: &[String]) -> Result<(Way, Limits), TrialFault> {
         [_, way, word] => (way, word.parse::<u64>().map_err(|_| TrialFault::Usage)?),
         _ => return Err(TrialFault::Usage),
     };
-    let limits = Limits::new(records).map_err(|_| TrialFault::Usage)?;
+    let limits = Limits::new(records, PIPE_CAPACITY).map_err(|_| TrialFault::Usage)?;
     Ok((way_of(way.as_str())?, limits))
 }
 

@@ -18,7 +18,8 @@ use Rattle.posix_model.specs.declared.world.World.{World}
 use Rattle.byte_ledger.specs.Counted.{Counted, TalliesState, counted_more}
 use Rattle.byte_ledger.specs.declared.tallies.Sums.{Sums}
 use Rattle.record_book.specs.Seat.{Receipted}
-use Rattle.record_book.specs.Book.{BookState, world_now, exits_left, Appends}
+use Rattle.record_book.specs.Book.{BookState, world_now, Appends}
+use Rattle.posix_model.specs.Reserve.{exits_left}
 use Rattle.record_book.specs.Counting.{seats_of, seats_in, seats_given, only_records, CountsOf}
 use Rattle.record_book.specs.Proved.Counted.{counted_in, IsCounted}
 use Rattle.record_book.specs.Exits.{exit_record, closing_record, receipts_from}

@@ -14,7 +14,8 @@ use Rattle.posix_model.specs.Proved.Laws.{Counts}
 use Rattle.posix_model.specs.declared.change.Decided.{Decided}
 use Rattle.posix_model.specs.declared.world.World.{World}
 use Rattle.trace_ring.specs.Proved.Trace.{Pushes}
-use Rattle.record_book.specs.Book.{world_now, world_after, exits_left}
+use Rattle.record_book.specs.Book.{world_now, world_after}
+use Rattle.posix_model.specs.Reserve.{exits_left}
 use Rattle.slots.specs.Slots.{live}
 use Rattle.record_book.specs.Exits.{exit_record, closing_record}
 use Rattle.record_book.specs.Proved.Prepared.{exits_from}

@@ -19,7 +19,8 @@ use Rattle.posix_model.specs.Proved.Laws.{Counts, StepPlansProcesses, HistoryIsW
 use Rattle.posix_model.specs.Proved.Lengths.{IsShort, StepIsShort}
 use Rattle.posix_model.specs.declared.change.Decided.{Decided}
 use Rattle.posix_model.specs.declared.world.World.{World}
-use Rattle.record_book.specs.Book.{BookState, world_now, world_after, exits_left}
+use Rattle.record_book.specs.Book.{BookState, world_now, world_after}
+use Rattle.posix_model.specs.Reserve.{exits_left}
 use Rattle.record_book.specs.Seat.{SeatState}
 use Rattle.record_book.specs.Refusals.{first_refusal, start_refusal, is_too_full}
 use Rattle.record_book.specs.Proved.Planned.{IsPlanned}

@@ -1,9 +1,8 @@
 -- What contracts see of a book, and what acts do to it.
-use Rattle.std.specs.Prelude.{◌≡◌, ℕ, ◌+◌, Bool, false, nat_le, List, ◌∷◌, [], ◌++◌, Option, Some, length, if◌then◌else◌, None}
+use Rattle.std.specs.Prelude.{◌≡◌, ℕ, ◌+◌, Bool, false, List, ◌∷◌, [], ◌++◌, Option, Some, length, None}
 use Rattle.call_types.specs.declared.limits.Limits.{Limits}
 use Rattle.call_types.specs.declared.act.Act.{Act}
 use Rattle.call_types.specs.declared.act.Record.{Record}
-use Rattle.slots.specs.Slots.{live}
 use Rattle.posix_model.specs.Step.{outcome_of}
 use Rattle.posix_model.specs.History.{after_act, world_of}
 use Rattle.posix_model.specs.Turns.{took, gave}
@@ -26,14 +25,6 @@ new_book limits = record { limits = limits; history = []; house = Some []; is_tr
 -- the world after the records so far
 abbrev pub world_now : BookState → World
 world_now b = world_of b.limits.bounds b.history
-
--- how many records the exits and the closing of a run will take (own)
-abbrev pub exits_left : World → ℕ
-exits_left w = if w.closed then live w.processes else live w.processes + 1
-
--- whether the records that are free are enough for the exits and the closing (own)
-abbrev pub has_reserve : ℕ → World → ℕ → Bool
-has_reserve records w len = nat_le (len + exits_left w) records
 
 -- the world after one more act
 abbrev pub world_after : BookState → ℕ → Act → World

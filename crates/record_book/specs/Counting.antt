@@ -8,7 +8,8 @@ use Rattle.posix_model.specs.PipeRecord.{KeepsBytes, KeepsSmallWhole}
 use Rattle.posix_model.specs.Turns.{bytes_in, bytes_out}
 use Rattle.byte_ledger.specs.Counted.{Counted}
 use Rattle.byte_ledger.specs.declared.tallies.Sums.{Sums}
-use Rattle.record_book.specs.Book.{BookState, world_now, exits_left}
+use Rattle.record_book.specs.Book.{BookState, world_now}
+use Rattle.posix_model.specs.Reserve.{exits_left}
 
 -- how many seats an act opens: a join and an attach open one each, whatever their outcome
 abbrev pub seats_of : Act → ℕ

@@ -11,7 +11,8 @@ use Rattle.posix_model.specs.Pages.{first_fault}
 use Rattle.posix_model.specs.Step.{is_parked}
 use Rattle.posix_model.specs.Resume.{is_ready}
 use Rattle.record_book.specs.Seat.{SeatState}
-use Rattle.record_book.specs.Book.{BookState, world_now, world_after, has_reserve}
+use Rattle.record_book.specs.Book.{BookState, world_now, world_after}
+use Rattle.posix_model.specs.Reserve.{has_reserve}
 
 -- the refusal of the first condition that holds
 abbrev pub first_refusal : List (Bool × Refusal) → Option Refusal

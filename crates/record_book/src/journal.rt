@@ -5,7 +5,8 @@ ghost use Rattle.slots.specs.Slots.{slot};
 ghost use Rattle.process_table.specs.Processes.{awaits};
 ghost use Rattle.posix_model.specs.History.{legal};
 ghost use Rattle.posix_model.specs.Kept.{IsSettled};
-ghost use Rattle.record_book.specs.Book.{new_book, world_now, exits_left};
+ghost use Rattle.record_book.specs.Book.{new_book, world_now};
+ghost use Rattle.posix_model.specs.Reserve.{exits_left};
 
 use crate::history::History;
 use crate::house::House;

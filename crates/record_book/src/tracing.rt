@@ -4,7 +4,8 @@ ghost use Rattle.std.specs.Prelude.{◌≡◌, ◌≤◌, ◌+◌, [], false, tr
 ghost use Rattle.std.specs.Arc.{arc_value};
 ghost use Rattle.rtrb.specs.Ring.{received};
 ghost use Rattle.posix_model.specs.History.{legal};
-ghost use Rattle.record_book.specs.Book.{world_now, exits_left, closed_book};
+ghost use Rattle.record_book.specs.Book.{world_now, closed_book};
+ghost use Rattle.posix_model.specs.Reserve.{exits_left};
 
 use crate::book::Book;
 use crate::closed::ClosedBook;

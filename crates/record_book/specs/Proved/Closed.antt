@@ -2,7 +2,8 @@
 use Rattle.std.specs.Prelude.{◌≡◌, ◌+◌, ◌≤◌, true, None, length}
 use Rattle.posix_model.specs.History.{legal}
 use Rattle.byte_ledger.specs.Counted.{TalliesState}
-use Rattle.record_book.specs.Book.{BookState, world_now, exits_left}
+use Rattle.record_book.specs.Book.{BookState, world_now}
+use Rattle.posix_model.specs.Reserve.{exits_left}
 use Rattle.record_book.specs.Proved.Counted.{IsCounted}
 
 -- the run is closed, its records are a run of the model within its limits, and the tallies count them (own)

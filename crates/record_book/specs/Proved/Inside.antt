@@ -4,7 +4,8 @@ use Rattle.call_types.specs.declared.act.Record.{Record}
 use Rattle.slots.specs.Slots.{live}
 use Rattle.posix_model.specs.History.{legal, world_of}
 use Rattle.posix_model.specs.declared.world.World.{World}
-use Rattle.record_book.specs.Book.{BookState, exits_left}
+use Rattle.record_book.specs.Book.{BookState}
+use Rattle.posix_model.specs.Reserve.{exits_left}
 use Rattle.record_book.specs.Exits.{closing_record}
 use Rattle.record_book.specs.Proved.Prepared.{exits_from}
 use Rattle.record_book.specs.Proved.House.{receipts_of, closing_of, HasRoom}

@@ -3,7 +3,8 @@ use Rattle.std.specs.Prelude.{not, nat_le, if◌then◌else◌}
 use Rattle.call_types.specs.declared.act.Act.TheVariants as act
 use Rattle.slots.specs.Slots.{live}
 use Rattle.posix_model.specs.Proved.Sound.{adds}
-use Rattle.record_book.specs.Book.{world_now, world_after, exits_left}
+use Rattle.record_book.specs.Book.{world_now, world_after}
+use Rattle.posix_model.specs.Reserve.{exits_left}
 use Rattle.record_book.proofs.PlanLemmas.{call_exits}
 use Rattle.record_book.proofs.journal.Journal.call_overfills.Goals as goal
 
