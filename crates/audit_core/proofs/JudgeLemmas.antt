@@ -1,11 +1,13 @@
 -- What a judge needs to know of an act before it makes it, and what one record more does to what was judged.
-use Rattle.std.proofs.Common.{◌≡◌, ◌∙◌, ℕ, ◌+◌, ◌≤◌, List, [], ◌∷◌, ◌++◌, Some, length, refl, sym, ap, arith, length-append}
+use Rattle.std.proofs.Common.{◌≡◌, ◌∙◌, ℕ, ◌+◌, ◌≤◌, ◌<◌, ◌^◌, Bool, true, false, cond, leb, List, [], ◌∷◌, ◌++◌, Option, Some, length, refl, sym, ap, subst, arith, length-append}
 use Rattle.std.specs.Option.{option_map}
+use Rattle.slots.specs.Slots.{live}
 use Rattle.call_types.specs.declared.limits.TheConstants.{OFFSET_MAX}
 use Rattle.call_types.specs.declared.limits.Bounds.{Bounds}
 use Rattle.call_types.specs.declared.act.Act.{Act}
 use Rattle.call_types.specs.declared.act.Record.{Record}
 use Rattle.frame_codec.specs.Decoding.{told_place}
+use Rattle.frame_codec.specs.declared.trace.ToldLimits.{ToldLimits}
 use Rattle.posix_model.specs.declared.change.Decided.{Decided}
 use Rattle.posix_model.specs.declared.world.World.{World}
 use Rattle.posix_model.specs.Proved.Whole.{IsWhole}
@@ -13,22 +15,31 @@ use Rattle.posix_model.specs.Step.{given, comes_to, stepped, step, outcome_of}
 use Rattle.posix_model.specs.Proved.Sound.{ActsAreSound}
 use Rattle.posix_model.specs.Proved.Laws.{StepKeepsWhole}
 use Rattle.posix_model.specs.History.{after, world_from, legal_from, empty_world}
+use Rattle.posix_model.specs.Reserve.{has_reserve, can_end, CanEndFrom}
 use Rattle.audit_core.specs.Proved.Judging.{JudgeState, CanMake, GoesOn, HasJudged, fresh_judge, IsAt}
 
 -- what an act comes to can be made
-pub can_make : ActsAreSound → StepKeepsWhole → (j : JudgeState) (actor : ℕ) (act : Act) (d : Decided) → IsWhole j.world → j.bounds.file_size ≤ OFFSET_MAX →
-    comes_to j.bounds j.world actor act ≡ Some d → CanMake j act d
+pub can_make : ActsAreSound → StepKeepsWhole → (j : JudgeState) (actor : ℕ) (act : Act) (d : Decided) → IsWhole j.world → j.told.bounds.file_size ≤ OFFSET_MAX →
+    comes_to j.told.bounds j.world actor act ≡ Some d → CanMake j act d
 can_make sound keeps j actor act d whole small is =
-    let stands = sound j.bounds j.world actor act d is in
+    let stands = sound j.told.bounds j.world actor act d is in
     let s = stepped j.world (given act) d in
-    let steps : step j.bounds j.world actor act ≡ Some s = ap (option_map (stepped j.world (given act))) is in
+    let steps : step j.told.bounds j.world actor act ≡ Some s = ap (option_map (stepped j.world (given act))) is in
     record {
       fits = stands.fits whole;
       proper = stands.proper small;
       puts = stands.puts;
       whole = whole;
-      whole_after = keeps j.bounds j.world actor act s whole steps;
+      whole_after = keeps j.told.bounds j.world actor act s whole steps;
     }
+
+-- the records that a run keeps free, counted one after another
+pub reserve_is : (w : World) (most place count closing : ℕ) → count ≡ live w.processes → closing ≡ cond w.closed 0 1 → leb (((place + 1) + count) + closing) most ≡ has_reserve most w (place + 1)
+reserve_is w most place count closing counted closes = ap (λ (n : ℕ). leb n most) (sum w.closed place count (live w.processes) closing counted closes)
+  where
+    sum : (closed : Bool) (place count all closing : ℕ) → count ≡ all → closing ≡ cond closed 0 1 → ((place + 1) + count) + closing ≡ (place + 1) + cond closed all (all + 1)
+    sum true place count all closing counted closes = omega (arith, counted, closes)
+    sum false place count all closing counted closes = omega (arith, counted, closes)
 
 world_from-push : (bounds : Bounds) (w : World) (h : List Record) (r : Record) → world_from bounds w (h ++ r ∷ []) ≡ after bounds (world_from bounds w h) r
 world_from-push bounds w [] r = refl
@@ -38,6 +49,12 @@ legal_from-push : (bounds : Bounds) (w : World) (h : List Record) (r : Record) �
 legal_from-push bounds w [] r is_legal e = (e, tt)
 legal_from-push bounds w (x ∷ h) r is_legal e = (is_legal.0, legal_from-push bounds (after bounds w x) h r is_legal.1 e)
 
+-- a run that can be ended after each record, and after one more, of so many
+ends_from-push : (bounds : Bounds) (most : Option ℕ) (w : World) (len : ℕ) (h : List Record) (r : Record) (all : ℕ) → CanEndFrom bounds most w len h → all ≡ (len + length h) + 1
+    → can_end most (after bounds (world_from bounds w h) r) all ≡ true → CanEndFrom bounds most w len (h ++ r ∷ [])
+ends_from-push bounds most w len [] r all ends is e = let one : all ≡ len + 1 = omega (arith, is) in (subst (λ (n : ℕ). can_end most (after bounds w r) n ≡ true) one e, tt)
+ends_from-push bounds most w len (x ∷ h) r all ends is e = (ends.0, ends_from-push bounds most (after bounds w x) (len + 1) h r all ends.1 (omega (arith, is)) e)
+
 push_front : (xs : List Record) (x : Record) (ys : List Record) → xs ++ x ∷ ys ≡ (xs ++ x ∷ []) ++ ys
 push_front [] x ys = refl
 push_front (y ∷ xs) x ys = ap (λ l. y ∷ l) (push_front xs x ys)
@@ -45,26 +62,36 @@ push_front (y ∷ xs) x ys = ap (λ l. y ∷ l) (push_front xs x ys)
 place_more : (place len : ℕ) → place ≡ told_place len → told_place (place + 1) ≡ told_place (len + 1)
 place_more place len e = omega (arith, e)
 
+-- a place that can be told is told
+pub place_told : (place len : ℕ) → place ≡ told_place len → len < 2 ^ 64 → place ≡ len
+place_told place len e few = omega (arith, e, few)
+
 -- what the model gives is judged with what was before it
-judged_more : (bounds : Bounds) (h : List Record) (r : Record) (a b : JudgeState) → HasJudged bounds h a → GoesOn a b r → HasJudged bounds (h ++ r ∷ []) b
-judged_more bounds h r a b judged on =
-    let outcome : outcome_of bounds (world_from bounds empty_world h) r.actor r.act ≡ Some r.outcome = rw (judged.bounds_are, judged.world) at on.outcome in
+judged_more : (told : ToldLimits) (h : List Record) (r : Record) (a b : JudgeState) → length h < 2 ^ 64 → HasJudged told h a → GoesOn a b r → HasJudged told (h ++ r ∷ []) b
+judged_more told h r a b few judged on =
+    let outcome : outcome_of told.bounds (world_from told.bounds empty_world h) r.actor r.act ≡ Some r.outcome = rw (judged.told_is, judged.world) at on.outcome in
     let place : told_place (a.place + 1) ≡ told_place (length (h ++ r ∷ [])) = rw (length-append h (r ∷ [])) (place_more a.place (length h) judged.place) in
+    let all : a.place + 1 ≡ (0 + length h) + 1 = let same = place_told a.place (length h) judged.place few in omega (arith, same) in
+    let ends : can_end told.records (after told.bounds (world_from told.bounds empty_world h) r) (a.place + 1) ≡ true = rw (judged.told_is, judged.world) at on.ends in
     record {
-      is_legal = legal_from-push bounds empty_world h r judged.is_legal outcome;
-      bounds_are = rw on.new_is judged.bounds_are;
-      world = rw (on.new_is, judged.bounds_are, judged.world) (sym (world_from-push bounds empty_world h r));
+      is_legal = record {
+        is_legal = legal_from-push told.bounds empty_world h r judged.is_legal.is_legal outcome;
+        ends = ends_from-push told.bounds told.records empty_world 0 h r (a.place + 1) judged.is_legal.ends all ends;
+      };
+      told_is = rw on.new_is judged.told_is;
+      world = rw (on.new_is, judged.told_is, judged.world) (sym (world_from-push told.bounds empty_world h r));
       place = rw on.new_is place;
     }
 
 -- one record more is judged, and one less is left
 pub one_judged : (o a b : JudgeState) (records rest : List Record) (r : Record) → IsAt o a records (r ∷ rest) → GoesOn a b r → IsAt o b records rest
 one_judged o a b records rest r at on = record {
-  judged = λ bounds h judged.
-      let now = at.judged bounds h judged in
-      (now.0 ++ r ∷ [], now.1 ∙ push_front now.0 r rest, judged_more bounds now.0 r a b now.2 on);
+  judged = λ told h judged few.
+      let now = at.judged told h judged few in
+      let fewer : length now.0 < 2 ^ 64 = omega (arith, few, ap length now.1, length-append now.0 (r ∷ rest)) in
+      (now.0 ++ r ∷ [], now.1 ∙ push_front now.0 r rest, judged_more told now.0 r a b fewer now.2 on);
 }
 
 -- at first nothing is judged
-pub none_judged : (bounds : Bounds) → HasJudged bounds [] (fresh_judge bounds)
-none_judged bounds = record { is_legal = tt; bounds_are = refl; world = refl; place = refl }
+pub none_judged : (told : ToldLimits) → HasJudged told [] (fresh_judge told)
+none_judged told = record { is_legal = record { is_legal = tt; ends = tt }; told_is = refl; world = refl; place = refl }

@@ -1,74 +1,123 @@
 -- Bytes have one verdict, a front of a legal text is legal, and a fault stays.
-use Rattle.std.proofs.Common.{◌≡◌, ◌≢◌, ◌∙◌, ℕ, ◌≤◌, ◌⊎◌, inl, inr, List, [], ◌∷◌, ◌++◌, Option, Some, length, take, drop, refl, sym, ap, subst, arith, append_assoc, length-append}
-use Rattle.std.proofs.lemmas.List.{append-nil, append_cancel_left, take-append-le, drop-append-le, length-drop, take-append-drop}
+use Rattle.std.proofs.Common.{◌≡◌, ◌∙◌, ℕ, ◌+◌, ◌≤◌, ◌⊎◌, inl, inr, true, List, [], ◌∷◌, ◌++◌, Option, Some, length, drop, refl, sym, ap, subst, arith, append_assoc, length-append}
+use Rattle.std.proofs.lemmas.List.{append-nil, drop_at, take-append-le, drop-append-le, length-drop}
 use Rattle.call_types.specs.declared.act.Record.{Record}
 use Rattle.call_types.specs.declared.limits.Bounds.{Bounds}
 use Rattle.call_types.specs.declared.limits.TheConstants.{RECORD_LENGTH_MAX}
 use Rattle.call_types.specs.declared.outcome.Outcome.{Outcome}
 use Rattle.frame_codec.specs.Frames.{frame, told_length, told_payload, IsMalformed, IsTooLong}
+use Rattle.frame_codec.specs.Proved.Headers.{GoesOn, HeaderGoesOn, HeadersAreRead}
 use Rattle.frame_codec.specs.Proved.Laws.{OneForm, NoFrameThere}
 use Rattle.frame_codec.specs.Records.{record_bytes, SpellsRecord}
-use Rattle.frame_codec.specs.Trace.{trace_header, frames_of, text}
+use Rattle.frame_codec.specs.Trace.{frames_of, header, header_2, is_told, text}
+use Rattle.frame_codec.specs.declared.trace.Header.{Header}
+use Rattle.frame_codec.specs.declared.trace.Header.TheVariants.{Unheaded, Short, Headed}
+use Rattle.frame_codec.specs.declared.trace.ToldLimits.{ToldLimits}
+use Rattle.frame_codec.specs.declared.trace.TheConstants.{HEADER_2_LENGTH}
 use Rattle.posix_model.specs.declared.world.World.{World}
-use Rattle.posix_model.specs.History.{after, world_from, legal_from, empty_world, legal}
-use Rattle.audit_core.specs.Verdict.{BreaksAt, IsLegal, IsIllegal, IsMalformedAt, IsVerdict}
+use Rattle.posix_model.specs.History.{after, world_from, world_of, legal_from, empty_world}
+use Rattle.posix_model.specs.Reserve.{can_end, CanEndFrom, IsLegalRun}
 use Rattle.posix_model.specs.Step.{outcome_of}
-use Rattle.audit_core.specs.Proved.Laws.{OneVerdict, TextIsLegal, FrontIsLegal, FaultStays}
-use Rattle.audit_core.specs.Trace.{HaveFrames, Begins, IsUnfinished, IsAtFault, EndsInHeader, HasNoHeader}
+use Rattle.audit_core.specs.Verdict.{BreaksAt, Differs, Overruns, IsLegal, IsIllegal, IsMalformedAt, IsVerdictAfter, IsVerdictBy}
+use Rattle.audit_core.specs.Proved.Laws.{OneVerdict, TextIsLegal, TellsFront, FrontIsLegal, TellsFault, FaultStays}
+use Rattle.audit_core.specs.Trace.{HaveFrames, Begins, IsUnfinished, IsAtFault}
+use Rattle.audit_core.specs.declared.verdict.Verdict.{Verdict}
 use Rattle.audit_core.specs.declared.verdict.Verdict.TheVariants.{Legal, Illegal, Malformed}
 use Rattle.audit_core.proofs.TraceLemmas.{has_frame, few_records, fault_long}
 
 -- ---- records: the first that breaks
 
--- a record after a front is what the model gives, where all is legal
+-- a record is what the model gives after these, and the run can be ended after it
+record IsFine (told : ToldLimits) (before : List Record) (r : Record) : Type 0 where
+  outcome : outcome_of told.bounds (world_of told.bounds before) r.actor r.act ≡ Some r.outcome
+  ends : can_end told.records (after told.bounds (world_of told.bounds before) r) (length before + 1) ≡ true
+
 there_from : (bounds : Bounds) (w : World) (h more : List Record) (r : Record) → legal_from bounds w (h ++ r ∷ more) → outcome_of bounds (world_from bounds w h) r.actor r.act ≡ Some r.outcome
 there_from bounds w [] more r l = l.0
 there_from bounds w (x ∷ h) more r l = there_from bounds (after bounds w x) h more r l.1
 
--- no list that breaks is legal
-never_both : (bounds : Bounds) (h : List Record) (place : ℕ) (expected : Option Outcome) → legal bounds h → BreaksAt bounds h place expected → ⊥
-never_both bounds h place expected l b =
-    let is : outcome_of bounds (world_from bounds empty_world b.before) b.broken.actor b.broken.act ≡ Some b.broken.outcome =
-    there_from bounds empty_world b.before b.others b.broken (subst (λ (x : List Record). legal_from bounds empty_world x) b.all_are l) in
-    b.differs (sym b.expected_is ∙ is)
+ends_from : (bounds : Bounds) (most : Option ℕ) (w : World) (len : ℕ) (h more : List Record) (r : Record) (all : ℕ) → CanEndFrom bounds most w len (h ++ r ∷ more) → (len + length h) + 1 ≡ all
+    → can_end most (after bounds (world_from bounds w h) r) all ≡ true
+ends_from bounds most w len [] more r all l is = let one : len + 1 ≡ all = omega (arith, is) in subst (λ (n : ℕ). can_end most (after bounds w r) n ≡ true) one l.0
+ends_from bounds most w len (x ∷ h) more r all l is = ends_from bounds most (after bounds w x) (len + 1) h more r all l.1 (omega (arith, is))
 
--- two first places are one
-same_from : (bounds : Bounds) (w : World) (g h more other : List Record) (r s : Record) →
-    g ++ r ∷ more ≡ h ++ s ∷ other → legal_from bounds w g → legal_from bounds w h →
-    outcome_of bounds (world_from bounds w g) r.actor r.act ≢ Some r.outcome → outcome_of bounds (world_from bounds w h) s.actor s.act ≢ Some s.outcome →
-    (length g ≡ length h) × (outcome_of bounds (world_from bounds w g) r.actor r.act ≡ outcome_of bounds (world_from bounds w h) s.actor s.act)
-same_from bounds w [] [] more other r s e lg lh ng nh = let same : r ≡ s = cc in (refl, ap (λ (x : Record). outcome_of bounds w x.actor x.act) same)
-same_from bounds w [] (y ∷ h) more other r s e lg lh ng nh = let same : y ≡ r = cc in absurd (ng (subst (λ (x : Record). outcome_of bounds w x.actor x.act ≡ Some x.outcome) same lh.0))
-same_from bounds w (x ∷ g) [] more other r s e lg lh ng nh = let same : x ≡ s = cc in absurd (nh (subst (λ (x : Record). outcome_of bounds w x.actor x.act ≡ Some x.outcome) same lg.0))
-same_from bounds w (x ∷ g) (y ∷ h) more other r s e lg lh ng nh =
+-- each record of a legal run is fine after those before it
+fine_there : (told : ToldLimits) (h more : List Record) (r : Record) → IsLegalRun told.bounds told.records (h ++ r ∷ more) → IsFine told h r
+fine_there told h more r l = record {
+  outcome = there_from told.bounds empty_world h more r l.is_legal;
+  ends = ends_from told.bounds told.records empty_world 0 h more r (length h + 1) l.ends (omega arith);
+}
+
+-- no record that is fine breaks what is legal
+never_fine : (told : ToldLimits) (before : List Record) (r : Record) (expected : Option Outcome) → IsFine told before r → Differs told before r expected ⊎ Overruns told before r expected → ⊥
+never_fine told before r expected fine (inl d) = d.differs (sym d.expected_is ∙ fine.outcome)
+never_fine told before r expected fine (inr o) = let both = sym o.ends_not ∙ fine.ends in cc
+
+-- no list that breaks is legal
+never_both : (told : ToldLimits) (h : List Record) (place : ℕ) (expected : Option Outcome) → IsLegalRun told.bounds told.records h → BreaksAt told h place expected → ⊥
+never_both told h place expected l b =
+    never_fine told b.before b.broken expected
+    (fine_there told b.before b.others b.broken (subst (λ (x : List Record). IsLegalRun told.bounds told.records x) b.all_are l)) b.breaks
+
+-- how two places of one list lie: the first list is a front of the second that has the first record too
+record ComesFirst (g : List Record) (r : Record) (h : List Record) : Type 0 where
+  more : List Record
+  is : h ≡ g ++ r ∷ more
+
+-- two places of one list are the same, or one comes first
+places : (g h : List Record) (r s : Record) (more other : List Record) → g ++ r ∷ more ≡ h ++ s ∷ other → ((g ≡ h) × (r ≡ s)) ⊎ (ComesFirst g r h ⊎ ComesFirst h s g)
+places [] [] r s more other e = let same : r ≡ s = cc in inl (refl, same)
+places [] (y ∷ h) r s more other e = let same : y ≡ r = cc in inr (inl (record { more = h; is = ap (λ (x : Record). x ∷ h) same }))
+places (x ∷ g) [] r s more other e = let same : x ≡ s = cc in inr (inr (record { more = g; is = ap (λ (z : Record). z ∷ g) same }))
+places (x ∷ g) (y ∷ h) r s more other e =
     let same : x ≡ y = cc in
     let tails : g ++ r ∷ more ≡ h ++ s ∷ other = cc in
-    let P : Record → Type 0 = λ z. legal_from bounds (after bounds w z) h in
-    let N : Record → Type 0 = λ z. outcome_of bounds (world_from bounds (after bounds w z) h) s.actor s.act ≢ Some s.outcome in
-    let both = same_from bounds (after bounds w x) g h more other r s tails lg.1 (subst P (sym same) lh.1) ng (subst N (sym same) nh) in
-    let Q : Record → Type 0 = λ z. outcome_of bounds (world_from bounds (after bounds w x) g) r.actor r.act ≡ outcome_of bounds (world_from bounds (after bounds w z) h) s.actor s.act in
-    (omega (arith, both.0), subst Q same both.1)
+    elim (places g h r s more other tails) [
+      | inl both ↦ inl (ap (λ (z : Record). z ∷ g) same ∙ ap (λ (l : List Record). y ∷ l) both.0, both.1)
+      | inr first ↦ elim first [
+        | inl f ↦ inr (inl (record { more = f.more; is = ap (λ (z : Record). z ∷ h) (sym same) ∙ ap (λ (l : List Record). x ∷ l) f.is }))
+        | inr f ↦ inr (inr (record { more = f.more; is = ap (λ (z : Record). z ∷ g) same ∙ ap (λ (l : List Record). y ∷ l) f.is }))
+      ]
+    ]
 
-one_break : (bounds : Bounds) (h : List Record) (place other : ℕ) (expected told : Option Outcome) → BreaksAt bounds h place expected → BreaksAt bounds h other told → (place ≡ other) × (expected ≡ told)
-one_break bounds h place other expected told v u =
-    let both = same_from bounds empty_world v.before u.before v.others u.others v.broken u.broken (sym v.all_are ∙ u.all_are) v.is_legal u.is_legal
-    (λ e. v.differs (sym v.expected_is ∙ e)) (λ e. u.differs (sym u.expected_is ∙ e)) in
-    (v.place_is ∙ both.0 ∙ sym u.place_is, sym v.expected_is ∙ both.1 ∙ u.expected_is)
+-- what breaks at one place expects one outcome
+one_expected : (told : ToldLimits) (before : List Record) (r : Record) (expected other : Option Outcome)
+    → Differs told before r expected ⊎ Overruns told before r expected → Differs told before r other ⊎ Overruns told before r other → expected ≡ other
+one_expected told before r expected other (inl v) (inl u) = sym v.expected_is ∙ u.expected_is
+one_expected told before r expected other (inl v) (inr u) = absurd (v.differs (sym v.expected_is ∙ u.outcome_is))
+one_expected told before r expected other (inr v) (inl u) = absurd (u.differs (sym u.expected_is ∙ v.outcome_is))
+one_expected told before r expected other (inr v) (inr u) = v.expected_is ∙ sym u.expected_is
+
+-- what comes before a place that breaks is legal, so no place before it breaks
+not_first : (told : ToldLimits) (g h : List Record) (r : Record) (expected : Option Outcome) → IsLegalRun told.bounds told.records h → Differs told g r expected ⊎ Overruns told g r expected → ComesFirst g r h → ⊥
+not_first told g h r expected l breaks f =
+    never_fine told g r expected (fine_there told g f.more r (subst (λ (x : List Record). IsLegalRun told.bounds told.records x) f.is l)) breaks
+
+one_break : (told : ToldLimits) (h : List Record) (place other : ℕ) (expected given : Option Outcome) → BreaksAt told h place expected → BreaksAt told h other given → (place ≡ other) × (expected ≡ given)
+one_break told h place other expected given v u = elim (places v.before u.before v.broken u.broken v.others u.others (sym v.all_are ∙ u.all_are)) [
+  | inl same ↦
+      let B : List Record → Record → Type 0 = λ x z. Differs told x z expected ⊎ Overruns told x z expected in
+      let here = subst (λ (z : Record). B u.before z) same.1 (subst (λ (x : List Record). B x v.broken) same.0 v.breaks) in
+      (v.place_is ∙ ap length same.0 ∙ sym u.place_is, one_expected told u.before u.broken expected given here u.breaks)
+  | inr first ↦ elim first [
+    | inl f ↦ absurd (not_first told v.before u.before v.broken expected u.is_legal v.breaks f)
+    | inr f ↦ absurd (not_first told u.before v.before u.broken given v.is_legal u.breaks f)
+  ]
+]
 
 records_assoc : (xs ys zs : List Record) → (xs ++ ys) ++ zs ≡ xs ++ (ys ++ zs)
 records_assoc [] ys zs = refl
 records_assoc (x ∷ xs) ys zs = ap (λ (l : List Record). x ∷ l) (records_assoc xs ys zs)
 
-breaks_on : (bounds : Bounds) (h more : List Record) (place : ℕ) (expected : Option Outcome) → BreaksAt bounds h place expected → BreaksAt bounds (h ++ more) place expected
-breaks_on bounds h more place expected b = record {
+breaks_on : (told : ToldLimits) (h more : List Record) (place : ℕ) (expected : Option Outcome) → BreaksAt told h place expected → BreaksAt told (h ++ more) place expected
+breaks_on told h more place expected b = record {
   before = b.before;
   broken = b.broken;
   others = b.others ++ more;
   all_are = ap (λ (l : List Record). l ++ more) b.all_are ∙ records_assoc b.before (b.broken ∷ b.others) more;
   place_is = b.place_is;
   is_legal = b.is_legal;
-  expected_is = b.expected_is;
-  differs = b.differs;
+  breaks = b.breaks;
 }
 
 -- ---- bytes: which records begin them
@@ -103,45 +152,40 @@ no_more law (r ∷ more) x y f stops e =
     (subst (λ (l : List ℕ). Stops l) (e ∙ append_assoc (frame (record_bytes r)) (frames_of more) y) stops))
 
 -- bytes with records up to where no frame begins
-record IsComplete (bounds : Bounds) (bytes : List ℕ) (h : List Record) (rest : List ℕ) : Type 0 where
+record IsComplete (told : ToldLimits) (bytes : List ℕ) (h : List Record) (rest : List ℕ) : Type 0 where
   begins : Begins bytes h rest
   stops : Stops rest
-  is_legal : legal bounds h
-
-same_bytes : (bytes : List ℕ) (h k : List Record) (x y : List ℕ) → Begins bytes h x → Begins bytes k y → frames_of h ++ x ≡ frames_of k ++ y
-same_bytes bytes h k x y b c =
-    append_cancel_left trace_header (frames_of h ++ x) (frames_of k ++ y)
-    (sym (append_assoc trace_header (frames_of h) x) ∙ sym b.is ∙ c.is ∙ append_assoc trace_header (frames_of k) y)
+  is_legal : IsLegalRun told.bounds told.records h
 
 stop_same : NoFrameThere SpellsRecord RECORD_LENGTH_MAX → (h k : List Record) (x y : List ℕ) → Stops x → IsFront h k x y → (k ≡ h) × (x ≡ y)
 stop_same none h k x y stops front =
     let last = no_more none front.more x y front.framed stops front.rest_is in
     (front.is ∙ ap (λ (l : List Record). h ++ l) last.0 ∙ append-nil h, last.1)
 
-both_complete : OneForm SpellsRecord RECORD_LENGTH_MAX → NoFrameThere SpellsRecord RECORD_LENGTH_MAX → (bounds : Bounds) (bytes : List ℕ) (h k : List Record) (x y : List ℕ)
-    → IsComplete bounds bytes h x → IsComplete bounds bytes k y → (h ≡ k) × (x ≡ y)
-both_complete one none bounds bytes h k x y b c = elim (fronts_of one h k x y b.begins.framed c.begins.framed (same_bytes bytes h k x y b.begins c.begins)) [
+both_complete : OneForm SpellsRecord RECORD_LENGTH_MAX → NoFrameThere SpellsRecord RECORD_LENGTH_MAX → (told : ToldLimits) (bytes : List ℕ) (h k : List Record) (x y : List ℕ)
+    → IsComplete told bytes h x → IsComplete told bytes k y → (h ≡ k) × (x ≡ y)
+both_complete one none told bytes h k x y b c = elim (fronts_of one h k x y b.begins.framed c.begins.framed (sym b.begins.is ∙ c.begins.is)) [
   | inl front ↦ let same = stop_same none h k x y b.stops front in (sym same.0, same.1)
   | inr front ↦ let same = stop_same none k h y x c.stops front in (same.0, sym same.1)
 ]
 
 -- no bytes with complete legal records have one that breaks
-not_broken : OneForm SpellsRecord RECORD_LENGTH_MAX → NoFrameThere SpellsRecord RECORD_LENGTH_MAX → (bounds : Bounds) (bytes : List ℕ) (h : List Record) (x : List ℕ) (place : ℕ) (expected : Option Outcome)
-    → IsComplete bounds bytes h x → IsIllegal bounds bytes place expected → ⊥
-not_broken one none bounds bytes h x place expected b i = elim (fronts_of one h i.h x i.left b.begins.framed i.begins.framed (same_bytes bytes h i.h x i.left b.begins i.begins)) [
-  | inl front ↦ let same = stop_same none h i.h x i.left b.stops front in never_both bounds h place expected b.is_legal (subst (λ (l : List Record). BreaksAt bounds l place expected) same.0 i.breaks)
-  | inr front ↦ never_both bounds h place expected b.is_legal (subst (λ (l : List Record). BreaksAt bounds l place expected) (sym front.is) (breaks_on bounds i.h front.more place expected i.breaks))
+not_broken : OneForm SpellsRecord RECORD_LENGTH_MAX → NoFrameThere SpellsRecord RECORD_LENGTH_MAX → (told : ToldLimits) (bytes : List ℕ) (h : List Record) (x : List ℕ) (place : ℕ) (expected : Option Outcome)
+    → IsComplete told bytes h x → IsIllegal told bytes place expected → ⊥
+not_broken one none told bytes h x place expected b i = elim (fronts_of one h i.h x i.left b.begins.framed i.begins.framed (sym b.begins.is ∙ i.begins.is)) [
+  | inl front ↦ let same = stop_same none h i.h x i.left b.stops front in never_both told h place expected b.is_legal (subst (λ (l : List Record). BreaksAt told l place expected) same.0 i.breaks)
+  | inr front ↦ never_both told h place expected b.is_legal (subst (λ (l : List Record). BreaksAt told l place expected) (sym front.is) (breaks_on told i.h front.more place expected i.breaks))
 ]
 
-one_illegal : OneForm SpellsRecord RECORD_LENGTH_MAX → (bounds : Bounds) (bytes : List ℕ) (place other : ℕ) (expected told : Option Outcome)
-    → IsIllegal bounds bytes place expected → IsIllegal bounds bytes other told → (place ≡ other) × (expected ≡ told)
-one_illegal one bounds bytes place other expected told i j = elim (fronts_of one i.h j.h i.left j.left i.begins.framed j.begins.framed (same_bytes bytes i.h j.h i.left j.left i.begins j.begins)) [
+one_illegal : OneForm SpellsRecord RECORD_LENGTH_MAX → (told : ToldLimits) (bytes : List ℕ) (place other : ℕ) (expected given : Option Outcome)
+    → IsIllegal told bytes place expected → IsIllegal told bytes other given → (place ≡ other) × (expected ≡ given)
+one_illegal one told bytes place other expected given i j = elim (fronts_of one i.h j.h i.left j.left i.begins.framed j.begins.framed (sym i.begins.is ∙ j.begins.is)) [
   | inl front ↦
-      one_break bounds j.h place other expected told
-      (subst (λ (l : List Record). BreaksAt bounds l place expected) (sym front.is) (breaks_on bounds i.h front.more place expected i.breaks)) j.breaks
+      one_break told j.h place other expected given
+      (subst (λ (l : List Record). BreaksAt told l place expected) (sym front.is) (breaks_on told i.h front.more place expected i.breaks)) j.breaks
   | inr front ↦
-      one_break bounds i.h place other expected told i.breaks
-      (subst (λ (l : List Record). BreaksAt bounds l other told) (sym front.is) (breaks_on bounds j.h front.more other told j.breaks))
+      one_break told i.h place other expected given i.breaks
+      (subst (λ (l : List Record). BreaksAt told l other given) (sym front.is) (breaks_on told j.h front.more other given j.breaks))
 ]
 
 -- a rest is unfinished or at fault, and not both
@@ -151,82 +195,50 @@ not_both rest short fault = elim fault [
   | inr long ↦ elim short [ inl few ↦ omega (arith, few, long.0) | inr part ↦ omega (arith, part.1, long.1) ]
 ]
 
--- ---- the header
-
-begins_long : (bytes : List ℕ) (h : List Record) (rest : List ℕ) → Begins bytes h rest → 8 ≤ length bytes
-begins_long bytes h rest b = omega (arith, ap length b.is, length-append (text h) rest, length-append trace_header (frames_of h))
-
-ends_not : (bytes : List ℕ) (h : List Record) (rest : List ℕ) → EndsInHeader bytes → Begins bytes h rest → ⊥
-ends_not bytes h rest ends b = omega (arith, ends.0, begins_long bytes h rest b)
-
-header_there : (bytes after : List ℕ) → bytes ≡ trace_header ++ after → HasNoHeader bytes → ⊥
-header_there bytes after is none =
-    none.3 (ap (λ (x : List ℕ). take none.0 x) is ∙ take-append-le none.0 trace_header after none.1)
-
-headed : (bytes : List ℕ) (h : List Record) (rest : List ℕ) → Begins bytes h rest → HasNoHeader bytes → ⊥
-headed bytes h rest b none = header_there bytes (frames_of h ++ rest) (b.is ∙ append_assoc trace_header (frames_of h) rest) none
-
-front_there : (bytes : List ℕ) → EndsInHeader bytes → HasNoHeader bytes → ⊥
-front_there bytes ends none =
-    let all : bytes ++ drop (length bytes) trace_header ≡ trace_header = ap (λ (x : List ℕ). x ++ drop (length bytes) trace_header) ends.1 ∙ take-append-drop (length bytes) trace_header in
-    none.3 (sym (take-append-le none.0 bytes (drop (length bytes) trace_header) none.2) ∙ ap (λ (x : List ℕ). take none.0 x) all)
-
 -- ---- one verdict
 
-complete_legal : (bounds : Bounds) (bytes : List ℕ) (records rest : ℕ) (l : IsLegal bounds bytes records rest) → IsComplete bounds bytes l.h l.left
-complete_legal bounds bytes records rest l = record { begins = l.begins; stops = inl l.unfinished; is_legal = l.is_legal }
+complete_legal : (told : ToldLimits) (bytes : List ℕ) (records rest : ℕ) (l : IsLegal told bytes records rest) → IsComplete told bytes l.h l.left
+complete_legal told bytes records rest l = record { begins = l.begins; stops = inl l.unfinished; is_legal = l.is_legal }
 
-complete_malformed : (bounds : Bounds) (bytes : List ℕ) (at : ℕ) (m : IsMalformedAt bounds bytes at) → IsComplete bounds bytes m.h m.left
-complete_malformed bounds bytes at m = record { begins = m.begins; stops = inr m.fault; is_legal = m.is_legal }
+complete_malformed : (told : ToldLimits) (headed : ℕ) (bytes : List ℕ) (at : ℕ) (m : IsMalformedAt told headed bytes at) → IsComplete told bytes m.h m.left
+complete_malformed told headed bytes at m = record { begins = m.begins; stops = inr m.fault; is_legal = m.is_legal }
 
 module _ (one : OneForm SpellsRecord RECORD_LENGTH_MAX) (none : NoFrameThere SpellsRecord RECORD_LENGTH_MAX) where
-  legal_legal : (bounds : Bounds) (bytes : List ℕ) (n r m s : ℕ) → IsVerdict bounds bytes (Legal n r) → IsVerdict bounds bytes (Legal m s) → Legal n r ≡ Legal m s
-  legal_legal bounds bytes n r m s (inl v) (inl u) =
-      let records : n ≡ m = v.records_are ∙ sym u.records_are in
-      let rests : r ≡ s = v.rest_is ∙ sym u.rest_is in
-      cc
-  legal_legal bounds bytes n r m s (inl v) (inr u) = absurd (ends_not bytes u.h u.left v.ends u.begins)
-  legal_legal bounds bytes n r m s (inr v) (inl u) = absurd (ends_not bytes v.h v.left u.ends v.begins)
-  legal_legal bounds bytes n r m s (inr v) (inr u) =
-      let same = both_complete one none bounds bytes v.h u.h v.left u.left (complete_legal bounds bytes n r v) (complete_legal bounds bytes m s u) in
+  legal_legal : (told : ToldLimits) (bytes : List ℕ) (n r m s : ℕ) → IsLegal told bytes n r → IsLegal told bytes m s → Legal n r ≡ Legal m s
+  legal_legal told bytes n r m s v u =
+      let same = both_complete one none told bytes v.h u.h v.left u.left (complete_legal told bytes n r v) (complete_legal told bytes m s u) in
       let records : n ≡ m = v.records_are ∙ ap length same.0 ∙ sym u.records_are in
       let rests : r ≡ s = v.rest_is ∙ ap length same.1 ∙ sym u.rest_is in
       cc
 
-  legal_illegal : (bounds : Bounds) (bytes : List ℕ) (n r place : ℕ) (expected : Option Outcome) → IsVerdict bounds bytes (Legal n r) → IsIllegal bounds bytes place expected → ⊥
-  legal_illegal bounds bytes n r place expected (inl v) u = ends_not bytes u.h u.left v.ends u.begins
-  legal_illegal bounds bytes n r place expected (inr v) u = not_broken one none bounds bytes v.h v.left place expected (complete_legal bounds bytes n r v) u
-
-  legal_malformed : (bounds : Bounds) (bytes : List ℕ) (n r at : ℕ) → IsVerdict bounds bytes (Legal n r) → IsVerdict bounds bytes (Malformed at) → ⊥
-  legal_malformed bounds bytes n r at (inl v) (inl u) = front_there bytes v.ends u.none
-  legal_malformed bounds bytes n r at (inl v) (inr u) = ends_not bytes u.h u.left v.ends u.begins
-  legal_malformed bounds bytes n r at (inr v) (inl u) = headed bytes v.h v.left v.begins u.none
-  legal_malformed bounds bytes n r at (inr v) (inr u) =
-      let same = both_complete one none bounds bytes v.h u.h v.left u.left (complete_legal bounds bytes n r v) (complete_malformed bounds bytes at u) in
+  legal_malformed : (told : ToldLimits) (headed : ℕ) (bytes : List ℕ) (n r at : ℕ) → IsLegal told bytes n r → IsMalformedAt told headed bytes at → ⊥
+  legal_malformed told headed bytes n r at v u =
+      let same = both_complete one none told bytes v.h u.h v.left u.left (complete_legal told bytes n r v) (complete_malformed told headed bytes at u) in
       not_both u.left (subst (λ (l : List ℕ). IsUnfinished l) same.1 v.unfinished) u.fault
 
-  malformed_illegal : (bounds : Bounds) (bytes : List ℕ) (at place : ℕ) (expected : Option Outcome) → IsVerdict bounds bytes (Malformed at) → IsIllegal bounds bytes place expected → ⊥
-  malformed_illegal bounds bytes at place expected (inl v) u = headed bytes u.h u.left u.begins v.none
-  malformed_illegal bounds bytes at place expected (inr v) u = not_broken one none bounds bytes v.h v.left place expected (complete_malformed bounds bytes at v) u
+  malformed_malformed : (told : ToldLimits) (headed : ℕ) (bytes : List ℕ) (at other : ℕ) → IsMalformedAt told headed bytes at → IsMalformedAt told headed bytes other → at ≡ other
+  malformed_malformed told headed bytes at other v u =
+      let same = both_complete one none told bytes v.h u.h v.left u.left (complete_malformed told headed bytes at v) (complete_malformed told headed bytes other u) in
+      v.at_is ∙ ap (λ (h : List Record). headed + length (frames_of h)) same.0 ∙ sym u.at_is
 
-  malformed_malformed : (bounds : Bounds) (bytes : List ℕ) (at other : ℕ) → IsVerdict bounds bytes (Malformed at) → IsVerdict bounds bytes (Malformed other) → at ≡ other
-  malformed_malformed bounds bytes at other (inl v) (inl u) = v.at_is ∙ sym u.at_is
-  malformed_malformed bounds bytes at other (inl v) (inr u) = absurd (headed bytes u.h u.left u.begins v.none)
-  malformed_malformed bounds bytes at other (inr v) (inl u) = absurd (headed bytes v.h v.left v.begins u.none)
-  malformed_malformed bounds bytes at other (inr v) (inr u) =
-      let same = both_complete one none bounds bytes v.h u.h v.left u.left (complete_malformed bounds bytes at v) (complete_malformed bounds bytes other u) in
-      v.at_is ∙ ap (λ (h : List Record). length (text h)) same.0 ∙ sym u.at_is
+  one_after : (told : ToldLimits) (headed : ℕ) (bytes : List ℕ) (v u : Verdict) → IsVerdictAfter told headed bytes v → IsVerdictAfter told headed bytes u → v ≡ u
+  one_after told headed bytes (Legal n r) (Legal m s) v u = legal_legal told bytes n r m s v u
+  one_after told headed bytes (Legal n r) (Illegal place expected) v u = absurd (not_broken one none told bytes v.h v.left place expected (complete_legal told bytes n r v) u)
+  one_after told headed bytes (Legal n r) (Malformed at) v u = absurd (legal_malformed told headed bytes n r at v u)
+  one_after told headed bytes (Illegal place expected) (Legal n r) v u = absurd (not_broken one none told bytes u.h u.left place expected (complete_legal told bytes n r u) v)
+  one_after told headed bytes (Illegal place expected) (Illegal other given) v u = let same = one_illegal one told bytes place other expected given v u in cc
+  one_after told headed bytes (Illegal place expected) (Malformed at) v u = absurd (not_broken one none told bytes u.h u.left place expected (complete_malformed told headed bytes at u) v)
+  one_after told headed bytes (Malformed at) (Legal n r) v u = absurd (legal_malformed told headed bytes n r at u v)
+  one_after told headed bytes (Malformed at) (Illegal place expected) v u = absurd (not_broken one none told bytes v.h v.left place expected (complete_malformed told headed bytes at v) u)
+  one_after told headed bytes (Malformed at) (Malformed other) v u = ap Malformed (malformed_malformed told headed bytes at other v u)
+
+  one_by : (h : Header) (bytes : List ℕ) (v u : Verdict) → IsVerdictBy h bytes v → IsVerdictBy h bytes u → v ≡ u
+  one_by Unheaded bytes v u p q = p ∙ sym q
+  one_by Short bytes v u p q = p ∙ sym q
+  one_by (Headed told headed) bytes v u p q = one_after told headed (drop headed bytes) v u p q
 
   pub one_verdict : OneVerdict
-  one_verdict bounds bytes (Legal n r) (Legal m s) v u = legal_legal bounds bytes n r m s v u
-  one_verdict bounds bytes (Legal n r) (Illegal place expected) v u = absurd (legal_illegal bounds bytes n r place expected v u)
-  one_verdict bounds bytes (Legal n r) (Malformed at) v u = absurd (legal_malformed bounds bytes n r at v u)
-  one_verdict bounds bytes (Illegal place expected) (Legal n r) v u = absurd (legal_illegal bounds bytes n r place expected u v)
-  one_verdict bounds bytes (Illegal place expected) (Illegal other told) v u = let same = one_illegal one bounds bytes place other expected told v u in cc
-  one_verdict bounds bytes (Illegal place expected) (Malformed at) v u = absurd (malformed_illegal bounds bytes at place expected u v)
-  one_verdict bounds bytes (Malformed at) (Legal n r) v u = absurd (legal_malformed bounds bytes n r at u v)
-  one_verdict bounds bytes (Malformed at) (Illegal place expected) v u = absurd (malformed_illegal bounds bytes at place expected v u)
-  one_verdict bounds bytes (Malformed at) (Malformed other) v u = ap Malformed (malformed_malformed bounds bytes at other v u)
+  one_verdict bytes v u p q = one_by (header bytes) bytes v u p q
 
 -- ---- a fault stays
 
@@ -255,82 +267,133 @@ fault_stays_on rest more fault = elim fault [
 ]
 
 begins_on : (bytes more : List ℕ) (h : List Record) (rest : List ℕ) → Begins bytes h rest → Begins (bytes ++ more) h (rest ++ more)
-begins_on bytes more h rest b = record { is = ap (λ (x : List ℕ). x ++ more) b.is ∙ append_assoc (text h) rest more; framed = b.framed }
+begins_on bytes more h rest b = record { is = ap (λ (x : List ℕ). x ++ more) b.is ∙ append_assoc (frames_of h) rest more; framed = b.framed }
 
-pub headless_on : (bytes more : List ℕ) → HasNoHeader bytes → HasNoHeader (bytes ++ more)
-headless_on bytes more none = (none.0, none.1, omega (arith, none.2, length-append bytes more), λ e. none.3 (sym (take-append-le none.0 bytes more none.2) ∙ e))
-
-pub fault_stays : FaultStays
-fault_stays bounds bytes more (Legal records rest) fault v = absurd fault
-fault_stays bounds bytes more (Illegal place expected) fault v = record { h = v.h; left = v.left ++ more; begins = begins_on bytes more v.h v.left v.begins; breaks = v.breaks }
-fault_stays bounds bytes more (Malformed at) fault (inl v) = inl (record { none = headless_on bytes more v.none; at_is = v.at_is })
-fault_stays bounds bytes more (Malformed at) fault (inr v) = inr (record {
+stays_after : (told : ToldLimits) (headed : ℕ) (bytes more : List ℕ) (v : Verdict) → TellsFault v → IsVerdictAfter told headed bytes v → IsVerdictAfter told headed (bytes ++ more) v
+stays_after told headed bytes more (Legal records rest) fault v = absurd fault
+stays_after told headed bytes more (Illegal place expected) fault v = record { h = v.h; left = v.left ++ more; begins = begins_on bytes more v.h v.left v.begins; breaks = v.breaks }
+stays_after told headed bytes more (Malformed at) fault v = record {
   h = v.h;
   left = v.left ++ more;
   begins = begins_on bytes more v.h v.left v.begins;
   fault = fault_stays_on v.left more v.fault;
   is_legal = v.is_legal;
   at_is = v.at_is;
-})
+}
+
+stays_by : (h later : Header) (bytes more : List ℕ) (v : Verdict) → GoesOn (length bytes) h later → TellsFault v → IsVerdictBy h bytes v → IsVerdictBy later (bytes ++ more) v
+stays_by Unheaded later bytes more v on fault p = subst (λ (h : Header). IsVerdictBy h (bytes ++ more) v) (sym on) p
+stays_by Short later bytes more v on fault p = absurd (subst (λ (u : Verdict). TellsFault u) p fault)
+stays_by (Headed told headed) later bytes more v on fault p =
+    let rest = drop-append-le headed bytes more on.1 in
+    let stays = stays_after told headed (drop headed bytes) more v fault p in
+    subst (λ (h : Header). IsVerdictBy h (bytes ++ more) v) (sym on.0) (subst (λ (x : List ℕ). IsVerdictAfter told headed x v) (sym rest) stays)
+
+pub fault_stays : HeaderGoesOn → FaultStays
+fault_stays on bytes more v fault p = stays_by (header bytes) (header (bytes ++ more)) bytes more v (on bytes more) fault p
 
 -- ---- fronts of a legal text
 
-pub text_is_legal : TextIsLegal
-text_is_legal bounds h l framed = inr (record {
-  h = h;
-  left = [];
-  begins = record { is = sym (append-nil (text h)); framed = framed };
-  unfinished = inl (omega arith);
-  is_legal = l;
-  records_are = refl;
-  rest_is = refl;
-})
+-- the text of records is a header that is read again, and their frames
+pub record IsText (told : ToldLimits) (h : List Record) (bytes : List ℕ) : Type 0 where
+  pub headed : header bytes ≡ Headed told HEADER_2_LENGTH
+  pub frames : drop HEADER_2_LENGTH bytes ≡ frames_of h
 
-whole_text : (h : List Record) → HaveFrames h → Begins (text h) h []
-whole_text h framed = record { is = sym (append-nil (text h)); framed = framed }
+pub text_is_read : HeadersAreRead → (told : ToldLimits) (h : List Record) → is_told told ≡ true → IsText told h (text told h)
+text_is_read read told h is = record { headed = read.second told (frames_of h) is; frames = drop_at (header_2 told) (frames_of h) HEADER_2_LENGTH (read.long told) }
+
+pub text_is_legal : HeadersAreRead → TextIsLegal
+text_is_legal read told h is l framed =
+    let t = text_is_read read told h is in
+    let legal : IsLegal told (frames_of h) (length h) 0 = record {
+      h = h;
+      left = [];
+      begins = record { is = sym (append-nil (frames_of h)); framed = framed };
+      unfinished = inl (omega arith);
+      is_legal = l;
+      records_are = refl;
+      rest_is = refl;
+    } in
+    subst (λ (x : Header). IsVerdictBy x (text told h) (Legal (length h) 0)) (sym t.headed) (subst (λ (x : List ℕ). IsLegal told x (length h) 0) (sym t.frames) legal)
+
+-- a front of a text ends within its header, or after it come bytes that are a front of the frames
+pub record IsFrontAfter (told : ToldLimits) (h : List Record) (bytes left : List ℕ) : Type 0 where
+  pub headed : header bytes ≡ Headed told HEADER_2_LENGTH
+  pub long : HEADER_2_LENGTH ≤ length bytes
+  pub frames : frames_of h ≡ drop HEADER_2_LENGTH bytes ++ left
+
+pub record IsFrontWithin (bytes : List ℕ) : Type 0 where
+  pub short : header bytes ≡ Short
+  pub few : length bytes + 1 ≤ HEADER_2_LENGTH
+
+pub front_of_text : HeaderGoesOn → HeadersAreRead → (told : ToldLimits) (h : List Record) (bytes left : List ℕ) → is_told told ≡ true → text told h ≡ bytes ++ left → IsFrontWithin bytes ⊎ IsFrontAfter told h bytes left
+front_of_text on read told h bytes left is e =
+    let t = subst (λ (x : List ℕ). IsText told h x) e (text_is_read read told h is) in
+    by (header bytes) refl (on bytes left) t
+  where
+    by : (x : Header) → header bytes ≡ x → GoesOn (length bytes) (header bytes) (header (bytes ++ left)) → IsText told h (bytes ++ left) → IsFrontWithin bytes ⊎ IsFrontAfter told h bytes left
+    by Unheaded is on t = let never = sym (subst (λ (x : Header). GoesOn (length bytes) x (header (bytes ++ left))) is on) ∙ t.headed in cc
+    by Short is on t = let few = subst (λ (x : Header). GoesOn (length bytes) x (header (bytes ++ left))) is on in inl (record { short = is; few = omega (arith, few.0) })
+    by (Headed other n) is on t =
+        let later = subst (λ (x : Header). GoesOn (length bytes) x (header (bytes ++ left))) is on in
+        let same : Headed other n ≡ Headed told HEADER_2_LENGTH = sym later.0 ∙ t.headed in
+        let length_is : n ≡ HEADER_2_LENGTH = cc in
+        let long : HEADER_2_LENGTH ≤ length bytes = omega (arith, later.1, length_is) in
+        inr (record { headed = is ∙ same; long = long; frames = sym t.frames ∙ drop-append-le HEADER_2_LENGTH bytes left long })
 
 nothing_after : (more : List Record) (y : List ℕ) → [] ≡ frames_of more ++ y → more ≡ []
 nothing_after [] y e = refl
 nothing_after (r ∷ more) y e =
     absurd (omega (arith, ap length e, few_records (r ∷ more), length-append (frames_of (r ∷ more)) y))
 
--- records that begin a front of a text are a front of its records
+-- records that begin a front of frames are a front of its records
 record IsPart (h k : List Record) : Type 0 where
   more : List Record
   is : h ≡ k ++ more
 
-part_of : OneForm SpellsRecord RECORD_LENGTH_MAX → (h k : List Record) (bytes left rest : List ℕ) → HaveFrames h → text h ≡ bytes ++ left → Begins bytes k rest → IsPart h k
+whole_frames : (h : List Record) → HaveFrames h → Begins (frames_of h) h []
+whole_frames h framed = record { is = sym (append-nil (frames_of h)); framed = framed }
+
+part_of : OneForm SpellsRecord RECORD_LENGTH_MAX → (h k : List Record) (bytes left rest : List ℕ) → HaveFrames h → frames_of h ≡ bytes ++ left → Begins bytes k rest → IsPart h k
 part_of one h k bytes left rest framed is b =
     let on = begins_on bytes left k rest b in
-    let all : Begins (bytes ++ left) h [] = subst (λ (x : List ℕ). Begins x h []) is (whole_text h framed) in
-    elim (fronts_of one h k [] (rest ++ left) framed b.framed (same_bytes (bytes ++ left) h k [] (rest ++ left) all on)) [
+    let all : Begins (bytes ++ left) h [] = subst (λ (x : List ℕ). Begins x h []) is (whole_frames h framed) in
+    elim (fronts_of one h k [] (rest ++ left) framed b.framed (sym all.is ∙ on.is)) [
       | inl front ↦
           let none = nothing_after front.more (rest ++ left) front.rest_is in
           record { more = []; is = sym (append-nil h) ∙ ap (λ (l : List Record). h ++ l) (sym none) ∙ sym front.is ∙ sym (append-nil k) }
       | inr front ↦ record { more = front.more; is = front.is }
     ]
 
-text_not_broken : OneForm SpellsRecord RECORD_LENGTH_MAX → (bounds : Bounds) (h : List Record) (bytes left : List ℕ) (place : ℕ) (expected : Option Outcome) → legal bounds h → HaveFrames h → text h ≡ bytes ++ left
-    → IsIllegal bounds bytes place expected → ⊥
-text_not_broken one bounds h bytes left place expected l framed is v =
+text_not_broken : OneForm SpellsRecord RECORD_LENGTH_MAX → (told : ToldLimits) (h : List Record) (bytes left : List ℕ) (place : ℕ) (expected : Option Outcome) → IsLegalRun told.bounds told.records h → HaveFrames h
+    → frames_of h ≡ bytes ++ left → IsIllegal told bytes place expected → ⊥
+text_not_broken one told h bytes left place expected l framed is v =
     let part = part_of one h v.h bytes left v.left framed is v.begins in
-    never_both bounds h place expected l (subst (λ (x : List Record). BreaksAt bounds x place expected) (sym part.is) (breaks_on bounds v.h part.more place expected v.breaks))
+    never_both told h place expected l (subst (λ (x : List Record). BreaksAt told x place expected) (sym part.is) (breaks_on told v.h part.more place expected v.breaks))
 
-text_not_malformed : OneForm SpellsRecord RECORD_LENGTH_MAX → NoFrameThere SpellsRecord RECORD_LENGTH_MAX → (bounds : Bounds) (h : List Record) (bytes left : List ℕ) (at : ℕ) → legal bounds h → HaveFrames h
-    → text h ≡ bytes ++ left → IsVerdict bounds bytes (Malformed at) → ⊥
-text_not_malformed one none bounds h bytes left at l framed is (inl v) = header_there (bytes ++ left) (frames_of h) (sym is) (headless_on bytes left v.none)
-text_not_malformed one none bounds h bytes left at l framed is (inr v) =
-    let whole : IsComplete bounds (bytes ++ left) h [] = record { begins = subst (λ (x : List ℕ). Begins x h []) is (whole_text h framed); stops = inl (inl (omega arith)); is_legal = l } in
-    let part : IsComplete bounds (bytes ++ left) v.h (v.left ++ left) =
+text_not_malformed : OneForm SpellsRecord RECORD_LENGTH_MAX → NoFrameThere SpellsRecord RECORD_LENGTH_MAX → (told : ToldLimits) (headed : ℕ) (h : List Record) (bytes left : List ℕ) (at : ℕ)
+    → IsLegalRun told.bounds told.records h → HaveFrames h → frames_of h ≡ bytes ++ left → IsMalformedAt told headed bytes at → ⊥
+text_not_malformed one none told headed h bytes left at l framed is v =
+    let whole : IsComplete told (bytes ++ left) h [] = record { begins = subst (λ (x : List ℕ). Begins x h []) is (whole_frames h framed); stops = inl (inl (omega arith)); is_legal = l } in
+    let part : IsComplete told (bytes ++ left) v.h (v.left ++ left) =
     record { begins = begins_on bytes left v.h v.left v.begins; stops = inr (fault_stays_on v.left left v.fault); is_legal = v.is_legal } in
-    let same = both_complete one none bounds (bytes ++ left) h v.h [] (v.left ++ left) whole part in
+    let same = both_complete one none told (bytes ++ left) h v.h [] (v.left ++ left) whole part in
     omega (arith, ap length same.1, fault_long v.left v.fault, length-append v.left left)
 
-pub front_is_legal : OneForm SpellsRecord RECORD_LENGTH_MAX → NoFrameThere SpellsRecord RECORD_LENGTH_MAX → FrontIsLegal
-front_is_legal one none bounds h bytes left (Legal records rest) l framed is (inl v) =
-    record { whole = []; more = h; rest = rest; front = refl; verdict = ap (λ (n : ℕ). Legal n rest) v.records_are }
-front_is_legal one none bounds h bytes left (Legal records rest) l framed is (inr v) =
+front_after : OneForm SpellsRecord RECORD_LENGTH_MAX → NoFrameThere SpellsRecord RECORD_LENGTH_MAX → (told : ToldLimits) (headed : ℕ) (h : List Record) (bytes left : List ℕ) (v : Verdict)
+    → IsLegalRun told.bounds told.records h → HaveFrames h → frames_of h ≡ bytes ++ left → IsVerdictAfter told headed bytes v → TellsFront h v
+front_after one none told headed h bytes left (Legal records rest) l framed is v =
     let part = part_of one h v.h bytes left v.left framed is v.begins in
     record { whole = v.h; more = part.more; rest = rest; front = part.is; verdict = ap (λ (n : ℕ). Legal n rest) v.records_are }
-front_is_legal one none bounds h bytes left (Illegal place expected) l framed is v = absurd (text_not_broken one bounds h bytes left place expected l framed is v)
-front_is_legal one none bounds h bytes left (Malformed at) l framed is v = absurd (text_not_malformed one none bounds h bytes left at l framed is v)
+front_after one none told headed h bytes left (Illegal place expected) l framed is v = absurd (text_not_broken one told h bytes left place expected l framed is v)
+front_after one none told headed h bytes left (Malformed at) l framed is v = absurd (text_not_malformed one none told headed h bytes left at l framed is v)
+
+pub front_is_legal : OneForm SpellsRecord RECORD_LENGTH_MAX → NoFrameThere SpellsRecord RECORD_LENGTH_MAX → HeaderGoesOn → HeadersAreRead → FrontIsLegal
+front_is_legal one none on read told h bytes left v told_is l framed is p = elim (front_of_text on read told h bytes left told_is is) [
+  | inl within ↦
+      let short = subst (λ (x : Header). IsVerdictBy x bytes v) within.short p in
+      record { whole = []; more = h; rest = length bytes; front = refl; verdict = short }
+  | inr f ↦
+      let by = subst (λ (x : Header). IsVerdictBy x bytes v) f.headed p in
+      front_after one none told HEADER_2_LENGTH h (drop HEADER_2_LENGTH bytes) left v l framed f.frames by
+]

@@ -1,22 +1,28 @@
 -- What was written of a legal history is legal, with the records whose frames are whole in it.
-use Rattle.std.proofs.Common.{◌≡◌, ◌∙◌, ℕ, ◌+◌, ◌-◌, ◌^◌, ◌<◌, ◌≤◌, Bool, true, false, cond, leb, inl, inr, List, [], ◌∷◌, ◌++◌, length, take, drop, refl, sym, ap, subst, arith, append_assoc, length-append}
+use Rattle.std.proofs.Common.{◌≡◌, ◌∙◌, ℕ, ◌+◌, ◌-◌, ◌^◌, ◌<◌, ◌≤◌, Bool, true, false, cond, leb, inl, inr, Option, List, [], ◌∷◌, ◌++◌, length, take, drop, refl, sym, ap, subst, arith, append_assoc, length-append}
 use Rattle.std.proofs.lemmas.Bool.{leb-true, leb-false}
 use Rattle.std.proofs.lemmas.List.{take-append-le, drop-append-le, take-append-drop, length-drop, take_at, drop_at}
 use Rattle.std.proofs.lemmas.Nat.{from_be_bytes-to_be_bytes_4}
 use Rattle.std.specs.Int.{w32, from_be_bytes}
 use Rattle.call_types.specs.declared.act.Record.{Record}
 use Rattle.call_types.specs.declared.limits.Bounds.{Bounds}
+use Rattle.frame_codec.specs.Proved.Headers.{HeaderGoesOn, HeadersAreRead}
 use Rattle.frame_codec.specs.Fields.{number_bytes}
 use Rattle.frame_codec.specs.Frames.{frame, told_length}
 use Rattle.frame_codec.specs.Records.{record_bytes}
-use Rattle.frame_codec.specs.Trace.{trace_header, frames_of, text, whole_in}
+use Rattle.frame_codec.specs.Trace.{frames_of, whole_in}
+use Rattle.frame_codec.specs.declared.trace.Header.{Header}
+use Rattle.frame_codec.specs.declared.trace.ToldLimits.{ToldLimits}
+use Rattle.frame_codec.specs.declared.trace.TheConstants.{HEADER_2_LENGTH}
 use Rattle.posix_model.specs.declared.world.World.{World}
-use Rattle.posix_model.specs.History.{after, legal_from, empty_world, legal}
+use Rattle.posix_model.specs.History.{after, legal_from, empty_world}
+use Rattle.posix_model.specs.Reserve.{CanEndFrom, IsLegalRun}
 use Rattle.audit_core.specs.Proved.Laws.{LegalFront, LegalHaveFrames, WrittenIsLegal}
 use Rattle.audit_core.specs.Trace.{HasFrame, HaveFrames, IsUnfinished}
-use Rattle.audit_core.specs.Verdict.{IsVerdict}
+use Rattle.audit_core.specs.Verdict.{IsLegal, IsVerdict, IsVerdictBy}
 use Rattle.audit_core.specs.declared.verdict.Verdict.TheVariants.{Legal}
 use Rattle.slots.proofs.SlotLaws.{order}
+use Rattle.audit_core.proofs.LawLemmas.{IsFrontAfter, IsFrontWithin, front_of_text}
 use Rattle.audit_core.proofs.TraceLemmas.{frame_long}
 
 -- ---- fronts of lists
@@ -25,8 +31,13 @@ legal_from-front : (bounds : Bounds) (w : World) (h more : List Record) → lega
 legal_from-front bounds w [] more l = tt
 legal_from-front bounds w (r ∷ h) more l = (l.0, legal_from-front bounds (after bounds w r) h more l.1)
 
+ends_from-front : (bounds : Bounds) (most : Option ℕ) (w : World) (len : ℕ) (h more : List Record) → CanEndFrom bounds most w len (h ++ more) → CanEndFrom bounds most w len h
+ends_from-front bounds most w len [] more l = tt
+ends_from-front bounds most w len (r ∷ h) more l = (l.0, ends_from-front bounds most (after bounds w r) (len + 1) h more l.1)
+
 pub legal_front : LegalFront
-legal_front bounds h more l = legal_from-front bounds empty_world h more l
+legal_front bounds most h more l =
+    record { is_legal = legal_from-front bounds empty_world h more l.is_legal; ends = ends_from-front bounds most empty_world 0 h more l.ends }
 
 framed_front : (h more : List Record) → HaveFrames (h ++ more) → HaveFrames h
 framed_front [] more f = tt
@@ -130,39 +141,34 @@ none_whole : (h : List Record) → whole_in h 0 ≡ 0
 none_whole [] = refl
 none_whole (r ∷ h) = none_fits (leb (length (frame (record_bytes r))) 0) r h refl
 
-unbegun : (bounds : Bounds) (h : List Record) (bytes left : List ℕ) → text h ≡ bytes ++ left → length bytes < length trace_header →
-    IsVerdict bounds bytes (Legal (whole_in h (length bytes - length trace_header)) (length bytes))
-unbegun bounds h bytes left e below =
-    let none : length bytes - length trace_header ≡ 0 = omega (arith, below) in
-    let within : length bytes ≤ length trace_header = omega (arith, below) in
-    inl (record {
-      ends = (below, sym (take_at bytes left (length bytes) refl) ∙ ap (λ (x : List ℕ). take (length bytes) x) (sym e) ∙ take-append-le (length bytes) trace_header (frames_of h) within);
-      records_are = ap (λ (n : ℕ). whole_in h n) none ∙ none_whole h;
+unbegun : (h : List Record) (bytes : List ℕ) → IsFrontWithin bytes → IsVerdict bytes (Legal (whole_in h (length bytes - HEADER_2_LENGTH)) (length bytes))
+unbegun h bytes within =
+    let none : length bytes - HEADER_2_LENGTH ≡ 0 = omega (arith, within.few) in
+    let count : whole_in h (length bytes - HEADER_2_LENGTH) ≡ 0 = ap (λ (n : ℕ). whole_in h n) none ∙ none_whole h in
+    subst (λ (x : Header). IsVerdictBy x bytes (Legal (whole_in h (length bytes - HEADER_2_LENGTH)) (length bytes))) (sym within.short) (ap (λ (n : ℕ). Legal n (length bytes)) count)
+
+begun : (told : ToldLimits) (h : List Record) (bytes left : List ℕ) → IsLegalRun told.bounds told.records h → HaveFrames h → IsFrontAfter told h bytes left
+    → (rest : ℕ) × IsVerdict bytes (Legal (whole_in h (length bytes - HEADER_2_LENGTH)) rest)
+begun told h bytes left l framed f =
+    let body = drop HEADER_2_LENGTH bytes in
+    let c = cut h body left framed f.frames in
+    let legal : IsLegal told body (whole_in h (length bytes - HEADER_2_LENGTH)) (length c.rest) = record {
+      h = c.whole;
+      left = c.rest;
+      begins = record { is = c.bytes_are; framed = framed_front c.whole c.more (subst (λ (x : List Record). HaveFrames x) c.is framed) };
+      unfinished = c.short;
+      is_legal = legal_front told.bounds told.records c.whole c.more (subst (λ (x : List Record). IsLegalRun told.bounds told.records x) c.is l);
+      records_are = ap (λ (n : ℕ). whole_in h n) (sym (length-drop HEADER_2_LENGTH bytes)) ∙ c.count;
       rest_is = refl;
-    })
+    } in
+    (length c.rest, subst (λ (x : Header). IsVerdictBy x bytes (Legal (whole_in h (length bytes - HEADER_2_LENGTH)) (length c.rest))) (sym f.headed) legal)
 
-begun : (bounds : Bounds) (h : List Record) (bytes left : List ℕ) → legal bounds h → HaveFrames h → text h ≡ bytes ++ left → length trace_header ≤ length bytes →
-    (rest : ℕ) × IsVerdict bounds bytes (Legal (whole_in h (length bytes - length trace_header)) rest)
-begun bounds h bytes left l framed e long =
-    let parts = split trace_header (frames_of h) bytes left long e in
-    let c = cut h (drop (length trace_header) bytes) left framed parts.1 in (
-      length c.rest,
-      inr (record {
-        h = c.whole;
-        left = c.rest;
-        begins = record {
-          is = parts.0 ∙ ap (λ (x : List ℕ). trace_header ++ x) c.bytes_are ∙ sym (append_assoc trace_header (frames_of c.whole) c.rest);
-          framed = framed_front c.whole c.more (subst (λ (x : List Record). HaveFrames x) c.is framed);
-        };
-        unfinished = c.short;
-        is_legal = legal_front bounds c.whole c.more (subst (λ (x : List Record). legal bounds x) c.is l);
-        records_are = ap (λ (n : ℕ). whole_in h n) (sym (length-drop (length trace_header) bytes)) ∙ c.count;
-        rest_is = refl;
-      }),
-    )
-
-pub written_is_legal : LegalHaveFrames → WrittenIsLegal
-written_is_legal frames bounds h bytes left l fits e = elim (order (length bytes) (length trace_header)) [
-  | inl below ↦ (length bytes, unbegun bounds h bytes left e below)
-  | inr long ↦ begun bounds h bytes left l (frames bounds h l fits) e long
-]
+pub written_is_legal : HeaderGoesOn → HeadersAreRead → LegalHaveFrames → WrittenIsLegal
+written_is_legal on read frames told h bytes left is l fits e =
+    let long = ap (λ (n : ℕ). whole_in h (length bytes - n)) (sym (read.long told)) in
+    elim (front_of_text on read told h bytes left is e) [
+      | inl within ↦ (length bytes, subst (λ (n : ℕ). IsVerdict bytes (Legal n (length bytes))) long (unbegun h bytes within))
+      | inr f ↦
+          let v = begun told h bytes left l (frames told.bounds h l.is_legal fits) f in
+          (v.0, subst (λ (n : ℕ). IsVerdict bytes (Legal n v.0)) long v.1)
+    ]

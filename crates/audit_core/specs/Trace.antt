@@ -1,5 +1,5 @@
--- How bytes begin that are to be a trace (own).
-use Rattle.std.specs.Prelude.{◌≡◌, ◌≢◌, ℕ, ◌*◌, ◌^◌, ◌≤◌, ◌<◌, ◌⊎◌, List, [], ◌∷◌, ◌++◌, length, take}
+-- The records of a trace, and the bytes after its header (own).
+use Rattle.std.specs.Prelude.{◌≡◌, ℕ, ◌*◌, ◌^◌, ◌≤◌, ◌<◌, ◌⊎◌, List, [], ◌∷◌, ◌++◌, length}
 use Rattle.call_types.specs.Flags.{nonblocking}
 use Rattle.call_types.specs.declared.act.Act.{Act}
 use Rattle.call_types.specs.declared.act.Act.TheVariants as acts
@@ -9,7 +9,7 @@ use Rattle.call_types.specs.declared.limits.TheConstants.{RECORD_LENGTH_MAX}
 use Rattle.frame_codec.specs.Answers.{OutcomeFits}
 use Rattle.frame_codec.specs.Frames.{IsShort, IsTooLong, IsMalformed}
 use Rattle.frame_codec.specs.Records.{record_bytes, ActFits, RecordFits, SpellsRecord}
-use Rattle.frame_codec.specs.Trace.{trace_header, text}
+use Rattle.frame_codec.specs.Trace.{frames_of}
 
 -- a record that a frame can tell: its fields are in range, and its payload is not too long
 abbrev pub HasFrame : Record → Type 0
@@ -30,9 +30,9 @@ FlagsFit other = Unit {0}
 abbrev pub IsInRange : Record → Type 0
 IsInRange r = (r.actor < 2 ^ 32) × ActFits r.act × OutcomeFits r.outcome
 
--- bytes that begin with the text of these records, and after it have this rest
+-- bytes that begin with the frames of these records, and after them have this rest
 pub record Begins (bytes : List ℕ) (h : List Record) (rest : List ℕ) : Type 0 where
-  pub is : bytes ≡ text h ++ rest
+  pub is : bytes ≡ frames_of h ++ rest
   pub framed : HaveFrames h
 
 -- a rest that is too short for a frame: one may be on the way
@@ -42,11 +42,3 @@ IsUnfinished rest = IsShort RECORD_LENGTH_MAX rest
 -- a rest that begins with a frame at fault: its payload spells no record, or is longer than is allowed
 abbrev pub IsAtFault : List ℕ → Type 0
 IsAtFault rest = IsMalformed SpellsRecord RECORD_LENGTH_MAX rest ⊎ IsTooLong RECORD_LENGTH_MAX rest
-
--- bytes that end within the header
-abbrev pub EndsInHeader : List ℕ → Type 0
-EndsInHeader bytes = (length bytes < length trace_header) × (bytes ≡ take (length bytes) trace_header)
-
--- bytes of which one stands where the header has another: so many of them, and no more than the header has, are not its front
-abbrev pub HasNoHeader : List ℕ → Type 0
-HasNoHeader bytes = (count : ℕ) × (count ≤ length trace_header) × (count ≤ length bytes) × (take count bytes ≢ take count trace_header)

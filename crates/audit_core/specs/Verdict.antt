@@ -1,65 +1,77 @@
 -- The verdict on the bytes of a trace (own).
-use Rattle.std.specs.Prelude.{◌≡◌, ◌≢◌, ℕ, ◌⊎◌, List, ◌∷◌, ◌++◌, Option, Some, length}
-use Rattle.call_types.specs.declared.limits.Bounds.{Bounds}
+use Rattle.std.specs.Prelude.{◌≡◌, ◌≢◌, ℕ, ◌+◌, false, ◌⊎◌, List, ◌∷◌, ◌++◌, Option, None, Some, length, drop}
 use Rattle.call_types.specs.declared.act.Record.{Record}
 use Rattle.call_types.specs.declared.outcome.Outcome.{Outcome}
-use Rattle.posix_model.specs.History.{world_of, legal}
-use Rattle.frame_codec.specs.Trace.{text}
-use Rattle.audit_core.specs.Trace.{Begins, IsUnfinished, IsAtFault, EndsInHeader, HasNoHeader}
+use Rattle.posix_model.specs.Step.{outcome_of}
+use Rattle.posix_model.specs.History.{after, world_of}
+use Rattle.posix_model.specs.Reserve.{can_end, IsLegalRun}
+use Rattle.frame_codec.specs.Trace.{frames_of, header}
+use Rattle.frame_codec.specs.declared.trace.Header.{Header}
+use Rattle.frame_codec.specs.declared.trace.Header.TheVariants.{Unheaded, Short, Headed}
+use Rattle.frame_codec.specs.declared.trace.ToldLimits.{ToldLimits}
+use Rattle.audit_core.specs.Trace.{Begins, IsUnfinished, IsAtFault}
 use Rattle.audit_core.specs.declared.verdict.Verdict.{Verdict}
 use Rattle.audit_core.specs.declared.verdict.Verdict.TheVariants.{Legal, Illegal, Malformed}
-use Rattle.posix_model.specs.Step.{outcome_of}
 
--- the records before this place are legal, and the one at it is not what the model gives: so it is the first that is not
-pub record BreaksAt (bounds : Bounds) (h : List Record) (place : ℕ) (expected : Option Outcome) : Type 0 where
+-- a record after these is not what the model gives: that is this outcome, or none
+pub record Differs (told : ToldLimits) (before : List Record) (r : Record) (expected : Option Outcome) : Type 0 where
+  pub expected_is : outcome_of told.bounds (world_of told.bounds before) r.actor r.act ≡ expected
+  pub differs : expected ≢ Some r.outcome
+
+-- a record after these is what the model gives, but the run could not be ended after it, so none is expected
+pub record Overruns (told : ToldLimits) (before : List Record) (r : Record) (expected : Option Outcome) : Type 0 where
+  pub outcome_is : outcome_of told.bounds (world_of told.bounds before) r.actor r.act ≡ Some r.outcome
+  pub ends_not : can_end told.records (after told.bounds (world_of told.bounds before) r) (length before + 1) ≡ false
+  pub expected_is : expected ≡ None
+
+-- the records before this place are those of a legal run, and the one at it breaks that: so it is the first that does
+pub record BreaksAt (told : ToldLimits) (h : List Record) (place : ℕ) (expected : Option Outcome) : Type 0 where
   pub before : List Record
   pub broken : Record
   pub others : List Record
   pub all_are : h ≡ before ++ broken ∷ others
   pub place_is : place ≡ length before
-  pub is_legal : legal bounds before
-  pub expected_is : outcome_of bounds (world_of bounds before) broken.actor broken.act ≡ expected
-  pub differs : expected ≢ Some broken.outcome
-
--- bytes that have no whole record, since they end within the header
-pub record IsUnbegun (bytes : List ℕ) (records rest : ℕ) : Type 0 where
-  pub ends : EndsInHeader bytes
-  pub records_are : records ≡ 0
-  pub rest_is : rest ≡ length bytes
+  pub is_legal : IsLegalRun told.bounds told.records before
+  pub breaks : Differs told before broken expected ⊎ Overruns told before broken expected
 
 -- bytes with so many whole records, which are legal, and after them so many bytes of an unfinished frame
-pub record IsLegal (bounds : Bounds) (bytes : List ℕ) (records rest : ℕ) : Type 0 where
+pub record IsLegal (told : ToldLimits) (body : List ℕ) (records rest : ℕ) : Type 0 where
   pub h : List Record
   pub left : List ℕ
-  pub begins : Begins bytes h left
+  pub begins : Begins body h left
   pub unfinished : IsUnfinished left
-  pub is_legal : legal bounds h
+  pub is_legal : IsLegalRun told.bounds told.records h
   pub records_are : records ≡ length h
   pub rest_is : rest ≡ length left
 
--- bytes with a whole record that is not what the model gives; whatever comes after it is not looked at
-pub record IsIllegal (bounds : Bounds) (bytes : List ℕ) (place : ℕ) (expected : Option Outcome) : Type 0 where
+-- bytes with a whole record that breaks what is legal; whatever comes after it is not looked at
+pub record IsIllegal (told : ToldLimits) (body : List ℕ) (place : ℕ) (expected : Option Outcome) : Type 0 where
   pub h : List Record
   pub left : List ℕ
-  pub begins : Begins bytes h left
-  pub breaks : BreaksAt bounds h place expected
+  pub begins : Begins body h left
+  pub breaks : BreaksAt told h place expected
 
--- bytes that do not begin with the header
-pub record IsUnheaded (bytes : List ℕ) (at : ℕ) : Type 0 where
-  pub none : HasNoHeader bytes
-  pub at_is : at ≡ 0
-
--- bytes with legal records, and after so many bytes a frame at fault
-pub record IsMalformedAt (bounds : Bounds) (bytes : List ℕ) (at : ℕ) : Type 0 where
+-- bytes with legal records and then a frame at fault, after so many bytes, those of the header among them
+pub record IsMalformedAt (told : ToldLimits) (headed : ℕ) (body : List ℕ) (at : ℕ) : Type 0 where
   pub h : List Record
   pub left : List ℕ
-  pub begins : Begins bytes h left
+  pub begins : Begins body h left
   pub fault : IsAtFault left
-  pub is_legal : legal bounds h
-  pub at_is : at ≡ length (text h)
+  pub is_legal : IsLegalRun told.bounds told.records h
+  pub at_is : at ≡ headed + length (frames_of h)
+
+-- the verdict on the bytes after a header of this length that tells this
+abbrev pub IsVerdictAfter : ToldLimits → ℕ → List ℕ → Verdict → Type 0
+IsVerdictAfter told headed body (Legal records rest) = IsLegal told body records rest
+IsVerdictAfter told headed body (Illegal place expected) = IsIllegal told body place expected
+IsVerdictAfter told headed body (Malformed at) = IsMalformedAt told headed body at
+
+-- the verdict on bytes, by what they begin with
+abbrev pub IsVerdictBy : Header → List ℕ → Verdict → Type 0
+IsVerdictBy Unheaded bytes verdict = verdict ≡ Malformed 0
+IsVerdictBy Short bytes verdict = verdict ≡ Legal 0 (length bytes)
+IsVerdictBy (Headed told headed) bytes verdict = IsVerdictAfter told headed (drop headed bytes) verdict
 
 -- the verdict on bytes
-abbrev pub IsVerdict : Bounds → List ℕ → Verdict → Type 0
-IsVerdict bounds bytes (Legal records rest) = IsUnbegun bytes records rest ⊎ IsLegal bounds bytes records rest
-IsVerdict bounds bytes (Illegal place expected) = IsIllegal bounds bytes place expected
-IsVerdict bounds bytes (Malformed at) = IsUnheaded bytes at ⊎ IsMalformedAt bounds bytes at
+abbrev pub IsVerdict : List ℕ → Verdict → Type 0
+IsVerdict bytes verdict = IsVerdictBy (header bytes) bytes verdict

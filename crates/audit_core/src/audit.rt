@@ -1,15 +1,13 @@
 //! An audit: a trace is read to its end, or to the first fault.
 
 ghost use Rattle.std.specs.Prelude.{◌≡◌, ◌<◌, ◌≤◌, length};
-ghost use Rattle.call_types.specs.declared.limits.Bounds.{Bounds as Limits};
-ghost use Rattle.audit_core.specs.Audited.{version_1, Audits};
+ghost use Rattle.audit_core.specs.Audited.{Audits};
 ghost use Rattle.audit_core.specs.Proved.Auditing.{ReadsOn};
 ghost use Rattle.logged_streams.specs.Streams.{fresh_log};
 ghost use Rattle.audit_core.specs.Proved.Taking.{fresh_trace};
 
 use crate::trace::TraceAudit;
 use crate::verdict::Verdict;
-use call_types::limits::Bounds;
 use logged_streams::reader::LoggedReader;
 use logged_streams::stream_log::{Gave, INTERRUPTIONS_MAX};
 use std::alloc::{AllocError, Global};
@@ -81,8 +79,9 @@ fn read_often<R: Read>(
 ) -> Result<Verdict, AuditFault>
     requires room { length buffer.old ≡ READ_LENGTH }
     requires unread { reader.old.log ≡ fresh_log }
+    requires fresh { trace.old ≡ fresh_trace }
     ensures few { reader.new.log.calls ≤ READS_MAX }
-    ensures audits { (bounds : Limits) → trace.old ≡ fresh_trace bounds → Audits bounds reader.old reader.new result }
+    ensures audits { Audits reader.old reader.new result }
 {
     for _turn in 0..READS_MAX {
         if let Some(verdict) = read_on(alloc, reader, trace, buffer)? {
@@ -92,14 +91,14 @@ fn read_often<R: Read>(
     Err(AuditFault::Read)
 }
 
-/// Audits the trace that a reader gives, of version 1. What comes after a record that is not what the model gives, or after a frame at
+/// Audits the trace that a reader gives, of either version. What comes after a record that breaks what is legal, or after a frame at
 /// fault, need not be read. Nothing is kept of the records but the state that they led to, and one frame at a time.
 pub fn audit<R: Read>(alloc: Global, reader: &mut LoggedReader<R>) -> Result<Verdict, AuditFault>
     requires { reader.old.log ≡ fresh_log }
     ensures few { reader.new.log.calls ≤ READS_MAX }
-    ensures audits { Audits version_1 reader.old reader.new result }
+    ensures audits { Audits reader.old reader.new result }
 {
     let mut buffer = vec![in alloc; 0u8; READ_LENGTH]?;
-    let mut trace = TraceAudit::new(alloc, Bounds::standard());
+    let mut trace = TraceAudit::new(alloc);
     read_often(alloc, reader, &mut trace, buffer.as_mut_slice())
 }

@@ -1,27 +1,30 @@
 //! What judges records one after another, over a machine that is changed in place.
 
-ghost use Rattle.std.specs.Prelude.{◌≡◌, ◌≤◌, Some, IfOk, OnErr};
+ghost use Rattle.std.specs.Prelude.{◌≡◌, ◌+◌, ◌≤◌, nat_le, Some, IfOk, OnErr};
 ghost use Rattle.call_types.specs.declared.limits.TheConstants.{OFFSET_MAX};
 ghost use Rattle.posix_model.specs.Step.{given, comes_to, stepped};
-ghost use Rattle.audit_core.specs.Proved.Judging.{fresh_judge, one_more, Judges, CanMake, JudgesAll};
+ghost use Rattle.posix_model.specs.Reserve.{can_end};
+ghost use Rattle.audit_core.specs.Proved.Judging.{fresh_judge, in_world, Judges, CanMake, JudgesAll};
 
 use crate::state::Audited;
 use call_types::act::{Act, Record};
-use call_types::limits::Bounds;
 use call_types::outcome::Outcome;
+use frame_codec::trace::ToldLimits;
 use machine_state::machine::Machine;
 use posix_model::change::Decided;
 use posix_model::laws::{acts_are_sound, numbers_rise};
+use posix_model::reader::WorldReader;
 use std::alloc::{AllocError, Global};
 use std::marker::Model;
 use table_calls::decide::decide;
 use table_calls::given::given;
 
-/// A judge of records: the machine that those so far led to, and how many they were. It keeps none of them.
+/// A judge of records: the machine that those so far led to, what is told of their run, and how many they were. It keeps none of
+/// them.
 #[derive(Drop)]
 pub struct Judge {
     state: Audited,
-    bounds: Bounds,
+    told: ToldLimits,
     place: u64,
 }
 
@@ -42,21 +45,30 @@ impl Model for Judge {
 pub enum Judged {
     /// It is what the model gives.
     Same,
-    /// The model gives another outcome of its act, or none where the rules record nothing there.
+    /// The model gives another outcome of its act, or none: the rules record nothing there, or the run could not be ended after it.
     Differs { expected: Option<Outcome> },
 }
 
+/// Whether a run that may have so many records has enough of them left for the exits of these processes and for so many closings, after
+/// one record more than these.
+fn has_reserve(most: u32, records: u64, live: u64, closings: u64) -> bool
+    ensures { result ≡ nat_le (((records + 1) + live) + closings) most }
+{
+    let taken = records.saturating_add(1).saturating_add(live);
+    taken.saturating_add(closings) <= u64::from(most)
+}
+
 impl Judge {
-    /// A judge before the first record of a run with these limits. It takes no memory.
-    pub fn new(alloc: Global, bounds: Bounds) -> Self
-        requires { bounds.file_size ≤ OFFSET_MAX }
-        ensures { result ≡ fresh_judge bounds }
+    /// A judge before the first record of a run of which this is told. It takes no memory.
+    pub fn new(alloc: Global, told: ToldLimits) -> Self
+        requires { told.bounds.file_size ≤ OFFSET_MAX }
+        ensures { result ≡ fresh_judge told }
     {
         Judge {
             state: Audited {
-                machine: Machine::new(alloc, bounds.pipe_capacity as usize),
+                machine: Machine::new(alloc, told.bounds.pipe_capacity as usize),
             },
-            bounds,
+            told,
             place: 0,
         }
     }
@@ -70,14 +82,14 @@ impl Judge {
 
     /// What an act comes to, or nothing where the rules record none. An error says that memory ran out.
     fn comes_to(&self, alloc: Global, actor: u32, act: &Act) -> Result<Option<Decided>, AllocError>
-        ensures { IfOk result (λ d. d ≡ comes_to self.now.bounds self.now.world actor act.now) }
+        ensures { IfOk result (λ d. d ≡ comes_to self.now.told.bounds self.now.world actor act.now) }
     {
-        decide(&self.state, alloc, self.bounds, actor as usize, act)
+        decide(&self.state, alloc, self.told.bounds, actor as usize, act)
     }
 
     /// What an act comes to can be made. It does nothing.
     fn can_make(&self, actor: u32, act: &Act, decided: &Decided)
-        requires { comes_to self.now.bounds self.now.world actor act.now ≡ Some decided.now }
+        requires { comes_to self.now.told.bounds self.now.world actor act.now ≡ Some decided.now }
         ensures { CanMake self.now act.now decided.now }
     {
         let _actor = actor;
@@ -92,17 +104,28 @@ impl Judge {
     /// it was.
     fn make(&mut self, act: &Act, decided: Decided) -> Result<(), AllocError>
         requires { CanMake self.old act.now decided }
-        ensures ok { IfOk result (λ _. self.new ≡ one_more self.old (stepped self.old.world (given act.now) decided).world) }
+        ensures ok { IfOk result (λ _. self.new ≡ in_world self.old (stepped self.old.world (given act.now) decided).world) }
         ensures err { OnErr result (self.new ≡ self.old) }
     {
         self.state.machine.reserve_for(&decided.change)?;
         self.state.machine.apply(given(act), decided.change);
-        self.place = self.place.saturating_add(1);
         Ok(())
     }
 
-    /// Judges the next record. Where it is what the model gives, the world goes on, else all is as it was. An error says that memory
-    /// ran out, or that the machine has no number left for what is new: all is as it was, and the record can be judged again.
+    /// Whether the run can be ended after one record more, which led to the world as it is.
+    fn can_end(&self) -> bool
+        ensures { result ≡ can_end self.now.told.records self.now.world (self.now.place + 1) }
+    {
+        let Some(most) = self.told.records else {
+            return true;
+        };
+        let live = self.state.machine.live_processes() as u64;
+        let closing = if self.state.machine.is_closed() { 0 } else { 1 };
+        has_reserve(most, self.place, live, closing)
+    }
+
+    /// Judges the next record. An error says that memory ran out, or that the machine has no number left for what is new: all is as it
+    /// was, and the record can be judged again.
     pub fn judge(&mut self, alloc: Global, told: &Record) -> Result<Judged, AllocError>
         ensures judged { IfOk result (λ judged. Judges self.old self.new told.now judged) }
         ensures err { OnErr result (self.new ≡ self.old) }
@@ -120,11 +143,15 @@ impl Judge {
         }
         self.can_make(told.actor, &told.act, &decided);
         self.make(&told.act, decided)?;
+        if !self.can_end() {
+            return Ok(Judged::Differs { expected: None });
+        }
+        self.place = self.place.saturating_add(1);
         Ok(Judged::Same)
     }
 
-    /// Judges records in their order, up to the first that is not what the model gives. An error is as in `judge`; those before the
-    /// record that it was met at are judged.
+    /// Judges records in their order, up to the first that breaks what is legal. An error is as in `judge`; those before the record that
+    /// it was met at are judged.
     pub fn judge_all(&mut self, alloc: Global, records: &[Record]) -> Result<Judged, AllocError>
         ensures { IfOk result (λ judged. JudgesAll self.old self.new records.now judged) }
     {

@@ -1,10 +1,11 @@
-//! What holds of verdicts, and of headers. Each function does nothing; its contract is the law.
+//! What holds of verdicts. Each function does nothing; its contract is the law.
 
 ghost use Rattle.std.specs.Prelude.{◌≡◌};
 ghost use Rattle.audit_core.specs.declared.audit.TheConstants.{READS_MAX};
-ghost use Rattle.audit_core.specs.Proved.Laws.{OneVerdict, TextIsLegal, FrontIsLegal, LegalFront, LegalHaveFrames, WrittenIsLegal, FaultStays, HeaderGoesOn, HeaderLacks, BrokenStays};
+ghost use Rattle.audit_core.specs.Proved.Laws.{OneVerdict, TextIsLegal, FrontIsLegal, LegalFront, LegalHaveFrames, WrittenIsLegal, FaultStays, BrokenStays};
 
 use frame_codec::laws::{no_frame_begins_another, stops_are_no_frames};
+use frame_codec::trace::{headers_are_read, headers_go_on};
 use posix_model::laws::{numbers_rise, records_are_short};
 
 /// How often an audit reads. Definitions name the constant, so a wrong number is seen here.
@@ -20,13 +21,15 @@ pub fn verdicts_are_one()
     stops_are_no_frames();
 }
 
-/// The text of a legal history is legal, and whatever front of it was written is legal too, with the records that are whole in it.
+/// The text of a legal run is legal, and whatever front of it was written is legal too, with the records that are whole in it.
 pub fn fronts_are_legal()
     ensures text { TextIsLegal }
     ensures front { FrontIsLegal }
 {
     no_frame_begins_another();
     stops_are_no_frames();
+    headers_go_on();
+    headers_are_read();
 }
 
 /// Each record of a legal history has a frame, if its fields are in range (`record_is_in_range`): a closing has the actor that it is
@@ -38,27 +41,25 @@ pub fn legal_records_have_frames()
     numbers_rise();
 }
 
-/// Whatever front of the text of a legal history was written is legal, with the records that are whole in it; and so is a front of
-/// the history itself.
+/// Whatever front of the text of a legal run was written is legal, with the records that are whole in it; and so is a front of the
+/// run itself.
 pub fn written_fronts_are_legal()
     ensures written { WrittenIsLegal }
     ensures front { LegalFront }
 {
     legal_records_have_frames();
+    headers_go_on();
+    headers_are_read();
 }
 
 /// A verdict that tells a fault stays, whatever bytes come after: an audit need not read on.
 pub fn faults_stay()
     ensures { FaultStays }
-{}
+{
+    headers_go_on();
+}
 
-/// A header may come in pieces: the count of its matching bytes goes on. After a wrong byte it never matches.
-pub fn headers_go_on()
-    ensures takes { HeaderGoesOn }
-    ensures lacks { HeaderLacks }
-{}
-
-/// A frame at fault, or a byte that is not the header's, is at fault whatever bytes come after it.
+/// A frame at fault is at fault whatever bytes come after it.
 pub fn broken_stays()
     ensures { BrokenStays }
 {}

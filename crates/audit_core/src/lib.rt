@@ -2,6 +2,7 @@
 #![tactic(auto)]
 
 pub mod audit;
+mod body;
 pub mod judge;
 pub mod laws;
 pub mod ranges;

@@ -1,27 +1,21 @@
 //! A trace, judged as its bytes come, in any pieces.
 
-ghost use Rattle.std.specs.Prelude.{◌≡◌, ◌≤◌, IfOk, IfNone, IfSome, length};
-ghost use Rattle.call_types.specs.declared.limits.TheConstants.{OFFSET_MAX};
-ghost use Rattle.frame_codec.specs.Trace.{trace_header};
-ghost use Rattle.audit_core.specs.Proved.Taking.{fresh_trace, TakesPiece, TakesRecords, Ends, TakesHeader, LacksHeader};
+ghost use Rattle.std.specs.Prelude.{◌≡◌, IfOk};
+ghost use Rattle.audit_core.specs.Proved.Taking.{fresh_trace, TakesPiece, Ends};
 
-use crate::judge::{Judge, Judged};
+use crate::body::{Body, take_after};
 use crate::verdict::Verdict;
-use call_types::limits::Bounds;
-use frame_codec::decoder::{Decoder, Progress};
-use frame_codec::frame_kind::Records;
-use frame_codec::laws::pieces_go_on;
-use frame_codec::trace::{TRACE_HEADER, header_as_written};
+use frame_codec::trace::{HeaderFront, Heading, headers_go_on, headers_tell_limits};
 use std::alloc::{AllocError, Global};
 use std::marker::Model;
 
-/// A trace that is being audited. It holds less than one frame of it, and keeps no record.
+/// A trace that is being audited. It holds less than one frame of it, or less than a header, and keeps no record.
 #[derive(Drop)]
 pub struct TraceAudit {
-    /// How many bytes of the header were met.
-    header: usize,
-    decoder: Decoder<Records>,
-    judge: Judge,
+    /// The bytes of the header, until it is whole.
+    front: HeaderFront,
+    /// What comes after the header, once it is whole.
+    body: Option<Body>,
 }
 
 impl Model for TraceAudit {
@@ -29,41 +23,17 @@ impl Model for TraceAudit {
 
     ghost Value = { TraceState };
 
-    ghost view = { λ t. record { header = t.header; decoder = t.decoder; judge = t.judge } };
-
-    ghost use Rattle.std.specs.Prelude.{◌≤◌, length};
-    ghost use Rattle.frame_codec.specs.Trace.{trace_header};
-
-    ghost invariant = { λ t. t.header ≤ length trace_header };
-}
-
-/// How many bytes of the header are met with a piece, and what comes after them in it; nothing where one of them is another byte than
-/// the header's.
-pub fn after_header(header: usize, piece: &[u8]) -> Option<(usize, &[u8])>
-    requires { header ≤ length trace_header }
-    ensures lacks { IfNone result (LacksHeader header piece.now) }
-    ensures takes { IfSome result (λ found. TakesHeader header found.0 piece.now found.1.now) }
-{
-    header_as_written();
-    let (_, wanted) = TRACE_HEADER.as_slice().split_at(header);
-    let count = wanted.len().min(piece.len());
-    let (front, rest) = piece.split_at(count);
-    if front != &wanted[..count] {
-        return None;
-    }
-    Some((header + count, rest))
+    ghost view = { λ t. record { front = t.front; body = t.body } };
 }
 
 impl TraceAudit {
-    /// An audit before the first byte of a trace of a run with these limits. It takes no memory.
-    pub fn new(alloc: Global, bounds: Bounds) -> Self
-        requires { bounds.file_size ≤ OFFSET_MAX }
-        ensures { result ≡ fresh_trace bounds }
+    /// An audit before the first byte of a trace, of either version. It takes no memory.
+    pub fn new(alloc: Global) -> Self
+        ensures { result ≡ fresh_trace }
     {
         TraceAudit {
-            header: 0,
-            decoder: Decoder::new(alloc),
-            judge: Judge::new(alloc, bounds),
+            front: HeaderFront::new(alloc),
+            body: None,
         }
     }
 
@@ -71,39 +41,15 @@ impl TraceAudit {
     pub fn end(&self) -> Verdict
         ensures { Ends self.now result }
     {
-        if self.header < TRACE_HEADER.len() {
-            return Verdict::Legal {
+        match &self.body {
+            None => Verdict::Legal {
                 records: 0,
-                rest: self.header as u64,
-            };
-        }
-        Verdict::Legal {
-            records: self.judge.place(),
-            rest: self.decoder.held_len() as u64,
-        }
-    }
-
-    /// Takes bytes that come after the header.
-    fn take_records(&mut self, alloc: Global, piece: &[u8]) -> Result<Option<Verdict>, AllocError>
-        ensures header { self.new.header ≡ self.old.header }
-        ensures found { IfOk result (λ found. TakesRecords piece.now self.old self.new found) }
-    {
-        pieces_go_on::<Records>();
-        let fed = self.decoder.feed(piece)?;
-        match self.judge.judge_all(alloc, fed.values.as_slice())? {
-            Judged::Same => {}
-            Judged::Differs { expected } => {
-                return Ok(Some(Verdict::Illegal {
-                    place: self.judge.place(),
-                    expected,
-                }));
-            }
-        }
-        match fed.progress {
-            Progress::More => Ok(None),
-            Progress::Malformed { at } | Progress::TooLong { at } => Ok(Some(Verdict::Malformed {
-                at: at.saturating_add(TRACE_HEADER.len() as u64),
-            })),
+                rest: self.front.as_slice().len() as u64,
+            },
+            Some(body) => Verdict::Legal {
+                records: body.records(),
+                rest: body.rest(),
+            },
         }
     }
 
@@ -112,10 +58,21 @@ impl TraceAudit {
     pub fn take(&mut self, alloc: Global, piece: &[u8]) -> Result<Option<Verdict>, AllocError>
         ensures { IfOk result (λ found. TakesPiece piece.now self.old self.new found) }
     {
-        let Some((header, rest)) = after_header(self.header, piece) else {
-            return Ok(Some(Verdict::Malformed { at: 0 }));
-        };
-        self.header = header;
-        self.take_records(alloc, rest)
+        headers_go_on();
+        headers_tell_limits();
+        if self.body.is_some() {
+            let found = take_after(&mut self.body, alloc, piece)?;
+            return Ok(found);
+        }
+        match self.front.take(piece)? {
+            Heading::Unheaded => Ok(Some(Verdict::Malformed { at: 0 })),
+            Heading::Short => Ok(None),
+            Heading::Headed { told, length, rest } => {
+                let mut body = Body::new(alloc, told, length as u64);
+                let found = body.take(alloc, rest)?;
+                self.body = Some(body);
+                Ok(found)
+            }
+        }
     }
 }

@@ -7,10 +7,10 @@ use Rattle.audit_core.specs.declared.judge.Judge.TheInside.{Inside}
 
 -- what contracts see of a judge
 abbrev pub state_of : Inside → JudgeState
-state_of j = record { bounds = j.bounds; world = j.state.machine.world; place = j.place }
+state_of j = record { told = j.told; world = j.state.machine.world; place = j.place }
 
 -- in its world nothing refers to what is gone, its pipes hold what the limits say, and no file is longer than an offset can tell
 pub record IsJudge (j : Inside) : Type 0 where
   pub whole : IsWhole j.state.machine.world
-  pub capacity : j.state.machine.room.capacity ≡ j.bounds.pipe_capacity
-  pub small : j.bounds.file_size ≤ OFFSET_MAX
+  pub capacity : j.state.machine.room.capacity ≡ j.told.bounds.pipe_capacity
+  pub small : j.told.bounds.file_size ≤ OFFSET_MAX

@@ -1,76 +1,92 @@
 -- What the records so far led to, and what is said of the next one (own).
-use Rattle.std.specs.Prelude.{◌≡◌, ◌≢◌, ℕ, ◌+◌, List, Option, Some, length, ◌++◌}
-use Rattle.call_types.specs.declared.limits.Bounds.{Bounds}
+use Rattle.std.specs.Prelude.{◌≡◌, ◌≢◌, ℕ, ◌+◌, ◌<◌, ◌^◌, ◌⊎◌, true, false, List, Option, None, Some, length, ◌++◌}
 use Rattle.call_types.specs.declared.act.Act.{Act}
 use Rattle.call_types.specs.declared.act.Record.{Record}
 use Rattle.call_types.specs.declared.outcome.Outcome.{Outcome}
 use Rattle.frame_codec.specs.Decoding.{told_place}
+use Rattle.frame_codec.specs.declared.trace.ToldLimits.{ToldLimits}
 use Rattle.posix_model.specs.declared.world.World.{World}
 use Rattle.posix_model.specs.declared.change.Decided.{Decided}
 use Rattle.posix_model.specs.Proved.Fits.{Fits, IsProper, PutsWithin}
 use Rattle.posix_model.specs.Proved.Whole.{IsWhole}
 use Rattle.posix_model.specs.Step.{given, stepped, outcome_of}
-use Rattle.posix_model.specs.History.{empty_world, after, world_of, legal}
+use Rattle.posix_model.specs.History.{empty_world, after, world_of}
+use Rattle.posix_model.specs.Reserve.{can_end, IsLegalRun}
 use Rattle.audit_core.specs.declared.judge.Judged.{Judged}
 use Rattle.audit_core.specs.declared.judge.Judged.TheVariants as judged
 use Rattle.audit_core.specs.Verdict.{BreaksAt}
 
--- the limits of the run, the world after the records so far, and how many they were
+-- what is told of the run, the world after the records so far, and how many they were
 pub record JudgeState : Type 0 where
-  pub bounds : Bounds
+  pub told : ToldLimits
   pub world : World
   pub place : ℕ
 
 -- before the first record
-abbrev pub fresh_judge : Bounds → JudgeState
-fresh_judge bounds = record { bounds = bounds; world = empty_world; place = 0 }
+abbrev pub fresh_judge : ToldLimits → JudgeState
+fresh_judge told = record { told = told; world = empty_world; place = 0 }
+
+-- after what led to this world, at the same place
+abbrev pub in_world : JudgeState → World → JudgeState
+in_world j w = record { told = j.told; world = w; place = j.place }
 
 -- after one record more, which led to this world
 abbrev pub one_more : JudgeState → World → JudgeState
-one_more j w = record { bounds = j.bounds; world = w; place = told_place (j.place + 1) }
+one_more j w = record { told = j.told; world = w; place = told_place (j.place + 1) }
 
--- the record is what the model gives, and the world goes on
+-- the record is what the model gives, the run can be ended after it, and the world goes on
 pub record GoesOn (old new : JudgeState) (r : Record) : Type 0 where
-  pub outcome : outcome_of old.bounds old.world r.actor r.act ≡ Some r.outcome
-  pub new_is : new ≡ one_more old (after old.bounds old.world r)
+  pub outcome : outcome_of old.told.bounds old.world r.actor r.act ≡ Some r.outcome
+  pub ends : can_end old.told.records (after old.told.bounds old.world r) (old.place + 1) ≡ true
+  pub new_is : new ≡ one_more old (after old.told.bounds old.world r)
 
--- the model gives something else or nothing, and all is as it was
+-- the model gives something else or nothing
 pub record StopsAt (old new : JudgeState) (r : Record) (expected : Option Outcome) : Type 0 where
-  pub outcome : outcome_of old.bounds old.world r.actor r.act ≡ expected
+  pub outcome : outcome_of old.told.bounds old.world r.actor r.act ≡ expected
   pub differs : expected ≢ Some r.outcome
-  pub new_is : new ≡ old
+  pub place_is : new.place ≡ old.place
+
+-- the record is what the model gives, but the run could not be ended after it
+pub record EndsNot (old new : JudgeState) (r : Record) (expected : Option Outcome) : Type 0 where
+  pub outcome : outcome_of old.told.bounds old.world r.actor r.act ≡ Some r.outcome
+  pub ends_not : can_end old.told.records (after old.told.bounds old.world r) (old.place + 1) ≡ false
+  pub expected_is : expected ≡ None
+  pub place_is : new.place ≡ old.place
 
 -- what is said of a record
 abbrev pub Judges : JudgeState → JudgeState → Record → Judged → Type 0
 Judges old new r judged.Same = GoesOn old new r
-Judges old new r (judged.Differs expected) = StopsAt old new r expected
+Judges old new r (judged.Differs expected) = StopsAt old new r expected ⊎ EndsNot old new r expected
 
 -- what was decided of an act can be made, in a world in which nothing refers to what is gone, and leaves such a world
 pub record CanMake (j : JudgeState) (act : Act) (d : Decided) : Type 0 where
   pub fits : Fits j.world (given act) d.change
   pub proper : IsProper j.world (given act) d.change
-  pub puts : PutsWithin j.bounds.pipe_capacity j.world d.change.files
+  pub puts : PutsWithin j.told.bounds.pipe_capacity j.world d.change.files
   pub whole : IsWhole j.world
   pub whole_after : IsWhole (stepped j.world (given act) d).world
 
--- these records were judged: they are legal, and led to this world
-pub record HasJudged (bounds : Bounds) (h : List Record) (j : JudgeState) : Type 0 where
-  pub is_legal : legal bounds h
-  pub bounds_are : j.bounds ≡ bounds
-  pub world : j.world ≡ world_of bounds h
+-- these records were judged: they are those of a legal run, and led to this world
+pub record HasJudged (told : ToldLimits) (h : List Record) (j : JudgeState) : Type 0 where
+  pub is_legal : IsLegalRun told.bounds told.records h
+  pub told_is : j.told ≡ told
+  pub world : j.world ≡ world_of told.bounds h
   pub place : j.place ≡ told_place (length h)
 
 -- the first record that breaks stands where the judge stands, up to the greatest number that can be told
-pub record StandsAt (bounds : Bounds) (h : List Record) (told : ℕ) (expected : Option Outcome) : Type 0 where
+pub record StandsAt (told : ToldLimits) (h : List Record) (place_told : ℕ) (expected : Option Outcome) : Type 0 where
   pub place : ℕ
-  pub breaks : BreaksAt bounds h place expected
-  pub told_is : told ≡ told_place place
+  pub breaks : BreaksAt told h place expected
+  pub told_is : place_told ≡ told_place place
 
--- a judge of some records has judged these too, or stands before the first of all that is not what the model gives
+-- a judge of some records has judged these too, or stands before the first of all that breaks what is legal
 abbrev pub JudgesAll : JudgeState → JudgeState → List Record → Judged → Type 0
-JudgesAll old new records judged.Same = (bounds : Bounds) (h : List Record) → HasJudged bounds h old → HasJudged bounds (h ++ records) new
-JudgesAll old new records (judged.Differs expected) = (bounds : Bounds) (h : List Record) → HasJudged bounds h old → StandsAt bounds (h ++ records) new.place expected
+JudgesAll old new records judged.Same =
+    (told : ToldLimits) (h : List Record) → HasJudged told h old → length (h ++ records) < 2 ^ 64 → HasJudged told (h ++ records) new
+JudgesAll old new records (judged.Differs expected) =
+    (told : ToldLimits) (h : List Record) → HasJudged told h old → length (h ++ records) < 2 ^ 64 → StandsAt told (h ++ records) new.place expected
 
 -- whatever had been judged before, the ones of all records before those that are left are judged
 pub record IsAt (old now : JudgeState) (records left : List Record) : Type 0 where
-  pub judged : (bounds : Bounds) (h : List Record) → HasJudged bounds h old → (before : List Record) × (h ++ records ≡ before ++ left) × HasJudged bounds before now
+  pub judged : (told : ToldLimits) (h : List Record) → HasJudged told h old → length (h ++ records) < 2 ^ 64
+      → (before : List Record) × (h ++ records ≡ before ++ left) × HasJudged told before now

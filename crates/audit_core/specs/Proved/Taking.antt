@@ -1,83 +1,94 @@
 -- A trace that is judged as its bytes come, in any pieces (own).
-use Rattle.std.specs.Prelude.{◌≡◌, ◌≢◌, ℕ, ◌+◌, ◌^◌, ◌≤◌, ◌<◌, ◌⊎◌, List, [], ◌++◌, Option, None, Some, length, take, drop}
+use Rattle.std.specs.Prelude.{◌≡◌, ℕ, ◌+◌, ◌^◌, ◌<◌, List, [], ◌++◌, Option, None, Some, length, drop}
 use Rattle.call_types.specs.declared.act.Record.{Record}
-use Rattle.call_types.specs.declared.limits.Bounds.{Bounds}
 use Rattle.call_types.specs.declared.limits.TheConstants.{RECORD_LENGTH_MAX}
-use Rattle.frame_codec.specs.Decoding.{DecoderState, fresh}
+use Rattle.frame_codec.specs.Decoding.{DecoderState, fresh, told_place}
 use Rattle.frame_codec.specs.Proved.Laws.{HasGiven}
 use Rattle.frame_codec.specs.Records.{SpellsRecord}
-use Rattle.frame_codec.specs.Trace.{trace_header}
+use Rattle.frame_codec.specs.Trace.{header}
+use Rattle.frame_codec.specs.declared.decoder.Progress.{Progress}
+use Rattle.frame_codec.specs.declared.decoder.Progress.TheVariants as progress
+use Rattle.frame_codec.specs.declared.trace.Header.TheVariants.{Short, Headed}
+use Rattle.frame_codec.specs.declared.trace.ToldLimits.{ToldLimits}
 use Rattle.audit_core.specs.Proved.Judging.{JudgeState, fresh_judge, HasJudged}
-use Rattle.audit_core.specs.Verdict.{IsIllegal, IsUnheaded, IsMalformedAt, IsVerdict}
+use Rattle.audit_core.specs.Verdict.{IsIllegal, IsMalformedAt, IsVerdict}
 use Rattle.audit_core.specs.declared.verdict.Verdict.{Verdict}
 use Rattle.audit_core.specs.declared.verdict.Verdict.TheVariants.{Legal, Illegal, Malformed}
 
--- how many bytes of the header were met, what is held of the bytes after it, and what their records led to
-pub record TraceState : Type 0 where
-  pub header : ℕ
+-- after a header: how many bytes it has, what is held of the bytes after it, and what their records led to
+pub record BodyState : Type 0 where
+  pub headed : ℕ
   pub decoder : DecoderState
   pub judge : JudgeState
 
+-- after a header of this length that tells this
+abbrev pub fresh_body : ToldLimits → ℕ → BodyState
+fresh_body told headed = record { headed = headed; decoder = fresh; judge = fresh_judge told }
+
+-- the bytes of a header that is not whole, or what comes after one that is
+pub record TraceState : Type 0 where
+  pub front : List ℕ
+  pub body : Option BodyState
+
 -- before the first byte
-abbrev pub fresh_trace : Bounds → TraceState
-fresh_trace bounds = record { header = 0; decoder = fresh; judge = fresh_judge bounds }
+abbrev pub fresh_trace : TraceState
+fresh_trace = record { front = []; body = None }
 
--- these bytes are so much of the header, and those after it, of which there are none before all of the header was met
-pub record IsHeaded (met : ℕ) (input body : List ℕ) : Type 0 where
-  pub is : input ≡ take met trace_header ++ body
-  pub within : met ≤ length trace_header
-  pub begun : met < length trace_header → body ≡ []
+-- ---- the bytes after a header
 
--- these bytes were taken: a front of the header, or all of it and after it legal records and what is held
-pub record IsTaking (bounds : Bounds) (input : List ℕ) (t : TraceState) : Type 0 where
-  pub body : List ℕ
+-- the verdict on a fault of frames, if there is one, after a header of so many bytes
+abbrev pub fault_at : Progress → ℕ → Option Verdict
+fault_at progress.More headed = None
+fault_at (progress.Malformed at) headed = Some (Malformed (told_place (at + headed)))
+fault_at (progress.TooLong at) headed = Some (Malformed (told_place (at + headed)))
+
+-- these bytes were taken: legal records and what is held
+pub record IsJudging (told : ToldLimits) (body : List ℕ) (b : BodyState) : Type 0 where
   pub records : List Record
-  pub is : input ≡ take t.header trace_header ++ body
-  pub within : t.header ≤ length trace_header
-  pub begun : t.header < length trace_header → body ≡ []
-  pub given : HasGiven SpellsRecord RECORD_LENGTH_MAX body records t.decoder
-  pub judged : HasJudged bounds records t.judge
-  pub few : length input < 2 ^ 64
+  pub given : HasGiven SpellsRecord RECORD_LENGTH_MAX body records b.decoder
+  pub judged : HasJudged told records b.judge
 
 -- what is found in these bytes: no fault so far, or their verdict, whatever comes after them
-abbrev pub IsFound : Bounds → List ℕ → TraceState → Option Verdict → Type 0
-IsFound bounds input t None = IsTaking bounds input t
-IsFound bounds input t (Some (Legal records rest)) = ⊥
-IsFound bounds input t (Some (Illegal place expected)) = IsIllegal bounds input place expected
-IsFound bounds input t (Some (Malformed at)) = IsUnheaded input at ⊎ IsMalformedAt bounds input at
+abbrev pub BodyGoesOn : ToldLimits → List ℕ → BodyState → Option Verdict → Type 0
+BodyGoesOn told body b None = IsJudging told body b
+BodyGoesOn told body b (Some (Legal records rest)) = ⊥
+BodyGoesOn told body b (Some (Illegal place expected)) = IsIllegal told body place expected
+BodyGoesOn told body b (Some (Malformed at)) = IsMalformedAt told b.headed body at
+
+-- a piece more of the bytes after a header
+pub record TakesBody (piece : List ℕ) (old new : BodyState) (found : Option Verdict) : Type 0 where
+  pub headed : new.headed ≡ old.headed
+  pub goes : (told : ToldLimits) (body : List ℕ) → IsJudging told body old → old.headed + length (body ++ piece) < 2 ^ 64 → BodyGoesOn told (body ++ piece) new found
+
+-- the same where there is a body
+pub record TakesAfter (piece : List ℕ) (old new : Option BodyState) (found : Option Verdict) : Type 0 where
+  pub before : BodyState
+  pub after : BodyState
+  pub old_is : old ≡ Some before
+  pub new_is : new ≡ Some after
+  pub takes : TakesBody piece before after found
+
+-- ---- all bytes
+
+-- these bytes were taken: they end within a header, or have one and after it what a body has taken
+abbrev pub IsTakingBy : List ℕ → List ℕ → Option BodyState → Type 0
+IsTakingBy input front None = (header input ≡ Short) × (front ≡ input)
+IsTakingBy input front (Some b) = (told : ToldLimits) × (header input ≡ Headed told b.headed) × IsJudging told (drop b.headed input) b
+
+pub record IsTaking (input : List ℕ) (t : TraceState) : Type 0 where
+  pub by : IsTakingBy input t.front t.body
+  pub few : length input < 2 ^ 64
+
+-- what is found in these bytes: no fault so far, or their verdict
+abbrev pub IsFound : List ℕ → TraceState → Option Verdict → Type 0
+IsFound input t None = IsTaking input t
+IsFound input t (Some (Legal records rest)) = ⊥
+IsFound input t (Some verdict) = IsVerdict input verdict
 
 -- a piece more, after whatever bytes without a fault
 abbrev pub TakesPiece : List ℕ → TraceState → TraceState → Option Verdict → Type 0
-TakesPiece piece old new found = (bounds : Bounds) (input : List ℕ) → IsTaking bounds input old → length (input ++ piece) < 2 ^ 64 → IsFound bounds (input ++ piece) new found
-
--- a piece more of the bytes after the header, where these go on so
-abbrev pub BodyGoesOn : Bounds → List ℕ → TraceState → Option Verdict → Type 0
-BodyGoesOn bounds body t None = (records : List Record) × HasGiven SpellsRecord RECORD_LENGTH_MAX body records t.decoder × HasJudged bounds records t.judge
-BodyGoesOn bounds body t (Some (Legal records rest)) = ⊥
-BodyGoesOn bounds body t (Some (Illegal place expected)) = IsIllegal bounds (trace_header ++ body) place expected × (0 < length body)
-BodyGoesOn bounds body t (Some (Malformed at)) = IsMalformedAt bounds (trace_header ++ body) at × (0 < length body)
-
--- a piece more of the bytes after the header, after whatever of them without a fault
-abbrev pub TakesRecords : List ℕ → TraceState → TraceState → Option Verdict → Type 0
-TakesRecords piece old new found =
-    (bounds : Bounds) (body : List ℕ) (records : List Record) → HasGiven SpellsRecord RECORD_LENGTH_MAX body records old.decoder → HasJudged bounds records old.judge
-    → length (trace_header ++ (body ++ piece)) < 2 ^ 64 → BodyGoesOn bounds (body ++ piece) new found
+TakesPiece piece old new found = (input : List ℕ) → IsTaking input old → length (input ++ piece) < 2 ^ 64 → IsFound (input ++ piece) new found
 
 -- no byte comes after those that were taken
 abbrev pub Ends : TraceState → Verdict → Type 0
-Ends t verdict = (bounds : Bounds) (input : List ℕ) → IsTaking bounds input t → IsVerdict bounds input verdict
-
--- the front of a piece goes on with the header, and the rest comes after it
-pub record TakesHeader (old new : ℕ) (piece rest : List ℕ) : Type 0 where
-  pub front : List ℕ
-  pub is : piece ≡ front ++ rest
-  pub within : new ≤ length trace_header
-  pub more : take new trace_header ≡ take old trace_header ++ front
-  pub all : new < length trace_header → rest ≡ []
-
--- so many bytes of a piece are not those of the header that come next
-pub record LacksHeader (old : ℕ) (piece : List ℕ) : Type 0 where
-  pub count : ℕ
-  pub within : old + count ≤ length trace_header
-  pub there : count ≤ length piece
-  pub differs : take count piece ≢ take count (drop old trace_header)
+Ends t verdict = (input : List ℕ) → IsTaking input t → IsVerdict input verdict

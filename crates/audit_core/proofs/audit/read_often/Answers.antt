@@ -9,19 +9,19 @@ loop-turn-init g c = record {
   room = c.requires.room;
   reads = ap (λ (log : LogState). log.calls) c.requires.unread;
   few = omega (arith, ap (λ (log : LogState). log.interruptions) c.requires.unread);
-  has_read = λ bounds e. laws.none_read bounds c.args.reader.now c.args.trace.now c.requires.unread e;
+  has_read = laws.none_read c.args.reader.now c.args.trace.now c.requires.unread c.requires.fresh;
 }
 
 pub returns-in_err-verdict-clause-audits : goal.returns-in_err-verdict-clause-audits
-returns-in_err-verdict-clause-audits g c bounds e =
+returns-in_err-verdict-clause-audits g c =
     let p = err_from_is_err_and c.from_residual.result c.from_residual.ensures.1 in
-    rw (p.1, p.2) (laws.read_fault bounds c.args.reader.now c.loop-turn.reader c.read_on.new.reader c.loop-turn.trace c.read_on.new.trace c.loop-turn._turn c.in_err-verdict.field-0.0
-    (omega (arith, c.loop-turn-test.true)) (c.loop-turn.invariant.has_read bounds e) c.in_err-verdict.ensures.reads)
+    rw (p.1, p.2) (laws.read_fault c.args.reader.now c.loop-turn.reader c.read_on.new.reader c.loop-turn.trace c.read_on.new.trace c.loop-turn._turn c.in_err-verdict.field-0.0
+    (omega (arith, c.loop-turn-test.true)) c.loop-turn.invariant.has_read c.in_err-verdict.ensures.reads)
 
 pub returns-in-Some-clause-audits : goal.returns-in-Some-clause-audits
-returns-in-Some-clause-audits g c bounds e =
-    laws.read_over bounds c.args.reader.now c.loop-turn.reader c.read_on.new.reader c.loop-turn.trace c.read_on.new.trace c.loop-turn._turn c.in-Some.verdict
-    (omega (arith, c.loop-turn-test.true)) (c.loop-turn.invariant.has_read bounds e) (rw c.in-Some.is at c.in_ok-verdict.ensures.reads)
+returns-in-Some-clause-audits g c =
+    laws.read_over c.args.reader.now c.loop-turn.reader c.read_on.new.reader c.loop-turn.trace c.read_on.new.trace c.loop-turn._turn c.in-Some.verdict
+    (omega (arith, c.loop-turn-test.true)) c.loop-turn.invariant.has_read (rw c.in-Some.is at c.in_ok-verdict.ensures.reads)
 
 pub loop-turn-preserved : goal.loop-turn-preserved
 loop-turn-preserved g c =
@@ -30,10 +30,10 @@ loop-turn-preserved g c =
       room = c.read_on.ensures.long ∙ c.loop-turn.invariant.room;
       reads = laws.counted_more c.loop-turn.reader.log.calls c.loop-turn._turn c.read_on.new.reader.log.calls (omega (arith, c.loop-turn-test.true)) c.loop-turn.invariant.reads c.read_on.ensures.reads.reads;
       few = on.may;
-      has_read = λ bounds e. laws.read_more bounds c.args.reader.now c.loop-turn.reader c.read_on.new.reader c.loop-turn.trace c.read_on.new.trace c.loop-turn._turn
-          (omega (arith, c.loop-turn-test.true)) (c.loop-turn.invariant.has_read bounds e) on;
+      has_read = laws.read_more c.args.reader.now c.loop-turn.reader c.read_on.new.reader c.loop-turn.trace c.read_on.new.trace c.loop-turn._turn
+          (omega (arith, c.loop-turn-test.true)) c.loop-turn.invariant.has_read on;
     }
 
 pub returns-clause-audits : goal.returns-clause-audits
-returns-clause-audits g c bounds e =
-    laws.read_enough bounds c.args.reader.now c.loop-turn.reader c.loop-turn.trace c.loop-turn._turn (omega (arith, c.loop-turn-test.false)) (c.loop-turn.invariant.has_read bounds e)
+returns-clause-audits g c =
+    laws.read_enough c.args.reader.now c.loop-turn.reader c.loop-turn.trace c.loop-turn._turn (omega (arith, c.loop-turn-test.false)) c.loop-turn.invariant.has_read

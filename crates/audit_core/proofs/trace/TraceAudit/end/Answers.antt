@@ -1,7 +1,6 @@
-use Rattle.std.proofs.Common.{inr, arith}
-use Rattle.audit_core.proofs.TakingLemmas.{ends_legal}
+use Rattle.audit_core.proofs.TakingLemmas.{ends_after}
 use Rattle.audit_core.proofs.trace.TraceAudit.end.Goals as goal
 
-pub returns : goal.returns
-returns c bounds input h =
-    inr (rw (c.place.ensures, c.held_len.ensures) (ends_legal bounds input _ (rw (← c.self.view_is) at h) (omega (arith, c.if-self-lt8.false))))
+pub returns-in-Some : goal.returns-in-Some
+returns-in-Some c input taking =
+    rw (c.records.ensures, c.rest.ensures) (ends_after input c.self.inside.front c.in-Some.body (rw (← c.self.view_is, c.in-Some.is) at taking))
