@@ -1,1 +1,3 @@
 pub mod TraceLemmas
+pub mod MigrationLemmas
+pub mod MigratingLemmas

@@ -10,7 +10,9 @@ use Rattle.call_types.specs.declared.limits.TheConstants.{RECORDS_MAX}
 use Rattle.frame_codec.specs.declared.encode.TheConstants.{RECORD_FRAME_MAX}
 use Rattle.frame_codec.specs.Frames.{frame}
 use Rattle.frame_codec.specs.Records.{record_bytes}
-use Rattle.frame_codec.specs.Trace.{trace_header, frames_of, text, whole_in}
+use Rattle.frame_codec.specs.Trace.{header_2, frames_of, text, whole_in}
+use Rattle.frame_codec.specs.declared.trace.ToldLimits.{ToldLimits}
+use Rattle.frame_codec.specs.declared.trace.TheConstants.{HEADER_2_LENGTH}
 use Rattle.logged_streams.specs.Streams.{WritesFront}
 use Rattle.trace_writer.specs.Proved.TracerState.{Writes}
 use Rattle.trace_writer.specs.Traces.{CountsFailures}
@@ -22,8 +24,8 @@ frames_push : (rs : List Record) (r : Record) → frames_of (rs ++ r ∷ []) ≡
 frames_push [] r = append-nil (frame (record_bytes r))
 frames_push (x ∷ xs) r = ap (λ (l : List ℕ). frame (record_bytes x) ++ l) (frames_push xs r) ∙ sym (append_assoc (frame (record_bytes x)) (frames_of xs) (frame (record_bytes r)))
 
-text_push : (rs : List Record) (r : Record) → text (rs ++ r ∷ []) ≡ text rs ++ frame (record_bytes r)
-text_push rs r = ap (λ (l : List ℕ). trace_header ++ l) (frames_push rs r) ∙ sym (append_assoc trace_header (frames_of rs) (frame (record_bytes r)))
+text_push : (told : ToldLimits) (rs : List Record) (r : Record) → text told (rs ++ r ∷ []) ≡ text told rs ++ frame (record_bytes r)
+text_push told rs r = ap (λ (l : List ℕ). header_2 told ++ l) (frames_push rs r) ∙ sym (append_assoc (header_2 told) (frames_of rs) (frame (record_bytes r)))
 
 -- ---- what the sink counts
 
@@ -43,61 +45,61 @@ made_unsynced fault fault' (inr e) never is = let no : Some faults.NoMemory ≡ 
 -- ---- no record yet
 
 -- nothing was written, and what is not written yet is the header, unless memory ran out
-pub writes_first : (base : Option (List ℕ)) (before : ℕ) (unsent : List ℕ) (fault : Option TraceFault) (sound : Bool)
-    → (fault ≡ None) × (unsent ≡ trace_header) ⊎ (fault ≡ Some faults.NoMemory) → before + 1 < 2 ^ 64 → sound ≡ true → Writes base base before before unsent 0 [] fault false sound
-writes_first base before unsent fault sound begun few still = record {
+pub writes_first : (told : ToldLimits) (base : Option (List ℕ)) (before : ℕ) (unsent : List ℕ) (fault : Option TraceFault) (sound : Bool)
+    → (fault ≡ None) × (unsent ≡ header_2 told) ⊎ (fault ≡ Some faults.NoMemory) → before + 1 < 2 ^ 64 → sound ≡ true → length (header_2 told) ≡ HEADER_2_LENGTH → Writes told base base before before unsent 0 [] fault false sound
+writes_first told base before unsent fault sound begun few still headed = record {
   front = [];
-  rest = trace_header;
+  rest = header_2 told;
   appends = Appends-nil base;
-  is = sym (append-nil trace_header);
+  is = sym (append-nil (header_2 told));
   written_is = refl;
   unsent_is = λ none. first_unsent begun none;
   never_synced = λ is. first_unsynced begun is;
   tells = first_tells begun;
   torn = λ is. cc;
-  long = λ _. omega arith;
+  long = λ _. omega (arith, headed, ap length (append-nil (header_2 told)));
   few = omega arith;
   few_failures = few;
   sound = λ _. still;
 }
   where
-    first_unsent : (fault ≡ None) × (unsent ≡ trace_header) ⊎ (fault ≡ Some faults.NoMemory) → fault ≡ None → unsent ≡ trace_header
+    first_unsent : (fault ≡ None) × (unsent ≡ header_2 told) ⊎ (fault ≡ Some faults.NoMemory) → fault ≡ None → unsent ≡ header_2 told
     first_unsent (inl h) none = h.1
     first_unsent (inr e) none = let no : Some faults.NoMemory ≡ None = sym e ∙ none in cc
 
-    first_unsynced : (fault ≡ None) × (unsent ≡ trace_header) ⊎ (fault ≡ Some faults.NoMemory) → fault ≡ Some faults.Sync → ⊥
+    first_unsynced : (fault ≡ None) × (unsent ≡ header_2 told) ⊎ (fault ≡ Some faults.NoMemory) → fault ≡ Some faults.Sync → ⊥
     first_unsynced (inl h) is = let no : None ≡ Some faults.Sync = sym h.0 ∙ is in cc
     first_unsynced (inr e) is = let no : Some faults.NoMemory ≡ Some faults.Sync = sym e ∙ is in cc
 
-    first_tells : (fault ≡ None) × (unsent ≡ trace_header) ⊎ (fault ≡ Some faults.NoMemory) → CountsFailures fault before before
+    first_tells : (fault ≡ None) × (unsent ≡ header_2 told) ⊎ (fault ≡ Some faults.NoMemory) → CountsFailures fault before before
     first_tells (inl h) = subst (λ f. CountsFailures f before before) (sym h.0) refl
     first_tells (inr e) = subst (λ f. CountsFailures f before before) (sym e) (counts_none before before refl)
 
 -- ---- a record more
 
 -- the text is not long
-text_long : (rs : List Record) (r : Record) → length (text rs) ≤ length trace_header + RECORD_FRAME_MAX * length rs → length (frame (record_bytes r)) ≤ RECORD_FRAME_MAX
-    → length (text (rs ++ r ∷ [])) ≤ length trace_header + RECORD_FRAME_MAX * length (rs ++ r ∷ [])
-text_long rs r was short =
-    let longer : length (text (rs ++ r ∷ [])) ≡ length (text rs) + length (frame (record_bytes r)) = ap length (text_push rs r) ∙ length-append (text rs) (frame (record_bytes r)) in
+text_long : (told : ToldLimits) (rs : List Record) (r : Record) → length (text told rs) ≤ HEADER_2_LENGTH + RECORD_FRAME_MAX * length rs → length (frame (record_bytes r)) ≤ RECORD_FRAME_MAX
+    → length (text told (rs ++ r ∷ [])) ≤ HEADER_2_LENGTH + RECORD_FRAME_MAX * length (rs ++ r ∷ [])
+text_long told rs r was short =
+    let longer : length (text told (rs ++ r ∷ [])) ≡ length (text told rs) + length (frame (record_bytes r)) = ap length (text_push told rs r) ∙ length-append (text told rs) (frame (record_bytes r)) in
     let more : length (rs ++ r ∷ []) ≡ length rs + 1 = length-append rs (r ∷ []) in
     omega (arith, longer, more, was, short)
 
 -- a record more was kept
-pub writes_kept : (base now : Option (List ℕ)) (before after : ℕ) (unsent unsent' : List ℕ) (written : ℕ) (rs : List Record) (fault fault' : Option TraceFault) (torn sound : Bool) (r : Record)
-    → Writes base now before after unsent written rs fault torn sound → torn ≡ false → length rs < RECORDS_MAX → MakesFrame unsent unsent' fault fault' (frame (record_bytes r))
-    → Writes base now before after unsent' written (rs ++ r ∷ []) fault' torn sound
-writes_kept base now before after unsent unsent' written rs fault fault' torn sound r w whole few m = record {
+pub writes_kept : (told : ToldLimits) (base now : Option (List ℕ)) (before after : ℕ) (unsent unsent' : List ℕ) (written : ℕ) (rs : List Record) (fault fault' : Option TraceFault) (torn sound : Bool) (r : Record)
+    → Writes told base now before after unsent written rs fault torn sound → torn ≡ false → length rs < RECORDS_MAX → MakesFrame unsent unsent' fault fault' (frame (record_bytes r))
+    → Writes told base now before after unsent' written (rs ++ r ∷ []) fault' torn sound
+writes_kept told base now before after unsent unsent' written rs fault fault' torn sound r w whole few m = record {
   front = w.front;
   rest = w.rest ++ frame (record_bytes r);
   appends = w.appends;
-  is = sym (append_assoc w.front w.rest (frame (record_bytes r))) ∙ ap (λ (l : List ℕ). l ++ frame (record_bytes r)) w.is ∙ sym (text_push rs r);
+  is = sym (append_assoc w.front w.rest (frame (record_bytes r))) ∙ ap (λ (l : List ℕ). l ++ frame (record_bytes r)) w.is ∙ sym (text_push told rs r);
   written_is = w.written_is;
   unsent_is = λ none. (m.made none).1 ∙ ap (λ (l : List ℕ). l ++ frame (record_bytes r)) (w.unsent_is (m.made none).0);
   never_synced = made_unsynced fault fault' m.told w.never_synced;
   tells = made_tells fault fault' before after m.told w.tells;
   torn = λ is. absurd (let e : true ≡ false = sym is ∙ whole in cc);
-  long = λ none. text_long rs r (w.long (m.made none).0) (m.few none);
+  long = λ none. text_long told rs r (w.long (m.made none).0) (m.few none);
   few = let more : length (rs ++ r ∷ []) ≡ length rs + 1 = length-append rs (r ∷ []) in omega (arith, more, few);
   few_failures = w.few_failures;
   sound = λ none. w.sound (m.made none).0;
@@ -106,10 +108,10 @@ writes_kept base now before after unsent unsent' written rs fault fault' torn so
 -- ---- what was not written yet is written
 
 -- no more is written than the text has
-pub writes_few : (base now now' : Option (List ℕ)) (before after : ℕ) (unsent : List ℕ) (written : ℕ) (rs : List Record) (fault : Option TraceFault) (torn sound : Bool) (count : ℕ)
-    → Writes base now before after unsent written rs fault torn sound → fault ≡ None → WritesFront now now' unsent count → written + count < 2 ^ 64
-writes_few base now now' before after unsent written rs fault torn sound count w none f =
-    let all : length w.front + length w.rest ≡ length (text rs) = sym (length-append w.front w.rest) ∙ ap length w.is in
+pub writes_few : (told : ToldLimits) (base now now' : Option (List ℕ)) (before after : ℕ) (unsent : List ℕ) (written : ℕ) (rs : List Record) (fault : Option TraceFault) (torn sound : Bool) (count : ℕ)
+    → Writes told base now before after unsent written rs fault torn sound → fault ≡ None → WritesFront now now' unsent count → written + count < 2 ^ 64
+writes_few told base now now' before after unsent written rs fault torn sound count w none f =
+    let all : length w.front + length w.rest ≡ length (text told rs) = sym (length-append w.front w.rest) ∙ ap length w.is in
     let left : length unsent ≡ length w.rest = ap length (w.unsent_is none) in
     let long = w.long none in
     let few = w.few in
@@ -118,10 +120,10 @@ writes_few base now now' before after unsent written rs fault torn sound count w
     omega arith
 
 -- a front of what was not written was
-fronted : (base now now' : Option (List ℕ)) (before after after' : ℕ) (unsent : List ℕ) (written : ℕ) (rs : List Record) (fault fault' : Option TraceFault) (torn sound sound' : Bool) (count : ℕ)
-    → Writes base now before after unsent written rs fault torn sound → fault ≡ None → WritesFront now now' unsent count → (fault' ≡ None → [] ≡ drop count unsent) → (fault' ≡ Some faults.Sync → ⊥) → CountsFailures fault' before after'
-    → (fault' ≡ None → sound' ≡ true) → Writes base now' before after' [] (written + count) rs fault' torn sound'
-fronted base now now' before after after' unsent written rs fault fault' torn sound sound' count w none f all never tells still = record {
+fronted : (told : ToldLimits) (base now now' : Option (List ℕ)) (before after after' : ℕ) (unsent : List ℕ) (written : ℕ) (rs : List Record) (fault fault' : Option TraceFault) (torn sound sound' : Bool) (count : ℕ)
+    → Writes told base now before after unsent written rs fault torn sound → fault ≡ None → WritesFront now now' unsent count → (fault' ≡ None → [] ≡ drop count unsent) → (fault' ≡ Some faults.Sync → ⊥) → CountsFailures fault' before after'
+    → (fault' ≡ None → sound' ≡ true) → Writes told base now' before after' [] (written + count) rs fault' torn sound'
+fronted told base now now' before after after' unsent written rs fault fault' torn sound sound' count w none f all never tells still = record {
   front = w.front ++ take count unsent;
   rest = drop count unsent;
   appends = Appends-trans base now now' w.front (take count unsent) w.appends f.appends;
@@ -141,21 +143,21 @@ fronted base now now' before after after' unsent written rs fault fault' torn so
 }
 
 -- all that was not written was
-pub flushed : (base now now' : Option (List ℕ)) (before after after' : ℕ) (unsent : List ℕ) (written : ℕ) (rs : List Record) (fault : Option TraceFault) (torn sound sound' : Bool) (count : ℕ)
-    → Writes base now before after unsent written rs fault torn sound → fault ≡ None → WritesFront now now' unsent count → count ≡ length unsent → after' ≡ after → sound' ≡ true
-    → Writes base now' before after' [] (written + count) rs fault torn sound'
-flushed base now now' before after after' unsent written rs fault torn sound sound' count w none f whole same still =
-    fronted base now now' before after after' unsent written rs fault fault torn sound sound' count w none f
+pub flushed : (told : ToldLimits) (base now now' : Option (List ℕ)) (before after after' : ℕ) (unsent : List ℕ) (written : ℕ) (rs : List Record) (fault : Option TraceFault) (torn sound sound' : Bool) (count : ℕ)
+    → Writes told base now before after unsent written rs fault torn sound → fault ≡ None → WritesFront now now' unsent count → count ≡ length unsent → after' ≡ after → sound' ≡ true
+    → Writes told base now' before after' [] (written + count) rs fault torn sound'
+flushed told base now now' before after after' unsent written rs fault torn sound sound' count w none f whole same still =
+    fronted told base now now' before after after' unsent written rs fault fault torn sound sound' count w none f
     (λ _. sym (ap (λ (n : ℕ). drop n unsent) whole ∙ drop-length unsent)) w.never_synced
     (subst (λ (n : ℕ). CountsFailures fault before n) (sym same) w.tells) (λ _. still)
 
 -- the sink failed in the middle
-pub broken : (base now now' : Option (List ℕ)) (before after after' : ℕ) (unsent : List ℕ) (written : ℕ) (rs : List Record) (fault : Option TraceFault) (torn sound sound' : Bool) (count : ℕ)
-    → Writes base now before after unsent written rs fault torn sound → fault ≡ None → WritesFront now now' unsent count → after' ≡ after + 1
-    → Writes base now' before after' [] (written + count) rs (Some faults.Write) torn sound'
-broken base now now' before after after' unsent written rs fault torn sound sound' count w none f more =
+pub broken : (told : ToldLimits) (base now now' : Option (List ℕ)) (before after after' : ℕ) (unsent : List ℕ) (written : ℕ) (rs : List Record) (fault : Option TraceFault) (torn sound sound' : Bool) (count : ℕ)
+    → Writes told base now before after unsent written rs fault torn sound → fault ≡ None → WritesFront now now' unsent count → after' ≡ after + 1
+    → Writes told base now' before after' [] (written + count) rs (Some faults.Write) torn sound'
+broken told base now now' before after after' unsent written rs fault torn sound sound' count w none f more =
     let was : after ≡ before = subst (λ f. CountsFailures f before after) none w.tells in
-    fronted base now now' before after after' unsent written rs fault (Some faults.Write) torn sound sound' count w none f (λ e. absurd (cc)) (λ e. cc) (more ∙ ap (λ (n : ℕ). n + 1) was) (λ e. absurd (cc))
+    fronted told base now now' before after after' unsent written rs fault (Some faults.Write) torn sound sound' count w none f (λ e. absurd (cc)) (λ e. cc) (more ∙ ap (λ (n : ℕ). n + 1) was) (λ e. absurd (cc))
 
 -- ---- what is whole
 
@@ -168,8 +170,8 @@ whole_all (r ∷ rs) =
     let left : length (frame (record_bytes r) ++ frames_of rs) - length (frame (record_bytes r)) ≡ length (frames_of rs) = omega (arith, all) in
     rw (fits, left, whole_all rs) (add-one (length rs))
 
-pub whole_when_all : (rs : List Record) (written : ℕ) → written ≡ length (text rs) → whole_in rs (written - length trace_header) ≡ length rs
-whole_when_all rs written e =
-    let long : length (text rs) ≡ length trace_header + length (frames_of rs) = length-append trace_header (frames_of rs) in
-    let left : written - length trace_header ≡ length (frames_of rs) = omega (arith, e, long) in
+pub whole_when_all : (told : ToldLimits) (rs : List Record) (written : ℕ) → written ≡ length (text told rs) → whole_in rs (written - length (header_2 told)) ≡ length rs
+whole_when_all told rs written e =
+    let long : length (text told rs) ≡ length (header_2 told) + length (frames_of rs) = length-append (header_2 told) (frames_of rs) in
+    let left : written - length (header_2 told) ≡ length (frames_of rs) = omega (arith, e, long) in
     rw left (whole_all rs)

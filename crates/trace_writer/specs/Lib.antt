@@ -1,2 +1,3 @@
 pub mod Traces
+pub mod Migrations
 pub mod Proved

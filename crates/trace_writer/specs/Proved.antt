@@ -1,3 +1,4 @@
 pub mod TracerState
 pub mod Tracing
 pub mod Memory
+pub mod Migrating

@@ -2,7 +2,8 @@
 use Rattle.std.specs.Prelude.{◌≡◌, ℕ, ◌+◌, ◌-◌, ◌≤◌, Bool, true, List, [], ◌++◌, Option, None, Some, length}
 use Rattle.std.specs.Io.KnownBytes.{Appends}
 use Rattle.call_types.specs.declared.act.Record.{Record}
-use Rattle.frame_codec.specs.Trace.{trace_header, text, whole_in}
+use Rattle.frame_codec.specs.Trace.{header_2, text, whole_in}
+use Rattle.frame_codec.specs.declared.trace.ToldLimits.{ToldLimits}
 use Rattle.trace_writer.specs.declared.traced.TraceFault.{TraceFault}
 use Rattle.trace_writer.specs.declared.traced.TraceFault.TheVariants as faults
 
@@ -13,16 +14,16 @@ CountsFailures (Some faults.Write) before after = after ≡ before + 1
 CountsFailures (Some faults.Sync) before after = after ≡ before + 1
 CountsFailures (Some faults.NoMemory) before after = (before ≤ after) × (after ≤ before + 1)
 
--- What became of a trace: so many bytes of the text of the records were added to what the sink held, its first ones, and so many records
+-- What became of a trace that tells these limits: so many bytes of the text of the records were added to what the sink held, its first ones, and so many records
 -- are whole in them. They are all, and were synced, where nothing went wrong; where only the sync failed, they are all. What went wrong
 -- in the sink it has counted (own)
-pub record IsTrace (base now : Option (List ℕ)) (before after : ℕ) (is_synced : Bool) (whole bytes : ℕ) (fault : Option TraceFault) (received : List Record) : Type 0 where
+pub record IsTrace (told : ToldLimits) (base now : Option (List ℕ)) (before after : ℕ) (is_synced : Bool) (whole bytes : ℕ) (fault : Option TraceFault) (received : List Record) : Type 0 where
   pub front : List ℕ
   pub rest : List ℕ
   pub appends : Appends base now front
-  pub is : front ++ rest ≡ text received
+  pub is : front ++ rest ≡ text told received
   pub bytes_is : bytes ≡ length front
-  pub whole_is : whole ≡ whole_in received (bytes - length trace_header)
+  pub whole_is : whole ≡ whole_in received (bytes - length (header_2 told))
   pub all : fault ≡ None → (rest ≡ []) × (is_synced ≡ true)
   pub unsynced : fault ≡ Some faults.Sync → rest ≡ []
   pub tells : CountsFailures fault before after

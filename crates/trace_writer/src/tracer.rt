@@ -5,15 +5,18 @@ ghost use Rattle.std.specs.Arc.{arc_value};
 ghost use Rattle.call_types.specs.declared.limits.TheConstants.{RECORDS_MAX};
 ghost use Rattle.frame_codec.specs.Frames.{frame};
 ghost use Rattle.frame_codec.specs.Records.{record_bytes};
-ghost use Rattle.frame_codec.specs.Trace.{trace_header, text, whole_in};
+ghost use Rattle.call_types.specs.declared.limits.Limits.{Limits};
+ghost use Rattle.frame_codec.specs.Trace.{header_2, is_told, told_of, text, whole_in};
+ghost use Rattle.frame_codec.specs.declared.trace.ToldLimits.{ToldLimits};
 ghost use Rattle.trace_writer.specs.declared.traced.TraceFault.TheVariants as faults;
 ghost use Rattle.trace_writer.specs.Proved.Tracing.{Keeps, Stays, Flushes, IsTraceOf, MakesFrame, Syncs};
 
 use crate::sink::{Sink, write_all};
 use crate::traced::{TraceFault, Traced, whole_records};
 use call_types::act::Record;
+use call_types::limits::Limits;
 use frame_codec::encode::{RECORD_FRAME_MAX, encode_record};
-use frame_codec::trace::{TRACE_HEADER, header_as_written};
+use frame_codec::trace::{HEADER_2_LENGTH, ToldLimits, headers_are_read, put_header};
 use std::alloc::{AllocError, Global};
 use std::marker::Model;
 use std::snapshot::Snapshot;
@@ -24,6 +27,8 @@ const PIECE: usize = 65_536;
 
 /// A trace that is being written. Contracts see it as a `TracerState`.
 pub(crate) struct Tracer<S: Sink> {
+    /// What the trace tells of the limits of its run.
+    told: Snapshot<ToldLimits>,
     /// The sink as it was at first.
     begun: Snapshot<S>,
     sink: S,
@@ -44,26 +49,27 @@ impl<S: Sink> Model for Tracer<S> {
 
     ghost Value = { TracerState };
 
-    ghost view = { λ t. record { base = S.contents t.begun.value; before = S.failures t.begun.value; unsent = t.unsent.items; received = map arc_value t.kept.items; fault = t.fault; is_torn = t.is_torn } };
+    ghost view = { λ t. record { told = t.told.value; base = S.contents t.begun.value; before = S.failures t.begun.value; unsent = t.unsent.items; received = map arc_value t.kept.items; fault = t.fault; is_torn = t.is_torn } };
 
-    ghost invariant = { λ t. Writes (S.contents t.begun.value) (S.contents t.sink) (S.failures t.begun.value) (S.failures t.sink) t.unsent.items t.written (map arc_value t.kept.items) t.fault t.is_torn (S.is_sound t.sink) };
+    ghost invariant = { λ t. Writes t.told.value (S.contents t.begun.value) (S.contents t.sink) (S.failures t.begun.value) (S.failures t.sink) t.unsent.items t.written (map arc_value t.kept.items) t.fault t.is_torn (S.is_sound t.sink) };
 }
 
 /// A buffer that holds the header and need not grow: no piece is longer than `PIECE` and one frame.
-fn headed_buffer(alloc: Global) -> Result<Vec<u8>, AllocError>
-    ensures { IfOk result (λ buffer. buffer.items ≡ trace_header) }
+fn headed_buffer(alloc: Global, told: &ToldLimits) -> Result<Vec<u8>, AllocError>
+    requires { is_told told.now ≡ true }
+    ensures { IfOk result (λ buffer. buffer.items ≡ header_2 told.now) }
 {
-    header_as_written();
     let mut buffer = Vec::with_capacity(alloc, PIECE + RECORD_FRAME_MAX)?;
-    buffer.extend_from_slice(&TRACE_HEADER)?;
+    put_header(&mut buffer, told)?;
     Ok(buffer)
 }
 
 /// The header, still to be written, of a trace without records; or that memory ran out.
-fn first_unsent(alloc: Global) -> (Vec<u8>, Option<TraceFault>)
-    ensures { (result.1 ≡ None) × (result.0.items ≡ trace_header) ⊎ (result.1 ≡ Some faults.NoMemory) }
+fn first_unsent(alloc: Global, told: &ToldLimits) -> (Vec<u8>, Option<TraceFault>)
+    requires { is_told told.now ≡ true }
+    ensures { (result.1 ≡ None) × (result.0.items ≡ header_2 told.now) ⊎ (result.1 ≡ Some faults.NoMemory) }
 {
-    match headed_buffer(alloc) {
+    match headed_buffer(alloc, told) {
         Ok(buffer) => (buffer, None),
         Err(_) => (Vec::new(alloc), Some(TraceFault::NoMemory)),
     }
@@ -97,31 +103,34 @@ fn sync_unless<S: Sink>(sink: &mut S, fault: Option<TraceFault>) -> Option<Trace
     }
 }
 
-/// How many records are whole in so many bytes of their trace, which are all where nothing went wrong.
+/// How many records are whole in so many bytes of their trace, whatever it tells. The bytes are all where nothing went wrong.
 fn whole_of(kept: &[Arc<Record>], written: u64, fault: Option<TraceFault>) -> u64
-    requires { fault ≡ None → written ≡ length (text (map arc_value kept.now)) }
-    ensures { result ≡ whole_in (map arc_value kept.now) (written - length trace_header) }
+    ensures { (told : ToldLimits) → (fault ≡ None → written ≡ length (text told (map arc_value kept.now))) → result ≡ whole_in (map arc_value kept.now) (written - length (header_2 told)) }
 {
+    headers_are_read();
     if fault.is_none() {
         return kept.len() as u64;
     }
-    whole_records(kept, written.saturating_sub(TRACE_HEADER.len() as u64))
+    whole_records(kept, written.saturating_sub(HEADER_2_LENGTH as u64))
 }
 
 impl<S: Sink> Tracer<S> {
-    /// A trace without records, of which the header is not written yet.
-    #[tactic(auto, using(crate::proofs::TraceLemmas::writes_first))]
-    pub(crate) fn new(alloc: Global, sink: S) -> Self
+    /// A trace without records of a run with these limits, of which the header is not written yet.
+    pub(crate) fn new(alloc: Global, limits: Limits, sink: S) -> Self
         requires sound { S.is_sound sink ≡ true }
         requires few { S.failures sink + 1 < 2 ^ 64 }
+        ensures told { result.told ≡ told_of limits }
         ensures base { result.base ≡ S.contents sink }
         ensures before { result.before ≡ S.failures sink }
         ensures received { result.received ≡ [] }
         ensures torn { result.is_torn ≡ false }
     {
+        headers_are_read();
+        let told = ToldLimits::of(limits);
         let begun = Snapshot::of(&sink);
-        let (unsent, fault) = first_unsent(alloc);
+        let (unsent, fault) = first_unsent(alloc, &told);
         Tracer {
+            told: Snapshot::of(&told),
             begun,
             sink,
             unsent,
@@ -182,6 +191,7 @@ impl<S: Sink> Tracer<S> {
         let mut tracer = self;
         tracer.flush();
         let Tracer {
+            told: _,
             begun: _,
             mut sink,
             unsent: _,

@@ -4,14 +4,17 @@ use Rattle.std.specs.Io.KnownBytes.{Appends}
 use Rattle.call_types.specs.declared.act.Record.{Record}
 use Rattle.call_types.specs.declared.limits.TheConstants.{RECORDS_MAX}
 use Rattle.frame_codec.specs.declared.encode.TheConstants.{RECORD_FRAME_MAX}
-use Rattle.frame_codec.specs.Trace.{trace_header, text}
+use Rattle.frame_codec.specs.Trace.{text}
+use Rattle.frame_codec.specs.declared.trace.TheConstants.{HEADER_2_LENGTH}
+use Rattle.frame_codec.specs.declared.trace.ToldLimits.{ToldLimits}
 use Rattle.trace_writer.specs.Traces.{CountsFailures}
 use Rattle.trace_writer.specs.declared.traced.TraceFault.{TraceFault}
 use Rattle.trace_writer.specs.declared.traced.TraceFault.TheVariants as faults
 
--- what the sink held at first and how many failures it had counted, what is not written yet, the records that were kept, what went wrong, and whether
+-- what the trace tells of the limits, what the sink held at first and how many failures it had counted, what is not written yet, the records that were kept, what went wrong, and whether
 -- a record was not kept (own)
 pub record TracerState : Type 0 where
+  pub told : ToldLimits
   pub base : Option (List ℕ)
   pub before : ℕ
   pub unsent : List ℕ
@@ -20,17 +23,17 @@ pub record TracerState : Type 0 where
   pub is_torn : Bool
 
 -- a front of the text was written, and unless something went wrong the rest is not written yet (own)
-pub record Writes (base now : Option (List ℕ)) (before after : ℕ) (unsent : List ℕ) (written : ℕ) (received : List Record) (fault : Option TraceFault) (is_torn is_sound : Bool) : Type 0 where
+pub record Writes (told : ToldLimits) (base now : Option (List ℕ)) (before after : ℕ) (unsent : List ℕ) (written : ℕ) (received : List Record) (fault : Option TraceFault) (is_torn is_sound : Bool) : Type 0 where
   pub front : List ℕ
   pub rest : List ℕ
   pub appends : Appends base now front
-  pub is : front ++ rest ≡ text received
+  pub is : front ++ rest ≡ text told received
   pub written_is : written ≡ length front
   pub unsent_is : fault ≡ None → unsent ≡ rest
   pub never_synced : fault ≡ Some faults.Sync → ⊥
   pub tells : CountsFailures fault before after
   pub torn : is_torn ≡ true → fault ≡ Some faults.NoMemory
-  pub long : fault ≡ None → length (text received) ≤ length trace_header + RECORD_FRAME_MAX * length received
+  pub long : fault ≡ None → length (text told received) ≤ HEADER_2_LENGTH + RECORD_FRAME_MAX * length received
   pub few : length received ≤ RECORDS_MAX
   pub few_failures : before + 1 < 2 ^ 64
   pub sound : fault ≡ None → is_sound ≡ true

@@ -10,6 +10,7 @@ use Rattle.trace_writer.specs.declared.traced.TraceFault.TheVariants as faults
 
 -- the same trace, to which nothing came (own)
 pub record Stays (old new : TracerState) : Type 0 where
+  pub told : new.told ≡ old.told
   pub base : new.base ≡ old.base
   pub before : new.before ≡ old.before
   pub received : new.received ≡ old.received
@@ -34,6 +35,7 @@ pub record Syncs (old new : Option (List ℕ)) (counted counts : ℕ) (is_synced
 
 -- a record more was kept, or this and all later ones are not (own)
 pub record Keeps (old new : TracerState) (r : Record) : Type 0 where
+  pub told : new.told ≡ old.told
   pub base : new.base ≡ old.base
   pub before : new.before ≡ old.before
   pub kept : new.is_torn ≡ false → (old.is_torn ≡ false) × (new.received ≡ old.received ++ r ∷ [])
@@ -41,7 +43,7 @@ pub record Keeps (old new : TracerState) (r : Record) : Type 0 where
 
 -- what became of a trace, of which all records were kept unless memory ran out (own)
 pub record IsTraceOf (t : TracerState) (now : Option (List ℕ)) (after : ℕ) (is_synced : Bool) (whole bytes : ℕ) (fault : Option TraceFault) (received : List Record) : Type 0 where
-  pub trace : IsTrace t.base now t.before after is_synced whole bytes fault received
+  pub trace : IsTrace t.told t.base now t.before after is_synced whole bytes fault received
   pub received_is : received ≡ t.received
   pub torn : t.is_torn ≡ true → fault ≡ Some faults.NoMemory
 
@@ -53,6 +55,7 @@ pub record Follows (got : List Record) (t : TracerState) : Type 0 where
 
 -- a trace of one run goes on, and follows what comes out of the ring (own)
 pub record GoesOn (old new : TracerState) (got : List Record) : Type 0 where
+  pub told : new.told ≡ old.told
   pub base : new.base ≡ old.base
   pub before : new.before ≡ old.before
   pub follows : Follows got new

@@ -10,4 +10,4 @@ invariant_of-self-2 g c =
     let whole : c.self.inside.is_torn ≡ false = search rules in
     let few : length (map arc_value c.self.inside.kept.items) < RECORDS_MAX = rw (← c.self.view_is) at c.requires in
     rw (c.push_reserved.ensures.items, c.reserve.ensures.items, map-append)
-    (writes_kept _ _ _ _ _ _ _ _ _ _ _ _ _ c.self.invariant whole few (rw (← c.deref-told.ensures) c.make_frame-self-inside.ensures))
+    (writes_kept _ _ _ _ _ _ _ _ _ _ _ _ _ _ c.self.invariant whole few (rw (← c.deref-told.ensures) c.make_frame-self-inside.ensures))
