@@ -137,7 +137,7 @@ fn forks_answered<Rt: Wait, L: Ledgers>(
 
 #[test]
 fn all_that_a_ring_holds_is_answered(rt: HostRuntime) -> Result<(), Fail> {
-    let limits = Limits::new(100)?;
+    let limits = Limits::new(100, 1024)?;
     let came = forks_answered::<HostRuntime, Brand>(&rt, rt.alloc(), limits, Blanks::new(), 15)?;
     assert!(rt; came == (Held::Live, 16, None));
     Ok(())
@@ -174,7 +174,7 @@ fn waiting_requests(alloc: Global) -> Result<Vec<Request>, AllocError> {
 
 #[test]
 fn call_that_is_given_up_is_the_last(rt: HostRuntime) -> Result<(), Fail> {
-    let limits = Limits::new(100)?;
+    let limits = Limits::new(100, 1024)?;
     let requests = waiting_requests(rt.alloc())?;
     let came = requests_answered::<HostRuntime, Brand>(
         &rt,
@@ -189,7 +189,7 @@ fn call_that_is_given_up_is_the_last(rt: HostRuntime) -> Result<(), Fail> {
 
 #[test]
 fn request_out_of_place_ends_it(rt: HostRuntime) -> Result<(), Fail> {
-    let limits = Limits::new(100)?;
+    let limits = Limits::new(100, 1024)?;
     let requests = vec![in rt.alloc(); Request::Join, Request::Join]?;
     let came = requests_answered::<HostRuntime, Brand>(
         &rt,

@@ -195,7 +195,7 @@ fn gives_up_at_once<Rt: Wait, L: Ledgers>(
 
 #[test]
 fn call_of_a_lost_process_is_given_up(rt: HostRuntime) -> Result<(), Fail> {
-    let limits = Limits::new(100)?;
+    let limits = Limits::new(100, 1024)?;
     assert!(rt; gives_up_at_once::<HostRuntime, Brand>(&rt, rt.alloc(), limits, Blanks::new())?);
     Ok(())
 }
@@ -272,7 +272,7 @@ fn goes_on_first<Rt: Wait, L: Ledgers>(
 
 #[test]
 fn call_that_is_ready_goes_on_first(rt: HostRuntime) -> Result<(), Fail> {
-    let limits = Limits::new(100)?;
+    let limits = Limits::new(100, 1024)?;
     assert!(rt; goes_on_first::<HostRuntime, Brand>(&rt, rt.alloc(), limits, Blanks::new())?);
     Ok(())
 }
@@ -310,7 +310,7 @@ fn wakes_a_sleeper<
 #[test]
 fn sleeper_is_woken_when_its_process_is_lost(rt: HostRuntime) -> Result<(), Fail> {
     for _ in 0..REPEATED {
-        let limits = Limits::new(100)?;
+        let limits = Limits::new(100, 1024)?;
         assert!(rt; wakes_a_sleeper::<HostRuntime, Brand>(rt, rt.alloc(), limits, Blanks::new())?);
     }
     Ok(())
