@@ -8,6 +8,7 @@ use Rattle.byte_ledger.specs.Counted.{Counted}
 use Rattle.record_book.specs.Seat.{SeatState}
 use Rattle.session_core.specs.Served.{SessionState}
 use Rattle.call_types.specs.declared.limits.Limits.{Limits}
+use Rattle.frame_codec.specs.Trace.{told_of}
 use Rattle.run_core.specs.Receipts.{held_by}
 use Rattle.run_core.specs.Traced.{TraceTold, IsTold}
 use Rattle.record_book.specs.Book.{BookState}
@@ -108,7 +109,7 @@ pub run_of : (told : RunTold) (limits : Option Limits) (book : BookState) (house
     → told.ends ≡ ends → told.received ≡ received → told.trace ≡ trace → limits ≡ Some told.limits_are
     → HasEnded told.always limits told.coming told.later book house ends shares
     → IsRunOf book.limits told.records told.taken told.given book house shares (map (λ s. held_by s.process) ends) received
-    → IsTold trace received
+    → IsTold (told_of told.limits_are) trace received
     → IsRun told
 run_of told limits book house ends shares received trace those got traced within ended run written =
     let same : book.limits ≡ told.limits_are = (let known = ended.limits_are in let given = ended.closing.limits_are in cc) in
@@ -125,5 +126,5 @@ run_of told limits book house ends shares received trace those got traced within
       house = house;
       closing = ended.closing;
       run = subst (λ (rs : List Record). IsRunOf told.limits_are told.records told.taken told.given book house (counted_by ended.joined.connections) (map (λ s. held_by s.process) told.ends) rs) (sym got) of_those;
-      trace = subst (λ (t : TraceTold). IsTold t book.history) (sym traced) (subst (λ (rs : List Record). IsTold trace rs) run.received_are written);
+      trace = subst (λ (t : TraceTold). IsTold (told_of told.limits_are) t book.history) (sym traced) (subst (λ (rs : List Record). IsTold (told_of told.limits_are) trace rs) run.received_are written);
     }

@@ -10,8 +10,9 @@ use Rattle.call_types.specs.declared.act.Record.{Record}
 use Rattle.call_types.specs.declared.call.Call.TheVariants as calls
 use Rattle.call_types.specs.declared.limits.Limits.{Limits}
 use Rattle.frame_codec.specs.Records.{ActFits}
-use Rattle.frame_codec.specs.Trace.{trace_header, whole_in}
+use Rattle.frame_codec.specs.Trace.{header_2, told_of, whole_in}
 use Rattle.posix_model.specs.declared.world.World.{World}
+use Rattle.posix_model.specs.Reserve.{IsLegalRun}
 use Rattle.record_book.specs.Book.{world_now}
 use Rattle.record_book.specs.Exits.{closing_record, closing_records, exit_record, orphans_from, receipts_from}
 use Rattle.record_book.specs.Seat.{Receipted, SeatState}
@@ -132,17 +133,18 @@ history_in_range acts_fit told h decide =
 -- ---- the verdict
 
 pub runs_judged : ActsOfSeatsFit → WrittenIsLegal → RunsAreJudged
-runs_judged acts_fit written_legal told h decide =
+runs_judged acts_fit written_legal told h decide is_told =
     let records = h.book.history in
+    let limits = told_of told.limits_are in
     let t = h.trace in
-    let v = written_legal h.book.limits.bounds records t.front t.rest h.run.is_legal (history_in_range acts_fit told h decide) (sym t.is) in
-    let whole : whole_in records (length t.front - length trace_header) ≡ told.trace.whole =
-    ap (λ (n : ℕ). whole_in records (n - length trace_header)) (sym t.bytes_is) ∙ sym t.whole_is in
+    let legal = subst (λ (l : Limits). IsLegalRun l.bounds (Some l.records) records) h.run.limits_are h.run.is_legal in
+    let v = written_legal limits records t.front t.rest is_told legal (history_in_range acts_fit told h decide) (sym t.is) in
+    let whole : whole_in records (length t.front - length (header_2 limits)) ≡ told.trace.whole =
+    ap (λ (n : ℕ). whole_in records (n - length (header_2 limits))) (sym t.bytes_is) ∙ sym t.whole_is in
     record {
       written = t.front;
       rest = v.0;
       appends = t.appends;
       bytes_is = t.bytes_is;
-      verdict = subst (λ (n : ℕ). IsVerdict told.limits_are.bounds t.front (Legal n v.0)) whole
-          (subst (λ (limits : Limits). IsVerdict limits.bounds t.front (Legal (whole_in records (length t.front - length trace_header)) v.0)) h.run.limits_are v.1);
+      verdict = subst (λ (n : ℕ). IsVerdict t.front (Legal n v.0)) whole v.1;
     }

@@ -3,7 +3,6 @@ use Rattle.std.specs.Prelude.{◌≡◌, ℕ, List, Option, IfSome, length}
 use Rattle.std.specs.Io.KnownBytes.{Appends}
 use Rattle.std.specs.List.{slice_get}
 use Rattle.call_types.specs.declared.act.Record.{Record}
-use Rattle.call_types.specs.declared.limits.Bounds.{Bounds}
 use Rattle.audit_core.specs.Trace.{FlagsFit, IsInRange}
 use Rattle.audit_core.specs.Verdict.{IsVerdict}
 use Rattle.audit_core.specs.declared.verdict.Verdict.TheVariants.{Legal}
@@ -16,11 +15,10 @@ FlagsDecide r = FlagsFit r.act → IsInRange r
 abbrev pub FlagsDecideAt : List Record → ℕ → Type 0
 FlagsDecideAt records p = IfSome (slice_get records p) FlagsDecide
 
--- the verdict on what was added to a sink, so many bytes, under these limits of files and pipes: they are legal, with so many whole
--- records
-pub record IsJudged (bounds : Bounds) (base now : Option (List ℕ)) (whole bytes : ℕ) : Type 0 where
+-- the verdict on what was added to a sink, so many bytes, by the limits that they tell: they are legal, with so many whole records
+pub record IsJudged (base now : Option (List ℕ)) (whole bytes : ℕ) : Type 0 where
   pub written : List ℕ
   pub rest : ℕ
   pub appends : Appends base now written
   pub bytes_is : bytes ≡ length written
-  pub verdict : IsVerdict bounds written (Legal whole rest)
+  pub verdict : IsVerdict written (Legal whole rest)

@@ -2,8 +2,9 @@
 use Rattle.std.specs.Prelude.{◌≡◌, ℕ, ◌+◌, ◌<◌, ◌⊎◌, Bool, true, false, map, List, [], ◌∷◌, ◌++◌, Option, None, Some, length, sum, filter_map}
 use Rattle.std.specs.List.{AllZip}
 use Rattle.std.specs.Option.{option_map}
-use Rattle.posix_model.specs.History.{legal}
+use Rattle.posix_model.specs.Reserve.{IsLegalRun}
 use Rattle.posix_model.specs.Turns.{bytes_in, bytes_out}
+use Rattle.frame_codec.specs.Trace.{told_of}
 use Rattle.record_book.specs.Seat.{SeatState}
 use Rattle.call_types.specs.declared.act.Record.{Record}
 use Rattle.call_types.specs.declared.act.TheConstants.{HOUSE}
@@ -141,7 +142,7 @@ IsLeast h held received place = (Agrees h held received place → ⊥) × ((p : 
 -- receipt of these holders or of the house, and these records were received, which are all of them
 pub record IsRunOf (limits : Limits) (records taken given : ℕ) (book : BookState) (house : SeatState) (shares : List Counted) (held : List Held) (received : List Record) : Type 0 where
   pub limits_are : book.limits ≡ limits
-  pub is_legal : legal book.limits.bounds book.history
+  pub is_legal : IsLegalRun book.limits.bounds (Some book.limits.records) book.history
   pub records_are : records ≡ length book.history
   pub taken_is : taken ≡ bytes_in book.limits.bounds book.history
   pub given_is : given ≡ bytes_out book.limits.bounds book.history
@@ -169,7 +170,7 @@ pub record RunTold : Type 0 where
 -- that is so of one run, which was open before its closing. Each session served one of the connections that the source gave, in their
 -- order. The sums are gathered from the seats of these very connections and from that of the house. Each record stands in one receipt of
 -- the sessions or of the house: those of the closing in one of the house, and the others in one of the sessions. The trace is that of
--- these records
+-- these records, and tells the limits of the run
 pub record IsRun (told : RunTold) : Type 0 where
   pub connections : List Connection
   pub gives : GivesConnections told.coming told.later (map at_start connections)
@@ -179,7 +180,7 @@ pub record IsRun (told : RunTold) : Type 0 where
   pub house : SeatState
   pub closing : IsClosing before book house
   pub run : IsRunOf told.limits_are told.records told.taken told.given book house (counted_by connections) (map (λ s. held_by s.process) told.ends) told.received
-  pub trace : IsTold told.trace book.history
+  pub trace : IsTold (told_of told.limits_are) told.trace book.history
 
 -- the list of received records ends early, before so many records, because memory ran out: that is the fault of the trace
 abbrev pub IsTorn : Option TraceFault → ℕ → List Record → Type 0

@@ -1,6 +1,7 @@
 -- What is told of the trace of a run (own).
 use Rattle.std.specs.Prelude.{ℕ, Bool, List, Option}
 use Rattle.call_types.specs.declared.act.Record.{Record}
+use Rattle.frame_codec.specs.declared.trace.ToldLimits.{ToldLimits}
 use Rattle.trace_writer.specs.declared.traced.TraceFault.{TraceFault}
 use Rattle.trace_writer.specs.Traces.{IsTrace}
 
@@ -16,6 +17,6 @@ pub record TraceTold : Type 0 where
   pub bytes : ℕ
   pub fault : Option TraceFault
 
--- that is so of a trace of these records
-abbrev pub IsTold : TraceTold → List Record → Type 0
-IsTold t received = IsTrace t.base t.now t.before t.after t.is_synced t.whole t.bytes t.fault received
+-- that is so of a trace of these records, which tells this of their run
+abbrev pub IsTold : ToldLimits → TraceTold → List Record → Type 0
+IsTold told t received = IsTrace told t.base t.now t.before t.after t.is_synced t.whole t.bytes t.fault received

@@ -2,7 +2,7 @@
 
 ghost use Rattle.std.specs.Prelude.{◌≡◌, ◌↔◌, ◌++◌, ◌∷◌, ℕ, List, Option, [], true, map, None, Some, length, vec_len, OnOk, IfOk, IfErr};
 ghost use Rattle.std.specs.Arc.{arc_value};
-ghost use Rattle.posix_model.specs.History.{legal};
+ghost use Rattle.posix_model.specs.Reserve.{IsLegalRun};
 ghost use Rattle.posix_model.specs.Turns.{bytes_in, bytes_out};
 ghost use Rattle.call_types.specs.declared.act.Record.{Record};
 ghost use Rattle.record_book.specs.Book.{world_now};
@@ -258,7 +258,7 @@ fn compare_with_house<L: Ledgers, T: HasReceipts>(
     holders: &[T],
     received: &[Arc<Record>],
 ) -> Result<Option<u64>, AllocError>
-    ensures is_legal { OnOk result (legal closed.now.book.limits.bounds closed.now.book.history) }
+    ensures is_legal { OnOk result (IsLegalRun closed.now.book.limits.bounds (Some closed.now.book.limits.records) closed.now.book.history) }
     ensures all { IfOk result (λ least. least ≡ None → AreAll closed.now.book.history (map T.held holders.now ++ held_in closed.now.house ∷ []) (map arc_value received.now)) }
     ensures least { IfOk result (λ least. (place : ℕ) → least ≡ Some place → IsLeast closed.now.book.history (map T.held holders.now ++ held_in closed.now.house ∷ []) (map arc_value received.now) place) }
     ensures decided { IfOk result (λ least. least ≡ None → FlagsDecideAll (map arc_value received.now)) }

@@ -2,7 +2,7 @@
 
 ghost use Rattle.std.specs.Prelude.{◌≡◌, ◌↔◌, ◌<◌, ◌≤◌, ◌+◌, ◌==◌, ◌⊎◌, ◌++◌, ℕ, map, None, Some, true, false, length, if◌then◌else◌, IfOk, IfSome};
 ghost use Rattle.std.specs.List.{slice_index};
-ghost use Rattle.posix_model.specs.History.{legal};
+ghost use Rattle.posix_model.specs.Reserve.{IsLegalRun};
 ghost use Rattle.std.specs.Arc.{arc_value};
 ghost use Rattle.run_core.specs.Judged.{FlagsDecideAt};
 ghost use Rattle.run_core.specs.Receipts.{Held, Agrees, IsGood, IsOwn, IsAbove, GoodFrom, GoodAt, IsBefore, IsReceivedAt, names, named, wanted, IsSound};
@@ -10,6 +10,7 @@ ghost use Rattle.run_core.specs.Receipts.{Held, Agrees, IsGood, IsOwn, IsAbove, 
 use audit_core::ranges::record_is_in_range;
 use byte_ledger::ledgers::Ledgers;
 use call_types::act::{Act, HOUSE, Record};
+use posix_model::laws::reserve_was_kept;
 use record_book::closed::ClosedBook;
 use record_book::seat::{Receipt, SpentSeat};
 use std::alloc::{AllocError, Global};
@@ -219,6 +220,15 @@ fn uncovered<T: HasReceipts, U: HasReceipts>(
     lowest(twice, unmarked(marks))
 }
 
+/// How many records a closed book holds. They are those of a legal run.
+fn records_of<L: Ledgers>(book: &ClosedBook<L>) -> usize
+    ensures count { result ≡ length book.now.history }
+    ensures legal { IsLegalRun book.now.limits.bounds (Some book.now.limits.records) book.now.history }
+{
+    reserve_was_kept();
+    book.counts().records as usize
+}
+
 /// The least place that is not sound: one whose record is not in exactly one receipt of all holders, or that a receipt names which is not
 /// good. The records are a legal run.
 fn least_unsound<L: Ledgers, T: HasReceipts, U: HasReceipts>(
@@ -227,11 +237,11 @@ fn least_unsound<L: Ledgers, T: HasReceipts, U: HasReceipts>(
     holders: &[T],
     others: &[U],
 ) -> Result<Option<u64>, AllocError>
-    ensures legal { legal book.now.limits.bounds book.now.history }
+    ensures legal { IsLegalRun book.now.limits.bounds (Some book.now.limits.records) book.now.history }
     ensures sound { IfOk result (λ least. (p : ℕ) → IsBefore p least → IsSound book.now.history (map T.held holders.now ++ map U.held others.now) p) }
     ensures broken { IfOk result (λ least. IfSome least (λ q. IsSound book.now.history (map T.held holders.now ++ map U.held others.now) q → ⊥)) }
 {
-    let records = book.counts().records as usize;
+    let records = records_of(book);
     let mut marks = vec![in alloc; 0u8; records]?;
     let uncovered = uncovered(marks.as_mut_slice(), holders, others);
     let bad = lowest(least_bad_of(book, holders), least_bad_of(book, others));
@@ -278,7 +288,7 @@ pub fn compare<L: Ledgers, T: HasReceipts, U: HasReceipts>(
     others: &[U],
     received: &[Arc<Record>],
 ) -> Result<Option<u64>, AllocError>
-    ensures legal { legal book.now.limits.bounds book.now.history }
+    ensures legal { IsLegalRun book.now.limits.bounds (Some book.now.limits.records) book.now.history }
     ensures agree { IfOk result (λ least. (p : ℕ) → IsBefore p least → Agrees book.now.history (map T.held holders.now ++ map U.held others.now) (map arc_value received.now) p) }
     ensures broken { IfOk result (λ least. IfSome least (λ q. Agrees book.now.history (map T.held holders.now ++ map U.held others.now) (map arc_value received.now) q → ⊥)) }
     ensures decided { IfOk result (λ least. (p : ℕ) → IsBefore p least → FlagsDecideAt (map arc_value received.now) p) }

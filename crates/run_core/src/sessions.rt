@@ -4,7 +4,6 @@ ghost use Rattle.std.specs.Prelude.{◌≡◌, ◌≤◌, ◌<◌, ◌+◌, ◌^
 ghost use Rattle.std.specs.Option.{option_map};
 ghost use Rattle.std.specs.Arc.{arc_value};
 ghost use Rattle.rtrb.specs.Ring.{received};
-ghost use Rattle.call_types.specs.declared.limits.Limits.{Limits};
 ghost use Rattle.run_core.specs.Judged.{IsJudged};
 ghost use Rattle.run_core.specs.Proved.Closing.{UnreportedFor};
 ghost use Rattle.run_core.specs.Proved.Laws.{FlagsDecideAll};
@@ -421,7 +420,7 @@ fn report_of<R: Read + Drop, W: Write + Drop, L: Ledgers, K: Sink + Drop>(
 }
 
 /// Serves so many sessions while their trace goes on, then waits until it is written, and compares and gathers what they left. The sink
-/// is the one by which the trace was started. In any case no thread goes on then.
+/// is the one by which the trace was started, and the limits are those that it tells. In any case no thread goes on then.
 fn serve_traced<
     Rt: Threads + Wait + Clock + Copy + Drop + Send + Sync + 'static,
     S: Source + Send + 'static,
@@ -435,8 +434,11 @@ fn serve_traced<
     source: &mut S,
     sessions: usize,
     rooms: Rooms<S::Reader, S::Writer, G, L>,
+    limits: Limits,
     traces: Traces<K>,
 ) -> Result<Report<S::Reader, S::Writer, K>, RunFault>
+    requires limits { L.limits ≡ Some limits }
+    requires traced { traces.thread.promise.limits ≡ limits }
     requires failures { S.failures source.old + 1 < 2 ^ 64 }
     requires accepted { S.accepted source.old + sessions < 2 ^ 64 }
     requires running { (vec_len rooms.running ≡ 0) × (sessions ≤ vec_capacity rooms.running) }
@@ -445,11 +447,11 @@ fn serve_traced<
     ensures failures { IfOk result (λ report. FailsIfFewer report.sessions sessions (S.failures source.old) (S.failures source.new)) }
     ensures accepted { IfOk result (λ report. S.accepted source.new ≡ S.accepted source.old + report.sessions) }
     ensures few { IfOk result (λ report. (report.sessions ≡ vec_len report.ends) × (report.sessions ≤ sessions)) }
-    ensures run { (limits : Limits) → L.limits ≡ Some limits → IfOk result (λ report. IsRun (record { always = G.is_open; limits_are = limits; coming = S.coming source.old; later = S.coming source.new; records = report.records; taken = report.bytes_in; given = report.bytes_out; ends = report.ends.items; received = map arc_value report.traced.received.items; trace = record { base = K.contents traces.thread.promise.sink.value; now = K.contents report.sink; before = K.failures traces.thread.promise.sink.value; after = K.failures report.sink; is_synced = K.is_synced report.sink; whole = report.traced.whole; bytes = report.traced.bytes; fault = report.traced.fault } })) }
-    ensures judged { (limits : Limits) → L.limits ≡ Some limits → IfOk result (λ report. IsJudged limits.bounds (K.contents traces.thread.promise.sink.value) (K.contents report.sink) report.traced.whole report.traced.bytes) }
+    ensures run { IfOk result (λ report. IsRun (record { always = G.is_open; limits_are = limits; coming = S.coming source.old; later = S.coming source.new; records = report.records; taken = report.bytes_in; given = report.bytes_out; ends = report.ends.items; received = map arc_value report.traced.received.items; trace = record { base = K.contents traces.thread.promise.sink.value; now = K.contents report.sink; before = K.failures traces.thread.promise.sink.value; after = K.failures report.sink; is_synced = K.is_synced report.sink; whole = report.traced.whole; bytes = report.traced.bytes; fault = report.traced.fault } })) }
+    ensures judged { IfOk result (λ report. IsJudged (K.contents traces.thread.promise.sink.value) (K.contents report.sink) report.traced.whole report.traced.bytes) }
     ensures lost { IfErr result (λ fault. fault ≡ run_fault.NoThread → S.failures source.new ≡ S.failures source.old) }
 {
-    runs_are_judged();
+    runs_are_judged(limits);
     let ended = serve_all(rt, alloc, shared, source, sessions, rooms);
     let done = traces.join(&rt);
     let ended = ended?;
@@ -461,8 +463,8 @@ fn serve_traced<
 /// once the gate lets it through. When all sessions have ended, the run is closed, what their seats counted is gathered, and receipts,
 /// records and what the trace thread received are compared. Where accepting fails, the sessions before are served to their end, and the
 /// report has fewer. Where a session's own thread cannot be started they are too, but there is no report. Where the sink fails, the
-/// report tells it. An audit under the same limits finds what the sink took legal, with the whole records that are told. In any case no
-/// thread goes on then.
+/// report tells it. The trace tells the limits of the run, and an audit finds what the sink took legal, with the whole records that are
+/// told. In any case no thread goes on then.
 pub fn run_sessions<
     Rt: Threads + Wait + Clock + Copy + Drop + Send + Sync + 'static,
     S: Source + Send + 'static,
@@ -489,13 +491,13 @@ pub fn run_sessions<
     ensures accepted { IfOk result (λ report. S.accepted source.new ≡ S.accepted source.old + report.sessions) }
     ensures few { IfOk result (λ report. (report.sessions ≡ vec_len report.ends) × (report.sessions ≤ sessions)) }
     ensures run { IfOk result (λ report. IsRun (record { always = G.is_open; limits_are = limits; coming = S.coming source.old; later = S.coming source.new; records = report.records; taken = report.bytes_in; given = report.bytes_out; ends = report.ends.items; received = map arc_value report.traced.received.items; trace = record { base = K.contents sink; now = K.contents report.sink; before = K.failures sink; after = K.failures report.sink; is_synced = K.is_synced report.sink; whole = report.traced.whole; bytes = report.traced.bytes; fault = report.traced.fault } })) }
-    ensures judged { IfOk result (λ report. IsJudged limits.bounds (K.contents sink) (K.contents report.sink) report.traced.whole report.traced.bytes) }
+    ensures judged { IfOk result (λ report. IsJudged (K.contents sink) (K.contents report.sink) report.traced.whole report.traced.bytes) }
     ensures lost { IfErr result (λ fault. fault ≡ run_fault.NoThread → S.failures source.new ≡ S.failures source.old) }
 {
     let rooms = rooms_for(alloc, sessions)?;
     let (shared, end) = shared_by::<G, L>(alloc, limits, blanks, gate)?;
-    match start_trace(rt, alloc, end, sink) {
-        Some(traces) => serve_traced(rt, alloc, shared, source, sessions, rooms, traces),
+    match start_trace(rt, alloc, end, limits, sink) {
+        Some(traces) => serve_traced(rt, alloc, shared, source, sessions, rooms, limits, traces),
         None => Err(RunFault::NoThread),
     }
 }

@@ -3,8 +3,10 @@
 ghost use Rattle.std.specs.Prelude.{◌≡◌, ◌+◌, ◌<◌, ◌^◌, [], true, map, IfSome};
 ghost use Rattle.std.specs.Arc.{arc_value};
 ghost use Rattle.rtrb.specs.Ring.{received};
+ghost use Rattle.frame_codec.specs.Trace.{told_of};
 ghost use Rattle.run_core.specs.Traced.{IsTold};
 
+use call_types::limits::Limits;
 use std::alloc::Global;
 use std::snapshot::Snapshot;
 use std::sync::Wait;
@@ -23,18 +25,21 @@ pub(crate) struct Done<K: Sink> {
     pub(crate) sink: K,
 }
 
-/// What the thread of a trace promises: that the records which it received are written to this sink, as far as it tells.
+/// What the thread of a trace promises: that the records which it received are written to this sink, as far as it tells, after these
+/// limits.
 #[derive(Drop)]
 pub(crate) struct Tracing<K: Sink> {
+    limits: Limits,
     sink: Snapshot<K>,
 }
 
 impl<K: Sink> Promise<Done<K>> for Tracing<K> {
     ghost use Rattle.std.specs.Prelude.{map};
     ghost use Rattle.std.specs.Arc.{arc_value};
+    ghost use Rattle.frame_codec.specs.Trace.{told_of};
     ghost use Rattle.run_core.specs.Traced.{IsTold};
 
-    ghost kept_by = { λ p done. IsTold (record { base = K.contents p.sink.value; now = K.contents done.sink; before = K.failures p.sink.value; after = K.failures done.sink; is_synced = K.is_synced done.sink; whole = done.traced.whole; bytes = done.traced.bytes; fault = done.traced.fault }) (map arc_value done.traced.received.items) };
+    ghost kept_by = { λ p done. IsTold (told_of p.limits) (record { base = K.contents p.sink.value; now = K.contents done.sink; before = K.failures p.sink.value; after = K.failures done.sink; is_synced = K.is_synced done.sink; whole = done.traced.whole; bytes = done.traced.bytes; fault = done.traced.fault }) (map arc_value done.traced.received.items) };
 }
 
 /// A trace that goes on in its thread.
@@ -44,14 +49,20 @@ pub(crate) struct Traces<K: Sink> {
 }
 
 /// Writes a trace, and gives its sink back beside what became of it.
-fn trace_into<Rt: Wait + Clock, K: Sink>(rt: &Rt, alloc: Global, end: TraceEnd, sink: K) -> Done<K>
+fn trace_into<Rt: Wait + Clock, K: Sink>(
+    rt: &Rt,
+    alloc: Global,
+    end: TraceEnd,
+    limits: Limits,
+    sink: K,
+) -> Done<K>
     requires fresh { received end ≡ [] }
     requires sound { K.is_sound sink ≡ true }
     requires few { K.failures sink + 1 < 2 ^ 64 }
-    ensures { IsTold (record { base = K.contents sink; now = K.contents result.sink; before = K.failures sink; after = K.failures result.sink; is_synced = K.is_synced result.sink; whole = result.traced.whole; bytes = result.traced.bytes; fault = result.traced.fault }) (map arc_value result.traced.received.items) }
+    ensures { IsTold (told_of limits) (record { base = K.contents sink; now = K.contents result.sink; before = K.failures sink; after = K.failures result.sink; is_synced = K.is_synced result.sink; whole = result.traced.whole; bytes = result.traced.bytes; fault = result.traced.fault }) (map arc_value result.traced.received.items) }
 {
     let mut end = end;
-    let (sink, traced) = write_trace(rt, alloc, &mut end, sink);
+    let (sink, traced) = write_trace(rt, alloc, &mut end, limits, sink);
     Done { traced, sink }
 }
 
@@ -59,16 +70,17 @@ fn trace_into<Rt: Wait + Clock, K: Sink>(rt: &Rt, alloc: Global, end: TraceEnd, 
 pub(crate) fn start_trace<
     Rt: Threads + Wait + Clock + Copy + Send + 'static,
     K: Sink + Send + Drop + 'static,
->(rt: Rt, alloc: Global, end: TraceEnd, sink: K) -> Option<Traces<K>>
+>(rt: Rt, alloc: Global, end: TraceEnd, limits: Limits, sink: K) -> Option<Traces<K>>
     requires fresh { received end ≡ [] }
     requires sound { K.is_sound sink ≡ true }
     requires few { K.failures sink + 1 < 2 ^ 64 }
-    ensures { IfSome result (λ t. (K.contents t.thread.promise.sink.value ≡ K.contents sink) × (K.failures t.thread.promise.sink.value ≡ K.failures sink)) }
+    ensures { IfSome result (λ t. (K.contents t.thread.promise.sink.value ≡ K.contents sink) × (K.failures t.thread.promise.sink.value ≡ K.failures sink) × (t.thread.promise.limits ≡ limits)) }
 {
     let promise = Tracing {
+        limits,
         sink: Snapshot::of(&sink),
     };
-    let tracing = move || trace_into(&rt, alloc, end, sink);
+    let tracing = move || trace_into(&rt, alloc, end, limits, sink);
     match thread::spawn_with(&rt, promise, tracing) {
         Ok(thread) => Some(Traces { thread }),
         Err(_) => None,
@@ -78,7 +90,7 @@ pub(crate) fn start_trace<
 impl<K: Sink> Traces<K> {
     /// Waits until the trace is written.
     pub(crate) fn join<Rt: Threads>(self, rt: &Rt) -> Done<K>
-        ensures { IsTold (record { base = K.contents self.thread.promise.sink.value; now = K.contents result.sink; before = K.failures self.thread.promise.sink.value; after = K.failures result.sink; is_synced = K.is_synced result.sink; whole = result.traced.whole; bytes = result.traced.bytes; fault = result.traced.fault }) (map arc_value result.traced.received.items) }
+        ensures { IsTold (told_of self.thread.promise.limits) (record { base = K.contents self.thread.promise.sink.value; now = K.contents result.sink; before = K.failures self.thread.promise.sink.value; after = K.failures result.sink; is_synced = K.is_synced result.sink; whole = result.traced.whole; bytes = result.traced.bytes; fault = result.traced.fault }) (map arc_value result.traced.received.items) }
     {
         self.thread.join(rt)
     }

@@ -1,6 +1,7 @@
 -- Why the trace of a run is judged legal (own).
-use Rattle.std.specs.Prelude.{ℕ, List}
+use Rattle.std.specs.Prelude.{◌≡◌, ℕ, true, List}
 use Rattle.call_types.specs.declared.act.Record.{Record}
+use Rattle.frame_codec.specs.Trace.{is_told, told_of}
 use Rattle.run_core.specs.Run.{RunTold, IsRun}
 use Rattle.run_core.specs.Judged.{FlagsDecideAt, IsJudged}
 
@@ -8,6 +9,8 @@ use Rattle.run_core.specs.Judged.{FlagsDecideAt, IsJudged}
 abbrev pub FlagsDecideAll : List Record → Type 0
 FlagsDecideAll records = (p : ℕ) → FlagsDecideAt records p
 
--- what was written of each run is legal: its acts came in frames or have no fields, so that each record has a frame
+-- what was written of each run is legal: its trace tells limits that a run may have, and its acts came in frames or have no fields, so
+-- that each record has a frame
 abbrev pub RunsAreJudged : Type 0
-RunsAreJudged = (told : RunTold) → IsRun told → FlagsDecideAll told.received → IsJudged told.limits_are.bounds told.trace.base told.trace.now told.trace.whole told.trace.bytes
+RunsAreJudged =
+    (told : RunTold) → IsRun told → FlagsDecideAll told.received → is_told (told_of told.limits_are) ≡ true → IsJudged told.trace.base told.trace.now told.trace.whole told.trace.bytes

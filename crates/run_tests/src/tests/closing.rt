@@ -124,13 +124,13 @@ struct ClosedRun<L: Ledgers> {
 }
 
 /// What becomes of a trace in memory.
-fn traced_by<Rt: Wait + Clock>(rt: &Rt, alloc: Global, end: TraceEnd) -> Traced
+fn traced_by<Rt: Wait + Clock>(rt: &Rt, alloc: Global, end: TraceEnd) -> Result<Traced, Fail>
     requires { received end ≡ [] }
 {
     let mut end = end;
     let sink = MemorySink::new(alloc, Manner::sound());
-    let (_sink, traced) = write_trace(rt, alloc, &mut end, sink);
-    traced
+    let (_sink, traced) = write_trace(rt, alloc, &mut end, Limits::new(10, 1024)?, sink);
+    Ok(traced)
 }
 
 /// The end of the ring of a book, which was not taken.
@@ -175,7 +175,7 @@ fn with_its_trace<Rt: Wait + Clock, L: Ledgers>(
 ) -> Result<ClosedRun<L>, Fail>
     requires { received end ≡ [] }
 {
-    let traced = traced_by(rt, alloc, end);
+    let traced = traced_by(rt, alloc, end)?;
     match book {
         Some(book) => Ok(ClosedRun {
             book,
@@ -194,7 +194,7 @@ fn closed_run<Rt: Wait + Clock, L: Ledgers>(
 ) -> Result<ClosedRun<L>, Fail>
     requires { blanks ≡ L.names }
 {
-    let mut book = Book::<L>::new(alloc, Limits::new(10)?, blanks)?;
+    let mut book = Book::<L>::new(alloc, Limits::new(10, 1024)?, blanks)?;
     let both = closed_with_its_end(alloc, &mut book);
     let book = ended(book);
     let (seats, end) = both?;
@@ -219,10 +219,10 @@ fn traced_of_nothing<Rt: Wait + Clock, L: Ledgers>(
 ) -> Result<Traced, Fail>
     requires { blanks ≡ L.names }
 {
-    let mut book = Book::<L>::new(alloc, Limits::new(10)?, blanks)?;
+    let mut book = Book::<L>::new(alloc, Limits::new(10, 1024)?, blanks)?;
     let end = only_closed(&mut book);
     match (is_ended(book), end) {
-        (true, Some(end)) => Ok(traced_by(rt, alloc, end)),
+        (true, Some(end)) => traced_by(rt, alloc, end),
         _ => Err("the run is closed")?,
     }
 }

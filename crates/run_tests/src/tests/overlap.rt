@@ -391,7 +391,7 @@ fn waits_at_its_gate<
 #[test]
 fn answer_waits_at_its_gate_for_another_session(rt: HostRuntime) -> Result<(), Fail> {
     for _ in 0..REPEATED {
-        let limits = Limits::new(100)?;
+        let limits = Limits::new(100, 1024)?;
         waits_at_its_gate::<HostRuntime, Brand>(rt, rt.alloc(), limits, Blanks::new())?;
     }
     Ok(())
@@ -460,7 +460,7 @@ fn under_a_gate<
 #[test]
 fn answer_is_refused_a_thousand_times(rt: HostRuntime) -> Result<(), Fail> {
     let said = Arc::new(rt.alloc(), Said::new())?;
-    let limits = Limits::new(100)?;
+    let limits = Limits::new(100, 1024)?;
     let came = under_a_gate::<HostRuntime, Brand>(
         rt,
         rt.alloc(),
@@ -478,7 +478,7 @@ fn answer_is_refused_a_thousand_times(rt: HostRuntime) -> Result<(), Fail> {
 #[test]
 fn refusal_is_asked_for_by_the_records_seen(rt: HostRuntime) -> Result<(), Fail> {
     let said = Arc::new(rt.alloc(), Said::new())?;
-    let limits = Limits::new(3)?;
+    let limits = Limits::new(3, 1024)?;
     let came = under_a_gate::<HostRuntime, Brand>(
         rt,
         rt.alloc(),
@@ -623,7 +623,7 @@ fn is_whole_one_by_one<
 #[test]
 fn reader_waits_for_the_answer_of_another_session(rt: HostRuntime) -> Result<(), Fail> {
     for _ in 0..REPEATED {
-        let limits = Limits::new(100)?;
+        let limits = Limits::new(100, 1024)?;
         let whole = is_whole_one_by_one::<HostRuntime, Brand>(
             rt,
             rt.alloc(),
@@ -696,7 +696,7 @@ fn sink_that_fails_keeps_no_answer_back(rt: HostRuntime) -> Result<(), Fail> {
         (Manner::unsyncable(), TraceFault::Sync, 7),
         (Manner::refusing(), TraceFault::Write, 0),
     ] {
-        let limits = Limits::new(100)?;
+        let limits = Limits::new(100, 1024)?;
         let came = keeps_no_answer_back::<HostRuntime, Brand>(
             rt,
             rt.alloc(),

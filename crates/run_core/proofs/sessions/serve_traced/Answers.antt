@@ -6,14 +6,14 @@ use Rattle.run_core.proofs.JoinLemmas.{run_of}
 use Rattle.run_core.proofs.sessions.serve_traced.Goals as goal
 
 pub returns-clause-run : goal.returns-clause-run
-returns-clause-run g c = λ limits within.
+returns-clause-run g c =
     let report = c.in_ok-report.report in
     let done = c.join-done.result in
     let told = c.in_ok-report.ensures in
     run_of
     (record {
       always = g.G.Gate.is_open;
-      limits_are = limits;
+      limits_are = c.args.limits;
       coming = g.S.Source.coming c.args.source.now;
       later = g.S.Source.coming c.serve_all-ended.new.source;
       records = report.records;
@@ -45,10 +45,10 @@ returns-clause-run g c = λ limits within.
     })
     (let same = told.ends.0 in cc) (let same = told.trace.0 in cc)
     (let traced = told.trace.0 in let sink = told.trace.1 in cc)
-    within c.in_ok-ended.ensures.ended told.run c.join-done.ensures
+    c.requires.limits c.in_ok-ended.ensures.ended told.run (rw c.requires.traced at c.join-done.ensures)
 
 pub returns-clause-judged : goal.returns-clause-judged
-returns-clause-judged g c = λ limits within.
+returns-clause-judged g c =
     let told = c.in_ok-report.ensures in
     let decided = subst (λ (traced : Traced). FlagsDecideAll (map arc_value traced.received.items)) (sym told.trace.0) told.decided in
-    c.runs_are_judged.ensures _ (returns-clause-run g c limits within) decided
+    c.runs_are_judged.ensures.judged _ (returns-clause-run g c) decided c.runs_are_judged.ensures.told
