@@ -4,7 +4,7 @@ use Rattle.std.specs.Prelude.{IfSome}
 use Rattle.std.proofs.lemmas.List.{append-nil}
 use Rattle.std.specs.Io.KnownBytes.{Appends, Consumes, IsAtEnd}
 use Rattle.logged_streams.specs.Streams.{LoggedReaderState}
-use Rattle.audit_core.specs.Audited.{version_1, Audits}
+use Rattle.audit_core.specs.Audited.{Audits}
 use Rattle.audit_core.specs.Proved.Laws.{FaultStays}
 use Rattle.audit_core.specs.Verdict.{IsVerdict}
 use Rattle.audit_core.specs.declared.verdict.Verdict.{Verdict}
@@ -20,22 +20,22 @@ all_read None to bytes consumes end = tt
 all_read (Some known) None bytes consumes end = absurd consumes
 all_read (Some known) (Some left) bytes consumes end = sym (consumes ∙ ap (λ (x : List ℕ). bytes ++ x) end ∙ append-nil bytes)
 
-legal_judged : (from to : Option (List ℕ)) (bytes : List ℕ) (records rest : ℕ) → Consumes from to bytes → IsAtEnd to → IsVerdict version_1 bytes (Legal records rest) → IsVerdictOn from (Legal records rest)
+legal_judged : (from to : Option (List ℕ)) (bytes : List ℕ) (records rest : ℕ) → Consumes from to bytes → IsAtEnd to → IsVerdict bytes (Legal records rest) → IsVerdictOn from (Legal records rest)
 legal_judged from to bytes records rest consumes end v = record { bytes = bytes; whole = all_read from to bytes consumes end; is_verdict = v }
 
 -- what stays whatever comes after it holds of all
-stays_judged : (from to : Option (List ℕ)) (bytes : List ℕ) (verdict : Verdict) → Consumes from to bytes → IsVerdict version_1 bytes verdict
-    → ((more : List ℕ) → IsVerdict version_1 (bytes ++ more) verdict) → IsVerdictOn from verdict
+stays_judged : (from to : Option (List ℕ)) (bytes : List ℕ) (verdict : Verdict) → Consumes from to bytes → IsVerdict bytes verdict
+    → ((more : List ℕ) → IsVerdict (bytes ++ more) verdict) → IsVerdictOn from verdict
 stays_judged None to bytes verdict consumes v stays = record { bytes = bytes; whole = tt; is_verdict = v }
 stays_judged (Some known) None bytes verdict consumes v stays = absurd consumes
 stays_judged (Some known) (Some left) bytes verdict consumes v stays = record { bytes = bytes ++ left; whole = sym consumes; is_verdict = stays left }
 
-pub judged : (from to : LoggedReaderState) (verdict : Verdict) → FaultStays → Audits version_1 from to (Ok verdict) → IsVerdictOn from.remaining verdict
+pub judged : (from to : LoggedReaderState) (verdict : Verdict) → FaultStays → Audits from to (Ok verdict) → IsVerdictOn from.remaining verdict
 judged from to (Legal records rest) stays a = legal_judged from.remaining to.remaining a.input records rest a.consumes a.met a.answers
 judged from to (Illegal place expected) stays a =
-    stays_judged from.remaining to.remaining a.input (Illegal place expected) a.consumes a.answers (λ more. stays version_1 a.input more (Illegal place expected) tt a.answers)
+    stays_judged from.remaining to.remaining a.input (Illegal place expected) a.consumes a.answers (λ more. stays a.input more (Illegal place expected) tt a.answers)
 judged from to (Malformed at) stays a =
-    stays_judged from.remaining to.remaining a.input (Malformed at) a.consumes a.answers (λ more. stays version_1 a.input more (Malformed at) tt a.answers)
+    stays_judged from.remaining to.remaining a.input (Malformed at) a.consumes a.answers (λ more. stays a.input more (Malformed at) tt a.answers)
 
 pub verdict_written : (input old new : Option (List ℕ)) (verdict : Verdict) (line : List ℕ) → IsVerdictOn input verdict → line ≡ verdict_line verdict → Appends old new line
     → AuditEnds input old new (verdict_end verdict)

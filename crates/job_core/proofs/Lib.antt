@@ -4,4 +4,5 @@ pub mod OutputLemmas
 pub mod ReplayLemmas
 pub mod RunLemmas
 pub mod AuditLemmas
+pub mod MigrateLemmas
 pub mod ShowLemmas

@@ -21,8 +21,8 @@ use Rattle.clap.specs.declared.parser.matches.ValueSource.TheVariants.{CommandLi
 use Rattle.clap.specs.declared.error.Error.{Error}
 use Rattle.clap.specs.declared.error.kind.ErrorKind.TheVariants as kind
 use Rattle.clap.proofs.WalkLemmas.{first_value-rows}
-use Rattle.job_core.specs.CommandLine.{Asks, Deserves, Given, IsJobOf, IsMistake, IsOutOfRange, IsRequest, audit_app, fdref_app, file_rule, flag_rule, name_given, replay_app, required_rule, serve_app, show_app, text_given}
-use Rattle.job_core.specs.Proved.Parsing.{GivesAll, GivesFile, HaveApps, HaveRules, IsFaultOf, IsParse, RefusesNumber}
+use Rattle.job_core.specs.CommandLine.{Asks, Deserves, Given, IsJobOf, IsMistake, IsOutOfRange, IsRequest, audit_app, fdref_app, file_rule, flag_rule, migrate_app, name_given, option_rule, replay_app, required_rule, serve_app, show_app, text_given, word_rule}
+use Rattle.job_core.specs.Proved.Parsing.{GivesAll, GivesBoth, GivesFile, HaveApps, HaveRules, IsFaultOf, IsParse, RefusesNumber}
 use Rattle.job_core.specs.declared.job.Job.{Job}
 use Rattle.job_core.specs.declared.job.JobFault.{JobFault}
 use Rattle.job_core.specs.declared.job.JobFault.TheVariants.{Usage, Shown, NoMemory}
@@ -112,6 +112,9 @@ audit_shape = built_leaf (inherited above audit_app.top)
 abbrev show_shape : Shape
 show_shape = built_leaf (inherited above show_app.top)
 
+abbrev migrate_shape : Shape
+migrate_shape = built_leaf (inherited above migrate_app.top)
+
 -- ---- each use leaves a value
 
 -- a required option wants a value
@@ -119,10 +122,18 @@ required_fills : (id : Text) → Fills (with_index 1 (filled (required_rule id))
 required_fills id again [] rows e f = cc
 required_fills id again (v ∷ vs) rows e f = replaced id _ CommandLine v vs rows f
 
--- and so does a file
+-- and so does one that need not be given
+option_fills : (id : Text) → Fills (with_index 1 (filled (option_rule id)))
+option_fills id again [] rows e f = cc
+option_fills id again (v ∷ vs) rows e f = replaced id _ CommandLine v vs rows f
+
+-- and so does a word that stands by itself, at whichever place
+word_fills : (place : ℕ) (id : Text) → Fills (with_index place (filled (word_rule id)))
+word_fills place id again [] rows e f = cc
+word_fills place id again (v ∷ vs) rows e f = replaced id _ CommandLine v vs rows f
+
 file_fills : Fills (with_index 1 (filled file_rule))
-file_fills again [] rows e f = cc
-file_fills again (v ∷ vs) rows e f = replaced (codes "file") _ CommandLine v vs rows f
+file_fills = word_fills 1 (codes "file")
 
 -- an option that takes none has one that stands for its use
 flag_fills : (id : Text) → Fills (with_index 1 (filled (flag_rule id)))
@@ -135,13 +146,16 @@ added_fill = ((λ again values rows e f. f), ((λ again values rows e f. f), tt)
 
 serve_fills : Each serve_shape.rules
 serve_fills =
-    (required_fills (codes "socket"), (required_fills (codes "sessions"), (required_fills (codes "records"), (required_fills (codes "trace"), added_fill))))
+    (required_fills (codes "socket"), (required_fills (codes "sessions"), (required_fills (codes "records"), (required_fills (codes "trace"), (option_fills (codes "pipe-capacity"), added_fill)))))
 
 audit_fills : Each audit_shape.rules
 audit_fills = (file_fills, added_fill)
 
 show_fills : Each show_shape.rules
 show_fills = (flag_fills (codes "acts"), (file_fills, added_fill))
+
+migrate_fills : Each migrate_shape.rules
+migrate_fills = (word_fills 1 (codes "in"), (word_fills 2 (codes "out"), added_fill))
 
 -- ---- what is required is given
 
@@ -194,6 +208,14 @@ show_gives words e =
     let level = level_filled show_shape show_fills [] words false [] e in
     (none_missing show_shape.rules rows level.0 (passes _ level.2)).1.0 refl
 
+migrate_gives : (words : List Text) → level_fault migrate_shape [] nothing_held words false [] ≡ []
+    → GivesBoth (λ id. first_of id (rows_after migrate_shape.rules [] words))
+migrate_gives words e =
+    let rows = rows_after migrate_shape.rules [] words in
+    let level = level_filled migrate_shape migrate_fills [] words false [] e in
+    let all = none_missing migrate_shape.rules rows level.0 (passes _ level.2) in
+    (all.0 refl, all.1.0 refl)
+
 -- ---- the name of a subcommand
 
 -- texts that differ at a place are two
@@ -202,13 +224,14 @@ differ a b i m n at_a at_b apart e = apart (sym at_a ∙ ap (λ (t : Text). slic
 
 -- the names of the subcommands
 abbrev IsName : Text → Type 0
-IsName name = (name ≡ codes "replay") ⊎ ((name ≡ codes "serve") ⊎ ((name ≡ codes "audit") ⊎ (name ≡ codes "show")))
+IsName name = (name ≡ codes "replay") ⊎ ((name ≡ codes "serve") ⊎ ((name ≡ codes "audit") ⊎ ((name ≡ codes "show") ⊎ (name ≡ codes "migrate"))))
 
 -- what is required of the subcommand of this name is given
 record Has (name : Text) (given : Given) : Type 0 where
   serve : name ≡ codes "serve" → GivesAll given
   audit : name ≡ codes "audit" → GivesFile given
   show : name ≡ codes "show" → GivesFile given
+  migrate : name ≡ codes "migrate" → GivesBoth given
 
 -- the matches name one of the subcommands, with each argument that it requires
 abbrev Fits : Option (Text × List Row) → Type 0
@@ -220,6 +243,7 @@ replay_has given = record {
   serve = λ e. absurd (differ (codes "replay") (codes "serve") 0 114 115 refl refl (λ n. omega (arith, n)) e);
   audit = λ e. absurd (differ (codes "replay") (codes "audit") 0 114 97 refl refl (λ n. omega (arith, n)) e);
   show = λ e. absurd (differ (codes "replay") (codes "show") 0 114 115 refl refl (λ n. omega (arith, n)) e);
+  migrate = λ e. absurd (differ (codes "replay") (codes "migrate") 0 114 109 refl refl (λ n. omega (arith, n)) e);
 }
 
 serve_has : (given : Given) → GivesAll given → Has (codes "serve") given
@@ -227,6 +251,7 @@ serve_has given all = record {
   serve = λ e. all;
   audit = λ e. absurd (differ (codes "serve") (codes "audit") 0 115 97 refl refl (λ n. omega (arith, n)) e);
   show = λ e. absurd (differ (codes "serve") (codes "show") 1 101 104 refl refl (λ n. omega (arith, n)) e);
+  migrate = λ e. absurd (differ (codes "serve") (codes "migrate") 0 115 109 refl refl (λ n. omega (arith, n)) e);
 }
 
 audit_has : (given : Given) → GivesFile given → Has (codes "audit") given
@@ -234,6 +259,7 @@ audit_has given file = record {
   serve = λ e. absurd (differ (codes "audit") (codes "serve") 0 97 115 refl refl (λ n. omega (arith, n)) e);
   audit = λ e. file;
   show = λ e. absurd (differ (codes "audit") (codes "show") 0 97 115 refl refl (λ n. omega (arith, n)) e);
+  migrate = λ e. absurd (differ (codes "audit") (codes "migrate") 0 97 109 refl refl (λ n. omega (arith, n)) e);
 }
 
 show_has : (given : Given) → GivesFile given → Has (codes "show") given
@@ -241,23 +267,33 @@ show_has given file = record {
   serve = λ e. absurd (differ (codes "show") (codes "serve") 1 104 101 refl refl (λ n. omega (arith, n)) e);
   audit = λ e. absurd (differ (codes "show") (codes "audit") 0 115 97 refl refl (λ n. omega (arith, n)) e);
   show = λ e. file;
+  migrate = λ e. absurd (differ (codes "show") (codes "migrate") 0 115 109 refl refl (λ n. omega (arith, n)) e);
 }
 
-abbrev met : Bool → Bool → Bool → Bool → Option Shape
-met a b c d = cond a (Some replay_shape) (cond b (Some serve_shape) (cond c (Some audit_shape) (cond d (Some show_shape) None)))
+migrate_has : (given : Given) → GivesBoth given → Has (codes "migrate") given
+migrate_has given both = record {
+  serve = λ e. absurd (differ (codes "migrate") (codes "serve") 0 109 115 refl refl (λ n. omega (arith, n)) e);
+  audit = λ e. absurd (differ (codes "migrate") (codes "audit") 0 109 97 refl refl (λ n. omega (arith, n)) e);
+  show = λ e. absurd (differ (codes "migrate") (codes "show") 0 109 115 refl refl (λ n. omega (arith, n)) e);
+  migrate = λ e. both;
+}
+
+abbrev met : Bool → Bool → Bool → Bool → Bool → Option Shape
+met a b c d e = cond a (Some replay_shape) (cond b (Some serve_shape) (cond c (Some audit_shape) (cond d (Some show_shape) (cond e (Some migrate_shape) None))))
 
 entered_fits : (stop : Option (Text × List Text)) → entered_fault whole stop ≡ [] → is_some (entered whole stop) ≡ true → Fits (entered whole stop)
 entered_fits None e some = cc
 entered_fits (Some p) e some =
-    go (answers_to p.0 (label_of replay_shape)) (answers_to p.0 (label_of serve_shape)) (answers_to p.0 (label_of audit_shape)) (answers_to p.0 (label_of show_shape)) e some
+    go (answers_to p.0 (label_of replay_shape)) (answers_to p.0 (label_of serve_shape)) (answers_to p.0 (label_of audit_shape)) (answers_to p.0 (label_of show_shape)) (answers_to p.0 (label_of migrate_shape)) e some
   where
-    go : (a b c d : Bool) → option_map_or (λ s. level_fault s [] nothing_held p.1 false []) (met a b c d) [] ≡ []
-        → is_some (option_map (λ s. rows_at s p.1) (met a b c d)) ≡ true → Fits (option_map (λ s. rows_at s p.1) (met a b c d))
-    go true b c d e some = (inl refl, replay_has _)
-    go false true c d e some = (inr (inl refl), serve_has _ (serve_gives p.1 e))
-    go false false true d e some = (inr (inr (inl refl)), audit_has _ (audit_gives p.1 e))
-    go false false false true e some = (inr (inr (inr refl)), show_has _ (show_gives p.1 e))
-    go false false false false e some = cc
+    go : (a b c d m : Bool) → option_map_or (λ s. level_fault s [] nothing_held p.1 false []) (met a b c d m) [] ≡ []
+        → is_some (option_map (λ s. rows_at s p.1) (met a b c d m)) ≡ true → Fits (option_map (λ s. rows_at s p.1) (met a b c d m))
+    go true b c d m e some = (inl refl, replay_has _)
+    go false true c d m e some = (inr (inl refl), serve_has _ (serve_gives p.1 e))
+    go false false true d m e some = (inr (inr (inl refl)), audit_has _ (audit_gives p.1 e))
+    go false false false true m e some = (inr (inr (inr (inl refl))), show_has _ (show_gives p.1 e))
+    go false false false false true e some = (inr (inr (inr (inr refl))), migrate_has _ (migrate_gives p.1 e))
+    go false false false false false e some = cc
 
 fits : (words : List Text) → fault_of fdref_app words ≡ [] → Fits (subcommand_of fdref_app words)
 fits words e =
@@ -296,12 +332,13 @@ named words m parse = go (subcommand_name_of m) (found_at words m parse)
 
 -- it is none of them, so there is no such name
 pub none_named : (name : Option Text) → IsNamed name → (name ≡ Some (codes "replay") → ⊥) → (name ≡ Some (codes "serve") → ⊥) → (name ≡ Some (codes "audit") → ⊥)
-    → (name ≡ Some (codes "show") → ⊥) → ⊥
-none_named None h replay serve audit show = h
-none_named (Some name) (inl e) replay serve audit show = replay (ap Some e)
-none_named (Some name) (inr (inl e)) replay serve audit show = serve (ap Some e)
-none_named (Some name) (inr (inr (inl e))) replay serve audit show = audit (ap Some e)
-none_named (Some name) (inr (inr (inr e))) replay serve audit show = show (ap Some e)
+    → (name ≡ Some (codes "show") → ⊥) → (name ≡ Some (codes "migrate") → ⊥) → ⊥
+none_named None h replay serve audit show migrate = h
+none_named (Some name) (inl e) replay serve audit show migrate = replay (ap Some e)
+none_named (Some name) (inr (inl e)) replay serve audit show migrate = serve (ap Some e)
+none_named (Some name) (inr (inr (inl e))) replay serve audit show migrate = audit (ap Some e)
+none_named (Some name) (inr (inr (inr (inl e)))) replay serve audit show migrate = show (ap Some e)
+none_named (Some name) (inr (inr (inr (inr e)))) replay serve audit show migrate = migrate (ap Some e)
 
 -- and the matches of that subcommand have each argument that it requires
 has : (words : List Text) (m inner : ArgMatches) (name : Text) → IsParse words m → subcommand_name_of m ≡ Some name
@@ -321,6 +358,10 @@ audit_given words m inner parse is rows = (has words m inner (codes "audit") par
 pub show_given : (words : List Text) (m inner : ArgMatches) → IsParse words m → subcommand_name_of m ≡ Some (codes "show")
     → option_map (λ p. p.1) (subcommand_rows_of m) ≡ Some (rows_of (found_of inner)) → GivesFile (first_value (found_of inner))
 show_given words m inner parse is rows = (has words m inner (codes "show") parse is rows).show refl
+
+pub migrate_given : (words : List Text) (m inner : ArgMatches) → IsParse words m → subcommand_name_of m ≡ Some (codes "migrate")
+    → option_map (λ p. p.1) (subcommand_rows_of m) ≡ Some (rows_of (found_of inner)) → GivesBoth (first_value (found_of inner))
+migrate_given words m inner parse is rows = (has words m inner (codes "migrate") parse is rows).migrate refl
 
 -- ---- a command with one option more
 

@@ -1,26 +1,29 @@
 -- A piece more of a trace that is shown, and what is left over at its end.
-use Rattle.std.proofs.Common.{◌≡◌, ◌∙◌, ℕ, ◌+◌, ◌*◌, ◌^◌, ◌<◌, ◌≤◌, inl, inr, List, [], ◌∷◌, ◌++◌, Option, None, Some, Result, Ok, Err, length, take, refl, sym, ap, subst, arith, append_assoc, length-append}
+use Rattle.std.proofs.Common.{◌≡◌, ◌∙◌, ℕ, ◌+◌, ◌*◌, ◌^◌, ◌<◌, ◌≤◌, inl, inr, List, [], ◌∷◌, ◌++◌, Option, None, Some, Result, Ok, Err, length, take, drop, refl, sym, ap, subst, arith, append_assoc, length-append}
 use Rattle.std.specs.Prelude.{IfOk}
 use Rattle.std.proofs.lemmas.Bool.{cases_lt, lt-ltb, le-ltb}
-use Rattle.std.proofs.lemmas.List.{append-nil, length-take, take_all}
+use Rattle.std.proofs.lemmas.List.{append-nil, drop-append-le, length-drop}
 use Rattle.std.proofs.KnownBytes.{Appends-nil, Appends-trans, Consumes-nil, Consumes-trans}
 use Rattle.std.specs.Io.KnownBytes.{Appends, Consumes, IsAtEnd}
 use Rattle.call_types.specs.declared.act.Record.{Record}
 use Rattle.call_types.specs.declared.limits.TheConstants.{RECORD_LENGTH_MAX}
-use Rattle.frame_codec.specs.Decoding.{DecoderState, Feeds, FeedsFrom, told_place}
+use Rattle.frame_codec.specs.Decoding.{DecoderState, Feeds, FeedsFrom, told_place, fresh as fresh_decoder}
 use Rattle.frame_codec.specs.Fields.{number_bytes}
 use Rattle.frame_codec.specs.Frames.{AreFrames, frame}
 use Rattle.frame_codec.specs.Proved.Laws.{Gave, HasEnded, HasGiven, PiecesGoOn}
 use Rattle.frame_codec.specs.Records.{SpellsRecord}
-use Rattle.frame_codec.specs.Trace.{trace_header}
+use Rattle.frame_codec.specs.Trace.{header}
+use Rattle.frame_codec.specs.Proved.Headers.{GoesOn, HeaderGoesOn}
+use Rattle.frame_codec.specs.declared.trace.Header.{Header}
+use Rattle.frame_codec.specs.declared.trace.Header.TheVariants.{Unheaded, Headed}
+use Rattle.frame_codec.specs.declared.trace.ToldLimits.{ToldLimits}
 use Rattle.frame_codec.specs.declared.decoder.Progress.{Progress}
 use Rattle.frame_codec.specs.declared.decoder.Progress.TheVariants as progress
-use Rattle.audit_core.specs.Proved.Laws.{BrokenStays, HeaderGoesOn, HeaderLacks}
-use Rattle.audit_core.specs.Proved.Taking.{IsHeaded, LacksHeader, TakesHeader}
+use Rattle.audit_core.specs.Proved.Laws.{BrokenStays}
 use Rattle.audit_core.specs.declared.audit.TheConstants.{READ_LENGTH, READS_MAX}
 use Rattle.job_core.specs.Output.{AppendsFront}
 use Rattle.job_core.specs.Show.{BeginsWith, HasFaultyFrame, BreaksAt, IsLeft, IsRead, OfAll, OfFront, ShowEnds, WritesAll, WritesSome}
-use Rattle.job_core.specs.Proved.Showing.{BodyGives, GivesPiece, HasShown, IsFound, IsTaken, ShownState, ShowsPiece, TakesBody, TakesPiece, WritesPiece, WritesPieceFront, end_with, fault_at, fresh_shown, left_over, lines_after}
+use Rattle.job_core.specs.Proved.Showing.{BodyGives, GivesPiece, HasShown, IsBegun, IsFound, IsTaken, IsTakenBy, IsUnderWay, ShownState, ShowsPiece, TakesBody, TakesPiece, WritesPiece, WritesPieceFront, end_with, fault_at, fresh_shown, left_over, left_over_by, lines_after}
 use Rattle.job_core.specs.Shown.{LinesState, line_from, lines_from, next_lines, shown_lines}
 use Rattle.job_core.specs.declared.job_end.JobEnd.{JobEnd}
 use Rattle.job_core.specs.declared.job_end.JobEnd.TheVariants as ended
@@ -55,10 +58,6 @@ few_records [] text f = omega arith
 few_records (r ∷ records) text f =
     omega (arith, few_records records f.1 f.4, ap length f.2, length-append f.0 f.1, ap length f.3.is, frame_long f.3.payload)
 
-none_of : (records : List Record) → length records ≤ 0 → records ≡ []
-none_of [] few = refl
-none_of (r ∷ records) few = absurd (omega (arith, few))
-
 -- a piece completes fewer records than there are bytes
 pub few_added : (old new : DecoderState) (piece : List ℕ) (added : List Record) (told : Progress) → Feeds SpellsRecord RECORD_LENGTH_MAX old new piece added told
     → length added ≤ length old.held + length piece
@@ -74,120 +73,138 @@ few_added old new piece added told f = go old.progress f
 pub places_left : (place held piece count given : ℕ) → place + held + piece < 2 ^ 64 → count ≤ held + piece → given ≡ count → place + given < 2 ^ 64
 places_left place held piece count given few within is = omega (arith, few, within, is)
 
+-- ---- headers
+
+-- bytes that begin with a header do so however they go on
+headed_on : (bytes more : List ℕ) (told : ToldLimits) (headed : ℕ) → HeaderGoesOn → header bytes ≡ Headed told headed
+    → (header (bytes ++ more) ≡ Headed told headed) × (drop headed (bytes ++ more) ≡ drop headed bytes ++ more)
+headed_on bytes more told headed law is =
+    let on : GoesOn (length bytes) (Headed told headed) (header (bytes ++ more)) =
+    subst (λ (h : Header). GoesOn (length bytes) h (header (bytes ++ more))) is (law bytes more) in
+    (on.0, drop-append-le headed bytes more on.1)
+
+unheaded_on : (bytes more : List ℕ) → HeaderGoesOn → header bytes ≡ Unheaded → header (bytes ++ more) ≡ Unheaded
+unheaded_on bytes more law is = subst (λ (h : Header). GoesOn (length bytes) h (header (bytes ++ more))) is (law bytes more)
+
 -- ---- a piece of the bytes after the header
 
-body_gives : (body : List ℕ) (records : List Record) (new : ShownState) (told : Progress) → Gave SpellsRecord RECORD_LENGTH_MAX body records new.decoder told
-    → BodyGives body records new (fault_at told)
-body_gives body records new progress.More g = g
-body_gives body records new (progress.Malformed at) g = (progress.Malformed at, g, refl)
-body_gives body records new (progress.TooLong at) g = (progress.TooLong at, g, refl)
+body_gives : (headed : ℕ) (body : List ℕ) (records : List Record) (new : ShownState) (told : Progress) → Gave SpellsRecord RECORD_LENGTH_MAX body records new.decoder told
+    → BodyGives headed body records new (fault_at told headed)
+body_gives headed body records new progress.More g = g
+body_gives headed body records new (progress.Malformed at) g = (progress.Malformed at, g, refl)
+body_gives headed body records new (progress.TooLong at) g = (progress.TooLong at, g, refl)
 
-pub body_taken : (piece text more : List ℕ) (old new : ShownState) (added : List Record) (told : Progress) (found : Option ℕ) → PiecesGoOn SpellsRecord RECORD_LENGTH_MAX
+pub body_taken : (headed : ℕ) (piece text more : List ℕ) (old new : ShownState) (added : List Record) (told : Progress) (found : Option ℕ) → PiecesGoOn SpellsRecord RECORD_LENGTH_MAX
     → Feeds SpellsRecord RECORD_LENGTH_MAX old.decoder new.decoder piece added told → more ≡ text ++ lines_from old.lines added → new.lines ≡ lines_after old.lines added
-    → found ≡ fault_at told → TakesBody piece old new text more found
-body_taken piece text more old new added told found law feeds text_is lines_are is = record {
+    → found ≡ fault_at told headed → TakesBody headed piece old new text more found
+body_taken headed piece text more old new added told found law feeds text_is lines_are is = record {
   added = added;
   text_is = text_is;
   lines_are = lines_are;
   gives = λ body records given.
-      subst (λ (f : Option ℕ). BodyGives (body ++ piece) (records ++ added) new f) (sym is)
-      (body_gives (body ++ piece) (records ++ added) new told (law body piece records added old.decoder new.decoder told given feeds));
+      subst (λ (f : Option ℕ). BodyGives headed (body ++ piece) (records ++ added) new f) (sym is)
+      (body_gives headed (body ++ piece) (records ++ added) new told (law body piece records added old.decoder new.decoder told given feeds));
 }
 
 -- ---- what bytes have
 
--- a fault is not met before a byte
-some_body : (body : List ℕ) (records : List Record) (told : Progress) → HasEnded SpellsRecord RECORD_LENGTH_MAX body records told → 4 ≤ length body
-some_body body records progress.More e = absurd e.fault
-some_body body records (progress.Malformed at) e = omega (arith, e.fault.0.there, ap length e.is, length-append e.text e.rest)
-some_body body records (progress.TooLong at) e = omega (arith, e.fault.0.0, ap length e.is, length-append e.text e.rest)
-
-none_given : (body : List ℕ) (records : List Record) (decoder : DecoderState) → HasGiven SpellsRecord RECORD_LENGTH_MAX body records decoder → body ≡ [] → records ≡ []
-none_given body records decoder given empty =
-    none_of records (omega (arith, few_records records given.text given.frames, ap length given.is, ap length empty, length-append given.text decoder.held))
-
--- a place in the bytes after the header, told as one in all bytes
-place_told : (n at long : ℕ) → Some (told_place (n + 8)) ≡ Some at → n ≡ told_place long → at ≡ told_place (8 + long)
-place_told n at long same is = let e : told_place (n + 8) ≡ at = cc in omega (arith, e, is)
-
--- bytes after all of a header
-after_all : (met : ℕ) (bytes body : List ℕ) → IsHeaded met bytes body → 0 < length body → bytes ≡ trace_header ++ body
-after_all met bytes body h some = elim (cases_lt met 8) [
-  | inl below ↦ absurd (omega (arith, some, ap length (h.begun below)))
-  | inr whole ↦ h.is ∙ ap (λ (x : List ℕ). x ++ body) (take_all met trace_header whole)
-]
-
-whole_after : (met : ℕ) (bytes body : List ℕ) → IsHeaded met bytes body → 8 ≤ met → bytes ≡ trace_header ++ body
-whole_after met bytes body h whole = h.is ∙ ap (λ (x : List ℕ). x ++ body) (take_all met trace_header whole)
+-- a place in the bytes after a header, told as one in all bytes
+place_told : (n at long headed : ℕ) → Some (told_place (n + headed)) ≡ Some at → n ≡ told_place long → at ≡ told_place (headed + long)
+place_told n at long headed same is = let e : told_place (n + headed) ≡ at = cc in omega (arith, e, is)
 
 -- the fault that is told of the bytes after a header
-fault_found : (bytes body : List ℕ) (records : List Record) (told : Progress) (at : ℕ) → bytes ≡ trace_header ++ body → HasEnded SpellsRecord RECORD_LENGTH_MAX body records told → fault_at told ≡ Some at
-    → HasFaultyFrame bytes records at
-fault_found bytes body records progress.More at is e same = absurd e.fault
-fault_found bytes body records (progress.Malformed n) at is e same = record {
+fault_found : (bytes : List ℕ) (records : List Record) (limits : ToldLimits) (headed : ℕ) (told : Progress) (at : ℕ) → header bytes ≡ Headed limits headed
+    → HasEnded SpellsRecord RECORD_LENGTH_MAX (drop headed bytes) records told → fault_at told headed ≡ Some at → HasFaultyFrame bytes records at
+fault_found bytes records limits headed progress.More at begins e same = absurd e.fault
+fault_found bytes records limits headed (progress.Malformed n) at begins e same = record {
   rest = e.rest;
-  read = record { text = e.text; is = is ∙ ap (λ (x : List ℕ). trace_header ++ x) e.is; frames = e.frames };
+  read = record { told = limits; headed = headed; text = e.text; begins = begins; is = e.is; frames = e.frames };
   fault = inl e.fault.0;
-  at_is = place_told n at (length e.text) same e.fault.1;
+  at_is = place_told n at (length e.text) headed same e.fault.1;
 }
-fault_found bytes body records (progress.TooLong n) at is e same = record {
+fault_found bytes records limits headed (progress.TooLong n) at begins e same = record {
   rest = e.rest;
-  read = record { text = e.text; is = is ∙ ap (λ (x : List ℕ). trace_header ++ x) e.is; frames = e.frames };
+  read = record { told = limits; headed = headed; text = e.text; begins = begins; is = e.is; frames = e.frames };
   fault = inr e.fault.0;
-  at_is = place_told n at (length e.text) same e.fault.1;
+  at_is = place_told n at (length e.text) headed same e.fault.1;
 }
 
-body_found : (bytes body : List ℕ) (records : List Record) (new : ShownState) (found : Option ℕ) → IsHeaded new.header bytes body → BodyGives body records new found
-    → IsFound bytes records new found
-body_found bytes body records new None headed given = record { body = body; headed = headed; given = given }
-body_found bytes body records new (Some at) headed g =
-    inr (fault_found bytes body records g.0 at (after_all new.header bytes body headed (omega (arith, some_body body records g.0 g.1))) g.1 g.2)
+body_found : (bytes body : List ℕ) (records : List Record) (new : ShownState) (found : Option ℕ) (limits : ToldLimits) (headed : ℕ) → new.headed ≡ Some headed
+    → header bytes ≡ Headed limits headed → drop headed bytes ≡ body → BodyGives headed body records new found → IsFound bytes records new found
+body_found bytes body records new None limits headed whole begins is given =
+    subst (λ (o : Option ℕ). IsTakenBy o bytes records new) (sym whole) (record {
+      told = limits;
+      begins = begins;
+      given = subst (λ (x : List ℕ). HasGiven SpellsRecord RECORD_LENGTH_MAX x records new.decoder) (sym is) given;
+    })
+body_found bytes body records new (Some at) limits headed whole begins is g =
+    inr (fault_found bytes records limits headed g.0 at begins (subst (λ (x : List ℕ). HasEnded SpellsRecord RECORD_LENGTH_MAX x records g.0) (sym is) g.1) g.2)
 
-pub piece_taken : (piece rest text more : List ℕ) (old mid new : ShownState) (found : Option ℕ) → HeaderGoesOn → TakesHeader old.header mid.header piece rest
-    → mid.decoder ≡ old.decoder → mid.lines ≡ old.lines → new.header ≡ mid.header → TakesBody rest mid new text more found → TakesPiece piece old new text more found
-piece_taken piece rest text more old mid new found law header decoder lines same takes = record {
+-- ---- a piece, after a header that is whole
+
+body_piece : (headed : ℕ) (piece text more : List ℕ) (old new : ShownState) (found : Option ℕ) → HeaderGoesOn → old.headed ≡ Some headed → new.headed ≡ old.headed
+    → TakesBody headed piece old new text more found → TakesPiece piece old new text more found
+body_piece headed piece text more old new found law whole same takes = record {
+  added = takes.added;
+  text_is = takes.text_is;
+  lines_are = takes.lines_are;
+  finds = λ bytes records taken.
+      let way : IsUnderWay headed bytes records old = subst (λ (o : Option ℕ). IsTakenBy o bytes records old) whole taken in
+      let on = headed_on bytes piece way.told headed law way.begins in
+      body_found (bytes ++ piece) (drop headed bytes ++ piece) (records ++ takes.added) new found way.told headed (same ∙ whole) on.0 on.1
+      (takes.gives (drop headed bytes) records way.given);
+}
+
+-- what it gives, unless memory runs out
+pub body_piece_in : {E : Type 0} (result : Result (Option ℕ) E) (headed : ℕ) (piece text more : List ℕ) (old new : ShownState) → HeaderGoesOn → old.headed ≡ Some headed → new.headed ≡ old.headed
+    → IfOk result (λ found. TakesBody headed piece old new text more found) → IfOk result (λ found. TakesPiece piece old new text more found)
+body_piece_in (Ok found) headed piece text more old new law whole same takes = body_piece headed piece text more old new found law whole same takes
+body_piece_in (Err fault) headed piece text more old new law whole same takes = takes
+
+-- ---- a piece, while the header is not whole
+
+-- nothing was given of no bytes
+none_given : (decoder : DecoderState) → decoder ≡ fresh_decoder → HasGiven SpellsRecord RECORD_LENGTH_MAX [] [] decoder
+none_given decoder is =
+    subst (λ (d : DecoderState). HasGiven SpellsRecord RECORD_LENGTH_MAX [] [] d) (sym is) (record { text = []; is = refl; frames = refl; short = inl (omega arith); before = refl; goes_on = refl })
+
+begun_so : (bytes : List ℕ) (records : List Record) (t : ShownState) → t.headed ≡ None → IsTaken bytes records t → IsBegun bytes records t
+begun_so bytes records t none taken = subst (λ (o : Option ℕ). IsTakenBy o bytes records t) none taken
+
+head_piece : (limits : ToldLimits) (headed : ℕ) (piece rest text more : List ℕ) (old mid new : ShownState) (found : Option ℕ) → old.headed ≡ None
+    → header (old.front ++ piece) ≡ Headed limits headed → rest ≡ drop headed (old.front ++ piece) → mid.decoder ≡ old.decoder → mid.lines ≡ old.lines → new.headed ≡ Some headed
+    → TakesBody headed rest mid new text more found → TakesPiece piece old new text more found
+head_piece limits headed piece rest text more old mid new found none begins rest_is decoder lines whole takes = record {
   added = takes.added;
   text_is = subst (λ (s : LinesState). more ≡ text ++ lines_from s takes.added) lines takes.text_is;
   lines_are = subst (λ (s : LinesState). new.lines ≡ lines_after s takes.added) lines takes.lines_are;
   finds = λ bytes records taken.
-      let on = law old.header mid.header bytes taken.body piece rest taken.headed header in
-      body_found (bytes ++ piece) (taken.body ++ rest) (records ++ takes.added) new found
-      (subst (λ (n : ℕ). IsHeaded n (bytes ++ piece) (taken.body ++ rest)) (sym same) on)
-      (takes.gives taken.body records (subst (λ (d : DecoderState). HasGiven SpellsRecord RECORD_LENGTH_MAX taken.body records d) (sym decoder) taken.given));
+      let begun = begun_so bytes records old none taken in
+      body_found (bytes ++ piece) rest (records ++ takes.added) new found limits headed whole
+      (subst (λ (x : List ℕ). header (x ++ piece) ≡ Headed limits headed) begun.front_is begins)
+      (ap (λ (x : List ℕ). drop headed (x ++ piece)) (sym begun.front_is) ∙ sym rest_is)
+      (subst (λ (rs : List Record). BodyGives headed rest (rs ++ takes.added) new found) (sym begun.none) (takes.gives [] [] (none_given mid.decoder (decoder ∙ begun.fresh_is))));
 }
 
--- what a piece gives, unless memory runs out
-pub piece_taken_in : {E : Type 0} (result : Result (Option ℕ) E) (piece rest text more : List ℕ) (old mid new : ShownState) → HeaderGoesOn → TakesHeader old.header mid.header piece rest
-    → mid.decoder ≡ old.decoder → mid.lines ≡ old.lines → new.header ≡ mid.header → IfOk result (λ found. TakesBody rest mid new text more found)
-    → IfOk result (λ found. TakesPiece piece old new text more found)
-piece_taken_in (Ok found) piece rest text more old mid new law header decoder lines same takes = piece_taken piece rest text more old mid new found law header decoder lines same takes
-piece_taken_in (Err fault) piece rest text more old mid new law header decoder lines same takes = takes
-
-pub header_wrong : (piece text : List ℕ) (old : ShownState) → HeaderLacks → LacksHeader old.header piece → TakesPiece piece old old text text (Some 0)
-header_wrong piece text old law lacks = record {
-  added = [];
-  text_is = sym (append-nil text);
-  lines_are = refl;
-  finds = λ bytes records taken.
-      let wrong = law old.header bytes taken.body piece taken.headed lacks in
-      inl (record { lacks = wrong.1; none = append-nil records ∙ none_given taken.body records old.decoder taken.given wrong.0; at_is = refl });
-}
+pub head_piece_in : {E : Type 0} (result : Result (Option ℕ) E) (limits : ToldLimits) (headed : ℕ) (piece rest text more : List ℕ) (old mid new : ShownState) → old.headed ≡ None
+    → header (old.front ++ piece) ≡ Headed limits headed → rest ≡ drop headed (old.front ++ piece) → mid.decoder ≡ old.decoder → mid.lines ≡ old.lines → new.headed ≡ Some headed
+    → IfOk result (λ found. TakesBody headed rest mid new text more found) → IfOk result (λ found. TakesPiece piece old new text more found)
+head_piece_in (Ok found) limits headed piece rest text more old mid new none begins rest_is decoder lines whole takes =
+    head_piece limits headed piece rest text more old mid new found none begins rest_is decoder lines whole takes
+head_piece_in (Err fault) limits headed piece rest text more old mid new none begins rest_is decoder lines whole takes = takes
 
 -- ---- records that bytes begin with
 
-read_so : (bytes : List ℕ) (records : List Record) (t : ShownState) (taken : IsTaken bytes records t) → 8 ≤ t.header → IsRead bytes records t.decoder.held
-read_so bytes records t taken whole = record {
-  text = taken.given.text;
-  is = whole_after t.header bytes taken.body taken.headed whole ∙ ap (λ (x : List ℕ). trace_header ++ x) taken.given.is;
-  frames = taken.given.frames;
-}
+read_so : (headed : ℕ) (bytes : List ℕ) (records : List Record) (t : ShownState) → IsUnderWay headed bytes records t → IsRead bytes records t.decoder.held
+read_so headed bytes records t way =
+    record { told = way.told; headed = headed; text = way.given.text; begins = way.begins; is = way.given.is; frames = way.given.frames }
 
 taken_begins : (bytes : List ℕ) (records : List Record) (t : ShownState) → IsTaken bytes records t → BeginsWith bytes records
-taken_begins bytes records t taken = elim (cases_lt t.header 8) [
-  | inl below ↦ inl (none_given taken.body records t.decoder taken.given (taken.headed.begun below))
-  | inr whole ↦
-      inr (t.decoder.held, read_so bytes records t taken whole)
-]
+taken_begins bytes records t taken = go t.headed taken
+  where
+    go : (o : Option ℕ) → IsTakenBy o bytes records t → BeginsWith bytes records
+    go None begun = inl begun.none
+    go (Some headed) way = inr (t.decoder.held, read_so headed bytes records t way)
 
 found_begins : (bytes : List ℕ) (records : List Record) (t : ShownState) (found : Option ℕ) → IsFound bytes records t found → BeginsWith bytes records
 found_begins bytes records t None taken = taken_begins bytes records t taken
@@ -195,18 +212,22 @@ found_begins bytes records t (Some at) (inl wrong) = inl wrong.none
 found_begins bytes records t (Some at) (inr fault) = inr (fault.rest, fault.read)
 
 -- what is at fault stays so, whatever comes after it
-broken_on : (bytes more : List ℕ) (records : List Record) (at : ℕ) → BrokenStays → BreaksAt bytes records at → BreaksAt (bytes ++ more) records at
-broken_on bytes more records at law (inl wrong) = inl (record { lacks = law.header bytes more wrong.lacks; none = wrong.none; at_is = wrong.at_is })
-broken_on bytes more records at law (inr broken) =
+broken_on : (bytes more : List ℕ) (records : List Record) (at : ℕ) → BrokenStays → HeaderGoesOn → BreaksAt bytes records at → BreaksAt (bytes ++ more) records at
+broken_on bytes more records at stays law (inl wrong) = inl (record { lacks = unheaded_on bytes more law wrong.lacks; none = wrong.none; at_is = wrong.at_is })
+broken_on bytes more records at stays law (inr broken) =
+    let read = broken.read in
+    let on = headed_on bytes more read.told read.headed law read.begins in
     inr (record {
       rest = broken.rest ++ more;
       read = record {
-        text = broken.read.text;
-        is = ap (λ (x : List ℕ). x ++ more) broken.read.is ∙ append_assoc trace_header (broken.read.text ++ broken.rest) more
-            ∙ ap (λ (x : List ℕ). trace_header ++ x) (append_assoc broken.read.text broken.rest more);
-        frames = broken.read.frames;
+        told = read.told;
+        headed = read.headed;
+        text = read.text;
+        begins = on.0;
+        is = on.1 ∙ ap (λ (x : List ℕ). x ++ more) read.is ∙ append_assoc read.text broken.rest more;
+        frames = read.frames;
       };
-      fault = law.frame broken.rest more broken.fault;
+      fault = stays broken.rest more broken.fault;
       at_is = broken.at_is;
     })
 
@@ -234,40 +255,29 @@ front_shown piece text more old new was is found end takes empty front fault =
 
 -- ---- the end of the bytes
 
-header_front : (n : ℕ) → n ≤ 8 → length (take n trace_header) ≡ n
-header_front n few = omega (arith, few, length-take n trace_header)
-
 taken_left : (bytes : List ℕ) (records : List Record) (t : ShownState) → IsTaken bytes records t → IsLeft bytes records (left_over t)
-taken_left bytes records t taken = elim (cases_lt t.header 8) [
-  | inl below ↦
-      let empty = taken.headed.begun below in
-      let is : bytes ≡ take t.header trace_header = taken.headed.is ∙ ap (λ (x : List ℕ). take t.header trace_header ++ x) empty ∙ append-nil (take t.header trace_header) in
-      let long : length bytes ≡ t.header = ap length is ∙ header_front t.header taken.headed.within in
-      rw (lt-ltb t.header 8 below) (inl (record {
-        ends = (omega (arith, long, below), is ∙ ap (λ (n : ℕ). take n trace_header) (sym long));
-        none = none_given taken.body records t.decoder taken.given empty;
-        all = sym long;
-      }))
-  | inr whole ↦
-      rw (le-ltb t.header 8 whole) (inr (record { rest = t.decoder.held; read = read_so bytes records t taken whole; unfinished = taken.given.short; left_is = refl }))
-]
+taken_left bytes records t taken = go t.headed taken
+  where
+    go : (o : Option ℕ) → IsTakenBy o bytes records t → IsLeft bytes records (left_over_by o t)
+    go None begun = inl (record { ends = begun.ends; none = begun.none; all = ap length begun.front_is })
+    go (Some headed) way = inr (record { rest = t.decoder.held; read = read_so headed bytes records t way; unfinished = way.given.short; left_is = refl })
 
 -- ---- the whole job
 
 -- what was read is a front of the input, and all of it at the end
-of_front : (from to : Option (List ℕ)) (bytes : List ℕ) (P : List ℕ → Type 0) → Consumes from to bytes → P bytes → OfFront from P
+pub of_front : (from to : Option (List ℕ)) (bytes : List ℕ) (P : List ℕ → Type 0) → Consumes from to bytes → P bytes → OfFront from P
 of_front None to bytes P consumes holds = record { bytes = bytes; more = []; is = tt; holds = holds }
 of_front (Some known) None bytes P consumes holds = absurd consumes
 of_front (Some known) (Some left) bytes P consumes holds = record { bytes = bytes; more = left; is = consumes; holds = holds }
 
-of_all : (from to : Option (List ℕ)) (bytes : List ℕ) (P : List ℕ → Type 0) → Consumes from to bytes → IsAtEnd to → P bytes → OfAll from P
+pub of_all : (from to : Option (List ℕ)) (bytes : List ℕ) (P : List ℕ → Type 0) → Consumes from to bytes → IsAtEnd to → P bytes → OfAll from P
 of_all None to bytes P consumes end holds = record { bytes = bytes; is = tt; holds = holds }
 of_all (Some known) None bytes P consumes end holds = absurd consumes
 of_all (Some known) (Some left) bytes P consumes end holds =
     record { bytes = bytes; is = consumes ∙ ap (λ (x : List ℕ). bytes ++ x) end ∙ append-nil bytes; holds = holds }
 
 -- what stays whatever comes after it is so of all bytes
-of_all_on : (from to : Option (List ℕ)) (bytes : List ℕ) (P : List ℕ → Type 0) → Consumes from to bytes → P bytes → ((more : List ℕ) → P (bytes ++ more)) → OfAll from P
+pub of_all_on : (from to : Option (List ℕ)) (bytes : List ℕ) (P : List ℕ → Type 0) → Consumes from to bytes → P bytes → ((more : List ℕ) → P (bytes ++ more)) → OfAll from P
 of_all_on None to bytes P consumes holds on = record { bytes = bytes; is = tt; holds = holds }
 of_all_on (Some known) None bytes P consumes holds on = absurd consumes
 of_all_on (Some known) (Some left) bytes P consumes holds on = record { bytes = bytes ++ left; is = consumes; holds = on left }
@@ -286,11 +296,7 @@ nothing_shown form input old = go input
 -- ---- piece after piece
 
 taken_none : (form : Form) → IsTaken [] [] (fresh_shown form)
-taken_none form = record {
-  body = [];
-  headed = record { is = refl; within = omega arith; begun = λ below. refl };
-  given = record { text = []; is = refl; frames = refl; short = inl (omega arith); before = refl; goes_on = refl };
-}
+taken_none form = record { ends = refl; front_is = refl; none = refl; fresh_is = refl }
 
 pub none_shown : (form : Form) (input old : Option (List ℕ)) (first : ShownState) → first ≡ fresh_shown form → HasShown input input old old first first 0
 none_shown form input old first fresh = record {
@@ -303,15 +309,15 @@ none_shown form input old first fresh = record {
   long = omega arith;
 }
 
-body_few : (met : ℕ) (bytes body : List ℕ) → IsHeaded met bytes body → length body ≤ length bytes
-body_few met bytes body h = omega (arith, ap length h.is, length-append (take met trace_header) body)
-
 taken_few : (bytes : List ℕ) (records : List Record) (t : ShownState) → IsTaken bytes records t → (length records ≤ length bytes) × (length t.decoder.held ≤ length bytes)
-taken_few bytes records t taken =
-    let few = few_records records taken.given.text taken.given.frames in
-    let long : length taken.body ≡ length taken.given.text + length t.decoder.held = ap length taken.given.is ∙ length-append taken.given.text t.decoder.held in
-    let within = body_few t.header bytes taken.body taken.headed in
-    (omega (arith, few, long, within), omega (arith, long, within))
+taken_few bytes records t taken = go t.headed taken
+  where
+    go : (o : Option ℕ) → IsTakenBy o bytes records t → (length records ≤ length bytes) × (length t.decoder.held ≤ length bytes)
+    go None begun = (omega (arith, ap length begun.none), omega (arith, ap (λ (d : DecoderState). length d.held) begun.fresh_is))
+    go (Some headed) way =
+        let few = few_records records way.given.text way.given.frames in
+        let long : length (drop headed bytes) ≡ length way.given.text + length t.decoder.held = ap length way.given.is ∙ length-append way.given.text t.decoder.held in
+        (omega (arith, few, long, length-drop headed bytes), omega (arith, long, length-drop headed bytes))
 
 few_shown_so : (turns all place count held piece : ℕ) → turns < READS_MAX → all ≤ turns * READ_LENGTH → place ≡ 0 + count → count ≤ all → held ≤ all → piece ≤ READ_LENGTH
     → place + held + piece < 2 ^ 64
@@ -378,24 +384,24 @@ pub cannot_read : (form : Form) (from mid was now : Option (List ℕ)) (first t 
 cannot_read form from mid was now first t turns end fresh h is = subst (ShowEnds form from was now) (sym is) (so_far_shown form from mid was now first t turns fresh h)
 
 -- what came of a piece that was not shown, or after which no more are
-pub piece_ends : (form : Form) (from mid to was wrote now : Option (List ℕ)) (first old new : ShownState) (turns : ℕ) (piece : List ℕ) (end : JobEnd) → BrokenStays → first ≡ fresh_shown form
+pub piece_ends : (form : Form) (from mid to was wrote now : Option (List ℕ)) (first old new : ShownState) (turns : ℕ) (piece : List ℕ) (end : JobEnd) → BrokenStays → HeaderGoesOn → first ≡ fresh_shown form
     → HasShown from mid was wrote first old turns → Consumes mid to piece → ShowsPiece piece old new wrote now (Some end) → ShowEnds form from was now end
-piece_ends form from mid to was wrote now first old new turns piece (ended.Malformed at) law fresh h consumes w =
+piece_ends form from mid to was wrote now first old new turns piece (ended.Malformed at) stays law fresh h consumes w =
     let records = h.records ++ w.added in
     let appends = lines_so was now form first records fresh (on_appends was wrote now first old h.records w.added h.lines_are h.appends w.appends) in
     let broken = w.finds h.bytes h.records h.taken in
     of_all_on from to (h.bytes ++ piece) (λ bytes. WritesAll form was now (λ rs. BreaksAt bytes rs at)) (Consumes-trans from mid to h.bytes piece h.consumes consumes)
     (record { records = records; holds = broken; appends = appends })
-    (λ more. record { records = records; holds = broken_on (h.bytes ++ piece) more records at law broken; appends = appends })
-piece_ends form from mid to was wrote now first old new turns piece ended.CannotWrite law fresh h consumes w =
+    (λ more. record { records = records; holds = broken_on (h.bytes ++ piece) more records at stays law broken; appends = appends })
+piece_ends form from mid to was wrote now first old new turns piece ended.CannotWrite stays law fresh h consumes w =
     of_front from to (h.bytes ++ piece) (λ bytes. WritesSome form was now (λ records. BeginsWith bytes records)) (Consumes-trans from mid to h.bytes piece h.consumes consumes) (record {
       records = h.records ++ w.added;
       holds = w.begins h.bytes h.records h.taken;
       front = subst (λ (t : ShownState). AppendsFront was now (lines_from t.lines (h.records ++ w.added))) fresh (on_front was wrote now first old h.records w.added h.lines_are h.appends w.front);
     })
-piece_ends form from mid to was wrote now first old new turns piece ended.NoMemory law fresh h consumes w =
+piece_ends form from mid to was wrote now first old new turns piece ended.NoMemory stays law fresh h consumes w =
     subst (λ (o : Option (List ℕ)). OfFront from (λ bytes. WritesAll form was o (λ records. BeginsWith bytes records))) (sym w) (so_far_shown form from mid was wrote first old turns fresh h)
-piece_ends form from mid to was wrote now first old new turns piece other law fresh h consumes w = absurd w
+piece_ends form from mid to was wrote now first old new turns piece other stays law fresh h consumes w = absurd w
 
 end_so : (form : Form) (from was now : Option (List ℕ)) (left : ℕ) → OfAll from (λ bytes. WritesAll form was now (λ records. IsLeft bytes records left)) → ShowEnds form from was now (end_with left)
 end_so form from was now left all = elim (cases_lt 0 left) [

@@ -3,7 +3,6 @@ use Rattle.std.specs.Prelude.{◌≡◌, ℕ, List, ◌++◌, Option, None, Some
 use Rattle.std.specs.Io.KnownBytes.{Appends}
 use Rattle.call_types.specs.declared.outcome.Outcome.{Outcome}
 use Rattle.script_text.specs.Lines.{outcome_text}
-use Rattle.audit_core.specs.Audited.{version_1}
 use Rattle.audit_core.specs.Verdict.{IsVerdict}
 use Rattle.audit_core.specs.declared.verdict.Verdict.{Verdict}
 use Rattle.audit_core.specs.declared.verdict.Verdict.TheVariants.{Legal, Illegal, Malformed}
@@ -32,7 +31,7 @@ verdict_end (Malformed at) = ended.MalformedTrace
 pub record IsVerdictOn (input : Option (List ℕ)) (verdict : Verdict) : Type 0 where
   pub bytes : List ℕ
   pub whole : IfSome input (λ known. bytes ≡ known)
-  pub is_verdict : IsVerdict version_1 bytes verdict
+  pub is_verdict : IsVerdict bytes verdict
 
 -- its line was written, and nothing else, and the end is that of this verdict
 pub record WritesVerdict (input old new : Option (List ℕ)) (end : JobEnd) : Type 0 where

@@ -7,11 +7,10 @@ use Rattle.clap.specs.Words.{App, IsAmong, Rule, Text, fault_of, first_of, kind_
 use Rattle.clap.specs.declared.builder.action.ArgAction.TheVariants.{SetTrue}
 use Rattle.clap.specs.declared.error.kind.ErrorKind.{ErrorKind}
 use Rattle.clap.specs.declared.error.kind.ErrorKind.TheVariants as kind
-use Rattle.call_types.specs.declared.limits.Bounds.{Bounds}
 use Rattle.call_types.specs.declared.limits.Limits.{Limits}
-use Rattle.call_types.specs.declared.limits.TheConstants.{RECORDS_MAX, FILE_SIZE_MAX, PIPE_CAPACITY}
+use Rattle.call_types.specs.declared.limits.TheConstants.{RECORDS_MAX, FILE_SIZE_MAX, PIPE_CAPACITY_MIN, PIPE_CAPACITY_MAX}
 use Rattle.job_core.specs.declared.job.Job.{Job}
-use Rattle.job_core.specs.declared.job.Job.TheVariants.{Replay, Serve, Audit, Show}
+use Rattle.job_core.specs.declared.job.Job.TheVariants.{Replay, Serve, Audit, Show, Migrate}
 use Rattle.job_core.specs.declared.shown.Form.{Form}
 use Rattle.job_core.specs.declared.shown.Form.TheVariants as form
 use Rattle.job_core.specs.declared.job.JobFault.{JobFault}
@@ -32,21 +31,27 @@ required_rule id = record (option_rule id) { required = true }
 abbrev pub flag_rule : Text → Rule
 flag_rule id = record (new_rule id) { long = Some id; action = Some SetTrue }
 
--- a file, which stands by itself and has to be given
+-- a word that stands by itself and has to be given
+abbrev pub word_rule : Text → Rule
+word_rule id = record (new_rule id) { value_names = 1; required = true }
+
+-- the file of a trace
 abbrev pub file_rule : Rule
-file_rule = record (new_rule (codes "file")) { value_names = 1; required = true }
+file_rule = word_rule (codes "file")
 
--- the subcommand `replay`, with its one option
+-- the subcommand `replay`, with its two options
 abbrev pub replay_app : App
-replay_app = with_rule (new_app (codes "replay")) (option_rule (codes "records"))
+replay_app = with_rule (with_rule (new_app (codes "replay")) (option_rule (codes "records"))) (option_rule (codes "pipe-capacity"))
 
--- the subcommand `serve`, with its four options
+-- the subcommand `serve`, with its five options
 abbrev pub serve_app : App
 serve_app = with_rule
     (with_rule
+    (with_rule
     (with_rule (with_rule (new_app (codes "serve")) (required_rule (codes "socket"))) (required_rule (codes "sessions")))
     (required_rule (codes "records")))
-    (required_rule (codes "trace"))
+    (required_rule (codes "trace")))
+    (option_rule (codes "pipe-capacity"))
 
 -- the subcommand `audit`, with its file
 abbrev pub audit_app : App
@@ -55,6 +60,10 @@ audit_app = with_rule (new_app (codes "audit")) file_rule
 -- the subcommand `show`, with its one option and its file
 abbrev pub show_app : App
 show_app = with_rule (with_rule (new_app (codes "show")) (flag_rule (codes "acts"))) file_rule
+
+-- the subcommand `migrate`, with its two files
+abbrev pub migrate_app : App
+migrate_app = with_rule (with_rule (new_app (codes "migrate")) (word_rule (codes "in"))) (word_rule (codes "out"))
 
 -- the program's settings: it has a version, wants a subcommand, and has none named `help`
 abbrev pub bare_app : App
@@ -70,8 +79,10 @@ bare_app = record (new_app (codes "fdref")) {
 -- the whole command line of the program
 abbrev pub fdref_app : App
 fdref_app = with_subcommand
+    (with_subcommand
     (with_subcommand (with_subcommand (with_subcommand bare_app replay_app.top) serve_app.top) audit_app.top)
-    show_app.top
+    show_app.top)
+    migrate_app.top
 
 -- ---- what the words give
 
@@ -109,9 +120,14 @@ IsRecords (Some text) n = IsNumber RECORDS_MAX (Some text) n
 abbrev pub IsNoRecords : Option Text → Type 0
 IsNoRecords text = (n : ℕ) → IsRecords text n → ⊥
 
--- the limits of the model in each run
-abbrev pub standard : Bounds
-standard = record { file_size = FILE_SIZE_MAX; pipe_capacity = PIPE_CAPACITY }
+-- n is the number of bytes that a pipe holds, the default where no text is given
+abbrev pub IsCapacity : Option Text → ℕ → Type 0
+IsCapacity None n = n ≡ 1024
+IsCapacity (Some text) n = IsDecimalOf text n × (PIPE_CAPACITY_MIN ≤ n) × (n ≤ PIPE_CAPACITY_MAX)
+
+-- the text is no such number
+abbrev pub IsNoCapacity : Option Text → Type 0
+IsNoCapacity text = (n : ℕ) → IsCapacity text n → ⊥
 
 -- what is given to each option of a subcommand
 abbrev pub Given : Type 0
@@ -120,14 +136,16 @@ Given = Text → Option Text
 -- the limits are those of a replay that is given so
 pub record IsReplay (given : Given) (limits : Limits) : Type 0 where
   pub records : IsRecords (given (codes "records")) limits.records
-  pub bounds : limits.bounds ≡ standard
+  pub capacity : IsCapacity (given (codes "pipe-capacity")) limits.bounds.pipe_capacity
+  pub size : limits.bounds.file_size ≡ FILE_SIZE_MAX
 
 -- path, number of sessions, limits and the trace's file are those of a server that is given so
 pub record IsServe (given : Given) (path : Text) (count : ℕ) (limits : Limits) (file : Text) : Type 0 where
   pub socket : given (codes "socket") ≡ Some path
   pub sessions : IsNumber SESSIONS_MAX (given (codes "sessions")) count
   pub records : IsNumber RECORDS_MAX (given (codes "records")) limits.records
-  pub bounds : limits.bounds ≡ standard
+  pub capacity : IsCapacity (given (codes "pipe-capacity")) limits.bounds.pipe_capacity
+  pub size : limits.bounds.file_size ≡ FILE_SIZE_MAX
   pub trace : given (codes "trace") ≡ Some file
 
 -- the form in which a trace is shown: its acts, where that option is used
@@ -140,18 +158,26 @@ pub record IsShow (given : Given) (path : Text) (how : Form) : Type 0 where
   pub file : given (codes "file") ≡ Some path
   pub form : how ≡ form_of (given (codes "acts"))
 
+-- paths of a trace that is read and of the one that is made, as they are given
+pub record IsMigrate (given : Given) (old new : Text) : Type 0 where
+  pub from : given (codes "in") ≡ Some old
+  pub to : given (codes "out") ≡ Some new
+
 -- the job is the one that the subcommand of this name asks for
 abbrev pub IsJobOf : Option Text → Given → Job → Type 0
 IsJobOf name given (Replay limits) = (name ≡ Some (codes "replay")) × IsReplay given limits
 IsJobOf name given (Serve path count limits file) = (name ≡ Some (codes "serve")) × IsServe given (string_bytes path) count limits (string_bytes file)
 IsJobOf name given (Audit path) = (name ≡ Some (codes "audit")) × (given (codes "file") ≡ Some (string_bytes path))
 IsJobOf name given (Show path how) = (name ≡ Some (codes "show")) × IsShow given (string_bytes path) how
+IsJobOf name given (Migrate from to) = (name ≡ Some (codes "migrate")) × IsMigrate given (string_bytes from) (string_bytes to)
 
 -- a number that the subcommand of this name is given is out of its range
 abbrev pub IsOutOfRange : Option Text → Given → Type 0
-IsOutOfRange name given = ((name ≡ Some (codes "replay")) × IsNoRecords (given (codes "records")))
+IsOutOfRange name given = ((name ≡ Some (codes "replay")) × (IsNoRecords (given (codes "records"))
+    ⊎ IsNoCapacity (given (codes "pipe-capacity"))))
     ⊎ ((name ≡ Some (codes "serve")) × (IsNoNumber SESSIONS_MAX (given (codes "sessions"))
-    ⊎ IsNoNumber RECORDS_MAX (given (codes "records"))))
+    ⊎ (IsNoNumber RECORDS_MAX (given (codes "records"))
+    ⊎ IsNoCapacity (given (codes "pipe-capacity")))))
 
 -- the words parse, and ask for the job
 pub record Asks (words : List Text) (job : Job) : Type 0 where

@@ -3,6 +3,7 @@ pub mod JobEnds
 pub mod Output
 pub mod Replay
 pub mod Audit
+pub mod Migrate
 pub mod Shown
 pub mod Show
 pub mod Proved

@@ -1,5 +1,5 @@
 -- The lines of a run, and what it says that a front of them is written (own).
-use Rattle.std.specs.Prelude.{◌≡◌, ℕ, List, ◌++◌, Option, length}
+use Rattle.std.specs.Prelude.{◌≡◌, ℕ, ◌⊎◌, List, ◌++◌, Option, length}
 use Rattle.std.specs.List.{flat_map}
 use Rattle.std.specs.Io.KnownBytes.{Appends}
 use Rattle.posix_model.specs.Turns.{bytes_in, bytes_out}
@@ -8,6 +8,8 @@ use Rattle.record_book.specs.Seat.{Receipted}
 use Rattle.record_book.specs.Book.{BookState}
 use Rattle.record_book.specs.declared.run.ScriptAnswer.{ScriptAnswer}
 use Rattle.record_book.specs.declared.run.ScriptAnswer.TheVariants.{Recorded, Closed, Still, Refused}
+use Rattle.job_core.specs.declared.job_end.JobEnd.{JobEnd}
+use Rattle.job_core.specs.declared.job_end.JobEnd.TheVariants as ended
 
 -- the line of a receipt
 abbrev pub receipt_line : Receipted → List ℕ
@@ -34,3 +36,8 @@ pub record AppendsFront (old new : Option (List ℕ)) (text : List ℕ) : Type 0
   pub rest : List ℕ
   pub is : text ≡ front ++ rest
   pub appends : Appends old new front
+
+-- a line was written, and the job ends so; or a front of the line was written, or memory ran out before
+abbrev pub WritesLine : List ℕ → JobEnd → Option (List ℕ) → Option (List ℕ) → JobEnd → Type 0
+WritesLine line so old new end =
+    ((end ≡ so) × Appends old new line) ⊎ (((end ≡ ended.CannotWrite) × AppendsFront old new line) ⊎ ((end ≡ ended.NoMemory) × (new ≡ old)))

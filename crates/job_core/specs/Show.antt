@@ -1,13 +1,15 @@
 -- What is written of a trace that is shown, and what its end says (own).
-use Rattle.std.specs.Prelude.{◌≡◌, ℕ, ◌+◌, ◌<◌, ◌⊎◌, List, [], ◌++◌, Option, length, IfSome}
+use Rattle.std.specs.Prelude.{◌≡◌, ℕ, ◌+◌, ◌<◌, ◌⊎◌, List, [], ◌++◌, Option, length, drop, IfSome}
 use Rattle.std.specs.Io.KnownBytes.{Appends}
 use Rattle.call_types.specs.declared.act.Record.{Record}
 use Rattle.call_types.specs.declared.limits.TheConstants.{RECORD_LENGTH_MAX}
 use Rattle.frame_codec.specs.Decoding.{told_place}
 use Rattle.frame_codec.specs.Frames.{AreFrames}
 use Rattle.frame_codec.specs.Records.{SpellsRecord}
-use Rattle.frame_codec.specs.Trace.{trace_header}
-use Rattle.audit_core.specs.Trace.{EndsInHeader, HasNoHeader, IsAtFault, IsUnfinished}
+use Rattle.frame_codec.specs.Trace.{header}
+use Rattle.frame_codec.specs.declared.trace.Header.TheVariants.{Unheaded, Short, Headed}
+use Rattle.frame_codec.specs.declared.trace.ToldLimits.{ToldLimits}
+use Rattle.audit_core.specs.Trace.{IsAtFault, IsUnfinished}
 use Rattle.job_core.specs.Output.{AppendsFront}
 use Rattle.job_core.specs.Shown.{shown_lines}
 use Rattle.job_core.specs.declared.job_end.JobEnd.{JobEnd}
@@ -16,15 +18,18 @@ use Rattle.job_core.specs.declared.shown.Form.{Form}
 
 -- ---- what a trace's bytes have
 
--- bytes that begin with the header and the frames of these records, and have this rest after them
+-- bytes that begin with a header of so many bytes, which tells this, and after it have the frames of these records, and then this rest
 pub record IsRead (bytes : List ℕ) (records : List Record) (rest : List ℕ) : Type 0 where
+  pub told : ToldLimits
+  pub headed : ℕ
   pub text : List ℕ
-  pub is : bytes ≡ trace_header ++ (text ++ rest)
+  pub begins : header bytes ≡ Headed told headed
+  pub is : drop headed bytes ≡ text ++ rest
   pub frames : AreFrames SpellsRecord RECORD_LENGTH_MAX records text
 
--- bytes that end within the header
+-- bytes that end within a header
 pub record EndsEarly (bytes : List ℕ) (records : List Record) (left : ℕ) : Type 0 where
-  pub ends : EndsInHeader bytes
+  pub ends : header bytes ≡ Short
   pub none : records ≡ []
   pub all : left ≡ length bytes
 
@@ -39,9 +44,9 @@ pub record EndsLater (bytes : List ℕ) (records : List Record) (left : ℕ) : T
 abbrev pub IsLeft : List ℕ → List Record → ℕ → Type 0
 IsLeft bytes records left = EndsEarly bytes records left ⊎ EndsLater bytes records left
 
--- bytes that do not begin with the header
+-- bytes that do not begin with a header
 pub record LacksHeader (bytes : List ℕ) (records : List Record) (at : ℕ) : Type 0 where
-  pub lacks : HasNoHeader bytes
+  pub lacks : header bytes ≡ Unheaded
   pub none : records ≡ []
   pub at_is : at ≡ 0
 
@@ -50,7 +55,7 @@ pub record HasFaultyFrame (bytes : List ℕ) (records : List Record) (at : ℕ) 
   pub rest : List ℕ
   pub read : IsRead bytes records rest
   pub fault : IsAtFault rest
-  pub at_is : at ≡ told_place (length trace_header + length read.text)
+  pub at_is : at ≡ told_place (read.headed + length read.text)
 
 -- bytes with a fault at this place, and these whole records before it
 abbrev pub BreaksAt : List ℕ → List Record → ℕ → Type 0

@@ -1,13 +1,16 @@
 //! What the words of a command line ask for.
-ghost use Rattle.std.specs.Prelude.{◌≡◌, ◌∷◌, ◌++◌, [], IfOk, IfErr, IfSome, IsOkAnd, OnOk, map, codes, is_some, option_map, true, false};
+ghost use Rattle.std.specs.Prelude.{◌≡◌, ◌≤◌, ◌∷◌, ◌++◌, [], IfOk, IfErr, IfSome, IsOkAnd, OnOk, map, codes, is_some, option_map, true, false};
 ghost use Rattle.job_core.specs.declared.shown.Form.TheVariants as form;
 ghost use Rattle.clap.specs.Words.{app_of, found_of, first_value, fault_of, kind_of, new_app, rule_of};
 ghost use Rattle.clap.specs.declared.builder.command.Command.TheViews.{out-Command as fields_of};
-ghost use Rattle.job_core.specs.CommandLine.{Asks, Deserves, IsJobOf, IsNoNumber, IsNoRecords, IsNumber, IsRecords, SaysNotText, audit_app, bare_app, fdref_app, file_rule, flag_rule, form_of, line, name_given, option_rule, replay_app, required_rule, serve_app, show_app, standard, status_of, text_given};
-ghost use Rattle.job_core.specs.Proved.Parsing.{GivesAll, GivesFile, HaveApps, HaveRules, IsFaultOf, IsParse, RefusesNumber, served, shown};
+ghost use Rattle.call_types.specs.declared.limits.TheConstants.{FILE_SIZE_MAX};
+ghost use Rattle.job_core.specs.CommandLine.{Asks, Deserves, IsCapacity, IsJobOf, IsNoCapacity, IsNoNumber, IsNoRecords, IsNumber, IsRecords, SaysNotText, audit_app, bare_app, fdref_app, file_rule, flag_rule, form_of, line, migrate_app, name_given, option_rule, replay_app, required_rule, serve_app, show_app, status_of, text_given, word_rule};
+ghost use Rattle.job_core.specs.Proved.Parsing.{GivesAll, GivesBoth, GivesFile, HaveApps, HaveRules, IsFaultOf, IsParse, RefusesNumber, migrated, served, shown};
 
 use crate::shown::Form;
-use call_types::limits::{Limits, RECORDS_MAX};
+use call_types::limits::{
+    Limits, PIPE_CAPACITY, PIPE_CAPACITY_MAX, PIPE_CAPACITY_MIN, RECORDS_MAX,
+};
 use clap::error::ErrorKind;
 use clap::{Arg, ArgAction, ArgMatches, Command, Error};
 use std::alloc::{AllocError, Global};
@@ -19,6 +22,31 @@ pub const DEFAULT_RECORDS: u64 = 10_000;
 
 /// The most sessions that a server may have.
 pub const SESSIONS_MAX: u8 = 64;
+
+/// The least and the greatest number that an option takes.
+#[derive(Clone, Copy)]
+struct Range {
+    least: u64,
+    most: u64,
+}
+
+/// The numbers of records.
+const RECORDS_RANGE: Range = Range {
+    least: 1,
+    most: RECORDS_MAX,
+};
+
+/// The numbers of sessions.
+const SESSIONS_RANGE: Range = Range {
+    least: 1,
+    most: SESSIONS_MAX as u64,
+};
+
+/// The capacities of pipes, in bytes.
+const CAPACITY_RANGE: Range = Range {
+    least: PIPE_CAPACITY_MIN,
+    most: PIPE_CAPACITY_MAX,
+};
 
 /// What the program is asked to do.
 #[derive(Debug, Drop)]
@@ -42,6 +70,11 @@ pub enum Job {
     Show {
         file: String,
         form: Form,
+    },
+    /// To write the trace of version 1 in one file to another, which is made, as one of version 2.
+    Migrate {
+        from: String,
+        to: String,
     },
 }
 
@@ -129,6 +162,17 @@ output failed, 5 for want of memory.
 Example:
   fdref show --acts /tmp/fdref.trace | fdref replay";
 
+/// The same of `migrate`.
+const MIGRATE_HELP: &str =
+    "Reads a trace of version 1, and writes it to OUT under a header of version 2, which
+tells the limits of its run. All bytes after the header stay as they are.
+Writes 'migrated N rest B', or 'malformed AT'; OUT has then the records before.
+Ends with 0 where all is written, 8 where the trace is malformed, 4 where IN cannot
+be read, OUT is there or cannot be written, or output failed, 5 for want of memory.
+
+Example:
+  fdref migrate /tmp/old.trace /tmp/new.trace";
+
 /// What the help of the program says after its commands.
 const FDREF_HELP: &str =
     "'fdref COMMAND --help' tells what a command reads, writes and ends with. Wrong
@@ -164,15 +208,23 @@ fn flag_arg<'a>(alloc: Global, name: &'a str, help: &'a str) -> Arg<'a>
         .help(help)
 }
 
-/// The file, which has to be given, of a subcommand that reads one.
+/// A word that stands by itself and has to be given.
+fn word_arg<'a>(alloc: Global, name: &'a str, value: &'a str, help: &'a str) -> Arg<'a>
+    ensures rule { rule_of result ≡ word_rule name.entry.now }
+    ensures local { result.global ≡ false }
+{
+    Arg::new(alloc, name)
+        .value_name(value)
+        .required(true)
+        .help(help)
+}
+
+/// The file of a subcommand that reads one.
 fn file_arg<'a>(alloc: Global) -> Arg<'a>
     ensures rule { rule_of result ≡ file_rule }
     ensures local { result.global ≡ false }
 {
-    Arg::new(alloc, "file")
-        .value_name("FILE")
-        .required(true)
-        .help("The file that has the trace")
+    word_arg(alloc, "file", "FILE", "The file that has the trace")
 }
 
 /// These items in a list.
@@ -205,15 +257,32 @@ fn described_command<'a>(
         .after_help(after_help)
 }
 
+/// The option of `replay` for its records.
+fn records_arg<'a>(alloc: Global) -> Arg<'a>
+    ensures rule { rule_of result ≡ option_rule (codes "records") }
+    ensures local { result.global ≡ false }
+{
+    let help = "Records that the run may have, 1 to 1000000 [default: 10000]";
+    option_arg(alloc, "records", "N").help(help)
+}
+
+/// The option for the capacity of pipes.
+fn capacity_arg<'a>(alloc: Global) -> Arg<'a>
+    ensures rule { rule_of result ≡ option_rule (codes "pipe-capacity") }
+    ensures local { result.global ≡ false }
+{
+    let help = "Bytes that a pipe holds, 512 to 65536 [default: 1024]";
+    option_arg(alloc, "pipe-capacity", "N").help(help)
+}
+
 /// The subcommand `replay`.
 fn replay_command<'a>(alloc: Global) -> Result<Command<'a>, AllocError>
     ensures app { IfOk result (λ c. app_of c ≡ replay_app) }
     ensures local { IfOk result (λ c. (fields_of c).has_globals ≡ false) }
 {
     let about = "Runs the script on standard input and prints a line for each record";
-    let help = "Records that the run may have, 1 to 1000000 [default: 10000]";
-    let records = option_arg(alloc, "records", "N").help(help);
-    described_command(alloc, "replay", about, REPLAY_HELP).arg(records)
+    let args = list_of(alloc, [records_arg(alloc), capacity_arg(alloc)])?;
+    described_command(alloc, "replay", about, REPLAY_HELP).args(args)
 }
 
 /// The options of `serve`.
@@ -229,6 +298,7 @@ fn serve_args<'a>(alloc: Global) -> Result<Vec<Arg<'a>>, AllocError>
         required_arg(alloc, "sessions", "N", sessions),
         required_arg(alloc, "records", "N", records),
         required_arg(alloc, "trace", "FILE", trace),
+        capacity_arg(alloc),
     ];
     list_of(alloc, args)
 }
@@ -264,15 +334,33 @@ fn show_command<'a>(alloc: Global) -> Result<Command<'a>, AllocError>
     described_command(alloc, "show", about, SHOW_HELP).args(args)
 }
 
-/// Puts the four subcommands into a list that is empty.
+/// The subcommand `migrate`.
+fn migrate_command<'a>(alloc: Global) -> Result<Command<'a>, AllocError>
+    ensures app { IfOk result (λ c. app_of c ≡ migrate_app) }
+    ensures local { IfOk result (λ c. (fields_of c).has_globals ≡ false) }
+{
+    let about = "Writes a trace of version 1 as one of version 2";
+    let from = word_arg(alloc, "in", "IN", "The file that has the trace");
+    let to = word_arg(
+        alloc,
+        "out",
+        "OUT",
+        "The file that is made; nothing may be there",
+    );
+    let args = list_of(alloc, [from, to])?;
+    described_command(alloc, "migrate", about, MIGRATE_HELP).args(args)
+}
+
+/// Puts the five subcommands into a list that is empty.
 fn push_subcommands<'a>(alloc: Global, commands: &mut Vec<Command<'a>>) -> Result<(), AllocError>
     requires { commands.old.items ≡ [] }
-    ensures { OnOk result (HaveApps commands.new.items (replay_app ∷ serve_app ∷ audit_app ∷ show_app ∷ [])) }
+    ensures { OnOk result (HaveApps commands.new.items (replay_app ∷ serve_app ∷ audit_app ∷ show_app ∷ migrate_app ∷ [])) }
 {
     push_made(commands, replay_command(alloc))?;
     push_made(commands, serve_command(alloc))?;
     push_made(commands, audit_command(alloc))?;
-    push_made(commands, show_command(alloc))
+    push_made(commands, show_command(alloc))?;
+    push_made(commands, migrate_command(alloc))
 }
 
 /// The command line of the program with no subcommand yet.
@@ -298,52 +386,86 @@ fn fdref_command<'a>(alloc: Global) -> Result<Command<'a>, AllocError>
     bare_command(alloc).subcommands(commands)
 }
 
-/// The error of a subcommand whose option has a text that is no number from 1 to the most.
+/// The error of a subcommand whose option has a text that is no number in its range.
 fn number_error(
     alloc: Global,
     mut command: Command<'_>,
     option: &str,
     text: &str,
-    most: u64,
+    range: Range,
 ) -> Result<Error, AllocError>
     ensures { IfOk result (λ e. kind_of e ≡ ErrorKind.ValueValidation) }
 {
+    let Range { least, most } = range;
     let message = format!(in alloc;
-        "invalid value '{text}' for '--{option} <N>': not a number from 1 to {most}"
+        "invalid value '{text}' for '--{option} <N>': not a number from {least} to {most}"
     )?;
     command.error(ErrorKind::ValueValidation, message.as_str())
 }
 
-/// The error of `replay` with a text that is no number of records.
-fn replay_error(alloc: Global, text: &str) -> Result<Error, AllocError>
+/// The error of `replay` whose option has a text that is no number in its range.
+fn replay_error(alloc: Global, option: &str, text: &str, range: Range) -> Result<Error, AllocError>
     ensures { IfOk result (λ e. kind_of e ≡ ErrorKind.ValueValidation) }
 {
     let command = replay_command(alloc)?.bin_name("fdref replay")?;
-    number_error(alloc, command, "records", text, RECORDS_MAX)
+    number_error(alloc, command, option, text, range)
 }
 
-/// The error of `serve` whose option has a text that is no number from 1 to the most.
-fn serve_error(alloc: Global, option: &str, text: &str, most: u64) -> Result<Error, AllocError>
+/// The error of `serve` whose option has a text that is no number in its range.
+fn serve_error(alloc: Global, option: &str, text: &str, range: Range) -> Result<Error, AllocError>
     ensures { IfOk result (λ e. kind_of e ≡ ErrorKind.ValueValidation) }
 {
     let command = serve_command(alloc)?.bin_name("fdref serve")?;
-    number_error(alloc, command, option, text, most)
+    number_error(alloc, command, option, text, range)
 }
 
-/// The limits that the text of `--records` gives.
-fn limits_of(text: &str) -> Option<Limits>
-    ensures number { IfSome result (λ limits. IsNumber RECORDS_MAX (Some text.now) limits.records × (limits.bounds ≡ standard)) }
+/// The number of records that the text of `--records` gives.
+fn records_of(text: &str) -> Option<u64>
+    ensures number { IfSome result (λ records. IsNumber RECORDS_MAX (Some text.now) records) }
     ensures refused { result ≡ None → IsNoNumber RECORDS_MAX (Some text.now) }
 {
     let records = text.parse::<u64>().ok()?;
-    Limits::new(records).ok()
+    if records == 0 || records > RECORDS_MAX {
+        return None;
+    }
+    Some(records)
 }
 
-/// The limits of a replay whose command line names no number.
-fn default_limits() -> Limits
-    ensures { IsRecords None result.records × (result.bounds ≡ standard) }
+/// The capacity of pipes that the text of `--pipe-capacity` gives.
+fn capacity_of(text: &str) -> Option<u64>
+    ensures number { IfSome result (λ capacity. IsCapacity (Some text.now) capacity) }
+    ensures refused { result ≡ None → IsNoCapacity (Some text.now) }
 {
-    Limits::new(DEFAULT_RECORDS).unwrap()
+    let capacity = text.parse::<u64>().ok()?;
+    if capacity < PIPE_CAPACITY_MIN || capacity > PIPE_CAPACITY_MAX {
+        return None;
+    }
+    Some(capacity)
+}
+
+/// The capacity of pipes that the matches of a subcommand give, or the text that is no such number.
+fn given_capacity<'a>(matches: &ArgMatches<'a>) -> Result<u64, &'a str>
+    ensures number { IfOk result (λ capacity. IsCapacity (first_value (found_of matches.now) (codes "pipe-capacity")) capacity) }
+    ensures refused { IfErr result (λ text. IsNoCapacity (first_value (found_of matches.now) (codes "pipe-capacity"))) }
+{
+    match matches.get_str("pipe-capacity") {
+        None => Ok(PIPE_CAPACITY),
+        Some(text) => match capacity_of(text) {
+            Some(capacity) => Ok(capacity),
+            None => Err(text),
+        },
+    }
+}
+
+/// The limits of a run, of numbers in their ranges.
+fn limits_of(records: u64, capacity: u64) -> Limits
+    requires records { (1 ≤ records) × (records ≤ RECORDS_MAX) }
+    requires capacity { (PIPE_CAPACITY_MIN ≤ capacity) × (capacity ≤ PIPE_CAPACITY_MAX) }
+    ensures records { result.records ≡ records }
+    ensures capacity { result.bounds.pipe_capacity ≡ capacity }
+    ensures size { result.bounds.file_size ≡ FILE_SIZE_MAX }
+{
+    Limits::new(records, capacity).unwrap()
 }
 
 /// The number of sessions that the text of `--sessions` gives.
@@ -374,14 +496,26 @@ fn replay_job(alloc: Global, matches: &ArgMatches<'_>) -> Result<Job, JobFault>
     ensures job { IfOk result (λ job. IsJobOf (Some (codes "replay")) (first_value (found_of matches.now)) job) }
     ensures fault { IfErr result (λ fault. RefusesNumber (Some (codes "replay")) (first_value (found_of matches.now)) fault) }
 {
-    let limits = match matches.get_str("records") {
-        None => default_limits(),
-        Some(text) => match limits_of(text) {
-            Some(limits) => limits,
-            None => return Err(JobFault::Usage(replay_error(alloc, text)?)),
+    let records = match matches.get_str("records") {
+        None => DEFAULT_RECORDS,
+        Some(text) => match records_of(text) {
+            Some(records) => records,
+            None => {
+                let error = replay_error(alloc, "records", text, RECORDS_RANGE)?;
+                return Err(JobFault::Usage(error));
+            }
         },
     };
-    Ok(Job::Replay { limits })
+    let capacity = match given_capacity(matches) {
+        Ok(capacity) => capacity,
+        Err(text) => {
+            let error = replay_error(alloc, "pipe-capacity", text, CAPACITY_RANGE)?;
+            return Err(JobFault::Usage(error));
+        }
+    };
+    Ok(Job::Replay {
+        limits: limits_of(records, capacity),
+    })
 }
 
 /// The text of an option that is given.
@@ -405,21 +539,31 @@ fn serve_job(alloc: Global, matches: &ArgMatches<'_>) -> Result<Job, JobFault>
     let sessions = match sessions_of(text) {
         Some(sessions) => sessions,
         None => {
-            let error = serve_error(alloc, "sessions", text, u64::from(SESSIONS_MAX))?;
+            let error = serve_error(alloc, "sessions", text, SESSIONS_RANGE)?;
             return Err(JobFault::Usage(error));
         }
     };
     let text = text_of(matches, "records");
-    let limits = match limits_of(text) {
-        Some(limits) => limits,
-        None => return Err(JobFault::Usage(serve_error(alloc, "records", text, RECORDS_MAX)?)),
+    let records = match records_of(text) {
+        Some(records) => records,
+        None => {
+            let error = serve_error(alloc, "records", text, RECORDS_RANGE)?;
+            return Err(JobFault::Usage(error));
+        }
+    };
+    let capacity = match given_capacity(matches) {
+        Ok(capacity) => capacity,
+        Err(text) => {
+            let error = serve_error(alloc, "pipe-capacity", text, CAPACITY_RANGE)?;
+            return Err(JobFault::Usage(error));
+        }
     };
     let socket = String::from_str(alloc, text_of(matches, "socket"))?;
     let trace = String::from_str(alloc, text_of(matches, "trace"))?;
     Ok(Job::Serve {
         socket,
         sessions,
-        limits,
+        limits: limits_of(records, capacity),
         trace,
     })
 }
@@ -455,6 +599,17 @@ fn show_job(alloc: Global, matches: &ArgMatches<'_>) -> Result<Job, JobFault>
     Ok(Job::Show { file, form })
 }
 
+/// The job that the matches of `migrate` ask for, in which both its files are given.
+fn migrate_job(alloc: Global, matches: &ArgMatches<'_>) -> Result<Job, JobFault>
+    requires { GivesBoth (first_value (found_of matches.now)) }
+    ensures job { IfOk result (λ job. IsJobOf (Some (codes "migrate")) (first_value (found_of matches.now)) job) }
+    ensures fault { IfErr result (λ fault. RefusesNumber (Some (codes "migrate")) (first_value (found_of matches.now)) fault) }
+{
+    let from = String::from_str(alloc, text_of(matches, "in"))?;
+    let to = String::from_str(alloc, text_of(matches, "out"))?;
+    Ok(Job::Migrate { from, to })
+}
+
 /// The matches of the program's command line.
 fn parsed<'a, S: AsStr>(alloc: Global, words: &'a [S]) -> Result<ArgMatches<'a>, JobFault>
     ensures ok { IfOk result (λ m. IsParse (map S.text words.entry.now) m) }
@@ -481,8 +636,11 @@ pub fn job_of<S: AsStr>(alloc: Global, words: &[S]) -> Result<Job, JobFault>
     if let Some(audit) = matches.subcommand_matches("audit") {
         return audit_job(alloc, audit);
     }
-    match matches.subcommand_matches("show") {
-        Some(show) => show_job(alloc, show),
+    if let Some(show) = matches.subcommand_matches("show") {
+        return show_job(alloc, show);
+    }
+    match matches.subcommand_matches("migrate") {
+        Some(migrate) => migrate_job(alloc, migrate),
         None => unreachable!(),
     }
 }
@@ -531,9 +689,19 @@ pub fn lines_read()
     ensures show { (fault_of fdref_app (line shown) ≡ []) × (name_given (line shown) ≡ Some (codes "show")) }
     ensures acts { (text_given (line shown) (codes "file") ≡ Some (codes "t")) × (form_of (text_given (line shown) (codes "acts")) ≡ form.Acts) }
     ensures records_alone { form_of (text_given (line (codes "show" ∷ codes "t" ∷ [])) (codes "acts")) ≡ form.Records }
+    ensures migrate { (fault_of fdref_app (line migrated) ≡ []) × (name_given (line migrated) ≡ Some (codes "migrate")) }
+    ensures both_files { (text_given (line migrated) (codes "in") ≡ Some (codes "t")) × (text_given (line migrated) (codes "out") ≡ Some (codes "u")) }
+    ensures one_word { fault_of fdref_app (line (codes "migrate" ∷ codes "t" ∷ [])) ≡ ErrorKind.MissingRequiredArgument ∷ [] }
+    ensures three_words { fault_of fdref_app (line (codes "migrate" ∷ codes "t" ∷ codes "u" ∷ codes "v" ∷ [])) ≡ ErrorKind.UnknownArgument ∷ [] }
     ensures traceless { fault_of fdref_app (line (codes "serve" ∷ codes "--socket=s" ∷ codes "--sessions=2" ∷ codes "--records=5" ∷ [])) ≡ ErrorKind.MissingRequiredArgument ∷ [] }
     ensures most_sessions { IsNumber SESSIONS_MAX (Some (codes "64")) 64 }
     ensures no_sessions { IsNoNumber SESSIONS_MAX (Some (codes "0")) }
     ensures too_many_sessions { IsNoNumber SESSIONS_MAX (Some (codes "65")) }
     ensures word_of_sessions { IsNoNumber SESSIONS_MAX (Some (codes "x")) }
+    ensures greatest_capacity { IsCapacity (Some (codes "65536")) 65536 }
+    ensures least_capacity { IsCapacity (Some (codes "512")) 512 }
+    ensures capacity_above { IsNoCapacity (Some (codes "65537")) }
+    ensures capacity_below { IsNoCapacity (Some (codes "511")) }
+    ensures served_capacity { text_given (line (served ++ codes "--pipe-capacity=65536" ∷ [])) (codes "pipe-capacity") ≡ Some (codes "65536") }
+    ensures capacity_given { (fault_of fdref_app (line (codes "replay" ∷ codes "--pipe-capacity=512" ∷ [])) ≡ []) × (text_given (line (codes "replay" ∷ codes "--pipe-capacity=512" ∷ [])) (codes "pipe-capacity") ≡ Some (codes "512")) }
 {}

@@ -19,11 +19,12 @@ pub enum JobEnd {
     },
     /// The script has more than 16,777,216 bytes. Nothing was run or written.
     TooLong,
-    /// The input failed, or could not be opened. Of a trace that is shown, lines may have been written; else nothing was run or written.
+    /// The input failed, or could not be opened. Of a trace that is shown, lines may have been written, and of one that is
+    /// migrated, bytes; else nothing was run or written.
     CannotRead,
-    /// The output failed, or the file of a run's trace could not be made. A front of the right output was written, and nothing else.
+    /// The output failed, or a file for a trace could not be made. A front of the right output was written, and nothing else.
     CannotWrite,
-    /// Memory ran out. Of a trace that is shown, lines may have been written; else nothing was.
+    /// Memory ran out. Of a trace that is shown, lines may have been written, and of one that is migrated, bytes; else nothing was.
     NoMemory,
     /// There is no socket to listen on, or accepting failed; the sessions before were served and reported.
     CannotListen,
@@ -39,7 +40,7 @@ pub enum JobEnd {
     },
     /// A record of the trace is not what the model gives; the verdict was written.
     IllegalTrace,
-    /// The trace has no header, or a frame that spells no record; the verdict was written.
+    /// The trace has no header, or a frame that spells no record; the verdict was written, or the line of its migration.
     MalformedTrace,
     /// All whole records were shown, and so many bytes of one, or of the header, that is not finished are left over.
     Rest {

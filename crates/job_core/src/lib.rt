@@ -1,9 +1,11 @@
-//! What the words of a command line ask for, how a job ends, and the jobs of one thread: a replay, an audit, and a trace that is shown.
+//! What the words of a command line ask for, how a job ends, and the jobs of one thread: a replay, an audit, a
+//! trace that is shown, and one that is written anew.
 #![tactic(auto)]
 
 pub mod audit_file;
 pub mod job;
 pub mod job_end;
+pub mod migrate_file;
 pub mod output;
 pub mod replay;
 pub mod show;

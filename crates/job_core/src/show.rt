@@ -1,9 +1,8 @@
 //! A trace, shown as its bytes come: the lines of its whole records, and what is left over.
 
-ghost use Rattle.std.specs.Prelude.{◌≡◌, ◌+◌, ◌≤◌, ◌<◌, ◌^◌, length, IfOk, IfErr, OnErr};
+ghost use Rattle.std.specs.Prelude.{◌≡◌, ◌+◌, ◌<◌, ◌^◌, None, length, IfOk, IfErr, OnErr};
 ghost use Rattle.std.specs.Io.KnownBytes.{Keeps};
 ghost use Rattle.audit_core.specs.declared.audit.TheConstants.{READ_LENGTH};
-ghost use Rattle.frame_codec.specs.Trace.{trace_header};
 ghost use Rattle.job_core.specs.Show.{ShowEnds};
 ghost use Rattle.job_core.specs.Proved.Showing.{GivesPiece, ShowsPiece, TakesBody, TakesPiece, end_with, fault_at, fresh_shown, left_over};
 ghost use Rattle.job_core.specs.declared.job_end.JobEnd.TheVariants as ended;
@@ -12,12 +11,11 @@ use crate::job_end::JobEnd;
 use crate::output::write_lines;
 use crate::shown::{Form, Lines};
 use audit_core::audit::{READ_LENGTH, READS_MAX};
-use audit_core::laws::{broken_stays, headers_go_on};
-use audit_core::trace::after_header;
+use audit_core::laws::broken_stays;
 use frame_codec::decoder::{Decoder, Progress};
 use frame_codec::frame_kind::Records;
 use frame_codec::laws::pieces_go_on;
-use frame_codec::trace::TRACE_HEADER;
+use frame_codec::trace::{HeaderFront, Heading, headers_go_on};
 use logged_streams::stream_log::INTERRUPTIONS_MAX;
 use std::alloc::{AllocError, Global};
 use std::io::{ErrorKind, Read, Write};
@@ -41,11 +39,12 @@ fn read_piece<R: Read>(reader: &mut R, buffer: &mut [u8]) -> Result<usize, JobEn
     Err(JobEnd::CannotRead)
 }
 
-/// A trace that is being shown. It holds less than one frame of it, and keeps no record.
+/// A trace that is being shown. It holds less than its header or one frame, and keeps no record.
 #[derive(Drop)]
 struct ShownTrace {
-    /// How many bytes of the header were met.
-    header: usize,
+    front: HeaderFront,
+    /// How many bytes the header has, once it is whole.
+    headed: Option<usize>,
     decoder: Decoder<Records>,
     lines: Lines,
 }
@@ -55,22 +54,17 @@ impl Model for ShownTrace {
 
     ghost Value = { ShownState };
 
-    ghost view = { λ t. record { header = t.header; decoder = t.decoder; lines = t.lines } };
-
-    ghost use Rattle.std.specs.Prelude.{◌≤◌, length};
-    ghost use Rattle.frame_codec.specs.Trace.{trace_header};
-
-    ghost invariant = { λ t. t.header ≤ length trace_header };
+    ghost view = { λ t. record { front = t.front; headed = t.headed; decoder = t.decoder; lines = t.lines } };
 }
 
-/// The byte of the trace at which a fault is, from the byte after the header that the decoder tells.
-fn fault_at(told: Progress) -> Option<u64>
-    ensures { result ≡ fault_at told }
+/// The byte of the trace at which a fault is, from the byte after the header that the decoder tells, and the header's length.
+fn fault_at(told: Progress, headed: usize) -> Option<u64>
+    ensures { result ≡ fault_at told headed }
 {
     match told {
         Progress::More => None,
         Progress::Malformed { at } | Progress::TooLong { at } => {
-            Some(at.saturating_add(TRACE_HEADER.len() as u64))
+            Some(at.saturating_add(headed as u64))
         }
     }
 }
@@ -91,46 +85,71 @@ impl ShownTrace {
         ensures { result ≡ fresh_shown form }
     {
         ShownTrace {
-            header: 0,
+            front: HeaderFront::new(alloc),
+            headed: None,
             decoder: Decoder::new(alloc),
             lines: Lines::new(alloc, form),
         }
     }
 
-    /// Takes bytes that come after the header, and appends the lines of the records that they complete: where the first fault is, if
-    /// there is one.
-    fn take_body(&mut self, out: &mut Vec<u8>, piece: &[u8]) -> Result<Option<u64>, AllocError>
+    /// Takes bytes that come after a header of this length, and appends the lines of the records that they complete: where the first
+    /// fault is, if there is one.
+    fn take_body(
+        &mut self,
+        out: &mut Vec<u8>,
+        piece: &[u8],
+        headed: usize,
+    ) -> Result<Option<u64>, AllocError>
         requires few { self.old.lines.place + length self.old.decoder.held + length piece.now < 2 ^ 64 }
-        ensures header { self.new.header ≡ self.old.header }
-        ensures takes { IfOk result (λ found. TakesBody piece.now self.old self.new out.old.items out.new.items found) }
+        ensures headed { self.new.headed ≡ self.old.headed }
+        ensures takes { IfOk result (λ found. TakesBody headed piece.now self.old self.new out.old.items out.new.items found) }
     {
         pieces_go_on::<Records>();
         let fed = self.decoder.feed(piece)?;
         self.lines.put_all(out, fed.values.as_slice())?;
-        Ok(fault_at(fed.progress))
+        Ok(fault_at(fed.progress, headed))
     }
 
-    /// Takes the next bytes of the trace, as above.
+    /// Takes the next bytes of a trace whose header is not whole, as below.
+    fn take_head(&mut self, out: &mut Vec<u8>, piece: &[u8]) -> Result<Option<u64>, AllocError>
+        requires head { self.old.headed ≡ None }
+        requires few { self.old.lines.place + length self.old.decoder.held + length piece.now < 2 ^ 64 }
+        ensures { IfOk result (λ found. TakesPiece piece.now self.old self.new out.old.items out.new.items found) }
+    {
+        headers_go_on();
+        // it holds no whole header, so what comes after one is no longer than the piece
+        let _met = self.front.as_slice();
+        match self.front.take(piece)? {
+            Heading::Unheaded => Ok(Some(0)),
+            Heading::Short => Ok(None),
+            Heading::Headed { length, rest, .. } => {
+                self.headed = Some(length);
+                self.take_body(out, rest, length)
+            }
+        }
+    }
+
+    /// Takes the next bytes of the trace, and appends the lines of the records that they complete: where the first fault is, if there
+    /// is one.
     fn take(&mut self, out: &mut Vec<u8>, piece: &[u8]) -> Result<Option<u64>, AllocError>
         requires few { self.old.lines.place + length self.old.decoder.held + length piece.now < 2 ^ 64 }
         ensures { IfOk result (λ found. TakesPiece piece.now self.old self.new out.old.items out.new.items found) }
     {
         headers_go_on();
-        let Some((header, rest)) = after_header(self.header, piece) else {
-            return Ok(Some(0));
-        };
-        self.header = header;
-        self.take_body(out, rest)
+        match self.headed {
+            None => self.take_head(out, piece),
+            Some(headed) => self.take_body(out, piece, headed),
+        }
     }
 
     /// How many bytes are left over, if no byte comes after those that were taken.
     fn left_over(&self) -> u64
         ensures { result ≡ left_over self.now }
     {
-        if self.header < TRACE_HEADER.len() {
-            return self.header as u64;
+        match self.headed {
+            None => self.front.as_slice().len() as u64,
+            Some(_) => self.decoder.held_len() as u64,
         }
-        self.decoder.held_len() as u64
     }
 }
 
@@ -171,6 +190,7 @@ fn show_often<R: Read, W: Write>(
     ensures { ShowEnds trace.old.lines.form (R.remaining reader.old) (W.contents writer.old) (W.contents writer.new) result }
 {
     broken_stays();
+    headers_go_on();
     for _turn in 0..READS_MAX {
         let count = match read_piece(reader, buffer) {
             Ok(count) => count,

@@ -19,7 +19,11 @@ served = codes "serve" ∷ codes "--socket" ∷ codes "s" ∷ codes "--sessions"
 abbrev pub shown : List Text
 shown = codes "show" ∷ codes "--acts" ∷ codes "t" ∷ []
 
--- each option of a server is given
+-- words that ask for a migration
+abbrev pub migrated : List Text
+migrated = codes "migrate" ∷ codes "t" ∷ codes "u" ∷ []
+
+-- each option of a server that has to be given is given
 abbrev pub GivesAll : Given → Type 0
 GivesAll given = (is_some (given (codes "socket")) ≡ true) × (is_some (given (codes "sessions")) ≡ true)
     × (is_some (given (codes "records")) ≡ true) × (is_some (given (codes "trace")) ≡ true)
@@ -27,6 +31,10 @@ GivesAll given = (is_some (given (codes "socket")) ≡ true) × (is_some (given 
 -- the file of an audit, or of a trace to be shown, is given
 abbrev pub GivesFile : Given → Type 0
 GivesFile given = is_some (given (codes "file")) ≡ true
+
+-- both files of a migration are given
+abbrev pub GivesBoth : Given → Type 0
+GivesBoth given = (is_some (given (codes "in")) ≡ true) × (is_some (given (codes "out")) ≡ true)
 
 -- ---- what a command is made of
 

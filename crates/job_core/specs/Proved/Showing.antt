@@ -1,15 +1,16 @@
 -- How a trace is shown, piece by piece (own).
-use Rattle.std.specs.Prelude.{◌≡◌, ℕ, ◌+◌, ◌*◌, ◌≤◌, nat_lt, List, ◌++◌, Option, None, Some, length, take, if◌then◌else◌, [], ◌∷◌}
+use Rattle.std.specs.Prelude.{◌≡◌, ℕ, ◌+◌, ◌*◌, ◌≤◌, nat_lt, List, ◌++◌, Option, None, Some, length, take, drop, if◌then◌else◌, [], ◌∷◌}
 use Rattle.std.specs.Io.KnownBytes.{Appends, Consumes, IsAtEnd}
 use Rattle.call_types.specs.declared.act.Record.{Record}
 use Rattle.call_types.specs.declared.limits.TheConstants.{RECORD_LENGTH_MAX}
 use Rattle.frame_codec.specs.Decoding.{DecoderState, fresh, told_place}
 use Rattle.frame_codec.specs.Proved.Laws.{HasEnded, HasGiven}
 use Rattle.frame_codec.specs.Records.{SpellsRecord}
-use Rattle.frame_codec.specs.Trace.{trace_header}
+use Rattle.frame_codec.specs.Trace.{header}
+use Rattle.frame_codec.specs.declared.trace.Header.TheVariants.{Short, Headed}
+use Rattle.frame_codec.specs.declared.trace.ToldLimits.{ToldLimits}
 use Rattle.frame_codec.specs.declared.decoder.Progress.{Progress}
 use Rattle.frame_codec.specs.declared.decoder.Progress.TheVariants as progress
-use Rattle.audit_core.specs.Proved.Taking.{IsHeaded}
 use Rattle.audit_core.specs.declared.audit.TheConstants.{READ_LENGTH}
 use Rattle.job_core.specs.Output.{AppendsFront}
 use Rattle.job_core.specs.Shown.{LinesState, first_lines, lines_from, next_lines}
@@ -24,52 +25,75 @@ pub record GivesPiece (old new : Option (List ℕ)) (buffer : List ℕ) (count :
   pub consumes : Consumes old new (take count buffer)
   pub end : count ≡ 0 → IsAtEnd new
 
--- how many bytes of the header were met, what is held of the bytes after it, and how the lines go on
+-- the bytes of the header so far, while it is not whole; then how long it is, and what is held of the bytes after it; and how the lines
+-- go on
 pub record ShownState : Type 0 where
-  pub header : ℕ
+  pub front : List ℕ
+  pub headed : Option ℕ
   pub decoder : DecoderState
   pub lines : LinesState
 
 -- before the first byte
 abbrev pub fresh_shown : Form → ShownState
-fresh_shown form = record { header = 0; decoder = fresh; lines = first_lines form }
+fresh_shown form = record { front = []; headed = None; decoder = fresh; lines = first_lines form }
+
+-- these bytes end within a header, so they have no record
+pub record IsBegun (bytes : List ℕ) (records : List Record) (t : ShownState) : Type 0 where
+  pub ends : header bytes ≡ Short
+  pub front_is : t.front ≡ bytes
+  pub none : records ≡ []
+  pub fresh_is : t.decoder ≡ fresh
+
+-- these bytes begin with a header of this length, and those after it have these whole records
+pub record IsUnderWay (headed : ℕ) (bytes : List ℕ) (records : List Record) (t : ShownState) : Type 0 where
+  pub told : ToldLimits
+  pub begins : header bytes ≡ Headed told headed
+  pub given : HasGiven SpellsRecord RECORD_LENGTH_MAX (drop headed bytes) records t.decoder
+
+-- these bytes were taken, without a fault, by the length of their header where it is whole
+abbrev pub IsTakenBy : Option ℕ → List ℕ → List Record → ShownState → Type 0
+IsTakenBy None bytes records t = IsBegun bytes records t
+IsTakenBy (Some headed) bytes records t = IsUnderWay headed bytes records t
 
 -- these bytes were taken, without a fault, and have these whole records
-pub record IsTaken (bytes : List ℕ) (records : List Record) (t : ShownState) : Type 0 where
-  pub body : List ℕ
-  pub headed : IsHeaded t.header bytes body
-  pub given : HasGiven SpellsRecord RECORD_LENGTH_MAX body records t.decoder
+abbrev pub IsTaken : List ℕ → List Record → ShownState → Type 0
+IsTaken bytes records t = IsTakenBy t.headed bytes records t
 
--- where the fault is in a trace that is told of the bytes after the header
-abbrev pub fault_at : Progress → Option ℕ
-fault_at progress.More = None
-fault_at (progress.Malformed at) = Some (told_place (at + length trace_header))
-fault_at (progress.TooLong at) = Some (told_place (at + length trace_header))
+-- where the fault is in a trace whose header has so many bytes, if it is told of the bytes after the header
+abbrev pub fault_at : Progress → ℕ → Option ℕ
+fault_at progress.More headed = None
+fault_at (progress.Malformed at) headed = Some (told_place (at + headed))
+fault_at (progress.TooLong at) headed = Some (told_place (at + headed))
+
+-- how many bytes are left over at the end, by the length of the header where it is whole: those of it, or those that are held
+abbrev pub left_over_by : Option ℕ → ShownState → ℕ
+left_over_by None t = length t.front
+left_over_by (Some headed) t = length t.decoder.held
 
 -- how many bytes are left over at the end
 abbrev pub left_over : ShownState → ℕ
-left_over t = if nat_lt t.header (length trace_header) then t.header else length t.decoder.held
+left_over t = left_over_by t.headed t
 
 -- how the job ends then
 abbrev pub end_with : ℕ → JobEnd
 end_with left = if nat_lt 0 left then ended.Rest left else ended.Done
 
--- what is found in bytes after the header
-abbrev pub BodyGives : List ℕ → List Record → ShownState → Option ℕ → Type 0
-BodyGives body records new None = HasGiven SpellsRecord RECORD_LENGTH_MAX body records new.decoder
-BodyGives body records new (Some at) = (told : Progress) × HasEnded SpellsRecord RECORD_LENGTH_MAX body records told × (fault_at told ≡ Some at)
+-- what is found in the bytes after a header of this length
+abbrev pub BodyGives : ℕ → List ℕ → List Record → ShownState → Option ℕ → Type 0
+BodyGives headed body records new None = HasGiven SpellsRecord RECORD_LENGTH_MAX body records new.decoder
+BodyGives headed body records new (Some at) = (told : Progress) × HasEnded SpellsRecord RECORD_LENGTH_MAX body records told × (fault_at told headed ≡ Some at)
 
 -- after the next records
 abbrev pub lines_after : LinesState → List Record → LinesState
 lines_after s [] = s
 lines_after s (r ∷ rs) = lines_after (next_lines s r) rs
 
--- a piece more of the bytes after the header
-pub record TakesBody (piece : List ℕ) (old new : ShownState) (text more : List ℕ) (found : Option ℕ) : Type 0 where
+-- a piece more of the bytes after a header of this length
+pub record TakesBody (headed : ℕ) (piece : List ℕ) (old new : ShownState) (text more : List ℕ) (found : Option ℕ) : Type 0 where
   pub added : List Record
   pub text_is : more ≡ text ++ lines_from old.lines added
   pub lines_are : new.lines ≡ lines_after old.lines added
-  pub gives : (body : List ℕ) (records : List Record) → HasGiven SpellsRecord RECORD_LENGTH_MAX body records old.decoder → BodyGives (body ++ piece) (records ++ added) new found
+  pub gives : (body : List ℕ) (records : List Record) → HasGiven SpellsRecord RECORD_LENGTH_MAX body records old.decoder → BodyGives headed (body ++ piece) (records ++ added) new found
 
 -- what is found in bytes
 abbrev pub IsFound : List ℕ → List Record → ShownState → Option ℕ → Type 0

@@ -1,7 +1,7 @@
 use Rattle.std.proofs.Common.{◌≡◌, map, List, false, true, refl, codes}
 use Rattle.std.proofs.lemmas.Result.{IfErr-weaker, IfOk-weaker}
 use Rattle.clap.specs.Words.{Text}
-use Rattle.job_core.proofs.Parses.{asked, audit_given, named, none_named, refused, serve_given, show_given}
+use Rattle.job_core.proofs.Parses.{asked, audit_given, migrate_given, named, none_named, refused, serve_given, show_given}
 use Rattle.job_core.proofs.job.job_of.Goals as goal
 
 pub returns-in-Some-clause-job : goal.returns-in-Some-clause-job
@@ -70,23 +70,45 @@ show_job-requires g c =
     let show = c.in-Some-subcommand_matches-3 in
     show_given words c.in_ok-matches.matches show.show.now c.in_ok-matches.ensures.ok (show.ensures.found.0 refl) show.ensures.rows
 
-pub returns-clause-job : goal.returns-clause-job
-returns-clause-job g c =
+pub returns-in-Some-subcommand_matches-3-clause-job : goal.returns-in-Some-subcommand_matches-3-clause-job
+returns-in-Some-subcommand_matches-3-clause-job g c =
     let words : List Text = map g.S.AsStr.text c.args.words.now in
     let show = c.in-Some-subcommand_matches-3 in
     IfOk-weaker c.show_job.result _ _
     (λ job h. asked words c.in_ok-matches.matches show.show.now (codes "show") job c.in_ok-matches.ensures.ok (show.ensures.found.0 refl) show.ensures.rows h)
     c.show_job.ensures.job
 
-pub returns-clause-fault : goal.returns-clause-fault
-returns-clause-fault g c =
+pub returns-in-Some-subcommand_matches-3-clause-fault : goal.returns-in-Some-subcommand_matches-3-clause-fault
+returns-in-Some-subcommand_matches-3-clause-fault g c =
     let words : List Text = map g.S.AsStr.text c.args.words.now in
     let show = c.in-Some-subcommand_matches-3 in
     IfErr-weaker c.show_job.result _ _
     (λ fault h. refused words c.in_ok-matches.matches show.show.now (codes "show") fault c.in_ok-matches.ensures.ok (show.ensures.found.0 refl) show.ensures.rows h)
     c.show_job.ensures.fault
 
--- the words name one of the four
+pub migrate_job-requires : goal.migrate_job-requires
+migrate_job-requires g c =
+    let words : List Text = map g.S.AsStr.text c.args.words.now in
+    let migrate = c.in-Some-subcommand_matches-4 in
+    migrate_given words c.in_ok-matches.matches migrate.migrate.now c.in_ok-matches.ensures.ok (migrate.ensures.found.0 refl) migrate.ensures.rows
+
+pub returns-clause-job : goal.returns-clause-job
+returns-clause-job g c =
+    let words : List Text = map g.S.AsStr.text c.args.words.now in
+    let migrate = c.in-Some-subcommand_matches-4 in
+    IfOk-weaker c.migrate_job.result _ _
+    (λ job h. asked words c.in_ok-matches.matches migrate.migrate.now (codes "migrate") job c.in_ok-matches.ensures.ok (migrate.ensures.found.0 refl) migrate.ensures.rows h)
+    c.migrate_job.ensures.job
+
+pub returns-clause-fault : goal.returns-clause-fault
+returns-clause-fault g c =
+    let words : List Text = map g.S.AsStr.text c.args.words.now in
+    let migrate = c.in-Some-subcommand_matches-4 in
+    IfErr-weaker c.migrate_job.result _ _
+    (λ fault h. refused words c.in_ok-matches.matches migrate.migrate.now (codes "migrate") fault c.in_ok-matches.ensures.ok (migrate.ensures.found.0 refl) migrate.ensures.rows h)
+    c.migrate_job.ensures.fault
+
+-- the words name one of the five
 pub unreachable-requires : goal.unreachable-requires
 unreachable-requires g c =
     let words : List Text = map g.S.AsStr.text c.args.words.now in
@@ -94,4 +116,5 @@ unreachable-requires g c =
     (λ e. let bad : false ≡ true = c.in_default.ensures.found.1 e in cc)
     (λ e. let bad : false ≡ true = c.in_default-subcommand_matches.ensures.found.1 e in cc)
     (λ e. let bad : false ≡ true = c.in_default-subcommand_matches-2.ensures.found.1 e in cc)
+    (λ e. let bad : false ≡ true = c.in_default-subcommand_matches-3.ensures.found.1 e in cc)
     (λ e. let bad : false ≡ true = c.in-None.ensures.found.1 e in cc)

@@ -90,3 +90,27 @@ returns-clause-trace c = refl
 pub returns-clause-traceless : goal.returns-clause-traceless
 unfolding clap_on_literals
 returns-clause-traceless c = refl
+
+pub returns-clause-capacity_given : goal.returns-clause-capacity_given
+unfolding clap_on_literals
+returns-clause-capacity_given c = (refl, refl)
+
+pub returns-clause-served_capacity : goal.returns-clause-served_capacity
+unfolding clap_on_literals
+returns-clause-served_capacity c = refl
+
+pub returns-clause-migrate : goal.returns-clause-migrate
+unfolding clap_on_literals
+returns-clause-migrate c = (refl, refl)
+
+pub returns-clause-both_files : goal.returns-clause-both_files
+unfolding clap_on_literals
+returns-clause-both_files c = (refl, refl)
+
+pub returns-clause-one_word : goal.returns-clause-one_word
+unfolding clap_on_literals
+returns-clause-one_word c = refl
+
+pub returns-clause-three_words : goal.returns-clause-three_words
+unfolding clap_on_literals
+returns-clause-three_words c = refl

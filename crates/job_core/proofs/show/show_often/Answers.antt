@@ -27,7 +27,7 @@ show_piece-requires g c = record {
 pub returns-in-Some : goal.returns-in-Some
 returns-in-Some g c =
     laws.piece_ends c.args.trace.now.lines.form _ (g.R.Read.remaining c.loop-turn.reader) (g.R.Read.remaining c.read_piece.new.reader) _ _ _ c.args.trace.now c.loop-turn.trace c.show_piece.new.trace c.loop-turn._turn
-    c.split_at.result.0.now c.in-Some.ended c.broken_stays.ensures c.requires.fresh c.loop-turn.invariant.shown
+    c.split_at.result.0.now c.in-Some.ended c.broken_stays.ensures c.headers_go_on.ensures c.requires.fresh c.loop-turn.invariant.shown
     (subst (λ (x : List ℕ). Consumes (g.R.Read.remaining c.loop-turn.reader) (g.R.Read.remaining c.read_piece.new.reader) x) (sym c.split_at.ensures.front) c.in-Ok.ensures.ok.consumes)
     (rw c.in-Some.is at c.show_piece.ensures)
 
