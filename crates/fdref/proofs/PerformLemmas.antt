@@ -1,8 +1,9 @@
 -- A file whose bytes may be known to nobody, and the ends of what reads it.
-use Rattle.std.proofs.Common.{ℕ, List, Option, None, Some, subst}
+use Rattle.std.proofs.Common.{ℕ, inl, inr, List, Option, None, Some, subst}
 use Rattle.audit_core.specs.declared.verdict.Verdict.{Verdict}
 use Rattle.job_core.specs.Audit.{AuditEnds, IsVerdictOn, WritesVerdict}
 use Rattle.fdref.specs.Perform.{Has}
+use Rattle.job_core.specs.Migrate.{BreaksOff, MigrateEnds, Outputs}
 use Rattle.job_core.specs.Show.{OfAll, OfFront, ShowEnds}
 use Rattle.job_core.specs.declared.job_end.JobEnd.{JobEnd}
 use Rattle.job_core.specs.declared.job_end.JobEnd.TheVariants as ended
@@ -49,3 +50,23 @@ unknown_show form input old new other a = absurd a
 pub show_of : (form : Form) (known input old new : Option (List ℕ)) (end : JobEnd) → Has known input → ShowEnds form input old new end → ShowEnds form known old new end
 show_of form None input old new end has a = unknown_show form input old new end a
 show_of form (Some bytes) input old new end has a = subst (λ (i : Option (List ℕ)). ShowEnds form i old new end) has a
+
+-- ---- what is written anew
+
+unknown_broken : (input : Option (List ℕ)) (out : Outputs) → BreaksOff input out → BreaksOff None out
+unknown_broken input out b = unknown_front input _ b
+
+unknown_migrate : (input : Option (List ℕ)) (out : Outputs) (end : JobEnd) → MigrateEnds input out end → MigrateEnds None out end
+unknown_migrate input out ended.Done a = unknown_all input _ a
+unknown_migrate input out ended.MalformedTrace a = unknown_all input _ a
+unknown_migrate input out ended.CannotRead a = unknown_broken input out a
+unknown_migrate input out ended.CannotWrite (inl (inl a)) = inl (inl (unknown_broken input out a))
+unknown_migrate input out ended.CannotWrite (inl (inr a)) = inl (inr (unknown_all input _ a))
+unknown_migrate input out ended.CannotWrite (inr a) = inr (unknown_all input _ a)
+unknown_migrate input out ended.NoMemory (inl a) = inl (unknown_broken input out a)
+unknown_migrate input out ended.NoMemory (inr a) = inr (unknown_all input _ a)
+unknown_migrate input out other a = absurd a
+
+pub migrate_of : (known input : Option (List ℕ)) (out : Outputs) (end : JobEnd) → Has known input → MigrateEnds input out end → MigrateEnds known out end
+migrate_of None input out end has a = unknown_migrate input out end a
+migrate_of (Some bytes) input out end has a = subst (λ (i : Option (List ℕ)). MigrateEnds i out end) has a

@@ -8,7 +8,8 @@ use Rattle.run_core.specs.declared.report.RunFault.{RunFault}
 use Rattle.run_core.specs.declared.report.RunFault.TheVariants as fault
 use Rattle.trace_writer.specs.declared.traced.TraceFault.{TraceFault}
 use Rattle.fdref.specs.Serve.{IsToldOf, Reported, RunAsked, SinkState, Unreported, WritesReport, end_of_run, lacks_a_thread, report_line, traced_end}
-use Rattle.fdref.specs.Proved.Serving.{WritesLine, end_without_report}
+use Rattle.fdref.specs.Proved.Serving.{end_without_report}
+use Rattle.job_core.specs.Output.{WritesLine}
 use Rattle.job_core.specs.declared.job_end.JobEnd.{JobEnd}
 use Rattle.job_core.specs.declared.job_end.JobEnd.TheVariants as ended
 

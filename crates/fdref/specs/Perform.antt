@@ -2,6 +2,7 @@
 use Rattle.std.specs.Prelude.{◌≡◌, ◌⊎◌, ℕ, List, Option, None, Some}
 use Rattle.std.specs.String.{string_bytes}
 use Rattle.job_core.specs.Audit.{AuditEnds}
+use Rattle.job_core.specs.Migrate.{MigrateEnds, Outputs}
 use Rattle.job_core.specs.Replay.{ReplayEnds}
 use Rattle.call_types.specs.declared.limits.Limits.{Limits}
 use Rattle.run_core.specs.Run.{IsBlank, Streams}
@@ -42,18 +43,33 @@ ListenEnds coming is_unheard limits sessions old new end = IsServed coming limit
 abbrev pub ServeEnds : Option (List Streams) → Type 0 → Type 0 → Limits → ℕ → Option (List ℕ) → Option (List ℕ) → JobEnd → Type 0
 ServeEnds coming is_unheard is_unmade limits sessions old new end = ListenEnds coming is_unheard limits sessions old new end ⊎ IsUnserved is_unmade ended.CannotWrite old new end
 
--- what there is round a program, by paths: the bytes of files, the files that cannot be made, the connections to come and the paths at
--- which none can be
+-- a new file, which held nothing, was written from a trace, and a line that tells of it
+pub record IsMoved (input old new : Option (List ℕ)) (end : JobEnd) : Type 0 where
+  pub out : Outputs
+  pub blank : IsBlank out.was
+  pub old_is : out.old ≡ old
+  pub new_is : out.new ≡ new
+  pub ends : MigrateEnds input out end
+
+-- the same, or the trace could not be opened, or the new file could not be made
+abbrev pub MovesTo : Option (List ℕ) → Type 0 → Option (List ℕ) → Option (List ℕ) → JobEnd → Type 0
+MovesTo input is_taken old new end =
+    IsMoved input old new end ⊎ (IsUnserved (Unit {0}) ended.CannotRead old new end ⊎ IsUnserved is_taken ended.CannotWrite old new end)
+
+-- what there is round a program, by paths: the bytes of files, the files that cannot be made, the paths at which something is, the
+-- connections to come and the paths at which none can be
 pub record Surroundings : Type 1 where
   pub bytes_at : List ℕ → Option (List ℕ)
   pub is_unmade : List ℕ → Type 0
+  pub is_taken : List ℕ → Type 0
   pub coming_at : List ℕ → Option (List Streams)
   pub is_unheard : List ℕ → Type 0
 
--- a script is run on the input, sessions are served and reported, or the trace in a file is judged or shown
+-- a script is run on the input, sessions are served and reported, or the trace in a file is judged, shown or written anew
 abbrev pub Performs : Surroundings → Job → Option (List ℕ) → Option (List ℕ) → Option (List ℕ) → JobEnd → Type 0
 Performs round (job.Replay limits) input old new end = ReplayEnds limits input old new end
 Performs round (job.Serve socket sessions limits trace) input old new end =
     ServeEnds (round.coming_at (string_bytes socket)) (round.is_unheard (string_bytes socket)) (round.is_unmade (string_bytes trace)) limits sessions old new end
 Performs round (job.Audit path) input old new end = AuditEnds (round.bytes_at (string_bytes path)) old new end
 Performs round (job.Show path form) input old new end = ShowEnds form (round.bytes_at (string_bytes path)) old new end
+Performs round (job.Migrate from to) input old new end = MovesTo (round.bytes_at (string_bytes from)) (round.is_taken (string_bytes to)) old new end

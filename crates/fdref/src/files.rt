@@ -18,9 +18,13 @@ impl<'a> Opens for SystemFiles<'a> {
 
     type Sink = FileSink;
 
+    type New = File;
+
     ghost bytes_at = { λ _ _. None };
 
     ghost is_unmade = { λ _ _. ⊤ };
+
+    ghost is_taken = { λ _ _. ⊤ };
 
     fn open(&self, path: &str) -> Option<File> {
         match fs::open(self.rt, path) {
@@ -34,5 +38,9 @@ impl<'a> Opens for SystemFiles<'a> {
             Ok(file) => Some(FileSink::new(file)),
             Err(_) => None,
         }
+    }
+
+    fn create_new(&self, path: &str) -> Option<File> {
+        File::create_new(self.rt, path).ok()
     }
 }

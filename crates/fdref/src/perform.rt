@@ -3,7 +3,7 @@
 ghost use Rattle.std.specs.Prelude.{◌≡◌, ◌+◌, ◌<◌, ◌^◌, true, IfSome, IfNone};
 ghost use Rattle.job_core.specs.Audit.{AuditEnds};
 ghost use Rattle.run_core.specs.Run.{IsBlank};
-ghost use Rattle.fdref.specs.Perform.{Has, ListenEnds, Performs, ServeEnds};
+ghost use Rattle.fdref.specs.Perform.{Has, ListenEnds, MovesTo, Performs, ServeEnds};
 ghost use Rattle.job_core.specs.Show.{ShowEnds};
 
 use crate::serve::serve_on;
@@ -11,9 +11,11 @@ use call_types::limits::Limits;
 use job_core::audit_file::audit_file;
 use job_core::job::Job;
 use job_core::job_end::JobEnd;
+use job_core::migrate_file::migrate_file;
 use job_core::replay::replay;
 use job_core::show::show;
 use job_core::shown::Form;
+use logged_streams::writer::LoggedWriter;
 use run_core::source::Source;
 use std::alloc::Global;
 use std::io::{Read, Write};
@@ -51,11 +53,16 @@ pub trait Opens {
 
     type Sink: Sink + Send + Drop + 'static;
 
+    type New: Write + Drop;
+
     /// What the file at a path has, where that is known.
     ghost bytes_at: { Self → List ℕ → Option (List ℕ) };
 
     /// No file can be made at a path.
     ghost is_unmade: { Self → List ℕ → Type 0 };
+
+    /// No new file can be made at a path; for one, something is there.
+    ghost is_taken: { Self → List ℕ → Type 0 };
 
     /// The file at a path, to be read from its first byte on.
     fn open(&self, path: &str) -> Option<Self::File>
@@ -67,6 +74,11 @@ pub trait Opens {
         ensures none { IfNone result (is_unmade self.now path.now) }
         ensures sound { IfSome result (λ sink. Self.Sink.Sink.is_sound sink ≡ true) }
         ensures failures { IfSome result (λ sink. Self.Sink.Sink.failures sink ≡ 0) };
+
+    /// An empty file at a path at which nothing was, to be written.
+    fn create_new(&self, path: &str) -> Option<Self::New>
+        ensures blank { IfSome result (λ file. IsBlank (Self.New.Write.contents file)) }
+        ensures none { IfNone result (is_taken self.now path.now) };
 }
 
 /// Audits the trace at a path.
@@ -93,6 +105,27 @@ fn show_at<F: Opens, W: Write>(
         Some(file) => show(alloc, file, writer, form),
         None => JobEnd::CannotRead,
     }
+}
+
+/// Writes the trace at a path as one of version 2 to a file that is made at another.
+fn migrate_at<F: Opens, W: Write>(
+    alloc: Global,
+    files: &F,
+    from: &str,
+    to: &str,
+    writer: &mut W,
+) -> JobEnd
+    ensures { MovesTo (F.bytes_at files.now from.now) (F.is_taken files.now to.now) (W.contents writer.old) (W.contents writer.new) result }
+{
+    let file = match files.open(from) {
+        Some(file) => file,
+        None => return JobEnd::CannotRead,
+    };
+    let mut made = match files.create_new(to) {
+        Some(made) => LoggedWriter::new(made),
+        None => return JobEnd::CannotWrite,
+    };
+    migrate_file(alloc, file, &mut made, writer)
 }
 
 /// Serves the connections to a path, and writes their trace to a sink.
@@ -168,7 +201,7 @@ pub fn perform<
     R: Read + Drop,
     W: Write,
 >(rt: Rt, alloc: Global, listens: &L, files: &F, reader: R, writer: &mut W, job: Job) -> JobEnd
-    ensures { Performs (record { bytes_at = F.bytes_at files.now; is_unmade = F.is_unmade files.now; coming_at = L.coming_at listens.now; is_unheard = L.is_unheard listens.now }) job (R.remaining reader) (W.contents writer.old) (W.contents writer.new) result }
+    ensures { Performs (record { bytes_at = F.bytes_at files.now; is_unmade = F.is_unmade files.now; is_taken = F.is_taken files.now; coming_at = L.coming_at listens.now; is_unheard = L.is_unheard listens.now }) job (R.remaining reader) (W.contents writer.old) (W.contents writer.new) result }
 {
     match job {
         Job::Replay { limits } => replay(alloc, reader, writer, limits),
@@ -190,5 +223,8 @@ pub fn perform<
         ),
         Job::Audit { file } => audit_at(alloc, files, file.as_str(), writer),
         Job::Show { file, form } => show_at(alloc, files, file.as_str(), writer, form),
+        Job::Migrate { from, to } => {
+            migrate_at(alloc, files, from.as_str(), to.as_str(), writer)
+        }
     }
 }

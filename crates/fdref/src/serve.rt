@@ -2,7 +2,8 @@
 
 ghost use Rattle.std.specs.Prelude.{◌≡◌, ◌+◌, ◌<◌, ◌^◌, Some, true, IfOk, option_map};
 ghost use Rattle.fdref.specs.Serve.{Reports, end_of_run, is_unstarted, lacks_a_thread, report_line};
-ghost use Rattle.fdref.specs.Proved.Serving.{WritesLine, end_without_report};
+ghost use Rattle.fdref.specs.Proved.Serving.{end_without_report};
+ghost use Rattle.job_core.specs.Output.{WritesLine};
 ghost use Rattle.job_core.specs.declared.job_end.JobEnd.TheVariants as ended;
 
 use byte_ledger::ledgers::{Blanks, Ledgers};
