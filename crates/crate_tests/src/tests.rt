@@ -1,10 +1,11 @@
-//! Tests of audits, of traces as they are written, of books, by seats, of their rings, of tallies, of the tables of names, of
+//! Tests of audits, of traces as they are written and migrated, of books, by seats, of their rings, of tallies, of the tables of names, of
 //! descriptions and of processes, of the bytes of files, and of the plain program.
 mod audits;
 mod book_rings;
 mod books;
 mod descriptions;
 mod extents;
+mod migrations;
 mod names;
 mod plain;
 mod processes;

@@ -21,6 +21,17 @@ pub(super) const TRACE: [u8; 54] = [
     0x00, 0x00, 0x00, 0x06, 0x00, 0x00, 0x00, 0x00, 0x04, 0x01, // exit = ok
 ];
 
+/// The same of version 2: 100 records, pipes of 1,024 bytes and files of 2^40, and a header of 24 bytes.
+pub(super) const TRACE_2: [u8; 70] = [
+    0x46, 0x44, 0x54, 0x52, 0x41, 0x43, 0x45, 0x32, // FDTRACE2
+    0x00, 0x00, 0x00, 0x64, 0x00, 0x00, 0x04, 0x00, 0x00, 0x00, 0x01, 0x00, 0x00, 0x00, 0x00, 0x00,
+    0x00, 0x00, 0x00, 0x0e, 0x00, 0x00, 0x00, 0x00, 0x01, 0x02, 0x00, 0x00, 0x00, 0x00, 0x00, 0x00,
+    0x00, 0x00, // join = 0
+    0x00, 0x00, 0x00, 0x0e, 0x00, 0x00, 0x00, 0x00, 0x1a, 0x04, 0x00, 0x00, 0x00, 0x00, 0x00, 0x00,
+    0x00, 0x01, // pipe = 0 1
+    0x00, 0x00, 0x00, 0x06, 0x00, 0x00, 0x00, 0x00, 0x04, 0x01, // exit = ok
+];
+
 /// What an audit says, in numbers.
 #[derive(Clone, Copy, Debug, PartialEq, Eq)]
 enum Said {
@@ -66,6 +77,15 @@ fn said_of<R: Read + Drop>(alloc: Global, reader: R) -> Said {
 fn said_with(alloc: Global, at: usize, byte: u8) -> Said {
     let mut bytes = TRACE;
     if at < 54 {
+        bytes[at] = byte;
+    }
+    said_of(alloc, bytes.as_slice())
+}
+
+/// What is said of the trace of version 2 where this byte is another.
+fn said_of_2_with(alloc: Global, at: usize, byte: u8) -> Said {
+    let mut bytes = TRACE_2;
+    if at < 70 {
         bytes[at] = byte;
     }
     said_of(alloc, bytes.as_slice())
@@ -137,9 +157,25 @@ fn wrong_header_is_malformed_at_the_first_byte(rt: HostRuntime) -> Result<(), Fa
     for at in 0..8usize {
         assert_eq!(rt; said_with(alloc, at, 0), Said::Malformed(0));
     }
-    assert_eq!(rt; said_with(alloc, 7, 0x32), Said::Malformed(0));
+    assert_eq!(rt; said_with(alloc, 7, 0x33), Said::Malformed(0));
     assert_eq!(rt; said_of(alloc, b"FDTRACX".as_slice()), Said::Malformed(0));
     assert_eq!(rt; said_of(alloc, b"G".as_slice()), Said::Malformed(0));
+    Ok(())
+}
+
+#[test]
+fn header_of_version_2_tells_the_limits(rt: HostRuntime) -> Result<(), Fail> {
+    let alloc = rt.alloc();
+    assert_eq!(rt; said_of(alloc, TRACE_2.as_slice()), Said::Legal(3, 0));
+    assert_eq!(rt; said_of(alloc, &TRACE_2[..23]), Said::Legal(0, 23));
+    // With four records the run can be ended after the pipe, with three it cannot; 0 tells nothing.
+    assert_eq!(rt; said_of_2_with(alloc, 11, 4), Said::Legal(3, 0));
+    assert_eq!(rt; said_of_2_with(alloc, 11, 3), Said::Nothing(1));
+    assert_eq!(rt; said_of_2_with(alloc, 11, 0), Said::Legal(3, 0));
+    // 268,435,556 records, pipes of 256 bytes, files of 2^40 + 1.
+    assert_eq!(rt; said_of_2_with(alloc, 8, 16), Said::Malformed(0));
+    assert_eq!(rt; said_of_2_with(alloc, 14, 1), Said::Malformed(0));
+    assert_eq!(rt; said_of_2_with(alloc, 23, 1), Said::Malformed(0));
     Ok(())
 }
 

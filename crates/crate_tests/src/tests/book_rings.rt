@@ -147,7 +147,7 @@ fn ends<L: Ledgers>(
     requires { blanks ≡ L.names }
 {
     // No `?` once there is a book, since each would drop it once more; whether it went on as it should is told at the end.
-    match Book::<L>::new(alloc, Limits::new(20)?, blanks) {
+    match Book::<L>::new(alloc, Limits::new(20, 1024)?, blanks) {
         Ok(book) => ended(rt, alloc, book, closes),
         Err(error) => Err(Fail::from(error)),
     }

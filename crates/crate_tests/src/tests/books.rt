@@ -313,7 +313,7 @@ fn in_a_new_book<L: Ledgers>(
     requires { blanks ≡ L.names }
 {
     // A match, since `?` would move the book three times more.
-    match Book::<L>::new(alloc, Limits::new(20)?, blanks) {
+    match Book::<L>::new(alloc, Limits::new(20, 1024)?, blanks) {
         Ok(mut book) => tried(rt, alloc, &mut book, trial),
         Err(error) => Err(Fail::from(error)),
     }

@@ -39,7 +39,7 @@ fn data(outcome: &Outcome) -> Option<&[u8]> {
 
 /// What the next act of process 0 comes to; none where the rules record nothing, or memory is wanting.
 fn next(alloc: Global, world: &mut World, act: Act) -> Option<Outcome> {
-    let limits = Limits::new(10).unwrap();
+    let limits = Limits::new(10, 1024).unwrap();
     step_in_place(alloc, limits, world, 0, &act).ok()
 }
 
@@ -130,7 +130,7 @@ fn joins_a_copy(alloc: Global, limits: Limits, world: &World) -> bool {
 #[test]
 fn copy_is_stepped(rt: HostRuntime) -> Result<(), Fail> {
     let alloc = rt.alloc();
-    let limits = Limits::new(10)?;
+    let limits = Limits::new(10, 1024)?;
     let world = empty_world(alloc);
     assert!(rt; joins_a_copy(alloc, limits, &world));
     Ok(())

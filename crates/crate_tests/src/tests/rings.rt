@@ -6,6 +6,7 @@ use std::test::Fail;
 fn bytes_leave_a_ring_in_the_order_in_which_they_were_put(rt: HostRuntime) -> Result<(), Fail> {
     let alloc = rt.alloc();
     let mut ring = PipeRing::new(alloc, 4)?;
+    ring.reserve(6)?;
     assert_eq!(rt; ring.put_some(b"abcdef"), 4);
     let (front, back) = ring.first(3);
     assert!(rt; front == b"abc".as_slice());

@@ -3,10 +3,11 @@
 ghost use Rattle.std.specs.Prelude.{◌≡◌, ◌+◌, ◌<◌, ◌^◌, [], true, IfOk};
 ghost use Rattle.rtrb.specs.Ring.{received};
 
-use super::audits::TRACE;
+use super::audits::TRACE_2;
 use call_types::act::{Act, Record};
 use call_types::bounded::Payload;
 use call_types::call::Call;
+use call_types::limits::Limits;
 use call_types::outcome::{Outcome, Reply};
 use std::alloc::Global;
 use std::fs::OpenOptions;
@@ -54,7 +55,12 @@ fn ring_of(
     }
 }
 
-/// The reading end of a ring that has the records of `TRACE`.
+/// The limits of the run of `TRACE_2`.
+fn limits() -> Result<Limits, Fail> {
+    Ok(Limits::new(100, 1024)?)
+}
+
+/// The reading end of a ring that has the records of `TRACE_2`.
 fn three_records(alloc: Global) -> Result<TraceEnd, Fail>
     ensures { IfOk result (λ end. received end ≡ []) }
 {
@@ -80,7 +86,8 @@ fn traced_by<R: Wait + Clock>(
     manner: Manner,
 ) -> Result<(MemorySink, Traced), Fail> {
     let mut end = three_records(alloc)?;
-    Ok(write_trace(rt, alloc, &mut end, MemorySink::new(alloc, manner)))
+    let sink = MemorySink::new(alloc, manner);
+    Ok(write_trace(rt, alloc, &mut end, limits()?, sink))
 }
 
 /// What becomes of the three records in a file.
@@ -93,16 +100,16 @@ fn traced_in<R: Wait + Clock, S: Sink + Drop>(
     requires few { S.failures sink + 1 < 2 ^ 64 }
 {
     let mut end = three_records(alloc)?;
-    let (_sink, traced) = write_trace(rt, alloc, &mut end, sink);
+    let (_sink, traced) = write_trace(rt, alloc, &mut end, limits()?, sink);
     Ok(traced)
 }
 
 /// How many of the three frames are whole in a front of the trace.
 fn whole_in_front(bytes: u64) -> u64 {
     match bytes {
-        0..=25 => 0,
-        26..=43 => 1,
-        44..=53 => 2,
+        0..=41 => 0,
+        42..=59 => 1,
+        60..=69 => 2,
         _ => 3,
     }
 }
@@ -132,7 +139,7 @@ fn is_traced(
 #[test]
 fn trace_is_written_at_once_and_synced(rt: HostRuntime) -> Result<(), Fail> {
     let ended = traced_by(&rt, rt.alloc(), Manner::sound())?;
-    is_traced(&rt, &ended, TRACE.as_slice(), 1, 0, 3, None)
+    is_traced(&rt, &ended, TRACE_2.as_slice(), 1, 0, 3, None)
 }
 
 /// What becomes of three long records in a sink over memory that is sound.
@@ -142,7 +149,7 @@ fn long_traced<R: Wait + Clock>(rt: &R, alloc: Global) -> Result<(MemorySink, Tr
     let third = long_record(alloc)?;
     let mut end = ring_of(alloc, first, second, third)?;
     let sink = MemorySink::new(alloc, Manner::sound());
-    Ok(write_trace(rt, alloc, &mut end, sink))
+    Ok(write_trace(rt, alloc, &mut end, limits()?, sink))
 }
 
 /// Whether three long records are whole after three writes.
@@ -150,7 +157,7 @@ fn is_long(rt: &impl Abort, ended: &(MemorySink, Traced)) -> Result<(), Fail> {
     let (sink, traced) = ended;
     assert_eq!(rt; sink.writes(), 3);
     assert_eq!(rt; traced.whole, 3);
-    assert_eq!(rt; traced.bytes, 8 + 3 * 65_562);
+    assert_eq!(rt; traced.bytes, 24 + 3 * 65_562);
     assert_eq!(rt; traced.fault, None);
     Ok(())
 }
@@ -164,15 +171,23 @@ fn long_records_are_written_while_others_come(rt: HostRuntime) -> Result<(), Fai
 #[test]
 fn sink_takes_thirty_bytes_and_fails(rt: HostRuntime) -> Result<(), Fail> {
     let ended = traced_by(&rt, rt.alloc(), Manner::failing_at(2, 30))?;
-    is_traced(&rt, &ended, &TRACE[..30], 2, 1, 1, Some(TraceFault::Write))
+    is_traced(
+        &rt,
+        &ended,
+        &TRACE_2[..30],
+        2,
+        1,
+        0,
+        Some(TraceFault::Write),
+    )
 }
 
 /// The trace in a sink that takes byte by byte, and fails after so many, which are not all.
 fn fails_after<R: Wait + Clock + Abort>(rt: &R, alloc: Global, taken: u64) -> Result<(), Fail>
-    requires { taken < 54 }
+    requires { taken < 70 }
 {
     let ended = traced_by(rt, alloc, Manner::failing_at(taken + 1, 1))?;
-    let front = &TRACE[..taken as usize];
+    let front = &TRACE_2[..taken as usize];
     let fault = Some(TraceFault::Write);
     is_traced(
         rt,
@@ -187,11 +202,11 @@ fn fails_after<R: Wait + Clock + Abort>(rt: &R, alloc: Global, taken: u64) -> Re
 
 #[test]
 fn sink_fails_at_each_byte(rt: HostRuntime) -> Result<(), Fail> {
-    for taken in 0u64..54 {
+    for taken in 0u64..70 {
         fails_after(&rt, rt.alloc(), taken)?;
     }
-    let ended = traced_by(&rt, rt.alloc(), Manner::failing_at(55, 1))?;
-    is_traced(&rt, &ended, TRACE.as_slice(), 54, 0, 3, None)
+    let ended = traced_by(&rt, rt.alloc(), Manner::failing_at(71, 1))?;
+    is_traced(&rt, &ended, TRACE_2.as_slice(), 70, 0, 3, None)
 }
 
 #[test]
@@ -206,7 +221,7 @@ fn sink_fails_to_sync(rt: HostRuntime) -> Result<(), Fail> {
     is_traced(
         &rt,
         &ended,
-        TRACE.as_slice(),
+        TRACE_2.as_slice(),
         1,
         1,
         3,
@@ -239,5 +254,5 @@ fn full_device_takes_no_byte(rt: HostRuntime) -> Result<(), Fail> {
 fn null_device_takes_all_and_is_not_synced(rt: HostRuntime) -> Result<(), Fail> {
     let file = OpenOptions::new().write(true).open(&rt, "/dev/null")?;
     let traced = traced_in(&rt, rt.alloc(), FileSink::new(file))?;
-    tells(&rt, &traced, 3, 54, Some(TraceFault::Sync))
+    tells(&rt, &traced, 3, 70, Some(TraceFault::Sync))
 }
