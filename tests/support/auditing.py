@@ -1,13 +1,16 @@
 """A plain auditor of traces, written from docs/FORMATS.md and docs/PROFILE.md alone.
 
-`audited(trace)` gives what `fdref audit` has to give for a file that holds these bytes, and `shown(trace)` what `fdref
-show` has to. It judges the records by the plain model, one after another, and knows nothing of the program.
+`audited(trace)` gives what `fdref audit` has to give for a file that holds these bytes, `shown(trace)` what `fdref
+show` has to, and `migrated(trace)` what `fdref migrate` has to, with the bytes that it has to write. It judges the
+records by the plain model, one after another, and knows nothing of the program.
 """
 
 from collections.abc import Iterable, Iterator
+from typing import NamedTuple
 
 from support import plain_model
-from support.frames import MOST, TRACE_HEADER, Malformed, line_of
+from support.frames import MAGIC, MIGRATED_HEADER, MOST, OLD_HEADER_LENGTH, Header, Malformed, line_of, read_header
+from support.plain_model import DEFAULTS, Limits
 from support.running import Ran
 from support.runs import line_of as run_line_of
 
@@ -18,8 +21,8 @@ NO_LIMIT = 2**64
 class Judge(plain_model.Run):
     """The model beside the records of a trace: what it records for each act, of whoever it is."""
 
-    def __init__(self) -> None:
-        super().__init__(NO_LIMIT)
+    def __init__(self, limits: Limits = DEFAULTS) -> None:
+        super().__init__(NO_LIMIT, limits)
 
     def outcome_of(self, act: plain_model.Act) -> str | None:
         """The outcome that an act has now, or None where the model records nothing for it."""
@@ -38,6 +41,11 @@ class Judge(plain_model.Run):
         line = run_line_of(self.lines.pop().rstrip("\n"))
         return None if line.place == "-" else line.outcome
 
+    def can_end(self, records: int) -> bool:
+        """Whether so many records are enough for those up to now, for an exit of each process that lives, and for the
+        closing that is to come."""
+        return records - self.records >= len(self.world.processes) + (not self.world.is_closed)
+
 
 def act_of(text: str) -> plain_model.Act:
     """The act of a record's line, with its actor."""
@@ -50,17 +58,21 @@ def act_of(text: str) -> plain_model.Act:
 
 
 class Frames:
-    """The whole records of a trace as lines, and what ends them: a rest, or a fault and where it is."""
+    """The header of a trace, if it is whole and right, the whole records as lines, where each ends, and what ends them:
+    a rest, or a fault and where it is."""
 
     def __init__(self, trace: bytes) -> None:
+        self.header: Header | None = None
         self.lines: list[str] = []
+        self.ends: list[int] = []
         self.fault: int | None = None
-        head = trace[: len(TRACE_HEADER)]
-        at = len(TRACE_HEADER) if head == TRACE_HEADER else 0
-        if not TRACE_HEADER.startswith(head):
+        at = 0
+        try:
+            self.header = read_header(trace)
+        except Malformed:
             self.fault = 0
-        elif at:
-            at = self.read(trace, at)
+        if self.header:
+            at = self.read(trace, self.header.length)
         self.rest = len(trace) - at
 
     def read(self, trace: bytes, at: int) -> int:
@@ -78,6 +90,7 @@ class Frames:
                 self.fault = at
                 break
             at = end
+            self.ends.append(end)
         return at
 
 
@@ -86,16 +99,21 @@ class Audit:
 
     def __init__(self, trace: bytes) -> None:
         self.frames = Frames(trace)
-        self.judge = Judge()
+        header = self.frames.header
+        self.records = header.records if header else 0
+        self.judge = Judge(header.limits if header else DEFAULTS)
         self.verdict = self.judged()
 
     def judged(self) -> Ran:
-        """The verdict, which the first record decides that is not the model's, and else the end of the trace."""
+        """The verdict, which the first record decides that is not the model's, or after which a run of so many records
+        could not end any more; and else the end of the trace."""
         for place, text in enumerate(self.frames.lines):
             line = run_line_of(text)
             wanted = self.judge.outcome_of(act_of(line.act))
             if wanted != line.outcome:
                 return illegal(place, wanted)
+            if self.records and not self.judge.can_end(self.records):
+                return illegal(place, None)
         if self.frames.fault is not None:
             return Ran(8, b"malformed %d\n" % self.frames.fault, b"")
         return legal(len(self.frames.lines), self.frames.rest)
@@ -139,3 +157,26 @@ def shown(trace: bytes, acts: bool = False) -> Ran:
     if frames.fault is not None:
         return Ran(8, text, b"malformed %d\n" % frames.fault)
     return Ran(0, text, b"rest %d\n" % frames.rest if frames.rest else b"")
+
+
+class Migrated(NamedTuple):
+    """What `fdref migrate` gives for a trace, and the bytes that it writes."""
+
+    ran: Ran
+    written: bytes
+
+
+def migrated(trace: bytes) -> Migrated:
+    """The migration of a trace, which has version 1 where it is not malformed: its header is changed, all else is not.
+    Nothing is judged."""
+    frames = Frames(trace)
+    is_old = not trace.startswith(MAGIC)
+    fault = frames.fault if is_old else 0
+    if fault is None and not frames.header:
+        # a part of the header, which has no other part in version 2
+        return Migrated(Ran(0, b"migrated 0 rest %d\n" % len(trace), b""), trace)
+    if fault == 0:
+        return Migrated(Ran(8, b"malformed 0\n", b""), b"")
+    told = b"migrated %d rest %d\n" % (len(frames.lines), frames.rest)
+    written = MIGRATED_HEADER + trace[OLD_HEADER_LENGTH : len(trace) if fault is None else fault]
+    return Migrated(Ran(0, told, b"") if fault is None else Ran(8, b"malformed %d\n" % fault, b""), written)

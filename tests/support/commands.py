@@ -1,4 +1,4 @@
-"""The command that runs fdref, as the tools take it by `--program`."""
+"""The command that runs fdref, as the tools take it by `--program`, and the room of its pipes."""
 
 import argparse
 import os
@@ -7,6 +7,7 @@ import shutil
 import sys
 
 from support.places import FDREF, TOP
+from support.plain_model import PIPE_CAPACITY, PIPE_CAPACITY_LEAST, PIPE_CAPACITY_MOST, Limits
 from support.running import CannotRun
 
 UNPROVED = TOP / "out" / "unproved" / "fdref"
@@ -17,6 +18,29 @@ def add_program(parser: argparse.ArgumentParser) -> None:
     text = f"fdref, or a command that takes `replay` as its next word; {FDREF.relative_to(TOP)} where none is given, "
     text += f"or {UNPROVED.relative_to(TOP)} where that is not there"
     parser.add_argument("--program", metavar="COMMAND", help=text)
+
+
+def add_capacity(parser: argparse.ArgumentParser) -> None:
+    """The option `--pipe-capacity`, which gives limits of a run."""
+    text = f"how many bytes a pipe of fdref holds, from {PIPE_CAPACITY_LEAST} to {PIPE_CAPACITY_MOST}; {PIPE_CAPACITY} "
+    text += "where no number is given"
+    parser.add_argument(
+        "--pipe-capacity", metavar="N", dest="limits", type=limits_of_capacity, default=Limits(), help=text
+    )
+
+
+def limits_of_capacity(word: str) -> Limits:
+    """The limits of a run whose pipes hold so many bytes."""
+    capacity = int(word)
+    if not PIPE_CAPACITY_LEAST <= capacity <= PIPE_CAPACITY_MOST:
+        least, most = PIPE_CAPACITY_LEAST, PIPE_CAPACITY_MOST
+        raise argparse.ArgumentTypeError(f"{word} is no number from {least} to {most}")
+    return Limits(capacity=capacity)
+
+
+def capacity_words(limits: Limits) -> list[str]:
+    """The words by which fdref is told how many bytes its pipes hold; none where it is as many as by default."""
+    return [] if limits.capacity == PIPE_CAPACITY else ["--pipe-capacity", str(limits.capacity)]
 
 
 def program_of(command: str | None) -> list[str]:

@@ -11,6 +11,7 @@ from collections.abc import Iterable, Iterator, Mapping, Sequence
 from typing import NamedTuple
 
 from support import plain_model
+from support.contents import Contents, Held
 from support.footprints import Footprints, Opened
 from support.histories import WAITS, Noted
 from support.worlds import State, behind
@@ -20,28 +21,25 @@ class Grown:
     """The bytes of a file that only grows, as far as they are known."""
 
     def __init__(self) -> None:
-        self.bytes = bytearray()
-        self.known = bytearray()
+        self.bytes = Contents()
+        # of each byte, whether it is known
+        self.known = Contents()
         self.is_sound = True
         # how long the file is told to be, with the bit of the call that tells it
         self.lengths: list[tuple[int, int]] = []
 
     def add(self, start: int, data: bytes) -> None:
         """Takes in what was read from a place on. Where that contradicts what is known, nothing can be told."""
-        end = start + len(data)
         self.is_sound = self.is_sound and self.fits(start, data)
-        missing = bytes(max(end - len(self.bytes), 0))
-        self.bytes += missing
-        self.known += missing
-        self.bytes[start:end] = data
-        self.known[start:end] = b"\1" * len(data)
+        self.bytes.write(start, data)
+        self.known.write(start, b"\1" * len(data))
 
     def fits(self, start: int, data: bytes) -> bool:
         """Whether bytes can stand from a place on."""
-        end = min(start + len(data), len(self.bytes))
-        if b"\0" not in self.known[start:end]:
-            return self.bytes[start:end] == data[: max(end - start, 0)]
-        return all(not self.known[at] or self.bytes[at] == data[at - start] for at in range(start, end))
+        known, told = self.known.read(start, len(data)), self.bytes.read(start, len(data))
+        if b"\0" not in known:
+            return data.startswith(told)
+        return all(not known[at] or told[at] == data[at] for at in range(len(known)))
 
     def may_be(self, length: int, bits: int) -> bool:
         """Whether the file may be so long after these calls."""
@@ -102,12 +100,13 @@ class Call(NamedTuple):
 # ---- what is behind a descriptor in a state
 
 
-def found(state: State, process: int, fd: int) -> tuple[bytes, int]:
+def found(state: State, process: int, fd: int) -> tuple[Held | bytes, int]:
     """The bytes of the file or pipe behind a descriptor, and the offset."""
     at = behind(state, process, fd)
     told = state.files[at[0] if at[5] is None else at[5]]
-    data = told if isinstance(told, bytes) else told[1]
-    return (data if isinstance(data, bytes) else b""), at[4]
+    if isinstance(told, Held):
+        return told, at[4]
+    return (told[1] if isinstance(told[1], bytes) else b""), at[4]
 
 
 # ---- a whole history
@@ -219,12 +218,14 @@ class Foretold:
 def fits(written: Written, state: State, ended: Mapping[int, int], bits: int) -> bool:
     """Whether what a write has put into a file may stay there, after these calls. `ended` counts those of each process
     that reads."""
-    data, offset = found(state, written.process, written.fd)
+    told, offset = found(state, written.process, written.fd)
     known = written.known
     if isinstance(known, Stream):
-        return known.fits(data, ended)
+        return isinstance(told, Held) or known.fits(told, ended)
+    if not isinstance(told, Held):
+        return True
     start = max(offset - written.size, 0)
-    return known.may_be(len(data), bits) and known.fits(start, data[start:offset])
+    return known.may_be(told.length, bits) and known.fits(start, told.read(start, offset - start))
 
 
 def is_before(noted: Noted, others: Iterable[Noted]) -> bool:

@@ -1,4 +1,4 @@
-"""Requests, answers and records as frames, written and read. It is written from docs/FORMATS.md alone.
+"""Requests, answers, records and the headers of traces, written and read. It is written from docs/FORMATS.md alone.
 
 Each is told as a line: a request as `join`, or with `= still` after it; an answer as that of a fork of process 0; and a
 record with the place that it has among those of its stream.
@@ -15,8 +15,16 @@ MOST = {"requests": 65_792, "answers": 66_048, "records": 66_048}
 # The actor of the closing.
 HOUSE = 2**32 - 1
 
-# The first bytes of a trace.
-TRACE_HEADER = b"FDTRACE1"
+# The first bytes of a trace, by its version.
+OLD_MAGIC = b"FDTRACE1"
+MAGIC = b"FDTRACE2"
+MAGICS = (OLD_MAGIC, MAGIC)
+# How many bytes the headers of both versions have.
+OLD_HEADER_LENGTH, HEADER_LENGTH = 8, 24
+# What a header of version 2 may tell: how many records a run has at most, 0 where that is not told, and how many bytes
+# a file.
+RECORDS_MOST = 1_000_000
+SIZES = (plain_model.OLD_LIMITS.size, plain_model.FILE_SIZE_MAX)
 
 FLAG_WORDS = ("creat", "excl", "trunc", "append", "nonblock")
 MODES = ("-", "r", "w", "rw")
@@ -245,9 +253,19 @@ def record_frame(line: str) -> bytes:
     return framed(u32(number) + middle + outcome_bytes(outcome))
 
 
-def trace_of(lines: Iterable[str]) -> bytes:
-    """The trace of the records that these lines tell."""
-    return TRACE_HEADER + b"".join(map(record_frame, lines))
+def header_bytes(records: int = 0, limits: plain_model.Limits = plain_model.DEFAULTS) -> bytes:
+    """The header of a trace of version 2: of a run of so many records at most, or 0, and of these limits."""
+    return MAGIC + u32(records) + u32(limits.capacity) + u64(limits.size)
+
+
+# The header of a trace that was migrated from version 1.
+MIGRATED_HEADER = header_bytes(0, plain_model.OLD_LIMITS)
+
+
+def trace_of(lines: Iterable[str], header: bytes | None = None) -> bytes:
+    """The trace of the records that these lines tell; one of version 2 that tells no number of records where no header
+    is given."""
+    return (header_bytes() if header is None else header) + b"".join(map(record_frame, lines))
 
 
 # ---- requests and answers, read
@@ -327,6 +345,35 @@ def line_of(kind: str, some: bytes, place: int) -> str:
     if payload.rest:
         raise Malformed
     return line
+
+
+# ---- headers of traces, read
+
+
+class Header(NamedTuple):
+    """What the header of a trace tells: how many bytes it has, how many records the run has at most, 0 where that is
+    not told, and the limits of the run."""
+
+    length: int
+    records: int
+    limits: plain_model.Limits
+
+
+def read_header(trace: bytes) -> Header | None:
+    """The header of a trace, or None where the trace ends inside it."""
+    magic = trace[: len(MAGIC)]
+    if not any(it.startswith(magic) for it in MAGICS):
+        raise Malformed
+    if magic == OLD_MAGIC:
+        return Header(OLD_HEADER_LENGTH, 0, plain_model.OLD_LIMITS)
+    if len(trace) < HEADER_LENGTH:
+        return None
+    fields = Payload(trace[len(MAGIC) : HEADER_LENGTH])
+    records, capacity, size = fields.number(4), fields.number(4), fields.number(8)
+    is_capacity = plain_model.PIPE_CAPACITY_LEAST <= capacity <= plain_model.PIPE_CAPACITY_MOST
+    if records > RECORDS_MOST or not is_capacity or size not in SIZES:
+        raise Malformed
+    return Header(HEADER_LENGTH, records, plain_model.Limits(size, capacity))
 
 
 # ---- streams

@@ -6,15 +6,13 @@ end no call that waits may be ready.
 """
 
 import time
-from collections.abc import Iterator, Sequence
-from contextlib import contextmanager
+from collections.abc import Sequence
 from typing import NamedTuple
 
-from support import plain_model
 from support.footprints import Footprints, Opened
 from support.histories import WAITS, Noted
 from support.late_links import late_links
-from support.plain_model import PIPE_BUF
+from support.plain_model import DEFAULTS, PIPE_BUF, PIPE_CAPACITY_MOST, Limits
 from support.searching import Search, Step, TooLong
 from support.shortening import Shortening
 
@@ -23,8 +21,8 @@ SECONDS = 60
 SHRINK_SECONDS = 20
 # A search for a shorter part may take so many times as long as that of the whole, or so long.
 EACH_TIMES, EACH_LEAST = 4, 0.5
-# How many bytes a pipe holds on many a system, where the profile has fewer.
-ROOM = 65_536
+# A run in which a pipe holds as many bytes as it does on many a system: more than where nothing else is asked for.
+ROOMY = Limits(capacity=PIPE_CAPACITY_MOST)
 # How many of the calls that overlap the one that is blamed are told.
 OVERLAPPING_MOST = 3
 
@@ -36,7 +34,7 @@ class Explained(NamedTuple):
 
 
 class ByRoom(NamedTuple):
-    """A history that an order explains only where a pipe has room for ROOM bytes: the steps of that order."""
+    """A history that an order explains only where a pipe has the room of ROOMY: the steps of that order."""
 
     steps: list[Step]
 
@@ -64,39 +62,29 @@ def explain(
     states_most: int = STATES_MOST,
     seconds: float = SECONDS,
     shrink_seconds: float = SHRINK_SECONDS,
+    limits: Limits = DEFAULTS,
 ) -> Result:
-    """Whether an order explains a history; a search that goes on for longer, or through more states, is given up."""
+    """Whether an order explains a history, in a run of these limits; a search that goes on for longer, or through more
+    states, is given up."""
     ordered = sorted(history, key=lambda noted: noted.start)
     began = time.monotonic()
     try:
-        steps = Search(ordered, states_most, seconds).order()
+        steps = Search(ordered, limits, states_most, seconds).order()
     except TooLong as fault:
         return GivenUp(fault.states)
     if steps is not None:
         return Explained(steps)
     each = max(EACH_LEAST, EACH_TIMES * (time.monotonic() - began))
-    shrunk = Shortening(states_most, shrink_seconds, each).shortest(ordered)
+    shrunk = Shortening(limits, states_most, shrink_seconds, each).shortest(ordered)
     blamed = blamed_in(shrunk)
     return Unexplained(shrunk, blamed, page_of(shrunk, blamed[0]))
-
-
-@contextmanager
-def roomy_pipes() -> Iterator[None]:
-    """Pipes of the plain model have room for ROOM bytes."""
-    before = plain_model.PIPE_CAPACITY
-    plain_model.PIPE_CAPACITY = ROOM
-    try:
-        yield
-    finally:
-        plain_model.PIPE_CAPACITY = before
 
 
 def by_room(history: Sequence[Noted], states_most: int = STATES_MOST, seconds: float = SECONDS) -> ByRoom | None:
     """An order of a history with a pipe or FIFO that explains it where pipes have more room, if there is one."""
     if not any(noted.act.word in ("pipe", "mkfifo") for noted in history):
         return None
-    with roomy_pipes():
-        result = explain(history, states_most, seconds, 0)
+    result = explain(history, states_most, seconds, 0, ROOMY)
     return ByRoom(result.steps) if isinstance(result, Explained) else None
 
 

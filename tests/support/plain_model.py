@@ -1,10 +1,11 @@
 """A plain model of `fdref replay`, written from docs/PROFILE.md and docs/FORMATS.md alone.
 
-`replay(script, records)` gives what the program has to give for a script: exit status, standard
-output and standard error. It shares nothing with the program and its definitions, and does not look
-like them: bytes are a bytearray, a descriptor leads straight to its description, what nothing leads
-to is forgotten by Python, and whether somebody has an end of a pipe open is looked up afresh. So
-what the program and this model say alike was read out of the two documents twice.
+`replay(script, records, limits)` gives what the program has to give for a script: exit status,
+standard output and standard error. It shares nothing with the program and its definitions, and does
+not look like them: the bytes of a pipe are a bytearray and those of a file a dictionary of blocks, a
+descriptor leads straight to its description, what nothing leads to is forgotten by Python, and
+whether somebody has an end of a pipe open is looked up afresh. So what the program and this model say
+alike was read out of the two documents twice.
 
 A call is the method of `World` with its word: it returns what the call replies, raises `Errno`, or
 parks the process. It is slow where that is plainer, and has no want of memory.
@@ -15,6 +16,7 @@ from collections.abc import Callable, Iterable, Mapping
 from functools import partial
 from typing import Any, NamedTuple
 
+from support.contents import Contents
 from support.running import Ran
 
 OPEN_MAX = 32
@@ -23,9 +25,11 @@ NAMES_MAX = 1_024
 LINK_MAX = 8
 DESCRIPTIONS_MAX = 1_024
 PROCESSES_MAX = 64
-FILE_SIZE_MAX = 1_048_576
+FILE_SIZE_MAX = 2**40
 TRANSFER_MAX = 65_536
 PIPE_CAPACITY = 1_024
+PIPE_CAPACITY_LEAST = 512
+PIPE_CAPACITY_MOST = 65_536
 PIPE_BUF = 512
 RECORDS_DEFAULT = 10_000
 OFFSET_MAX = 2**63 - 1
@@ -36,6 +40,18 @@ DATA_MOST = 65_700
 
 # What a call gives where it does not end in an error.
 Reply = int | str | bytes | None
+
+
+class Limits(NamedTuple):
+    """What may differ between two runs: how many bytes a regular file and a pipe have at most."""
+
+    size: int = FILE_SIZE_MAX
+    capacity: int = PIPE_CAPACITY
+
+
+DEFAULTS = Limits()
+# Those of each run whose trace has version 1.
+OLD_LIMITS = Limits(1_048_576, 1_024)
 
 
 # ---- what there is
@@ -57,7 +73,7 @@ class Regular:
     kind = "regular"
 
     def __init__(self) -> None:
-        self.data = bytearray()
+        self.data = Contents()
 
 
 class Pipe:
@@ -65,12 +81,13 @@ class Pipe:
 
     kind = "pipe"
 
-    def __init__(self) -> None:
+    def __init__(self, capacity: int) -> None:
         self.data = bytearray()
+        self.capacity = capacity
 
     def room(self) -> int:
         """How many bytes more go into it."""
-        return PIPE_CAPACITY - len(self.data)
+        return self.capacity - len(self.data)
 
 
 class Fifo:
@@ -78,8 +95,8 @@ class Fifo:
 
     kind = "fifo"
 
-    def __init__(self) -> None:
-        self.pipe = Pipe()
+    def __init__(self, pipe: Pipe) -> None:
+        self.pipe = pipe
         self.opened = {"r": 0, "w": 0}
 
 
@@ -197,7 +214,8 @@ class Process:
 class World:
     """The names and the live processes, and through them all that is there."""
 
-    def __init__(self) -> None:
+    def __init__(self, limits: Limits = DEFAULTS) -> None:
+        self.limits = limits
         self.names: dict[bytes, Named] = {}
         self.processes: dict[int, Process] = {}
         self.next_number = 0
@@ -229,6 +247,10 @@ class World:
     def fork(self, process: Process) -> Reply:
         """The call."""
         return self.add_process(process.table, attached=False)
+
+    def new_pipe(self) -> Pipe:
+        """A pipe without bytes."""
+        return Pipe(self.limits.capacity)
 
     def get(self, pipe: Pipe, count: int) -> bytes:
         """Takes what was written first out of a pipe."""
@@ -272,7 +294,7 @@ class World:
         """Opens an end of a FIFO once more; its pipe is a new one where no end was open."""
         other = "w" if mode == "r" else "r"
         if not self.has_end(fifo.pipe, "r") and not self.has_end(fifo.pipe, "w"):
-            fifo.pipe = Pipe()
+            fifo.pipe = self.new_pipe()
         fifo.opened[mode] += 1
         process.table[fd] = Description(fifo, mode, flags, fifo.pipe)
         if "nonblock" not in flags and not self.has_end(fifo.pipe, other):
@@ -284,7 +306,7 @@ class World:
         check_name(name)
         require(name not in self.names, "EEXIST")
         require(len(self.names) < NAMES_MAX, "ENOSPC")
-        self.names[name] = Fifo()
+        self.names[name] = Fifo(self.new_pipe())
         return "ok"
 
     def link(self, process: Process, old: bytes, new: bytes) -> Reply:
@@ -344,7 +366,7 @@ class World:
         """The call."""
         reading, writing = lowest_free(process, 2)
         require(len(self.descriptions()) + 2 <= DESCRIPTIONS_MAX, "ENFILE")
-        pipe = Pipe()
+        pipe = self.new_pipe()
         process.table[reading] = Description(pipe, "r", pipe=pipe)
         process.table[writing] = Description(pipe, "w", pipe=pipe)
         return f"{reading} {writing}"
@@ -375,7 +397,7 @@ class World:
         require(count <= TRANSFER_MAX, "EINVAL")
         if at.pipe:
             return self.read_end(process, at, count)
-        given = bytes(at.regular.data[at.offset : at.offset + count])
+        given = at.regular.data.read(at.offset, count)
         at.offset += len(given)
         return self.given(given)
 
@@ -394,7 +416,7 @@ class World:
         require("r" in at.mode, "EBADF")
         require(not at.pipe, "ESPIPE")
         require(start >= 0 and count <= TRANSFER_MAX, "EINVAL")
-        return self.given(bytes(at.regular.data[start : start + count]))
+        return self.given(at.regular.data.read(start, count))
 
     def write(self, process: Process, fd: int, data: bytes) -> Reply:
         """The call."""
@@ -434,10 +456,9 @@ class World:
         """Puts into a regular file what fits below the limit, and gives how many bytes that is."""
         if not data:
             return 0
-        require(start < FILE_SIZE_MAX, "EFBIG")
-        data = data[: FILE_SIZE_MAX - start]
-        file.data += bytes(max(start - len(file.data), 0))
-        file.data[start : start + len(data)] = data
+        require(start < self.limits.size, "EFBIG")
+        data = data[: self.limits.size - start]
+        file.data.write(start, data)
         self.bytes_in += len(data)
         return len(data)
 
@@ -455,10 +476,8 @@ class World:
         """The call."""
         at = find(process, fd)
         require(length >= 0 and not at.pipe and "w" in at.mode, "EINVAL")
-        require(length <= FILE_SIZE_MAX, "EFBIG")
-        data = at.regular.data
-        del data[length:]
-        data += bytes(length - len(data))
+        require(length <= self.limits.size, "EFBIG")
+        at.regular.data.resize(length)
         return "ok"
 
 
@@ -496,10 +515,10 @@ class Act(NamedTuple):
 class Run:
     """The records of a run, as lines, and the world after them."""
 
-    def __init__(self, records: int = RECORDS_DEFAULT) -> None:
+    def __init__(self, records: int = RECORDS_DEFAULT, limits: Limits = DEFAULTS) -> None:
         self.most = records
         self.records = 0
-        self.world = World()
+        self.world = World(limits)
         self.lines: list[str] = []
 
     def take(self, act: Act) -> None:
@@ -751,8 +770,8 @@ def act_text(act: Act) -> str:
 # ---- the whole
 
 
-def replay(script: bytes, records: int = RECORDS_DEFAULT) -> Ran:
-    """What `fdref replay --records RECORDS` gives for a script."""
+def replay(script: bytes, records: int = RECORDS_DEFAULT, limits: Limits = DEFAULTS) -> Ran:
+    """What `fdref replay --records RECORDS --pipe-capacity CAPACITY` gives for a script."""
     if len(script) > SCRIPT_MOST:
         return Ran(3, b"", b"script too long\n")
     acts = []
@@ -764,7 +783,7 @@ def replay(script: bytes, records: int = RECORDS_DEFAULT) -> Ran:
             column, expected = fault.args
             text = f"line {place} column {column}: not an act\nexpected {expected}\n"
             return Ran(3, b"", text.encode())
-    run = Run(records)
+    run = Run(records, limits)
     for act in acts:
         run.take(act)
     return Ran(0, run.text(), b"")

@@ -9,7 +9,7 @@ from pathlib import Path
 from support import plain_model
 from support.auditing import Frames
 from support.counting import Failure, require
-from support.frames import TRACE_HEADER, request_frame
+from support.frames import HEADER_LENGTH, request_frame
 from support.serving import SECONDS, Client, Server
 
 # The process of a join that was refused, which has no number.
@@ -100,7 +100,7 @@ def until_traced(server: Server, count: int) -> list[str]:
 
 def frames_in(trace: bytes) -> int:
     """How many whole frames a trace has, by their lengths alone."""
-    count, at = 0, len(TRACE_HEADER)
+    count, at = 0, HEADER_LENGTH
     while len(trace) >= at + 4:
         at += 4 + int.from_bytes(trace[at : at + 4], "big")
         count += at <= len(trace)

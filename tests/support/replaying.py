@@ -4,8 +4,10 @@ from collections.abc import Iterable, Sequence
 from typing import NamedTuple
 
 from support import plain_model
+from support.commands import capacity_words
 from support.counting import Failure
 from support.histories import UNKNOWN, WAITS, Noted
+from support.plain_model import DEFAULTS, Limits
 from support.running import CannotRun, run
 from support.runs import ALL_RECORDS, Line, line_of
 from support.searching import Step
@@ -25,13 +27,16 @@ def script_line(act: plain_model.Act) -> str:
     return "join" if act.word == "join" else plain_model.act_text(act)
 
 
-def replayed(program: str | Sequence[str], acts: Sequence[plain_model.Act]) -> list[Line]:
-    """The lines that the program, or a command that runs it, prints for these acts, but that of the totals."""
+def replayed(
+    program: str | Sequence[str], acts: Sequence[plain_model.Act], limits: Limits = DEFAULTS
+) -> list[Line]:
+    """The lines that the program, or a command that runs it, prints for these acts in a run of these limits, but that
+    of the totals."""
     script = "".join(f"{script_line(act)}\n" for act in acts).encode()
     words = [program] if isinstance(program, str) else program
     records = min(2 * len(acts) + 200, ALL_RECORDS)
     try:
-        ran = run([*words, "replay", "--records", str(records)], script, seconds=SECONDS)
+        ran = run([*words, "replay", "--records", str(records), *capacity_words(limits)], script, seconds=SECONDS)
     except (Failure, OSError) as fault:
         raise CannotRun(f"{words[0]}: {fault}") from None
     if ran.status != 0:
@@ -106,12 +111,14 @@ def keeps_time(went: Sequence[tuple[Noted, Went]]) -> None:
 # ---- both
 
 
-def verified(program: str | Sequence[str], history: Sequence[Noted], steps: Sequence[Step]) -> list[Line]:
-    """The lines of the program for the steps of an order. They have to be the steps of the model, and explain the
-    history; and none of the calls that wait at its end may be ready."""
+def verified(
+    program: str | Sequence[str], history: Sequence[Noted], steps: Sequence[Step], limits: Limits = DEFAULTS
+) -> list[Line]:
+    """The lines of the program for the steps of an order, in a run of these limits. They have to be the steps of the
+    model, and explain the history; and none of the calls that wait at its end may be ready."""
     waiting = [noted.process for noted in history if noted.outcome == WAITS]
     tries = [plain_model.Act(process, "resume") for process in waiting]
-    lines = replayed(program, [*(step.act for step in steps), *tries])
+    lines = replayed(program, [*(step.act for step in steps), *tries], limits)
     for line, step in zip(lines, steps, strict=False):
         if (line.act, line.outcome) != (plain_model.act_text(step.act), step.outcome):
             raise Differs(f"{line.act} = {line.outcome}, and the model gives {step.outcome}")

@@ -1,8 +1,9 @@
-"""The rows: each folder of tests/rows is a run of `fdref replay` or of `fdref audit`, with what it has to give.
+"""The rows: each folder of tests/rows is a run of `fdref replay`, `audit` or `migrate`, with what it has to give.
 
 A run of `replay` has `script`, its standard input, and `args` (if there), its words after `replay`, one a line. A run
-of `audit` has `trace.hex`, the bytes of its file in hexadecimal, in which line ends have no meaning. In both `stdout`
-is what it must write on standard output, `stderr` (if there) the text that it must write on standard error, without the
+of `audit` has `trace.hex`, the bytes of its file in hexadecimal, in which line ends have no meaning. A run of `migrate`
+has `old.hex`, the bytes of the file that it reads, and `new.hex`, those that it has to write. In all three `stdout` is
+what it must write on standard output, `stderr` (if there) the text that it must write on standard error, without the
 end of its last line, and `status` (0 where it is missing) its exit status.
 """
 
@@ -31,9 +32,9 @@ class Row:
         """The standard input of the run."""
         return (self.folder / "script").read_bytes()
 
-    def trace(self) -> bytes:
-        """The bytes of the file that is audited."""
-        return bytes.fromhex((self.folder / "trace.hex").read_text())
+    def trace(self, name: str = "trace") -> bytes:
+        """The bytes of a trace: the one that is audited, or the `old` or `new` one of a migration."""
+        return bytes.fromhex((self.folder / f"{name}.hex").read_text())
 
     def words(self) -> list[str]:
         """The words after `replay`."""
@@ -54,6 +55,11 @@ def rows() -> list[Row]:
 def audits() -> list[Row]:
     """All runs of `audit`, in the order of their names."""
     return [row for row in all_rows() if row.has("trace.hex")]
+
+
+def migrations() -> list[Row]:
+    """All runs of `migrate`, in the order of their names."""
+    return [row for row in all_rows() if row.has("old.hex")]
 
 
 def all_rows() -> list[Row]:

@@ -68,15 +68,25 @@ def run(
 
 
 def ran_all(program: str, contents: Sequence[bytes], words: str = "audit") -> list[Ran]:
-    """What a program with these words gives for a file of each content. One shell starts it for all of them, which takes
-    less time."""
-    one = f'"$0" {words} $n; echo "status $?"; echo "status $?" >&2'
-    loop = f"n=0; while [ $n -lt {len(contents)} ]; do {one}; n=$((n + 1)); done"
+    """What a program with these words gives for a file of each content."""
     with tempfile.TemporaryDirectory(prefix="fdref-", dir=SCRATCH) as folder:
-        for number, content in enumerate(contents):
-            Path(folder, str(number)).write_bytes(content)
-        ran = run(["sh", "-c", loop, program], seconds=SECONDS + len(contents), folder=folder)
+        write_all(folder, contents)
+        return ran_in(folder, program, len(contents), f"{words} $n")
+
+
+def write_all(folder: str, contents: Sequence[bytes]) -> None:
+    """Makes a file of each content, whose name is its number."""
+    for number, content in enumerate(contents):
+        Path(folder, str(number)).write_bytes(content)
+
+
+def ran_in(folder: str, program: str, count: int, words: str) -> list[Ran]:
+    """What a program gives in a folder with these words, in which `$n` is one number after another, up to a count. One
+    shell starts it for all of them, which takes less time."""
+    one = f'"$0" {words}; echo "status $?"; echo "status $?" >&2'
+    loop = f"n=0; while [ $n -lt {count} ]; do {one}; n=$((n + 1)); done"
+    ran = run(["sh", "-c", loop, program], seconds=SECONDS + count, folder=folder)
     outs = re.findall(rb"(.*?)status (\d+)\n", ran.stdout, re.DOTALL)
     errors = re.findall(rb"(.*?)status \d+\n", ran.stderr, re.DOTALL)
-    require(len(outs) == len(errors) == len(contents), f"{len(outs)} of {len(contents)} runs, {ran.said()}")
+    require(len(outs) == len(errors) == count, f"{len(outs)} of {count} runs, {ran.said()}")
     return [Ran(int(status), out, error) for (out, status), error in zip(outs, errors, strict=True)]

@@ -31,8 +31,8 @@ def line_of(text: str) -> Line:
 class Settled(plain_model.Run):
     """A run of the model in which a call goes on as soon as it can, as on a system."""
 
-    def __init__(self) -> None:
-        super().__init__(ALL_RECORDS)
+    def __init__(self, limits: plain_model.Limits = plain_model.DEFAULTS) -> None:
+        super().__init__(ALL_RECORDS, limits)
 
     def take(self, act: plain_model.Act) -> None:
         """Lets an act take place, and all that go on because of it."""

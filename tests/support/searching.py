@@ -16,6 +16,7 @@ from support import plain_model
 from support.footprints import Footprints, rivals
 from support.foretold import Foretold, Stream, Written, fits
 from support.histories import UNKNOWN, Noted
+from support.plain_model import Limits
 from support.unseen import last_looks
 from support.worlds import States
 
@@ -77,15 +78,15 @@ class Place(NamedTuple):
 class Search:
     """A search for the order of a history."""
 
-    def __init__(self, history: Sequence[Noted], states_most: int, seconds: float) -> None:
-        self.states = States()
+    def __init__(self, history: Sequence[Noted], limits: Limits, states_most: int, seconds: float) -> None:
+        self.states = States(limits)
         self.states_most = states_most
         self.until = time.monotonic() + seconds
         self.processes = sorted({noted.process for noted in history})
         footprints = Footprints(history)
         known = rivals(history, footprints.touches)
         self.foretold = Foretold(history, footprints)
-        writes, looks = self.foretold.writes, last_looks(history, footprints)
+        writes, looks = self.foretold.writes, last_looks(history, footprints, limits)
         calls = [
             Call(noted, number, known[number], writes.get(number), looks.get(number))
             for number, noted in enumerate(history)

@@ -17,6 +17,7 @@ from support import frames
 from support.auditing import Audit, legal
 from support.counting import Failure, require, same
 from support.places import SCRATCH
+from support.plain_model import PIPE_CAPACITY, Limits
 from support.running import Ran, StillRunning
 
 SECONDS = 10
@@ -42,12 +43,15 @@ class Server:
         trace: str | None = None,
         before: Callable[[], None] | None = None,
         files: Sequence[int] = (),
+        capacity: int = PIPE_CAPACITY,
     ) -> None:
+        self.header = frames.header_bytes(records, Limits(capacity=capacity))
         self.folder = tempfile.TemporaryDirectory(prefix="fdref-", dir=SCRATCH)
         self.path = os.path.join(self.folder.name, "socket")
         self.trace = trace or os.path.join(self.folder.name, "trace")
         self.clients: list[Client] = []
         words = serve_words(program, self.path, count, records, self.trace)
+        words += [] if capacity == PIPE_CAPACITY else ["--pipe-capacity", str(capacity)]
         self.process = started(words, stdout, env, before, files)
 
     def __enter__(self) -> Self:
@@ -74,14 +78,17 @@ class Server:
         return self.process.poll() is None
 
     def ended(self, line: bytes, status: int = 0, stderr: bytes = b"") -> None:
-        """The server ends by itself, prints the line, leaves no process, and the socket is where it was. Its trace has
-        as many records as the line says, which are right."""
+        """The server ends by itself, prints the line, leaves no process, and the socket is where it was. Its trace
+        tells how many records and how much room the run had, and has as many records as the line says, which are
+        right."""
         given = outcome_of(self.process)
         require(given == (status, line, stderr), f"wanted {(status, line, stderr)}, given {tuple(given)}")
         require(os.path.exists(self.path), "the socket is gone")
         told = re.search(rb" trace (\d+)\n", line)
         if told and os.path.isfile(self.trace):
-            audit = Audit(Path(self.trace).read_bytes())
+            trace = Path(self.trace).read_bytes()
+            require(self.header.startswith(trace[: frames.HEADER_LENGTH]), f"the trace begins with {trace[:24].hex()}")
+            audit = Audit(trace)
             same(legal(int(told[1]), audit.frames.rest), audit.verdict)
             require(audit.frames.rest == 0 or stderr == b"trace fault\n", "the trace ends in half a record")
 

@@ -15,6 +15,7 @@ from collections.abc import Callable, Iterable, Sequence
 
 from support.footprints import CHANGE_DESCRIPTORS, Footprints, Touch
 from support.histories import UNKNOWN, WAITS, Noted
+from support.plain_model import Limits
 from support.searching import Search, TooLong
 
 # Calls whose answers are always kept: what later calls of a process mean depends on them.
@@ -38,10 +39,11 @@ Change = Callable[[Sequence[Noted], set[Noted]], list[Noted]]
 
 
 class Shortening:
-    """Makes a history short in so many seconds, by searches of which each goes through so many states at most, and
-    takes so many seconds."""
+    """Makes a history of a run of these limits short in so many seconds, by searches of which each goes through so many
+    states at most, and takes so many seconds."""
 
-    def __init__(self, states_most: int, seconds: float, each: float) -> None:
+    def __init__(self, limits: Limits, states_most: int, seconds: float, each: float) -> None:
+        self.limits = limits
         self.states_most = states_most
         self.each = each
         self.until = time.monotonic() + seconds
@@ -52,7 +54,7 @@ class Shortening:
         if left <= 0:
             return False
         try:
-            return Search(history, self.states_most, min(left, self.each)).order() is None
+            return Search(history, self.limits, self.states_most, min(left, self.each)).order() is None
         except TooLong:
             return False
 

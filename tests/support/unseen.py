@@ -7,20 +7,20 @@ its bytes and offsets go on in the same way, and a search need not tell them apa
 
 from collections.abc import Sequence
 
-from support import plain_model
 from support.footprints import Footprints
 from support.histories import Noted
+from support.plain_model import Limits
 
 # Calls on a descriptor whose answers do not depend on bytes and offsets.
 BLIND = ("write", "pwrite", "ftruncate")
 CHANGES_NO_BYTES = ("close", "dup", "dup2", "getfl", "setfl")
 
 
-def last_looks(history: Sequence[Noted], footprints: Footprints) -> dict[int, int]:
+def last_looks(history: Sequence[Noted], footprints: Footprints, limits: Limits) -> dict[int, int]:
     """For the place of each call that changes the bytes of a regular file: the bits of all calls that look at them, or
     at an offset there."""
     looks: dict[object, int] = {}
-    if not is_small(history) or not all(touch.is_known for touch in footprints.touches):
+    if not is_small(history, limits.size) or not all(touch.is_known for touch in footprints.touches):
         return {}
     calls = [(place, noted.act.word, footprints.touches[place].at) for place, noted in enumerate(history)]
     for place, word, at in calls:
@@ -29,8 +29,8 @@ def last_looks(history: Sequence[Noted], footprints: Footprints) -> dict[int, in
     return {place: looks.get(at.file, 0) for place, word, at in calls if at and word in BLIND and not at.may_be_pipe}
 
 
-def is_small(history: Sequence[Noted]) -> bool:
-    """Whether no file can come near the greatest size."""
+def is_small(history: Sequence[Noted], size: int) -> bool:
+    """Whether no file can come near a size."""
     reached = moved = 0
     for noted in history:
         word, fields = noted.act.word, noted.act.fields
@@ -38,4 +38,4 @@ def is_small(history: Sequence[Noted]) -> bool:
             moved += len(fields[-1])
         if word in ("pwrite", "ftruncate", "lseek"):
             reached += abs(fields[1])
-    return moved + reached < plain_model.FILE_SIZE_MAX
+    return moved + reached < size

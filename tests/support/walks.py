@@ -4,7 +4,7 @@ import random
 from collections.abc import Callable, Sequence
 
 from support import plain_model
-from support.plain_model import FIELDS, FILE_SIZE_MAX, OFFSET_MAX, OPEN_MAX
+from support.plain_model import DEFAULTS, FIELDS, FILE_SIZE_MAX, OFFSET_MAX, OPEN_MAX, TRANSFER_MAX, Limits
 
 # A field of a line, before it is spelled.
 Field = int | str
@@ -56,9 +56,11 @@ ODD_NAMES = [
 ]
 ODD_FDS = [-(2**31), -1, 0, 1, 2, 30, 31, 32, 2**31 - 1]
 ODD_COUNTS = [0, 65_536, 65_537, 2**31, 2**32 - 1]
-ODD_PLACES = [-(2**63), -1, FILE_SIZE_MAX + 1, 2**62, OFFSET_MAX - 1, OFFSET_MAX]
+ODD_PLACES = [-(2**63), -1, FILE_SIZE_MAX + 1, 2 * FILE_SIZE_MAX, 2**62, OFFSET_MAX - 1, OFFSET_MAX]
 ODD_ACTORS = [0, 1, 63, 64, 2**31, 2**32 - 2, 2**32 - 1]
 SMALL = [0, 1, 1, 2, 3, 4, 5, 7, 15, 16, 17, 24]
+# of how many bytes the room of a pipe may be, in runs that are to differ in it
+CAPACITIES = [512, 513, 600, 1_000, 1_023, 1_024, 1_025, 2_048, 4_095, 4_096, 5_000, 32_768, 65_535, 65_536]
 
 
 # ---- spelling
@@ -94,6 +96,7 @@ class Walk:
         self.pick = pick
         self.run = run
         self.world = run.world
+        self.limits = run.world.limits
         self.often: Sequence[str] = ()
         self.most_live = 70
         self.lines: list[bytes] = []
@@ -241,12 +244,13 @@ class Walk:
     def count_from(self, at: plain_model.Description) -> int:
         """How many bytes to read: often just what is there."""
         left = len(at.pipe.data) if at.pipe else max(len(at.regular.data) - at.offset, 0)
-        return self.count(min(left, 66_000), min(left, 66_000), 512, 1_000)
+        left = min(left, self.pick.choice([TRANSFER_MAX - 1, TRANSFER_MAX - 1, 66_000]))
+        return self.count(left, left, 512, 1_000)
 
     def count_into(self, at: plain_model.Description) -> int:
         """How many bytes to write: often just what fits, or does not."""
         if not at.pipe:
-            return self.count(40, min(max(FILE_SIZE_MAX - at.offset, 0), 65_535), 65_536)
+            return self.count(40, min(max(self.limits.size - at.offset, 0), 65_535), 65_536)
         room = at.pipe.room()
         if self.is_odd():
             return self.count(65_536)
@@ -261,8 +265,15 @@ class Walk:
         if self.is_odd():
             return self.pick.choice(ODD_PLACES)
         size = 0 if at.pipe else len(at.regular.data)
-        near = self.pick.choice([0, 0, size, size, size + 20, at.offset, FILE_SIZE_MAX - 8, FILE_SIZE_MAX])
+        most = self.limits.size
+        near = self.pick.choice([0, 0, size, size, size + 20, at.offset, self.far(size), most - 8, most])
         return min(max(near + self.pick.choice([-2, -1, 0, 0, 0, 1, 2]), -1), OFFSET_MAX)
+
+    def far(self, size: int) -> int:
+        """A position that leaves a hole in a file of so many bytes: of any length, or one that ends where a block does;
+        or that is as far before the greatest size."""
+        length = self.pick.choice([2 ** self.pick.randrange(40), 4_096 * self.pick.randrange(1, 40), 65_536])
+        return self.pick.choice([length, size + length, max(self.limits.size - length, 0)])
 
     def move(self, at: plain_model.Description) -> list[Field]:
         """A distance and what it counts from."""
@@ -361,7 +372,8 @@ class Walk:
     def begin_with_two_ends(self) -> None:
         """Two processes with both ends of a pipe, or with one each, or with a write that waits."""
         ends = ["p0 close 0", "p1 close 1"]
-        waiting = [f"p0 write 1 61*{self.pick.randrange(400, 1_100)}"]
+        room = self.limits.capacity
+        waiting = [f"p0 write 1 61*{self.pick.randrange(max(room - 624, 0), min(room + 76, TRANSFER_MAX) + 1)}"]
         waiting += [f"p0 write 1 62*{self.pick.choice([100, 512, 513, 1_500])}"]
         ways: list[list[str]] = [[], ends, ends + waiting, ends + waiting]
         self.say("p0 pipe", "p0 fork", "p1 attach", *self.pick.choice(ways))
@@ -373,9 +385,24 @@ class Walk:
             self.act("open 3 dup 1 pipe 1 close 1")
 
     def begin_with_a_large_file(self) -> None:
-        """A file about as large as one may be."""
+        """A file about as large as one may be, with a hole up to where its last writes are."""
         write = f"p0 write 0 {self.pick.randrange(256):02x}*65536"
-        self.say("p0 open a rw,creat", *[write] * self.pick.randrange(15, 17))
+        start = max(self.limits.size - 16 * TRANSFER_MAX - self.pick.choice([0, 0, 1, 100]), 0)
+        self.say("p0 open a rw,creat", f"p0 ftruncate 0 {start}", "p0 lseek 0 0 end")
+        self.say(*[write] * self.pick.randrange(15, 17))
+
+    def begin_with_the_greatest_file(self) -> None:
+        """A file that is made as large as one may be, written at its ends, across the limit and between, and cut."""
+        most = self.limits.size
+        self.say("p0 open a rw,creat", f"p0 ftruncate 0 {most}", "p0 open a rw,append")
+        places = [0, 1, 4_096, 65_535, most // 2, most - 65_537, most - 4_096, most - 9, most - 1, most]
+        for _ in range(self.pick.randrange(2, 8)):
+            at, count = self.pick.choice(places), self.pick.choice([1, 9, 10, 4_096, 65_536])
+            data = data_text(self.pick, count)
+            length = self.pick.choice([most, most, most + 1, max(at - self.pick.choice([0, 1, 5_000]), 0)])
+            calls = [f"pwrite 0 {at} {data}", f"pwrite 0 {at} {data}", f"pread 0 {at} {count}", f"lseek 0 {at} set"]
+            calls += [f"write 0 {data}", f"write 1 {data}", f"ftruncate 0 {length}"]
+            self.say(f"p0 {self.pick.choice(calls)}")
 
     def begin_with_many_processes(self) -> None:
         """As many processes as there may be, or fewer."""
@@ -399,6 +426,7 @@ BEGINNINGS: dict[Callable[[Walk], None] | None, int] = {
     Walk.begin_with_two_ends: 350,
     Walk.begin_with_many_descriptors: 50,
     Walk.begin_with_a_large_file: 50,
+    Walk.begin_with_the_greatest_file: 60,
     Walk.begin_with_many_processes: 40,
     Walk.begin_with_many_names: 8,
     Walk.begin_with_many_descriptions: 6,
@@ -411,9 +439,11 @@ def is_fifo(file: object) -> bool:
     return isinstance(file, plain_model.Fifo)
 
 
-def walked(pick: random.Random, records: int, length: int, often: Sequence[str] = ()) -> list[bytes]:
+def walked(
+    pick: random.Random, records: int, length: int, often: Sequence[str] = (), limits: Limits = DEFAULTS
+) -> list[bytes]:
     """The lines of a walk of about a length, in which some words come often."""
-    walk = Walk(pick, plain_model.Run(records))
+    walk = Walk(pick, plain_model.Run(records, limits))
     walk.often = often
     beginning = pick.choices(list(BEGINNINGS), list(BEGINNINGS.values()))[0]
     if beginning:

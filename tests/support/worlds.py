@@ -2,7 +2,8 @@
 
 A state is made of tuples. In place of objects it has numbers, in the order in which the objects are found: by the
 descriptors of the processes first, and then by the names. What nothing leads to is not in it, nor how many bytes were
-moved in all. How often an end of a FIFO was opened matters only to an open that waits: whether it was, since then.
+moved in all, nor the limits, which are the same in all states of a search. How often an end of a FIFO was opened
+matters only to an open that waits: whether it was, since then.
 
 `States` numbers the states that are met, and keeps what each act comes to in each. So an act is run once in a state,
 however often a search comes by there.
@@ -11,11 +12,13 @@ however often a search comes by there.
 from typing import NamedTuple
 
 from support import plain_model
+from support.contents import NOTHING, Contents, Held
 from support.late_links import WaitingLink
-from support.plain_model import Description, Fifo, Pipe, Process, Regular, World
+from support.plain_model import DEFAULTS, Description, Fifo, Limits, Pipe, Process, Regular, World
 
-# What a world is made of: bytes are a regular file, ("p", bytes) a pipe, and ("f", number of its pipe or None) a FIFO.
-File = bytes | tuple[str, bytes] | tuple[str, int | None]
+# What a world is made of: what is held is a regular file, ("p", bytes) a pipe, and ("f", number of its pipe or None) a
+# FIFO.
+File = Held | tuple[str, bytes] | tuple[str, int | None]
 # The file, the mode, append, nonblock, the offset, and the pipe or None.
 At = tuple[int, str, bool, bool, int, int | None]
 # A call that waits: its kind and what it knows.
@@ -57,7 +60,7 @@ class Freezer:
             return number
         told: File
         if isinstance(file, Regular):
-            told = bytes(file.data)
+            told = file.data.held()
         elif isinstance(file, Pipe):
             told = ("p", bytes(file.data))
         else:
@@ -109,19 +112,19 @@ def frozen(world: World) -> State:
 # ---- a state as a world
 
 
-def thawed_files(state: State) -> list[Regular | Pipe | Fifo]:
+def thawed_files(state: State, world: World) -> list[Regular | Pipe | Fifo]:
     """The files of a state, as objects. A pipe has a lower number than its FIFO."""
     files: list[Regular | Pipe | Fifo] = []
     for told in state.files:
         file: Regular | Pipe | Fifo
-        if isinstance(told, bytes):
+        if isinstance(told, Held):
             file = Regular()
-            file.data += told
+            file.data = Contents(told)
         elif isinstance(told[1], bytes):
-            file = Pipe()
+            file = world.new_pipe()
             file.data += told[1]
         else:
-            file = Fifo()
+            file = Fifo(world.new_pipe())
             if told[1] is not None:
                 pipe = files[told[1]]
                 assert isinstance(pipe, Pipe)
@@ -147,11 +150,11 @@ def thawed_wait(told: tuple[object, ...], files: list[Regular | Pipe | Fifo]) ->
     return opening
 
 
-def thawed(state: State) -> World:
+def thawed(state: State, limits: Limits) -> World:
     """A world in a state, which shares nothing with any other."""
-    world = World()
+    world = World(limits)
     world.next_number, world.is_closed = state.next_number, state.is_closed
-    files = thawed_files(state)
+    files = thawed_files(state, world)
     descriptions = []
     for number, mode, append, nonblock, offset, pipe in state.descriptions:
         at = Description(files[number], mode, (), None if pipe is None else files[pipe])  # type: ignore[arg-type]
@@ -179,7 +182,7 @@ def behind(state: State, process: int, fd: int) -> At:
 def blanked(state: State, process: int, fd: int) -> State:
     """A state in which the regular file behind a descriptor is empty, and all its offsets are 0."""
     file = behind(state, process, fd)[0]
-    files = (*state.files[:file], b"", *state.files[file + 1 :])
+    files = (*state.files[:file], NOTHING, *state.files[file + 1 :])
     descriptions = tuple([(*at[:4], 0, at[5]) if at[0] == file else at for at in state.descriptions])
     return state._replace(files=files, descriptions=descriptions)
 
@@ -210,7 +213,8 @@ Came = tuple[str | None, int]
 class States:
     """The states that were met, by their numbers, and what each act comes to in them. State 0 is the empty world."""
 
-    def __init__(self) -> None:
+    def __init__(self, limits: Limits = DEFAULTS) -> None:
+        self.limits = limits
         self.all: list[State] = []
         self.numbers: dict[State, int] = {}
         self.waiting: list[frozenset[int]] = []
@@ -232,7 +236,7 @@ class States:
         key = number, act
         came = self.steps.get(key)
         if came is None:
-            world = self.stepper.world = thawed(self.all[number])
+            world = self.stepper.world = thawed(self.all[number], self.limits)
             self.stepper.take(act)
             came = self.steps[key] = self.stepper.outcome, self.number(frozen(world))
         return came
