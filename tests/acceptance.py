@@ -4,8 +4,9 @@
 usage: tests/acceptance.py [PROGRAM]
 
 PROGRAM is crates/fdref/out/fdref where none is given. Each folder of tests/rows is a run of
-`fdref replay`, with its standard input `script` and its words `args`, or of `fdref audit`, with the
-file `trace.hex`; tests/support/rows.py tells more. Each function marked `case` below is a case as well.
+`fdref replay`, with its standard input `script` and its words `args`, of `fdref audit`, with the
+file `trace.hex`, or of `fdref migrate`, from `old.hex` to `new.hex`; tests/support/rows.py tells more.
+Each function marked `case` below is a case as well.
 
 A failure is told in one line. The last line is `N passed, M failed`, and the exit status is 1
 where M is above 0.
@@ -19,12 +20,13 @@ import tempfile
 import threading
 from collections.abc import Callable, Iterator, Sequence
 from functools import partial
+from pathlib import Path
 from typing import IO, Any
 
 from support.counting import Case, Count, Failure
 from support.options import absolute, end_without
 from support.places import FDREF, ROWS
-from support.rows import Row, audits, rows
+from support.rows import Row, audits, migrations, rows
 from support.running import SECONDS, Ran, Word
 from support.running import run as run_program
 from support.texts import difference, shown
@@ -99,7 +101,22 @@ def is_audit(program: str, row: Row) -> None:
         expect(run(program, ["audit", file.name]), *row.wanted())
 
 
+def is_migration(program: str, row: Row) -> None:
+    """The migration that a folder is writes what its files say, and leaves the old trace as it is."""
+    with tempfile.TemporaryDirectory(prefix="fdref-") as folder:
+        old, new = Path(folder, "old"), Path(folder, "new")
+        old.write_bytes(row.trace("old"))
+        expect(run(program, ["migrate", old, new]), *row.wanted())
+        for path, name in ((old, "old"), (new, "new")):
+            if path.read_bytes() != row.trace(name):
+                raise Failure(f"the {name} trace is {path.read_bytes().hex()}, wanted {row.trace(name).hex()}")
+
+
 # ---- the command line
+
+
+# A server that would make nothing.
+SERVE = ["serve", "--socket", "/gone/socket", "--sessions", "1", "--records", "9", "--trace", "/dev/null"]
 
 
 @case("no words")
@@ -122,6 +139,25 @@ def is_audit(program: str, row: Row) -> None:
 @case("records past 64 bits", "replay", "--records", "99999999999999999999")
 @case("records past 64 bits by one", "replay", "--records", "18446744073709551616")
 @case("records that wrap to 1", "replay", "--records", "18446744073709551617")
+@case("capacity without a number", "replay", "--pipe-capacity")
+@case("capacity twice", "replay", "--pipe-capacity", "512", "--pipe-capacity", "512")
+@case("capacity 511", "replay", "--pipe-capacity", "511")
+@case("capacity 511 joined", "replay", "--pipe-capacity=511")
+@case("capacity 65537", "replay", "--pipe-capacity", "65537")
+@case("capacity 0", "replay", "--pipe-capacity", "0")
+@case("capacity -1", "replay", "--pipe-capacity", "-1")
+@case("capacity x", "replay", "--pipe-capacity", "x")
+@case("capacity empty", "replay", "--pipe-capacity", "")
+@case("capacity past 64 bits", "replay", "--pipe-capacity", "18446744073709552128")
+@case("capacity that wraps to 1024", "replay", "--pipe-capacity", "4294968320")
+@case("records and capacity out of range", "replay", "--records", "0", "--pipe-capacity", "0")
+@case("capacity of a server out of range", *SERVE, "--pipe-capacity", "511")
+@case("capacity of a server over its range", *SERVE, "--pipe-capacity", "65537")
+@case("capacity of an audit", "audit", "--pipe-capacity", "1024", "/dev/null")
+@case("migrate without a file", "migrate")
+@case("migrate without a file to write", "migrate", "/dev/null")
+@case("migrate with a word too many", "migrate", "/dev/null", "/gone/a", "/gone/b")
+@case("migrate with an option", "migrate", "--records", "5", "/dev/null", "/gone/a")
 def is_mistake(program: str, *words: Word) -> None:
     """A command line that is refused."""
     ran = run(program, words, b"join\n")
@@ -131,10 +167,13 @@ def is_mistake(program: str, *words: Word) -> None:
         raise Failure(f"standard error is {shown(ran.stderr)}, wanted a text that ends its line")
 
 
-@case("text of a mistake", "replay", "--records", "0")
-def mistake_is_told(program: str, *words: str) -> None:
+@case("text of a mistake", "0", "--records <N>", "1 to 1000000")
+@case("text of a small capacity", "511", "--pipe-capacity <N>", "512 to 65536")
+@case("text of a great capacity", "65537", "--pipe-capacity <N>", "512 to 65536")
+def mistake_is_told(program: str, value: str, option: str, range_of_it: str) -> None:
     """A command line that is refused with this text."""
-    fault = "error: invalid value '0' for '--records <N>': not a number from 1 to 1000000"
+    words = ["replay", option.split(" ")[0], value]
+    fault = f"error: invalid value '{value}' for '{option}': not a number from {range_of_it}"
     text = f"{fault}\n\nUsage: fdref replay [OPTIONS]\n\nFor more information, try '--help'."
     expect(run(program, words), status=2, stderr=told(text))
 
@@ -148,8 +187,11 @@ def is_version(program: str, text: str, *words: str) -> None:
 
 @case("help", "Usage: fdref <COMMAND>", "--help")
 @case("help of replay", "--records <N>", "replay", "--help")
+@case("capacity in the help of replay", "--pipe-capacity <N>", "replay", "--help")
 @case("help of serve", "--trace <FILE>", "serve", "--help")
+@case("capacity in the help of serve", "--pipe-capacity <N>", "serve", "--help")
 @case("help of audit", "<FILE>", "audit", "--help")
+@case("help of migrate", "<IN> <OUT>", "migrate", "--help")
 @case("help of show", "--acts", "show", "--help")
 @case("what the help of replay says", "Reads a script", "replay", "-h")
 @case("what the help of serve says", "Ends with 0", "serve", "-h")
@@ -168,6 +210,9 @@ def is_shown(program: str, part: str, *words: str) -> None:
 @case("records 1000000", "--records", "1000000")
 @case("records joined", "--records=3")
 @case("records by default")
+@case("capacity 512", "--pipe-capacity", "512")
+@case("capacity 65536 joined", "--pipe-capacity=65536")
+@case("records and capacity", "--records", "3", "--pipe-capacity", "600")
 def is_taken(program: str, *words: str) -> None:
     """Options that are taken."""
     expect(replay(program, b"join\n", words), stdout=b"0 p0 join = 0\nrecords 1 in 0 out 0\n")
@@ -181,6 +226,18 @@ def default_is_ten_thousand(program: str) -> None:
     lines += [b"%d p0 close 0 = error EBADF\n" % place for place in range(1, 9_998)]
     lines += [b"- p0 close 0 = refused RunFull\n", b"records 9998 in 0 out 0\n"]
     expect(replay(program, script), stdout=b"".join(lines))
+
+
+@case("a default of 1024 bytes in a pipe", 1_024)
+@case("512 bytes in a pipe", 512, "--pipe-capacity", "512")
+@case("513 bytes in a pipe", 513, "--pipe-capacity", "513")
+@case("65535 bytes in a pipe", 65_535, "--pipe-capacity", "65535")
+def a_pipe_holds(program: str, capacity: int, *words: str) -> None:
+    """So many bytes go into a pipe, and a write of as many waits for room of a byte."""
+    script = f"join\np0 pipe\np0 write 1 61*{capacity}\np0 fstat 1\np0 write 1 61*65536\n".encode()
+    lines = [b"0 p0 join = 0", b"1 p0 pipe = 0 1", b"2 p0 write 1 61*%d = %d" % (capacity, capacity)]
+    lines += [b"3 p0 fstat 1 = pipe %d 0" % capacity, b"4 p0 write 1 61*65536 = parked 0"]
+    expect(replay(program, script, words), stdout=b"\n".join([*lines, b"records 5 in %d out 0\n" % capacity]))
 
 
 @case("20000 records")
@@ -355,6 +412,7 @@ def cases(program: str) -> Iterator[Case]:
     """The rows, and the cases that are written out here."""
     yield from ((row.name, partial(is_row, program, row)) for row in rows())
     yield from ((row.name, partial(is_audit, program, row)) for row in audits())
+    yield from ((row.name, partial(is_migration, program, row)) for row in migrations())
     yield from ((name, partial(check, program)) for name, check in CASES)
 
 

@@ -57,15 +57,15 @@ import tempfile
 import time
 from collections.abc import Callable, Iterable, Sequence
 from pathlib import Path
-from typing import NamedTuple
+from typing import NamedTuple, Protocol
 
 from support import plain_model
-from support.auditing import audited
+from support.auditing import audited, migrated
 from support.auditing import shown as shown_trace
 from support.counting import Count, Failure
-from support.frames import trace_of
+from support.frames import OLD_MAGIC, header_bytes, trace_of
 from support.places import FDREF, MEMORY_TRIAL, SCRATCH
-from support.refusing import GIVEN_AGAIN, NEVER, NO_MEMORY, Refuser, build
+from support.refusing import GIVEN_AGAIN, NEVER, NO_MEMORY, Counted, Refuser, build
 from support.rows import Row as Files
 from support.rows import audits, rows
 from support.running import Ran
@@ -132,12 +132,19 @@ def is_recorded(lines: list[bytes]) -> bool:
 # ---- what a run has to give
 
 
+class Runner(Protocol):
+    """What runs programs and refuses some of their allocations."""
+
+    def run(self, words: Sequence[str], stdin: bytes = b"", first: int = NEVER, last: int = NEVER) -> Counted:
+        """Runs a command with its allocations from `first` to `last` refused."""
+
+
 class Row:
     """A run of a program, of a script or of a command line alone, and what it has to give."""
 
     is_refused_more = False
 
-    def __init__(self, refuser: Refuser, words: Sequence[str], script: bytes, wanted: Ran | None = None) -> None:
+    def __init__(self, refuser: Runner, words: Sequence[str], script: bytes, wanted: Ran | None = None) -> None:
         self.refuser = refuser
         self.words = words
         self.script = script
@@ -171,7 +178,7 @@ class ProgramRow(Row):
 
     is_refused_more = True
 
-    def __init__(self, refuser: Refuser, words: Sequence[str], script: bytes, wanted: Ran | None = None) -> None:
+    def __init__(self, refuser: Runner, words: Sequence[str], script: bytes, wanted: Ran | None = None) -> None:
         super().__init__(refuser, words, script, wanted)
         self.printed: dict[bytes, list[bytes]] = {}
         self.told = lines_by_act(self.acts, self.lines)[0]
@@ -253,6 +260,25 @@ class ProgramRow(Row):
         return End("acts refused", len(refused), self.ends_after(min(refused), told))
 
 
+class Migrations:
+    """Runs migrations in place of a Refuser, each to a new trace that is not there before. What is written is a front
+    of the right one, and all of it where the migration came to its end."""
+
+    def __init__(self, refuser: Refuser, new: Path, written: bytes) -> None:
+        self.refuser = refuser
+        self.new = new
+        self.written = written
+
+    def run(self, words: Sequence[str], stdin: bytes = b"", first: int = NEVER, last: int = NEVER) -> Counted:
+        """Runs a command with its allocations from `first` to `last` refused."""
+        self.new.unlink(missing_ok=True)
+        counted = self.refuser.run(words, stdin, first, last)
+        given = self.new.read_bytes() if self.new.exists() else b""
+        if not self.written.startswith(given) or (counted.ran.status in (0, 8) and given != self.written):
+            raise Failure(f"status {counted.ran.status}, and the new trace is not right: {given[-100:]!r}")
+        return counted
+
+
 class TrialRow(Row):
     """A run of the trial, which gives an act again for which memory was wanting."""
 
@@ -316,8 +342,9 @@ def traces() -> list[tuple[str, bytes]]:
     found = [(row.name, row.trace()) for row in audits()]
     for row in rows():
         if row.name in TRACED:
-            lines = row.wanted().stdout.decode().splitlines()
-            found.append((f"the records of {row.name}", trace_of(line for line in lines if line[0].isdigit())))
+            lines = [line for line in row.wanted().stdout.decode().splitlines() if line[0].isdigit()]
+            for version, header in ((1, OLD_MAGIC), (2, header_bytes())):
+                found.append((f"the records of {row.name} in version {version}", trace_of(lines, header)))
     return found
 
 
@@ -331,6 +358,10 @@ def trace_rows(refuser: Refuser, program: str) -> Makers:
             for line, ran in wanted.items():
                 words = [program, *line.split(), path]
                 yield f"{line} of {name}", functools.partial(ProgramRow, refuser, words, b"", ran)
+            migration, new = migrated(trace), Path(f"{path}.new")
+            runner = Migrations(refuser, new, migration.written)
+            words = [program, "migrate", path, str(new)]
+            yield f"migrate of {name}", functools.partial(ProgramRow, runner, words, b"", migration.ran)
 
 
 def program_rows(refuser: Refuser, program: str) -> Makers:

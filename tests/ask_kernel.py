@@ -32,6 +32,7 @@ from support.counting import Case, Count, Failure, require
 from support.drivers import IS_LINUX, NOT_AN_ACT, Driver
 from support.options import PROGRAM, count_option, end_without, parsed
 from support.places import EXAMPLES, STAND_INS, TOOLS
+from support.plain_model import DEFAULTS, PIPE_CAPACITY_MOST, Limits
 from support.rows import rows
 from support.running import Ran, run
 from support.texts import difference
@@ -44,6 +45,8 @@ SECONDS = 60
 SEED = "acceptance"
 RULE_SEED = "rules"
 RULE_SCRIPTS = 120
+# As many bytes in a pipe as on Linux.
+ROOMY = Limits(capacity=PIPE_CAPACITY_MOST)
 # The ways of tests/stand_ins/wrong_system.c that show without a race.
 WRONG_SYSTEMS = ("own", "creation")
 WARNINGS = ["-std=c99", "-O2", "-Wall", "-Wextra", "-pedantic", "-Werror"]
@@ -72,9 +75,11 @@ class Bench(Driver):
         self.program = program
         self.scripts = scripts
 
-    def asked(self, program: list[str] | None = None, words: Sequence[str] = ()) -> compare.Asked:
+    def asked(
+        self, program: list[str] | None = None, words: Sequence[str] = (), limits: Limits = DEFAULTS
+    ) -> compare.Asked:
         """The driver, and fdref or what stands in for it."""
-        return compare.Asked(program or [self.program], self.asks(*words))
+        return compare.Asked(program or [self.program], self.asks(*words), limits)
 
 
 def gives(done: Ran, lines: bytes, status: int = 0, stderr: bytes = b"") -> None:
@@ -337,12 +342,49 @@ def question_marks_fit(bench: Bench) -> None:
         differs_nowhere(asked, compare.random_lines(SEED, number, 60, "full-pipes"))
 
 
-def says(bench: Bench, text: bytes) -> tuple[int, list[str]]:
+@case("pipes of as many bytes as on Linux")
+def full_pipes_are_compared(bench: Bench) -> None:
+    """Where pipes have the same room, nothing differs by that but what follows from pages that are not full."""
+    if not IS_LINUX:
+        return
+    asked = bench.asked(limits=ROOMY)
+    require(asked.has_same_room and not asked.counts_bytes, "the room of its pipes is not seen")
+    for number in range(20):
+        result = compare.checked(asked, compare.random_lines(SEED, number, 60, "full-pipes", ROOMY))
+        require(not result.unexplained, f"script {number}: {result.unexplained and compare.told(result.unexplained)}")
+        by_room = [it for it in result.differences if it.reason and it.reason.fits is compare.is_room]
+        require(not by_room, f"script {number}: {by_room and compare.told(by_room[0])}")
+
+
+@case("a pipe that is full", b"p0 write 1 61*65536\np0 write 1 61*600\n", [])
+@case(
+    "pages that are not full",
+    b"p0 write 1 61*3000\n" * 16 + b"p0 write 1 61*5000\n",
+    ["p0 write 1 61*5000 = 5000: room of a pipe that is counted in pages"],
+)
+@case(
+    "a large write for which there is not all room",
+    b"p0 write 1 61*65500\np0 write 1 61*600\n",
+    ["p0 write 1 61*600 = parked 36: room of a pipe that is counted in pages"],
+)
+def room_is_told(bench: Bench, writes: bytes, wanted: list[str]) -> None:
+    """A write for which a pipe of Linux has less room, since it has pages, is told with that as its reason."""
+    if IS_LINUX:
+        lines = lines_of(b"join\np0 pipe\n" + writes)
+        found = [
+            f"{it.lines[it.place].act} = {it.fdref}: {it.reason and it.reason.name}"
+            for it in compare.checked(bench.asked(limits=ROOMY), lines).differences
+            if it.words("write")
+        ]
+        require(found == wanted, f"{found}")
+
+
+def says(bench: Bench, text: bytes, *words: str) -> tuple[int, list[str]]:
     """How tools/compare.py ends for a script, and what it prints."""
     path = Path(bench.names, "told.script")
     path.write_bytes(text)
     command = [sys.executable, str(TOOLS / "compare.py"), "--program", bench.program, "--ask", shlex.join(bench.asks())]
-    ran = run([*command, str(path)], seconds=SECONDS)
+    ran = run([*command, *words, str(path)], seconds=SECONDS)
     path.unlink()
     return ran.status, ran.stdout.decode("ascii").splitlines()
 
@@ -355,6 +397,18 @@ def struck_acts_are_told(bench: Bench) -> None:
     status, lines = says(bench, b"join\np0 pipe\np0 write 1 61*3000\np0 write 1 62*2000\n")
     last = "       2 acts were struck and not compared: p0 write 1 61*3000; p0 write 1 62*2000"
     require((status, lines[-1]) == (0, last), f"status {status}: {lines}")
+
+
+@case("a capacity that is handed on")
+def capacity_is_handed_on(bench: Bench) -> None:
+    """With more room in fdref's pipes a write is not struck; one that is no capacity is a wrong word."""
+    if not IS_LINUX:
+        return
+    status, lines = says(bench, b"join\np0 pipe\np0 write 1 61*3000\n", "--pipe-capacity", "65536")
+    require((status, lines[-1]) == (0, "       0 without a reason"), f"status {status}: {lines}")
+    for word in ("511", "65537", "x"):
+        status, lines = says(bench, b"join\n", "--pipe-capacity", word)
+        require((status, lines) == (2, []), f"status {status}: {lines}")
 
 
 @case("a fault in a script")

@@ -37,7 +37,7 @@ from functools import partial
 
 from parts import enemy_audits, enemy_frames, enemy_growth, enemy_lies, enemy_server
 from parts.enemy_audits import is_right, judged
-from parts.written_traces import LINES, SHORT, Named, with_byte
+from parts.written_traces import LINES, NEW_SHORT, SHORT, Named, with_byte
 from stand_ins import wrong_auditor
 from support.auditing import audited
 from support.counting import Case, Count, require, same
@@ -89,6 +89,8 @@ SMALL_ONES: list[Named] = [
     ("the short trace", SHORT),
     ("an illegal one", with_byte(SHORT, 43, 2)),
     ("a malformed one", with_byte(SHORT, 34, 255)),
+    ("the short trace in version 2", NEW_SHORT),
+    ("one that goes on for too long", with_byte(NEW_SHORT, 11, 3)),
 ]
 
 
@@ -157,7 +159,10 @@ def wrong_auditors(seed: str) -> Iterator[Case]:
     lying = [named for some in some_lies(seed).values() for named in some]
     for rule, (text, _) in wrong_auditor.RULES.items():
         yield f"{rule} as a program", partial(is_a_program, rule)
-        yield f"{text}, beside bent records", partial(is_found_out, rule, enemy_frames.random_ones(seed, "audit", BENT))
+        # of what a header tells bent records say nothing
+        if rule not in wrong_auditor.OF_HEADERS:
+            bent = enemy_frames.random_ones(seed, "audit", BENT)
+            yield f"{text}, beside bent records", partial(is_found_out, rule, bent)
         yield f"{text}, beside lies", partial(is_found_out, rule, lying)
 
 

@@ -8,8 +8,9 @@ a difference is a fault of the program, of the model, or of the two documents.
 
 Of six scripts four are walks: each act is chosen beside a run of the model, with fields that mostly
 make sense in the world that it has come to. One has good lines in all spellings, and one a bad line
-among good ones. Some runs have few records, so that they fill up. Script K of seed S is always the
-same. WORDS are words of calls, as `getfl,setfl,rename`, of which a third of all calls are to be.
+among good ones. Some runs have few records, so that they fill up, and half have pipes of another
+capacity than that of a run that is not told one. Script K of seed S is always the same. WORDS are
+words of calls, as `getfl,setfl,rename`, of which a third of all calls are to be.
 
 A difference in exit status, standard output or standard error is shrunk to a short script, for at
 most a minute, and told with what both gave. In a run of 4,000 scripts or more it is a failure, too,
@@ -30,11 +31,11 @@ from support import plain_model
 from support.counting import Count
 from support.frames import ERRORS
 from support.options import PROGRAM, SEED, Option, asked, count_option
-from support.plain_model import FIELDS, RECORDS_DEFAULT
+from support.plain_model import DEFAULTS, FIELDS, FILE_SIZE_MAX, RECORDS_DEFAULT, Limits
 from support.running import Ran, StillRunning, run
 from support.shrinking import shrunk
 from support.sources import numbered, source
-from support.walks import FLAGS, NAMES, ODD_NAMES, OFTEN, flags_text, name_text, walked
+from support.walks import CAPACITIES, FLAGS, NAMES, ODD_NAMES, OFTEN, flags_text, name_text, walked
 
 SECONDS = 20
 TELL_MOST = 10
@@ -60,7 +61,7 @@ def any_number(low: int, high: int) -> Maker:
     """The maker of numbers of a range: small, or about a bound."""
 
     def make(pick: random.Random) -> str:
-        near = pick.choice([0, 0, 0, 1, 2, 10, 512, 65_536, low, high])
+        near = pick.choice([0, 0, 0, 1, 2, 10, 512, 65_536, FILE_SIZE_MAX, low, high])
         return str(min(max(near + pick.choice([-1, 0, 0, 1]), low), high))
 
     return make
@@ -187,22 +188,30 @@ class Checked(NamedTuple):
 
 
 class Script:
-    """A script and the number of records that its run may have."""
+    """A script, the number of records that its run may have, and the limits of the run."""
 
-    def __init__(self, lines: list[bytes], records: int) -> None:
+    def __init__(self, lines: list[bytes], records: int, limits: Limits) -> None:
         self.lines = lines
         self.records = records
+        self.limits = limits
         self.text = b"\n".join(lines)
+
+    def words(self) -> list[str]:
+        """The words of the command after `replay`."""
+        numbers = [
+            ("--records", self.records, RECORDS_DEFAULT),
+            ("--pipe-capacity", self.limits.capacity, DEFAULTS.capacity),
+        ]
+        return [word for option, number, default in numbers if number != default for word in (option, str(number))]
 
     def wanted(self) -> Ran:
         """What the model gives."""
-        return plain_model.replay(self.text, self.records)
+        return plain_model.replay(self.text, self.records, self.limits)
 
     def given(self, program: str) -> Ran:
         """What the program gives; one that is killed gives no more than that."""
-        words = [] if self.records == RECORDS_DEFAULT else ["--records", str(self.records)]
         try:
-            return run([program, "replay", *words], self.text, seconds=SECONDS, folder="/")
+            return run([program, "replay", *self.words()], self.text, seconds=SECONDS, folder="/")
         except StillRunning as fault:
             return Ran(KILLED, b"", f"{fault}\n".encode())
 
@@ -222,25 +231,26 @@ class Script:
         """A short script that differs as well."""
 
         def differs(lines: list[bytes]) -> bool:
-            return Script(lines, self.records).differs(program)
+            return Script(lines, self.records, self.limits).differs(program)
 
-        return Script(shrunk(self.lines, differs, SHRINK_SECONDS, SHRINK_MOST), self.records)
+        return Script(shrunk(self.lines, differs, SHRINK_SECONDS, SHRINK_MOST), self.records, self.limits)
 
 
 def script_of(seed: str, number: int, often: Sequence[str] = ()) -> Script:
     """The script with a number of a seed, in which some calls come often."""
     pick = source(seed, number)
     records = RECORDS_DEFAULT
+    limits = pick.choice([DEFAULTS, Limits(capacity=pick.choice(CAPACITIES))])
     if number % 6 == 0:
         lines = good_lines(pick, pick.randrange(40), often)
     elif number % 6 == 1:
         lines = bad_lines(pick, pick.randrange(20), often)
     elif pick.random() < 0.25:
         records = pick.choice([pick.randrange(1, 6), pick.randrange(5, 40), pick.randrange(20, 200)])
-        lines = walked(pick, records, records + 15, often)
+        lines = walked(pick, records, records + 15, often, limits)
     else:
-        lines = walked(pick, records, pick.choice([5, 10, 20, 40, 60, 100, 150, 300]), often)
-    return Script(lines if pick.random() < 0.1 else [*lines, b""], records)
+        lines = walked(pick, records, pick.choice([5, 10, 20, 40, 60, 100, 150, 300]), often, limits)
+    return Script(lines if pick.random() < 0.1 else [*lines, b""], records, limits)
 
 
 # ---- telling
@@ -256,7 +266,7 @@ def clipped(text: bytes) -> str:
 def difference(script: Script, program: str) -> str:
     """What to tell of a script that differs."""
     script = script.shrunk(program)
-    parts = [f"with --records {script.records}; shrunk to", clipped(script.text)]
+    parts = [f"with {' '.join(script.words()) or 'no options'}; shrunk to", clipped(script.text)]
     for who, ran in ("the model", script.wanted()), ("the program", script.given(program)):
         parts += [f"{who} ends with status {ran.status} and", clipped(ran.stdout + ran.stderr)]
     return "\n".join(parts) + "\n"

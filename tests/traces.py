@@ -1,15 +1,20 @@
 #!/usr/bin/env python3
 """Are traces written, judged and shown rightly, whole, cut and damaged ones? (two minutes)
 
-usage: tests/traces.py [--program PATH] [--seed WORD] [--runs N] [--changed N] [--stride N] [--jobs J] [--only WORD]
+usage: tests/traces.py [--program PATH] [--seed WORD] [--runs N] [--changed N] [--migrated N] [--stride N] [--jobs J]
+                       [--only WORD]
 
 The program is crates/fdref/out/fdref where no PATH is given. What it must say of a trace is what the plain
 auditor says, tests/support/auditing.py. It is run
 
   - on traces whose verdicts are written out here,
-  - on a trace of 54 bytes with each byte turned to every value, and on each front of it,
+  - on a trace of 54 bytes, and on the same records in version 2, with each byte turned to every value, and on
+    each front of both; on each front of small traces of random scripts; and on such traces of version 2 with
+    every small number of records in their headers,
   - on N traces of random scripts (2,000 where no number is given) of which one record has another outcome
-    or another act, and on others of which a few bytes are changed, left out or put in,
+    or another act, and on others of which a few bytes are changed, left out or put in, of both versions,
+  - as `migrate`, on N traces of version 1 (400) that are whole, cut and changed: the new trace has the bytes that
+    it has to have and, where all was read, the same verdict,
   - as `show`, on records with every act and every kind of outcome, right or not,
   - as a server that writes a trace, in N runs (4,000) of random scripts whose acts clients make. What they
     were told must be what the trace holds, which must be right to the last record, and which `replay` makes
@@ -41,12 +46,23 @@ from functools import partial
 from pathlib import Path
 from typing import NamedTuple
 
-from parts import failing_disks, python_traces, traced_runs
-from parts.written_traces import SHORT, Named, changed_bytes, random_records, written_out
+from parts import failing_disks, migrations, python_traces, traced_runs
+from parts.written_traces import (
+    NEW_SHORT,
+    SHORT,
+    Named,
+    RandomRun,
+    changed_bytes,
+    enough,
+    fronts,
+    random_records,
+    random_run,
+    written_out,
+)
 from support import plain_model
 from support.auditing import Frames, audited, illegal, legal, shown
 from support.counting import FAULTS, Case, Count, require, same
-from support.frames import ERRORS, MOST, TRACE_HEADER, trace_of, u32
+from support.frames import ERRORS, HEADER_LENGTH, MOST, OLD_MAGIC, header_bytes, trace_of, u32
 from support.options import ONLY, PROGRAM, SEED, asked, count_option
 from support.running import Ran, ran_all, run
 from support.runs import line_of
@@ -59,6 +75,13 @@ PIECE = 250
 
 # How many changed traces are made of one random script.
 OF_ONE_SCRIPT = 5
+
+# How many small traces are cut, and of how many bytes at most each is.
+SMALL = 12
+SMALL_MOST = 400
+# How many traces are given other numbers of records, and how many of these numbers are too small at most.
+COUNTED = 12
+COUNTED_MOST = 40
 
 
 # ---- many audits
@@ -119,19 +142,19 @@ def is_short(record: str) -> bool:
     return len(trace_of([record])) <= len(trace_of([])) + 4 + MOST["records"]
 
 
-def with_other_record(pick: random.Random, right: Sequence[str]) -> Change:
+def with_other_record(pick: random.Random, right: RandomRun) -> Change:
     """A trace of which these records are right, but for one that has another outcome or another act."""
     while True:
-        records = list(right)
+        records = list(right.records)
         place = pick.randrange(len(records))
         record, other = line_of(records[place]), line_of(pick.choice(records))
         outcome = other_outcome(pick, record.outcome, [line_of(line).outcome for line in records])
         changed_record = f"{place} {record.act} = {outcome}"
         if pick.random() < 0.75 and outcome != record.outcome and is_short(changed_record):
             records[place] = changed_record
-            return Change(trace_of(records), illegal(place, record.outcome))
+            return Change(trace_of(records, right.header), illegal(place, record.outcome))
         records[place] = f"{place} {other.act} = {record.outcome}"
-        trace = trace_of(records)
+        trace = trace_of(records, right.header)
         verdict = audited(trace)
         if verdict.stdout.startswith(b"illegal %d " % place):
             return Change(trace, verdict)
@@ -142,8 +165,8 @@ def with_other_records(seed: str, count: int) -> Iterator[tuple[str, Change]]:
     for number in range(count):
         pick = source(f"{seed} changed", number)
         if number % OF_ONE_SCRIPT == 0:
-            records = random_records(pick)
-        yield numbered("changed trace", seed, number), with_other_record(pick, records)
+            run_of_script = random_run(pick)
+        yield numbered("changed trace", seed, number), with_other_record(pick, run_of_script)
 
 
 def with_damage(seed: str, count: int) -> Iterator[Named]:
@@ -151,7 +174,7 @@ def with_damage(seed: str, count: int) -> Iterator[Named]:
     for number in range(count):
         pick = source(f"{seed} damaged", number)
         if number % OF_ONE_SCRIPT == 0:
-            whole = trace_of(random_records(pick))
+            whole = random_run(pick).trace()
         yield numbered("damaged trace", seed, number), changed(pick, whole)
 
 
@@ -162,6 +185,54 @@ def check_changed(count: Count, program: str, seed: str, most: int, jobs: int) -
         count.check(f"{name}, by the plain auditor", partial(same, change.verdict, audited(change.trace)))
     judge_all(count, program, [(name, change.trace) for name, change in changes], jobs)
     judge_all(count, program, list(with_damage(seed, most // 4)), jobs)
+
+
+# ---- small traces, cut and with other numbers of records
+
+
+def small_runs(seed: str, count: int) -> Iterator[tuple[str, RandomRun]]:
+    """So many random runs whose traces are small."""
+    number = found = 0
+    while found < count:
+        it = random_run(source(f"{seed} small", number))
+        if len(it.trace()) <= SMALL_MOST:
+            found += 1
+            yield numbered("small trace", seed, number), it
+        number += 1
+
+
+def check_cut(count: Count, program: str, seed: str, jobs: int) -> None:
+    """The program judges each front of small traces as the plain auditor does."""
+    for name, it in small_runs(seed, SMALL):
+        judge_all(count, program, list(fronts(name, it.trace())), jobs)
+
+
+def of_few_records(seed: str, number: int) -> tuple[list[str], int]:
+    """The records of a random run, and the fewest that such a run may have."""
+    records = random_records(source(f"{seed} counted", number))
+    return records, enough(records, plain_model.DEFAULTS)
+
+
+def is_counted(records: Sequence[str], most: int, least: int) -> None:
+    """The plain auditor itself takes records of a run that may have enough, and no others."""
+    verdict = audited(trace_of(records, header_bytes(most)))
+    if most >= least:
+        same(legal(len(records)), verdict)
+    else:
+        require(verdict.status == 7 and verdict.stdout.endswith(b" expected none\n"), verdict.said())
+
+
+def check_counted(count: Count, program: str, seed: str, jobs: int) -> None:
+    """The program finds runs that have more records than they were told, as the plain auditor does."""
+    for number in range(COUNTED):
+        records, least = of_few_records(seed, number)
+        first = 1 if least < COUNTED_MOST else least - COUNTED_MOST
+        numbers = range(first, least + 3)
+        name = numbered("counted trace", seed, number)
+        for most in numbers:
+            count.check(f"{name}, of {most} records", partial(is_counted, records, most, least))
+        named = [(f"{name}, of {most} records", trace_of(records, header_bytes(most))) for most in numbers]
+        judge_all(count, program, named, jobs)
 
 
 # ---- what is shown
@@ -192,13 +263,17 @@ def any_records() -> list[str]:
 def check_shown(count: Count, program: str) -> None:
     """The program shows whole records, and what is left over."""
     records = any_records()
-    whole = trace_of(records)
+    whole = trace_of(records, OLD_MAGIC)
     text = "".join(f"{record}\n" for record in records).encode()
     count.check("records of every kind, by the plain auditor", partial(same, Ran(0, text, b""), shown(whole)))
     traces = [("records of every kind", whole), ("a fault after them", whole + u32(1) + b"\0")]
-    traces += fronts_of(whole[-80:])
+    traces += [("records of every kind, in version 2", trace_of(records))]
+    traces += fronts_of(OLD_MAGIC, whole[-80:])
+    traces += fronts_of(header_bytes(9), whole[-80:])
     traces += [(name, trace) for name, trace, _ in written_out()]
-    traces += [(f"{end} bytes of the short one", SHORT[:end]) for end in range(len(SHORT))]
+    traces += [*fronts("the short one", SHORT), *fronts("the short one in version 2", NEW_SHORT)]
+    headers = [(name, trace) for name, trace in changed_bytes(NEW_SHORT) if trace[HEADER_LENGTH:] == SHORT[8:]]
+    traces += [(f"its header, {name}", trace) for name, trace in headers[::17]]
     for words, acts in (("show", False), ("show --acts", True)):
         given = ran_all(program, [trace for _, trace in traces], words)
         for (name, trace), ran in zip(traces, given, strict=True):
@@ -214,9 +289,10 @@ def is_text(wanted: bytes, given: bytes) -> None:
     require(wanted == given, difference(wanted, given))
 
 
-def fronts_of(frames: bytes) -> list[Named]:
+def fronts_of(header: bytes, frames: bytes) -> list[Named]:
     """The fronts of some bytes after a header."""
-    return [(f"{end} bytes after a header", TRACE_HEADER + frames[:end]) for end in range(len(frames) + 1)]
+    length = len(header)
+    return [(f"{end} bytes after {length} of a header", header + frames[:end]) for end in range(len(frames) + 1)]
 
 
 # ---- what the system refuses
@@ -248,6 +324,10 @@ def mistakes(program: str, trace: str) -> Iterator[Case]:
         (["show", trace, "more"], b"more"),
         (["show", "--acts", "--acts", trace], b"--acts"),
         (["show", "--act", trace], b"--act"),
+        (["migrate"], b"<IN>"),
+        (["migrate", trace], b"<OUT>"),
+        (["migrate", trace, f"{trace}.new", "more"], b"more"),
+        (["migrate", "--acts", trace, f"{trace}.new"], b"--acts"),
     ]
     for words, part in rows:
         yield f"words {' '.join(words)}", partial(mistake, program, words, part)
@@ -302,6 +382,7 @@ def killed(program: str, pause: float) -> None:
         server.process.wait()
         trace = Path(server.trace).read_bytes()
     left = Frames(trace)
+    same(server.header.hex(), trace[:HEADER_LENGTH].hex())
     count = len(left.lines)
     require(count in ((52, 53) if pause else range(54)), f"{count} records, and 52 were told")
     verdict = legal(count, left.rest)
@@ -325,6 +406,8 @@ def system_cases(program: str) -> Iterator[Case]:
             for what, path in bad.items():
                 yield f"{word} of {what}", partial(refused, program, [word, path], 4, b"cannot read\n")
             yield f"{word} byte by byte", partial(in_pieces, program, word, SHORT[:50])
+            for end in (7, 8, 9, 23, 24, 66):
+                yield f"{word} byte by byte of version 2, {end}", partial(in_pieces, program, word, NEW_SHORT[:end])
             yield f"{word} to a full device", partial(output_is_full, program, [word, trace])
         for what, path in (("in no folder", f"{gone}/trace"), ("that is a folder", folder), ("without a name", "")):
             yield f"a trace {what}", partial(cannot_make_trace, program, path, folder)
@@ -367,15 +450,23 @@ def main(words: Sequence[str]) -> int:
     numbers = [
         count_option("--runs", 4_000, "random runs of a live server"),
         count_option("--changed", 2_000, "traces with a record that is changed"),
+        count_option("--migrated", 400, "traces of version 1 that are migrated"),
         count_option("--stride", 5_003, "of the sizes of a file for a long trace, take one in N"),
         count_option("--jobs", 2, "how many run at a time"),
     ]
     args = asked(words, "Has the built program write, judge and show traces.", PROGRAM, SEED, *numbers, ONLY)
     program = args.program
-    every_byte: Callable[[Count], None] = lambda count: judge_all(count, program, list(changed_bytes()), args.jobs)
+
+    def every_byte(count: Count) -> None:
+        for trace in (SHORT, NEW_SHORT):
+            judge_all(count, program, list(changed_bytes(trace)), args.jobs)
+
     parts: list[tuple[str, Callable[[Count], None]]] = [
         ("verdicts that are written out", lambda count: check_written_out(count, program)),
         ("every byte of a short trace", every_byte),
+        ("every front of small traces", lambda count: check_cut(count, program, args.seed, args.jobs)),
+        ("numbers of records", lambda count: check_counted(count, program, args.seed, args.jobs)),
+        ("migrations", lambda count: migrations.check(count, program, args.seed, args.migrated, args.stride)),
         ("changed records", lambda count: check_changed(count, program, args.seed, args.changed, args.jobs)),
         ("what is shown", lambda count: check_shown(count, program)),
         ("command lines and the system", lambda count: count.check_all(system_cases(program))),

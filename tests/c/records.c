@@ -3,8 +3,8 @@
    usage: records WHICH FILE
 
    WHICH is `each`, which writes the records of RECORDS in tests/parts/python_traces.py, in that order; `large`, the
-   largest records and one that is flushed; or `faults`, which looks at what cannot be written. The line of each check
-   that fails is printed, and the status is 1 then. */
+   largest records and one that is flushed; `limited`, the closing of a run with other limits; or `faults`, which looks
+   at what cannot be written. The line of each check that fails is printed, and the status is 1 then. */
 
 #include <limits.h>
 #include <stdio.h>
@@ -112,7 +112,7 @@ static void large(struct fdref_trace *to, const char *path)
 static void refuses(const char *path, int64_t process, struct fdref_act act, struct fdref_outcome outcome, int number)
 {
     struct fdref_trace *to = fdref_trace_open(path);
-    char head[40];
+    char head[60];
     FILE *file;
     CHECK(to != NULL);
     CHECK(fdref_record(to, 0, fdref_act_join(), fdref_number(0)) == 0);
@@ -121,9 +121,38 @@ static void refuses(const char *path, int64_t process, struct fdref_act act, str
     CHECK(fdref_trace_flush(to) == -1 && errno == number);
     CHECK(fdref_trace_close(to) == -1 && errno == number);
     file = fopen(path, "rb");
-    CHECK(file && fread(head, 1, sizeof head, file) == 26);
+    CHECK(file && fread(head, 1, sizeof head, file) == 42);
     if (file)
         fclose(file);
+}
+
+/* No trace says this of its run: a file is neither made nor emptied. */
+static void refuses_header(uint32_t records, uint32_t pipe_capacity, uint64_t file_size)
+{
+    errno = 0;
+    CHECK(fdref_trace_open_of("/no/such/file", records, pipe_capacity, file_size) == NULL && errno == EINVAL);
+}
+
+static void headers(void)
+{
+    refuses_header(1000001, 1024, FDREF_FILE_SIZE);
+    refuses_header(UINT32_MAX, 1024, FDREF_FILE_SIZE);
+    refuses_header(0, 0, FDREF_FILE_SIZE);
+    refuses_header(0, 511, FDREF_FILE_SIZE);
+    refuses_header(0, 65537, FDREF_FILE_SIZE);
+    refuses_header(0, 1024, 0);
+    refuses_header(0, 1024, FDREF_OLD_FILE_SIZE - 1);
+    refuses_header(0, 1024, FDREF_FILE_SIZE + 1);
+    refuses_header(0, 1024, FDREF_FILE_SIZE | UINT64_C(1) << 63);
+    CHECK(fdref_trace_open_of("/no/such/file", 1000000, 65536, FDREF_OLD_FILE_SIZE) == NULL && errno == ENOENT);
+    CHECK(fdref_trace_open_of("/no/such/file", 0, 512, FDREF_FILE_SIZE) == NULL && errno == ENOENT);
+}
+
+static void limited(const char *path)
+{
+    struct fdref_trace *to = fdref_trace_open_of(path, 258, 513, FDREF_OLD_FILE_SIZE);
+    CHECK(to != NULL && fdref_record(to, FDREF_HOUSE, fdref_act_close_run(), fdref_done()) == 0);
+    CHECK(fdref_trace_close(to) == 0);
 }
 
 static void faults(const char *path)
@@ -185,7 +214,12 @@ int main(int count, char **words)
         large(to, words[2]);
     } else {
         CHECK(fdref_trace_close(to) == 0);
-        faults(words[2]);
+        if (strcmp(words[1], "limited") == 0) {
+            limited(words[2]);
+        } else {
+            headers();
+            faults(words[2]);
+        }
     }
     CHECK(lowest_free() == fd);
     return failures > 0;

@@ -43,6 +43,14 @@ def writes(build: Build, which: str, folder: str) -> None:
     require(Path(given).read_bytes() == Path(wanted).read_bytes(), "the traces differ")
 
 
+def writes_limits(build: Build, folder: str) -> None:
+    """A trace of a run with other limits is that of the client in Python."""
+    given, wanted = os.path.join(folder, "given"), os.path.join(folder, "wanted")
+    same(b"", build.prints("records", "limited", given))
+    fdref.write_trace(wanted, [fdref.CLOSE_RUN], 258, 513, 1_048_576)
+    same(Path(wanted).read_bytes().hex(), Path(given).read_bytes().hex())
+
+
 def refuses(build: Build, folder: str) -> None:
     """What no trace can hold is refused."""
     same(b"", build.prints("records", "faults", os.path.join(folder, "faults")))
@@ -53,6 +61,7 @@ def traces(builds: Sequence[Build], folder: str) -> Iterator[Case]:
     for build in builds:
         for which in RECORDS:
             yield f"records: {which}, {build.name}", partial(writes, build, which, folder)
+        yield f"records of a run with other limits, {build.name}", partial(writes_limits, build, folder)
         yield f"records with faults, {build.name}", partial(refuses, build, folder)
 
 
@@ -73,9 +82,10 @@ def mistake(program: str, build: Build, folder: str) -> None:
     same(b"", build.prints("trace", path))
     same(illegal(4, "x"), run([program, "audit", path]))
     # with that record as it should be, all is right
-    records = fdref.read_trace(path).records
+    records, _, header = fdref.read_trace(path)
+    same(fdref.Header(most_records=100), header)
     records[4] = records[4]._replace(outcome=b"")
-    fdref.write_trace(path, records)
+    fdref.write_trace(path, records, 100)
     same(legal(8), run([program, "audit", path]))
 
 

@@ -13,10 +13,10 @@ from support.frames import (
     CALLS,
     MOST,
     READERS,
-    TRACE_HEADER,
     Malformed,
     Payload,
     framed,
+    header_bytes,
     line_of,
     outcome_bytes,
     record_frame,
@@ -89,7 +89,7 @@ class Sample:
     def trace(self, frame: bytes, is_last: bool = False) -> bytes:
         """The trace with this frame in place of the record's, and with the records after it or without."""
         rest = [] if is_last else self.frames[self.place + 1 :]
-        return TRACE_HEADER + b"".join([*self.frames[: self.place], frame, *rest])
+        return header_bytes() + b"".join([*self.frames[: self.place], frame, *rest])
 
     @cached_property
     def acts(self) -> list[plain_model.Act]:

@@ -16,7 +16,7 @@ from typing import IO, NamedTuple
 from support import plain_model
 from support.auditing import NO_LIMIT, audited, illegal, legal
 from support.counting import Case, require, same
-from support.frames import ERRORS, TRACE_HEADER, record_frame
+from support.frames import ERRORS, header_bytes, record_frame
 from support.places import SCRATCH
 from support.plain_model import DESCRIPTIONS_MAX, FILE_SIZE_MAX, NAMES_MAX, OPEN_MAX, PIPE_CAPACITY, PROCESSES_MAX
 from support.running import SECONDS, Ran, StillRunning
@@ -53,7 +53,7 @@ class Endless(NamedTuple):
 
     def write(self, file: IO[bytes], rounds: int) -> int:
         """Writes its header, its beginning and so many rounds, and gives how many records these are."""
-        file.write(TRACE_HEADER + b"".join(map(record_frame, self.first)))
+        file.write(header_bytes() + b"".join(map(record_frame, self.first)))
         file.write(self.rounds(rounds))
         return len(self.first) + rounds * self.records
 
@@ -87,13 +87,14 @@ def take_all(run: plain_model.Run, acts: Sequence[str]) -> list[str]:
 
 
 def full_file() -> Endless:
-    """A file at its limit is emptied, made as long again by one byte, and written in each of its blocks."""
+    """A file of many bytes is emptied, made as long as one may be, cut, made as long again by one byte, and written at
+    many places that are far from each other."""
     whole = plain_model.data_text(bytes(range(256)) * 256)
-    size, block = FILE_SIZE_MAX, 4_096
-    first = ["join", "p0 open a rw,creat", *[f"p0 write 0 {whole}"] * (size // 65_536)]
+    size = FILE_SIZE_MAX
+    first = ["join", "p0 open a rw,creat", *[f"p0 write 0 {whole}"] * 16]
     acts = ["p0 ftruncate 0 0", f"p0 ftruncate 0 {size}", "p0 write 0 x61", f"p0 pwrite 0 {size - 1} x61"]
     acts += ["p0 ftruncate 0 1", f"p0 pwrite 0 {size - 1} x6162", f"p0 pread 0 {size - 2} 9"]
-    acts += [f"p0 pwrite 0 {at} x62" for at in range(0, size, block)]
+    acts += [f"p0 pwrite 0 {at} x62" for at in range(0, size, size // 256)]
     return endless("a file at its limit that is emptied and filled", first, acts)
 
 

@@ -3,11 +3,12 @@
 import random
 from collections.abc import Callable, Iterator, Sequence
 
-from parts.written_traces import Named, random_records
+from parts.written_traces import Named, enough, random_records
 from support import plain_model
 from support.auditing import Judge, act_of, audited, illegal
 from support.counting import same
-from support.frames import ERRORS, HOUSE, TYPES, trace_of
+from support.frames import ERRORS, HOUSE, OLD_MAGIC, SIZES, TYPES, header_bytes, trace_of
+from support.plain_model import DEFAULTS, Limits
 from support.runs import line_of
 from support.sources import numbered, source
 
@@ -229,6 +230,18 @@ def lies(seed: str, use: str, runs: int) -> Iterator[tuple[str, Named]]:
             changed = lie(pick, records, others)
             if changed is not None:
                 yield kind, (numbered(f"{kind}, run", seed, number), trace_of(changed))
+        for kind, header in headers(pick, records):
+            yield kind, (numbered(f"{kind}, run", seed, number), trace_of(records, header))
+
+
+def headers(pick: random.Random, records: Records) -> Iterator[tuple[str, bytes]]:
+    """Headers under which records are wrong that are right in a run of the limits that are told by default."""
+    least = enough(records, DEFAULTS)
+    yield "too few records", header_bytes(pick.choice([least - 1, least - 1, pick.randrange(1, least)]))
+    yield "just enough records", header_bytes(least)
+    limits = Limits(pick.choice(SIZES), pick.choice([512, 513, 1_023, 1_025, 65_536]))
+    yield "other limits", header_bytes(pick.choice([0, least]), limits)
+    yield "another version", OLD_MAGIC
 
 
 def finds_one_off(seed: str, number: int) -> None:

@@ -15,8 +15,9 @@ from parts.written_traces import SHORT
 from support import plain_model
 from support.auditing import audited
 from support.counting import Case, Failure, require, same
-from support.frames import trace_of
+from support.frames import HEADER_LENGTH, OLD_HEADER_LENGTH, header_bytes, trace_of
 from support.places import SCRATCH
+from support.plain_model import RECORDS_DEFAULT
 from support.refusing import build
 from support.serving import SECONDS, Client, Server, report
 
@@ -56,7 +57,7 @@ def talk_of(acts: list[str]) -> Talk:
         place, actor, request = act.split(" ", 2)
         steps.append((actor, request, f"{place} {outcome}"))
     _, _, _, bytes_in, _, bytes_out = totals.split()
-    return Talk(steps, int(bytes_in), int(bytes_out), trace_of(lines))
+    return Talk(steps, int(bytes_in), int(bytes_out), trace_of(lines, header_bytes(RECORDS_DEFAULT)))
 
 
 # The run of the short trace, and its closing.
@@ -101,7 +102,8 @@ def ends(server: Server, talk: Talk, kept: int, is_synced: bool) -> None:
 
 def is_written_over(program: str) -> None:
     """A short run's trace, to the byte, over a longer file that was there."""
-    same(SHORT, BRIEF.trace[: len(SHORT)])
+    frames = SHORT[OLD_HEADER_LENGTH:]
+    same(frames.hex(), BRIEF.trace[HEADER_LENGTH:][: len(frames)].hex())
     with tempfile.NamedTemporaryFile(prefix="fdref-") as file:
         file.write(bytes(1_000))
         file.flush()
@@ -271,7 +273,7 @@ def troubles() -> Iterator[tuple[str, Trouble, int, bool]]:
     length = len(BRIEF.trace)
     for number in range(1, length + 2):
         yield f"write {number} of one byte fails", Trouble(1, number, 1, FULL), number - 1, True
-    for number in (1, 9, 31, length):
+    for number in (1, 24, 25, 47, length):
         yield f"write {number} of one byte answers 0", Trouble(1, number, 1), number - 1, True
         yield f"write {number} is interrupted 15 times", Trouble(1, number, 15, INTERRUPTED), length, True
         yield f"write {number} is interrupted 16 times", Trouble(1, number, 16, INTERRUPTED), number - 1, True

@@ -17,7 +17,7 @@ from parts.c_programs import BASES, FLAGS, INCLUDES, WARNINGS, Build, compiles
 from support import plain_model
 from support.auditing import Frames, shown
 from support.counting import Case, Failure, require, same
-from support.frames import ACTS, ERRORS, TYPES
+from support.frames import ACTS, ERRORS, TYPES, header_bytes
 from support.places import C_TESTS, CLIENT, EXAMPLES
 from support.running import run
 from support.sources import numbered, source
@@ -152,7 +152,7 @@ def is_taken(path: str, it: fdref.Record) -> bool:
         return fdref.write_trace(path, [it]) == 1
     except ValueError as fault:
         require(str(fault).startswith("record 0: "), f"{it!r:.200}: {fault!r:.200}")
-        same(fdref.TRACE_HEADER, Path(path).read_bytes())
+        same(header_bytes(), Path(path).read_bytes())
         return False
     except Exception as raised:
         raise Failure(f"{it!r:.200} raises {raised!r}") from None

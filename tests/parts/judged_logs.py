@@ -33,7 +33,7 @@ class Logs(NamedTuple):
 A_FILE = "0 p0 join = 0; 1 p0 open a rw,creat,append = 0; 2 p0 write 0 x6162 = 2; "
 A_PIPE = "0 p0 join = 0; 1 p0 pipe = 0 1; 2 p0 fork = 1; 3 p1 attach = ok; "
 OF_TIME = "what is read of a pipe depends on who comes first"
-TOO_LARGE = "more than 1,048,576 bytes in a file"
+TOO_LARGE = "more than 1,099,511,627,776 bytes in a file"
 APPENDS = "pwrite under O_APPEND appends"
 NAMES = "names that the profile does not take"
 LINKS = "size and links of a pipe in fstat"
@@ -158,14 +158,14 @@ LOGS = [
     ),
     Logs(
         "a file that is too large",
-        "p0 open a w,creat = 0; p0 lseek 0 1048575 set = 1048575; p0 write 0 x6161 = 2; p0 write 0 x61 = 1; "
-        "p0 ftruncate 0 2000000 = ok; p0 pwrite 0 5 x6161 = 1",
-        "0 p0 join = 0; 1 p0 open a w,creat = 0; 2 p0 lseek 0 1048575 set = 1048575; 3 p0 write 0 x6161 = 1; "
-        "4 p0 write 0 x61 = error EFBIG; 5 p0 ftruncate 0 2000000 = error EFBIG; 6 p0 pwrite 0 5 x6161 = 2",
+        f"p0 open a w,creat = 0; p0 lseek 0 {2**40 - 1} set = {2**40 - 1}; p0 write 0 x6161 = 2; p0 write 0 x61 = 1; "
+        "p0 ftruncate 0 2000000000000 = ok; p0 pwrite 0 5 x6161 = 1",
+        f"0 p0 join = 0; 1 p0 open a w,creat = 0; 2 p0 lseek 0 {2**40 - 1} set = {2**40 - 1}; 3 p0 write 0 x6161 = 1; "
+        "4 p0 write 0 x61 = error EFBIG; 5 p0 ftruncate 0 2000000000000 = error EFBIG; 6 p0 pwrite 0 5 x6161 = 2",
         [
             f"p0 write 0 x6161: 2, 1: {TOO_LARGE}",
             f"p0 write 0 x61: 1, error EFBIG: {TOO_LARGE}",
-            f"p0 ftruncate 0 2000000: ok, error EFBIG: {TOO_LARGE}",
+            f"p0 ftruncate 0 2000000000000: ok, error EFBIG: {TOO_LARGE}",
             "p0 pwrite 0 5 x6161: 1, 2: follows",
         ],
     ),

@@ -187,6 +187,11 @@ def cases(program: str) -> Iterator[Case]:
     both = f"history 1: {ROOMY_LINES}history 2: {GOOD_LINES}"
     both += "histories 2 explained 1 unexplained 0 given up 0 room of a pipe 1\n"
     yield "a larger pipe, counted", partial(prints, program, f"{ROOMY}\n{GOOD}", 0, both)
+    asked = ROOMY_LINES.splitlines()[1:-1]
+    larger = "".join([GOOD_LINES.splitlines(True)[0], *(f"{at} {line.strip()}\n" for at, line in enumerate(asked))])
+    yield "a pipe of 1,200 bytes", partial(prints, program, ROOMY, 0, larger, "--pipe-capacity", "1200")
+    yield "a pipe of 1,199 bytes", partial(prints, program, ROOMY, 0, ROOMY_LINES, "--pipe-capacity", "1199")
+    yield "a pipe of 511 bytes", partial(fails, program, ROOMY, 2, "from 512 to 65536", "--pipe-capacity", "511")
     wrong = ROOMY.replace("70 80 p0 write 1 61*600 = 600", "70 80 p0 read 0 9 = x")
     yield "a larger pipe, in vain", partial(fails, program, wrong, 1, "no order explains it")
     yield "quiet", partial(prints, program, four, 1, f"history 2: {BAD_LINES}{totals}", "--quiet")

@@ -8,12 +8,14 @@ import textwrap
 from collections.abc import Iterator, Sequence
 from functools import partial
 from pathlib import Path
+from typing import Any
 
-from parts.written_traces import changed_bytes, random_records, written_out
+from parts.written_traces import NEW_SHORT, SHORT, changed_bytes, random_run, written_out
 from support.auditing import illegal, legal, shown
 from support.counting import Case, require, same
-from support.frames import ERRORS, TRACE_HEADER, trace_of
+from support.frames import ERRORS, OLD_MAGIC, header_bytes, read_header, trace_of
 from support.places import CLIENT, EXAMPLES, SCRATCH
+from support.plain_model import DEFAULTS, Limits
 from support.running import Ran, run
 from support.sources import changed, numbered, source
 
@@ -107,6 +109,50 @@ def refuses(path: str, record: fdref.Record, why: str) -> None:
     same(fdref.Trace([fdref.CLOSE_RUN], b""), fdref.read_trace(path))
 
 
+# What a header may tell, and what it may not: the number of records, and the limits; and why not.
+HEADERS = [
+    *((number, DEFAULTS) for number in (0, 1, 2, 255, 256, 65_536, 999_999, 1_000_000)),
+    *((100, Limits(capacity=capacity)) for capacity in (512, 513, 1_024, 65_535, 65_536)),
+    (0, Limits(size=1_048_576)),
+    (1_000_000, Limits(1_048_576, 65_536)),
+]
+NO_HEADERS: list[tuple[Any, Limits, str]] = [
+    *((number, DEFAULTS, f"{number} is no number of records") for number in (-1, 1_000_001, 2**32)),
+    *((number, DEFAULTS, f"({number!r}, 1024, {2**40}) are no numbers") for number in (None, 5.0, "5")),
+    *((0, Limits(capacity=capacity), "a pipe has room for 512 to 65536") for capacity in (-1, 0, 511, 65_537, 2**32)),
+    *((0, Limits(size=size), "a file has at most") for size in (0, 1_048_575, 1_048_577, 2**40 - 1, 2**40 + 1, 2**64)),
+]
+
+
+def writes_header(path: str, records: int, limits: Limits) -> None:
+    """The client writes what a header tells, and reads it again."""
+    numbers = records, limits.capacity, limits.size
+    same(1, fdref.write_trace(path, [fdref.CLOSE_RUN], *numbers))
+    same(trace_of(["house close-run = ok"], header_bytes(records, limits)).hex(), Path(path).read_bytes().hex())
+    same(fdref.Trace([fdref.CLOSE_RUN], b"", fdref.Header(2, *numbers)), fdref.read_trace(path))
+
+
+def refuses_header(path: str, records: int, limits: Limits, why: str) -> None:
+    """The client says what a header cannot tell, and leaves the file alone."""
+    Path(path).write_bytes(b"as it was")
+    try:
+        fdref.write_trace(path, [fdref.CLOSE_RUN], records, limits.capacity, limits.size)
+    except ValueError as fault:
+        require(str(fault).startswith(why), f"it says {fault}")
+    else:
+        require(False, "it is not refused")
+    same(b"as it was", Path(path).read_bytes())
+
+
+def header_of(trace: bytes) -> fdref.Header | None:
+    """The header of a trace, as the client has to tell it."""
+    header = read_header(trace)
+    if header is None:
+        return None
+    version = 1 if trace.startswith(OLD_MAGIC) else 2
+    return fdref.Header(version, header.records, header.limits.capacity, header.limits.size)
+
+
 def takes_errors(path: str) -> None:
     """An OSError is written as its number."""
     refused_fork = fdref.Record(0, "fork", (), OSError(errno.EAGAIN, "again"))
@@ -120,14 +166,18 @@ def reads(path: str, trace: bytes) -> None:
     wanted = shown(trace)
     count = wanted.stdout.count(b"\n")
     try:
-        records, rest = fdref.read_trace(path)
+        records, rest, header = fdref.read_trace(path)
     except fdref.Malformed as fault:
         same((8, f"malformed {fault.at}\n".encode(), count), (wanted.status, wanted.stderr, len(fault.records)))
     else:
         same((count, f"rest {len(rest)}\n".encode() if rest else b""), (len(records), wanted.stderr))
-        fdref.write_trace(path, records)
-        whole = trace[: len(trace) - len(rest)] if trace.startswith(TRACE_HEADER) else TRACE_HEADER
-        same(whole.hex(), Path(path).read_bytes().hex())
+        same(header_of(trace), header)
+        told = header or fdref.Header()
+        fdref.write_trace(path, records, *told[1:])
+        length = len(trace) - len(rest)
+        frames = trace[8:length] if told.version == 1 else trace[24:length]
+        head = header_bytes(told.most_records, Limits(told.file_size, told.pipe_capacity))
+        same((head + frames).hex(), Path(path).read_bytes().hex())
 
 
 def example(program: str, trace: str, words: Sequence[str], wanted: Ran) -> None:
@@ -156,12 +206,21 @@ def cases(program: str, seed: str) -> Iterator[Case]:
         yield "the client writes an OSError", partial(takes_errors, path)
         for name, trace, _ in written_out():
             yield f"the client reads {name}", partial(reads, path, trace)
-        for name, trace in changed_bytes():
-            yield f"the client reads the short trace, {name}", partial(reads, path, trace)
+        for most, limits in HEADERS:
+            yield f"the client writes a header of {most} and {limits}", partial(writes_header, path, most, limits)
+        for no_most, limits, why in NO_HEADERS:
+            what = f"the client refuses a header of {no_most!r} and {limits}"
+            yield what, partial(refuses_header, path, no_most, limits, why)
+        for version, short in ((1, SHORT), (2, NEW_SHORT)):
+            for name, trace in changed_bytes(short):
+                yield f"the client reads the short trace of version {version}, {name}", partial(reads, path, trace)
         for number in range(100):
             pick = source(f"{seed} read", number)
-            trace = changed(pick, trace_of(random_records(pick)))
+            trace = changed(pick, random_run(pick).trace())
             yield numbered("the client reads trace", seed, number), partial(reads, path, trace)
         yield "the trace of the documentation", partial(documented, program, folder)
         yield "the example", partial(example, program, path, [], legal(9))
         yield "the example with a mistake", partial(example, program, path, ["--mistake"], illegal(5, "x6c6c6f"))
+        for records, verdict in (("10", legal(9)), ("9", illegal(7, None))):
+            words = ["--records", records]
+            yield f"the example in {records} records", partial(example, program, path, words, verdict)

@@ -12,13 +12,13 @@ from support import plain_model
 from support.auditing import Audit, legal, shown
 from support.counting import require, same
 from support.places import SCRATCH
-from support.plain_model import RECORDS_DEFAULT
+from support.plain_model import DEFAULTS, PIPE_CAPACITY, RECORDS_DEFAULT, Limits
 from support.running import Ran, run
 from support.runs import Settled
 from support.serving import SECONDS, Client, Server, outcome_of, report
 from support.sources import source
 from support.texts import difference
-from support.walks import walked
+from support.walks import CAPACITIES, walked
 
 SESSIONS_MOST = 64
 A_WHILE = 0.3
@@ -39,8 +39,8 @@ class Plan:
     still wait are waked as far as somebody can, and all processes exit that can.
     """
 
-    def __init__(self, lines: list[bytes]) -> None:
-        self.run = Settled()
+    def __init__(self, lines: list[bytes], limits: Limits = DEFAULTS) -> None:
+        self.run = Settled(limits)
         self.world = self.run.world
         self.acts: list[plain_model.Act] = []
         self.sessions = 0
@@ -229,8 +229,9 @@ def checked(program: str, seed: str, number: int) -> Checked:
     """Makes the run with a number of a seed, and checks its trace."""
     pick = source(seed, number)
     records = pick.choice([RECORDS_DEFAULT] * 7 + [pick.randrange(4, 80)])
-    plan = Plan(walked(pick, RECORDS_DEFAULT, pick.choice([5, 10, 20, 40, 60, 100])))
-    with Server(program, plan.sessions, records) as server:
+    limits = pick.choice([DEFAULTS, Limits(capacity=pick.choice(CAPACITIES))])
+    plan = Plan(walked(pick, RECORDS_DEFAULT, pick.choice([5, 10, 20, 40, 60, 100]), limits=limits), limits)
+    with Server(program, plan.sessions, records, capacity=limits.capacity) as server:
         live = LiveRun(server)
         for act in plan.acts:
             live.take(act)
@@ -238,6 +239,7 @@ def checked(program: str, seed: str, number: int) -> Checked:
         said = ended(server, has_ended)
         with open(server.trace, "rb") as file:
             trace = file.read()
+    same(server.header.hex(), trace[: len(server.header)].hex())
     audit = Audit(trace)
     lines = audit.frames.lines
     is_told(lines, live.told, has_ended)
@@ -245,7 +247,7 @@ def checked(program: str, seed: str, number: int) -> Checked:
         world = audit.judge.world
         same((0, report(plan.sessions, len(lines), world.bytes_in, world.bytes_out), b""), said)
     same(legal(len(lines), 0 if has_ended else audit.frames.rest), audit.verdict)
-    is_read(program, trace, audit)
+    is_read(program, trace, audit, limits.capacity)
     return Checked(len(lines), has_ended)
 
 
@@ -275,7 +277,7 @@ def is_told(lines: list[str], told: dict[int, str], has_ended: bool) -> None:
         same(came, sum(line.endswith(" exit = ok") for line in lines))
 
 
-def is_read(program: str, trace: bytes, audit: Audit) -> None:
+def is_read(program: str, trace: bytes, audit: Audit, capacity: int) -> None:
     """The program audits the trace as the plain auditor does, shows its lines, and replays its acts."""
     with tempfile.NamedTemporaryFile(prefix="fdref-", dir=SCRATCH) as file:
         file.write(trace)
@@ -284,7 +286,8 @@ def is_read(program: str, trace: bytes, audit: Audit) -> None:
         is_shown(shown(trace), run([program, "show", file.name]))
         script = shown(trace, acts=True)
         is_shown(script, run([program, "show", "--acts", file.name]))
-    again = run([program, "replay"], script.stdout)
+    words = [] if capacity == PIPE_CAPACITY else ["--pipe-capacity", str(capacity)]
+    again = run([program, "replay", *words], script.stdout)
     world = audit.judge.world
     totals = f"records {len(audit.frames.lines)} in {world.bytes_in} out {world.bytes_out}"
     text = "".join(f"{line}\n" for line in [*audit.frames.lines, totals]).encode()

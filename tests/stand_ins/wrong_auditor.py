@@ -15,13 +15,15 @@ from pathlib import Path
 sys.path.insert(0, str(Path(__file__).resolve().parents[1]))
 
 from support.auditing import Frames, Judge, act_of, illegal, legal
-from support.plain_model import Act
+from support.plain_model import DEFAULTS, Act, Limits
 from support.running import Ran
 from support.runs import line_of
 
 Verdict = Callable[[bytes], Ran]
 
 RULES: dict[str, tuple[str, Verdict]] = {}
+# Those that leave out what a header tells.
+OF_HEADERS = ("records-are-not-counted", "limits-are-not-read")
 
 
 def rule(text: str) -> Callable[[Verdict], Verdict]:
@@ -41,6 +43,11 @@ def at_the_end(frames: Frames) -> Ran:
     return legal(len(frames.lines), frames.rest)
 
 
+def limits_of(frames: Frames) -> Limits:
+    """The limits that a trace tells."""
+    return frames.header.limits if frames.header else DEFAULTS
+
+
 @rule("whatever can be read as records is legal")
 def nothing_is_judged(trace: bytes) -> Ran:
     return at_the_end(Frames(trace))
@@ -48,7 +55,8 @@ def nothing_is_judged(trace: bytes) -> Ran:
 
 @rule("one number is as good as another")
 def numbers_are_not_compared(trace: bytes) -> Ran:
-    frames, judge = Frames(trace), Judge()
+    frames = Frames(trace)
+    judge = Judge(limits_of(frames))
     for place, text in enumerate(frames.lines):
         line = line_of(text)
         wanted = judge.outcome_of(act_of(line.act))
@@ -60,28 +68,52 @@ def numbers_are_not_compared(trace: bytes) -> Ran:
 
 @rule("one process is as good as another")
 def actors_are_not_compared(trace: bytes) -> Ran:
-    frames, judge = Frames(trace), Judge()
+    frames = Frames(trace)
+    limits = limits_of(frames)
+    judge = Judge(limits)
     acts: list[Act] = []
     for place, text in enumerate(frames.lines):
         line = line_of(text)
         act = act_of(line.act)
         wanted = judge.outcome_of(act)
         if wanted != line.outcome:
-            judge = after(acts)
+            judge = after(limits, acts)
             numbers = [judge.world.next_number, *judge.world.processes]
             others = [act._replace(actor=number) for number in numbers] if act.actor != "house" else []
-            fit = next((it for it in others if after(acts).outcome_of(it) == line.outcome), None)
+            fit = next((it for it in others if after(limits, acts).outcome_of(it) == line.outcome), None)
             if fit is None:
                 return illegal(place, wanted)
             act = fit
-            judge = after([*acts, act])
+            judge = after(limits, [*acts, act])
         acts.append(act)
     return at_the_end(frames)
 
 
-def after(acts: Iterable[Act]) -> Judge:
-    """A judge after some acts."""
-    judge = Judge()
+@rule("a run may have more records than it was told")
+def records_are_not_counted(trace: bytes) -> Ran:
+    frames = Frames(trace)
+    return judged(frames, limits_of(frames))
+
+
+@rule("all runs have the limits of one that is told none")
+def limits_are_not_read(trace: bytes) -> Ran:
+    return judged(Frames(trace), DEFAULTS)
+
+
+def judged(frames: Frames, limits: Limits) -> Ran:
+    """The verdict on records in a run of these limits, which has no last record."""
+    judge = Judge(limits)
+    for place, text in enumerate(frames.lines):
+        line = line_of(text)
+        wanted = judge.outcome_of(act_of(line.act))
+        if wanted != line.outcome:
+            return illegal(place, wanted)
+    return at_the_end(frames)
+
+
+def after(limits: Limits, acts: Iterable[Act]) -> Judge:
+    """A judge after some acts, in a run of these limits."""
+    judge = Judge(limits)
     for act in acts:
         judge.outcome_of(act)
     return judge

@@ -1,7 +1,7 @@
 #!/usr/bin/env python3
 """Prints what a wrong fdref would print, so that it can be seen whether random scripts find it out.
 
-usage: tests/stand_ins/wrong_oracle.py RULE replay [--records N] < script
+usage: tests/stand_ins/wrong_oracle.py RULE replay [--records N] [--pipe-capacity N] < script
        tests/stand_ins/wrong_oracle.py --list
 
 It is the plain model, which prints byte for byte what `fdref replay` prints, with one rule of it
@@ -237,7 +237,9 @@ def gaps_are_ones() -> None:
         size = len(file.data)
         put = right(world, file, start, data)
         if put and start > size:
-            file.data[size:start] = b"\xff" * (start - size)
+            # those nearest to the end of a long one
+            gap = min(start - size, 2**20)
+            file.data.write(start - gap, b"\xff" * gap)
         return put
 
 
@@ -345,13 +347,16 @@ def main(words: list[str]) -> int:
     if words == ["--list"]:
         print("\n".join(f"{name}: {text}" for name, (text, _) in RULES.items()))
         return 0
-    is_asked = len(words) in (2, 4) and (words[0] in RULES or words[0] == "none") and words[1] == "replay"
-    if not is_asked or words[2:3] not in ([], ["--records"]):
+    is_asked = len(words) in (2, 4, 6) and (words[0] in RULES or words[0] == "none") and words[1] == "replay"
+    if not is_asked or not set(words[2::2]) <= {"--records", "--pipe-capacity"}:
         print(__doc__, file=sys.stderr)
         return 2
     if words[0] != "none":
         RULES[words[0]][1]()
-    ran = plain_model.replay(sys.stdin.buffer.read(), int(words[3]) if words[2:] else plain_model.RECORDS_DEFAULT)
+    given = dict(zip(words[2::2], map(int, words[3::2]), strict=True))
+    records = given.get("--records", plain_model.RECORDS_DEFAULT)
+    limits = plain_model.Limits(capacity=given.get("--pipe-capacity", plain_model.PIPE_CAPACITY))
+    ran = plain_model.replay(sys.stdin.buffer.read(), records, limits)
     sys.stdout.buffer.write(ran.stdout)
     sys.stderr.buffer.write(ran.stderr)
     return ran.status
