@@ -5,7 +5,8 @@ usage: tests/documents.py
 
 README has few lines and words, no line of a Markdown file is too long, and all together are short enough. Each link
 leads to a file, and to a heading of it where it names one. Each path in backquotes is there, and each name in
-backquotes stands somewhere in the sources. The last line is `N passed, M failed`.
+backquotes stands somewhere in the sources. Where a limit is told it is that of the code. The last line is `N passed,
+M failed`.
 """
 
 import re
@@ -34,6 +35,32 @@ FREE = re.compile(
 )
 NAME = re.compile(r"[A-Za-z_][\w]*(?:(?:::|\.)[A-Za-z_]\w*)*(?:\(\))?")
 PATH = re.compile(r"(?:crates|tests|tools|clients|bench|docs|examples|\.ci)/[\w./-]+")
+
+# Where limits are told: the file, how a line of it begins, and whose numbers of `call_types` stand there.
+LIMITS = TOP / "crates/call_types/src/limits.rt"
+PROFILE, HELP, MANUAL = "docs/PROFILE.md", "crates/job_core/src/job.rt", "docs/fdref.1"
+TOLD = (
+    (PROFILE, "| Descriptors of a process", "OPEN_MAX"),
+    (PROFILE, "| Live open file descriptions", "DESCRIPTIONS_MAX"),
+    (PROFILE, "| Live processes", "PROCESSES_MAX"),
+    (PROFILE, "| Bytes of a name", "NAME_MAX"),
+    (PROFILE, "| Names |", "NAMES_MAX"),
+    (PROFILE, "| Names of one file", "LINK_MAX"),
+    (PROFILE, "| Bytes of a regular file", "FILE_SIZE_MAX"),
+    (PROFILE, "| An offset", "OFFSET_MAX"),
+    (PROFILE, "| Bytes asked or given", "TRANSFER_MAX"),
+    (PROFILE, "| Bytes in a pipe", "PIPE_CAPACITY_MIN PIPE_CAPACITY_MAX"),
+    (PROFILE, "| Bytes of a write to a pipe", "PIPE_BUF"),
+    (PROFILE, "| Records of a run", "RECORDS_MAX"),
+    ("docs/FORMATS.md", "have 10000 records, and a pipe", "PIPE_CAPACITY"),
+    (HELP, 'let help = "Records', "RECORDS_MAX"),
+    (HELP, 'let records = "Records', "RECORDS_MAX"),
+    (HELP, 'let help = "Bytes that a pipe holds', "PIPE_CAPACITY_MIN PIPE_CAPACITY_MAX PIPE_CAPACITY"),
+    (MANUAL, "records, from 1 to", "RECORDS_MAX"),
+    (MANUAL, "bytes, from", "PIPE_CAPACITY_MIN PIPE_CAPACITY_MAX PIPE_CAPACITY"),
+    ("clients/c/fdref.h", "FDREF_PIPE_CAPACITY =", "PIPE_CAPACITY PIPE_CAPACITY_MIN PIPE_CAPACITY_MAX"),
+    ("clients/c/fdref.h", "#define FDREF_OLD_FILE_SIZE", "FILE_SIZE_1"),
+)
 
 
 def pages() -> list[str]:
@@ -123,8 +150,25 @@ def check_names(count: Count, page: str, known: set[str]) -> None:
             count.check(page, partial(is_named, name, known))
 
 
+def limits() -> dict[str, int]:
+    """The limits of the code, by their names."""
+    found = re.findall(r"^pub const (\w+): \w+ = ([\d_]+);", LIMITS.read_text(), flags=re.MULTILINE)
+    return {name: int(number) for name, number in found}
+
+
+def is_told(page: str, start: str, wanted: set[int]) -> None:
+    """Fails unless one line of a file begins so, and has these numbers."""
+    lines = [line for line in text_of(page).splitlines() if line.strip().startswith(start)]
+    require(len(lines) == 1, f"{len(lines)} lines begin with {start}")
+    numbers = {int(number) for number in re.findall(r"\d+", re.sub(r"(?<=\d)[,_](?=\d)", "", lines[0]))}
+    require(wanted <= numbers, f"{sorted(wanted - numbers)} not in: {lines[0].strip()}")
+
+
 def main() -> int:
     count = Count()
+    known_limits = limits()
+    for page, start, names in TOLD:
+        count.check(page, partial(is_told, page, start, {known_limits[name] for name in names.split()}))
     count.check("lines of README", partial(is_at_most, README_LINES, len(README.read_text().splitlines())))
     count.check("words of README", partial(is_at_most, README_WORDS, words("README.md")))
     count.check("words of README and docs", partial(is_at_most, WORDS, sum(map(words, pages()))))
