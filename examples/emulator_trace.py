@@ -1,11 +1,12 @@
 #!/usr/bin/env python3
 """How an emulator has its calls judged: it writes what they came to as a trace.
 
-usage: examples/emulator_trace.py [--mistake] FILE
+usage: examples/emulator_trace.py [--mistake] [--records N] FILE
 
 The emulator has one process and one file. It runs a few calls, and writes FILE. `fdref audit FILE` then tells
 whether fdref's calls come to the same. With --mistake, its pread moves the offset of the file, and the audit names
-the first record that is wrong and what it should have been.
+the first record that is wrong and what it should have been. With --records N the trace says that the run was to have
+N records at most: where N is too small, the audit names the record after which it could not end any more.
 """
 
 import argparse
@@ -75,17 +76,19 @@ def main(words: Sequence[str]) -> int:
     """Runs the calls and writes the trace: the exit status."""
     parser = argparse.ArgumentParser(description="Writes what an emulator's calls came to as a trace.")
     parser.add_argument("--mistake", action="store_true", help="let pread move the offset")
+    records = "how many records the run was to have at most; 0, nobody knows, where no number is given"
+    parser.add_argument("--records", type=int, default=0, metavar="N", help=records)
     parser.add_argument("file", metavar="FILE")
     args = parser.parse_args(words)
     emulator = Emulator(args.mistake)
-    records = [fdref.Record(0, "join", (), 0)]
+    done = [fdref.Record(0, "join", (), 0)]
     for name, values in CALLS:
         try:
             outcome = getattr(emulator, name)(*values)
         except OSError as error:
             outcome = error
-        records.append(fdref.Record(0, name, values, outcome))
-    fdref.write_trace(args.file, [*records, fdref.Record(0, "exit")])
+        done.append(fdref.Record(0, name, values, outcome))
+    fdref.write_trace(args.file, [*done, fdref.Record(0, "exit")], most_records=args.records)
     return 0
 
 

@@ -168,8 +168,23 @@ int fdref_fileno(const struct fdref *p);
 
 struct fdref_trace;
 
-/* Makes a file, or empties it; NULL where that fails. */
+/* How many records a run has at most. How many bytes a pipe holds, if nothing else is asked for, and the least and the
+   most that it may hold. How many bytes a file has at most, and how many in runs whose traces have version 1. */
+enum {
+    FDREF_RECORDS_MOST = 1000000,
+    FDREF_PIPE_CAPACITY = 1024, FDREF_PIPE_CAPACITY_LEAST = 512, FDREF_PIPE_CAPACITY_MOST = 65536
+};
+#define FDREF_FILE_SIZE UINT64_C(1099511627776)
+#define FDREF_OLD_FILE_SIZE UINT64_C(1048576)
+
+/* Makes a file, or empties it; NULL where that fails. The trace tells no number of records, that a pipe holds
+   FDREF_PIPE_CAPACITY bytes, and that a file has FDREF_FILE_SIZE at most. */
 struct fdref_trace *fdref_trace_open(const char *path);
+
+/* The same of another run. It may have so many records, with those of the exit of each process and of the closing, from
+   1 to FDREF_RECORDS_MOST, or 0 where nobody knows: so a run that goes on for longer is found. A pipe holds so many
+   bytes, and a file has FDREF_FILE_SIZE or FDREF_OLD_FILE_SIZE at most. Another number is EINVAL; no file is made. */
+struct fdref_trace *fdref_trace_open_of(const char *path, uint32_t records, uint32_t pipe_capacity, uint64_t file_size);
 
 /* Writes all records that are gathered to the file, so that they are there though the program is killed. */
 int fdref_trace_flush(struct fdref_trace *trace);
@@ -964,17 +979,41 @@ struct fdref_trace {
 
 struct fdref_trace *fdref_trace_open(const char *path)
 {
+    return fdref_trace_open_of(path, 0, FDREF_PIPE_CAPACITY, FDREF_FILE_SIZE);
+}
+
+/* The header of a trace: how many bytes it has, or 0 where it can not be. */
+static size_t fdref_put_header(unsigned char *to, uint32_t records, uint32_t pipe_capacity, uint64_t file_size)
+{
+    struct fdref_payload header = {to, 0, 0};
+    fdref_need(&header, records <= FDREF_RECORDS_MOST, EINVAL);
+    fdref_need(&header, pipe_capacity >= FDREF_PIPE_CAPACITY_LEAST, EINVAL);
+    fdref_need(&header, pipe_capacity <= FDREF_PIPE_CAPACITY_MOST, EINVAL);
+    fdref_need(&header, file_size == FDREF_FILE_SIZE || file_size == FDREF_OLD_FILE_SIZE, EINVAL);
+    fdref_put(&header, UINT64_C(0x4644545241434532), 8); /* FDTRACE2 in ASCII */
+    fdref_put(&header, records, 4);
+    fdref_put(&header, pipe_capacity, 4);
+    fdref_put(&header, file_size, 8);
+    return header.fault == 0 ? header.size : 0;
+}
+
+struct fdref_trace *fdref_trace_open_of(const char *path, uint32_t records, uint32_t pipe_capacity, uint64_t file_size)
+{
     struct fdref_trace *trace = (struct fdref_trace *)calloc(1, sizeof *trace);
     int error;
     if (!trace)
         return NULL;
+    trace->size = fdref_put_header(trace->frames, records, pipe_capacity, file_size);
+    if (trace->size == 0) {
+        free(trace);
+        errno = EINVAL;
+        return NULL;
+    }
     do
         trace->file = open(path, O_WRONLY | O_CREAT | O_TRUNC, 0666);
     while (trace->file < 0 && errno == EINTR);
     if (trace->file >= 0) {
         fcntl(trace->file, F_SETFD, FD_CLOEXEC);
-        trace->size = 8;
-        memcpy(trace->frames, "FDTRACE1", trace->size);
         return trace;
     }
     error = errno;

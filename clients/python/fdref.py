@@ -51,7 +51,8 @@ trace, which `fdref audit FILE` judges:
 
 The records stand in the order in which the calls took effect. Processes have the numbers 0, 1, 2 and so on, in the
 order of their joins and forks, and the first begins with no descriptor open. A number as an outcome is a value, and
-never an errno. `Record` tells how all else is noted.
+never an errno. `Record` tells how all else is noted. An emulator that was told how many records its run may have
+passes that on, as `most_records`, and a run that went on for longer is found.
 
 docs/FORMATS.md has the bytes of requests, answers and traces, and docs/PROFILE.md what each call does.
 """
@@ -79,7 +80,12 @@ TRANSFER_MOST = 65_536
 NAME_MOST = 255
 ANSWER_MOST = RECORD_MOST = 66_048
 
-TRACE_HEADER = b"FDTRACE1"
+# The first bytes of a trace by its version, and how many bytes its header has in all.
+TRACE_HEADERS = {1: (b"FDTRACE1", 8), 2: (b"FDTRACE2", 24)}
+# What the header of version 2 may tell.
+RECORDS_MOST = 1_000_000
+PIPE_CAPACITIES = range(512, 65_536 + 1)
+FILE_SIZES = (1_048_576, 2**40)
 # The `pid` of the record that closes a run, which no process makes.
 HOUSE = 2**32 - 1
 
@@ -625,11 +631,24 @@ CLOSE_RUN = Record(HOUSE, "close-run")
 """The record with which a run is closed. After it there are only calls and exits of processes that are still there."""
 
 
+class Header(NamedTuple):
+    """What the header of a trace tells of its run: how many records it may have, from 1 to 1,000,000, or 0 where that
+    is not told; how many bytes a pipe holds; and how many a file may have. One of version 1 tells nothing: its run has
+    pipes of 1,024 bytes and files of at most 1,048,576."""
+
+    version: int = 2
+    most_records: int = 0
+    pipe_capacity: int = 1_024
+    file_size: int = 2**40
+
+
 class Trace(NamedTuple):
-    """What a file holds: its whole records, and the bytes after them, which are fewer than a record needs."""
+    """What a file holds: its whole records, and the bytes after them, which are fewer than a record needs; and its
+    header, or None where the file ends inside that."""
 
     records: list[Record]
     rest: bytes
+    header: Header | None = Header()
 
 
 class Malformed(ValueError):
@@ -642,8 +661,19 @@ class Malformed(ValueError):
         self.records = list(records)
 
 
-def write_trace(path: str | os.PathLike[str], records: Iterable[Record]) -> int:
-    """Writes records as a trace, over what is at the path, and returns how many they are.
+def write_trace(
+    path: str | os.PathLike[str],
+    records: Iterable[Record],
+    most_records: int = 0,
+    pipe_capacity: int = 1_024,
+    file_size: int = 2**40,
+) -> int:
+    """Writes records as a trace of version 2, over what is at the path, and returns how many they are.
+
+    The header tells what the run was to keep to. `most_records` is how many records it may have, from 1 to 1,000,000,
+    with those of the exit of each process and of the closing; it is 0 where nobody knows. `pipe_capacity` is how many
+    bytes a pipe holds, from 512 to 65,536, and `file_size` how many a file may have, 1,048,576 or 2^40. Another number
+    is a ValueError, and nothing is written.
 
     It holds no record back, so `records` may be of any length and may still come while it writes. A record that has no
     place in a trace is a ValueError which tells the place of the record, counted from 0, and why: an unknown act, too
@@ -652,9 +682,10 @@ def write_trace(path: str | os.PathLike[str], records: Iterable[Record]) -> int:
     know, an error that is none of fdref's, or a close-run of another `pid` than HOUSE. The file then has the records
     before it.
     """
+    head = _header_bytes(most_records, pipe_capacity, file_size)
     count = 0
     with open(path, "wb") as file:
-        file.write(TRACE_HEADER)
+        file.write(head)
         for record in records:
             file.write(_record_frame(record, count))
             count += 1
@@ -662,20 +693,19 @@ def write_trace(path: str | os.PathLike[str], records: Iterable[Record]) -> int:
 
 
 def read_trace(path: str | os.PathLike[str]) -> Trace:
-    """Reads a trace: its whole records, and what is left over, which a writer that was stopped may leave behind.
+    """Reads a trace of either version: its whole records, what is left over, which a writer that was stopped may leave
+    behind, and its header.
 
     Names come as `os.fsdecode` gives them. Whether the records are right is not asked: `fdref audit` tells that. A file
     that is no trace is a ValueError, Malformed.
     """
     with open(path, "rb") as file:
         some = file.read()
-    head = some[: len(TRACE_HEADER)]
-    if not TRACE_HEADER.startswith(head):
-        raise Malformed(0)
-    if head != TRACE_HEADER:
-        return Trace([], some)
+    header = _read_header(some)
+    if header is None:
+        return Trace([], some, None)
     records: list[Record] = []
-    at = len(TRACE_HEADER)
+    _, at = TRACE_HEADERS[header.version]
     while len(some) - at >= 4:
         length = int.from_bytes(some[at : at + 4], "big")
         end = at + 4 + length
@@ -686,7 +716,41 @@ def read_trace(path: str | os.PathLike[str]) -> Trace:
         except (struct.error, IndexError, KeyError):
             raise Malformed(at, records) from None
         at = end
-    return Trace(records, some[at:])
+    return Trace(records, some[at:], header)
+
+
+def _header_bytes(most_records: int, pipe_capacity: int, file_size: int) -> bytes:
+    """A header of version 2."""
+    numbers = most_records, pipe_capacity, file_size
+    if not all(isinstance(number, int) for number in numbers):
+        raise ValueError(f"{numbers!r} are no numbers")
+    if not 0 <= most_records <= RECORDS_MOST:
+        raise ValueError(f"{most_records} is no number of records: 0, or from 1 to {RECORDS_MOST}")
+    if pipe_capacity not in PIPE_CAPACITIES:
+        raise ValueError(f"a pipe has room for 512 to 65536 bytes, and not {pipe_capacity}")
+    if file_size not in FILE_SIZES:
+        raise ValueError(f"a file has at most {FILE_SIZES[0]} or {FILE_SIZES[1]} bytes, and not {file_size}")
+    magic, _ = TRACE_HEADERS[2]
+    return magic + struct.pack(">IIQ", *numbers)
+
+
+def _read_header(some: bytes) -> Header | None:
+    """The header at the beginning of a trace, or None where that ends inside it."""
+    fit = [version for version, (magic, _) in TRACE_HEADERS.items() if magic.startswith(some[: len(magic)])]
+    if not fit:
+        raise Malformed(0)
+    version = fit[0]
+    magic, length = TRACE_HEADERS[version]
+    if len(some) < length:
+        return None
+    if version == 1:
+        return Header(1, 0, 1_024, 1_048_576)
+    numbers = struct.unpack(">IIQ", some[len(magic) : length])
+    try:
+        _header_bytes(*numbers)
+    except ValueError:
+        raise Malformed(0) from None
+    return Header(version, *numbers)
 
 
 # The acts of a record that are no calls.

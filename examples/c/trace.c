@@ -5,7 +5,8 @@
    usage: trace FILE
 
    The emulator has one process and one file. Its mistake is that a duplicate has an offset of its own. `fdref audit
-   FILE` tells the place of the first record that is wrong, and what the call should have come to. */
+   FILE` tells the place of the first record that is wrong, and what the call should have come to. The emulator knows
+   that a run has RECORDS records at most, so one that went on for longer would be found as well. */
 
 #include <stdio.h>
 #include <string.h>
@@ -13,7 +14,7 @@
 #define FDREF_IMPLEMENTATION
 #include "fdref.h"
 
-enum { OPEN_FILES = 32, FILE_BYTES = 4096 };
+enum { OPEN_FILES = 32, FILE_BYTES = 4096, RECORDS = 100 };
 
 /* The emulator: the file, and the offset of each descriptor, or -1 where it is not open. */
 static char bytes[FILE_BYTES];
@@ -81,9 +82,11 @@ static int my_close(int fd)
 
 int main(int count, char **words)
 {
-    struct fdref_trace *trace = count == 2 ? fdref_trace_open(words[1]) : NULL;
+    struct fdref_trace *trace = NULL;
     char buffer[9];
 
+    if (count == 2)
+        trace = fdref_trace_open_of(words[1], RECORDS, FDREF_PIPE_CAPACITY, FDREF_FILE_SIZE);
     if (!trace) {
         fprintf(stderr, "usage: trace FILE, which can be written\n");
         return 2;
