@@ -23,9 +23,10 @@
 #include <time.h>
 #include <unistd.h>
 
-/* A script has the descriptors 0 to 31 and files of at most FILE_BYTES. Nothing may take longer than PATIENCE, in
-   milliseconds. */
-enum { OPEN_FILES = 32, FILE_BYTES = 1048576, PATIENCE = 10000 };
+/* A script has the descriptors 0 to 31 and files of at most FILE_BYTES; a call reads READ_MOST bytes at most. Nothing
+   may take longer than PATIENCE, in milliseconds. */
+#define FILE_BYTES (1LL << 40)
+enum { OPEN_FILES = 32, READ_MOST = 1048576, PATIENCE = 10000 };
 enum { NAME_MOST = 255, DATA_MOST = 65700 };
 enum { USAGE = 2, BAD_SCRIPT, STREAM_FAILED, SYSTEM_REFUSED, PROCESS_LOST, CALL_STUCK };
 
@@ -360,7 +361,7 @@ static int set_flags(int fd, int flags)
 /* Makes a call, or exits; a fork is made elsewhere. Of so many bytes at most, what is read goes to `into`. */
 static long long called(const struct act *act, const unsigned char *bytes, unsigned char *into, struct answer *answer)
 {
-    long long second = act->numbers[1], third = act->numbers[2], most = FILE_BYTES;
+    long long second = act->numbers[1], third = act->numbers[2], most = READ_MOST;
     int fd = descriptor(act->numbers[0]);
     switch (act->call) {
     case OPEN: return open(act->names[0], (int)second, 0600);

@@ -31,7 +31,7 @@ struct process {
     long switches;
 };
 
-static unsigned char buffer[FILE_BYTES];
+static unsigned char buffer[READ_MOST];
 static struct process processes[PROCESSES_MOST];
 static unsigned long process_count;
 static unsigned long long records, bytes_in, bytes_out;

@@ -4,6 +4,9 @@
 usage: tools/compare.py SCRIPT-OR-FOLDER...
        tools/compare.py --random N --seed S [--first K] [--acts A] [--class small|full-pipes|all]
 
+Both take --pipe-capacity N: with as many bytes as a pipe of the system holds (65,536 on Linux) also writes that fill
+pipes are compared.
+
 Each script is run by tools/ask_kernel.c, with a real process for each of its processes. The acts of
 the run that happened are then given to `fdref replay`, and the two are compared line by line; a `?`
 fits any number. At the end of each script acts are added that look at all that can be reached: flags,
@@ -34,15 +37,18 @@ from typing import NamedTuple
 sys.path.insert(1, str(Path(__file__).resolve().parents[1] / "tests"))
 
 from support import plain_model, walks
-from support.commands import add_program, program_of
+from support.commands import add_capacity, add_program, capacity_words, program_of
+from support.contents import BLOCK
 from support.counting import Failure
 from support.drivers import compiled
-from support.plain_model import FILE_SIZE_MAX, OFFSET_MAX, OPEN_MAX, PIPE_BUF, PIPE_CAPACITY, TRANSFER_MAX
+from support.plain_model import DEFAULTS, OFFSET_MAX, OPEN_MAX, PIPE_BUF, TRANSFER_MAX, Limits
 from support.running import CannotRun, run
 from support.runs import ALL_RECORDS, Line, Settled, line_of
 from support.shrinking import shrunk
 
 SECONDS = 120
+# Systems give a pipe memory in pages of so many bytes.
+PAGE = 4_096
 LINES_BEFORE = 12
 ACTS_TOLD = 8
 STRIKES_MOST = 8
@@ -137,11 +143,11 @@ def due(it: Difference) -> set[str]:
         start, count = fields[1], it.count()
         errors["ESPIPE"] = bool(at and at.pipe)
         errors["EINVAL"] = start < 0 or count > TRANSFER_MAX or (count > 0 and start + count > OFFSET_MAX)
-        errors["EFBIG"] = word == "pwrite" and count > 0 and start >= FILE_SIZE_MAX
+        errors["EFBIG"] = word == "pwrite" and count > 0 and start >= it.world.limits.size
     elif word == "ftruncate":
         length = fields[1]
         errors["EINVAL"] = length < 0 or bool(at and (at.pipe or "w" not in at.mode))
-        errors["EFBIG"] = length > FILE_SIZE_MAX
+        errors["EFBIG"] = length > it.world.limits.size
     return {error for error, is_due in errors.items() if is_due}
 
 
@@ -209,7 +215,30 @@ def is_room(it: Difference) -> bool:
     whole, held = it.count(), len(it.at.pipe.data)
     are_moved = all(is_moved(outcome) for outcome in (it.system, it.fdref))
     is_less = it.system != str(whole) and held + whole > PIPE_BUF
-    return are_moved and (held + whole > PIPE_CAPACITY or is_less)
+    return are_moved and (held + whole > it.at.pipe.capacity or is_less)
+
+
+def is_paged_room(it: Difference) -> bool:
+    """A write to a pipe for which the system has as many bytes as are asked for, but in pages of which some are not
+    full.
+
+    A write goes on in a page only where it fits there. So two pages beside each other hold more than one page together,
+    but for the first one, of which something was read; and a pipe that is about half full may have no page left.
+    """
+    if not it.words("write") or not it.at or not it.at.pipe or it.at.pipe.capacity % PAGE:
+        return False
+    if not is_moved(it.system) or not is_moved(it.fdref):
+        return False
+    held, fdref = len(it.at.pipe.data), moved(it.fdref)
+    # how many bytes of a large write have gone in is not seen on the system while it waits
+    is_less = fdref > 0 if it.system == "parked ?" else moved(it.system) < fdref
+    return is_less and held > 0 and held + it.count() > it.at.pipe.capacity // 2 - PAGE
+
+
+def moved(outcome: str) -> int:
+    """How many bytes of a write went in at once."""
+    number = outcome.removeprefix("parked ")
+    return int(number) if number.isdigit() else 0
 
 
 def is_moved(outcome: str) -> bool:
@@ -294,6 +323,7 @@ REASONS = [
     Reason("lseek past the greatest file of the file system is EINVAL", SYSTEM, "page of lseek", is_lseek_past_files),
     Reason("offset and count pass the greatest offset: EINVAL", SYSTEM, "pages of read and write", is_offset_and_count),
     Reason("order of refusals, where several are due", OWN, "XSH 2.3", is_order),
+    Reason("room of a pipe that is counted in pages", OWN, "page of write", is_paged_room),
     Reason("room of a pipe", OWN, "page of write", is_room),
     Reason("size and links of a pipe in fstat", OWN, "page of fstat", is_stat_of_pipe),
     Reason("names that the profile does not take", OWN, "XBD 3, Portable Filename Character Set", is_own_name),
@@ -346,8 +376,9 @@ def ends_of_closing(lines: list[Line]) -> set[int]:
     return found
 
 
-def fits(system: Line, fdref: Line, has_same_room: bool) -> bool:
-    """Whether two lines fit. How much a large write moved at once is `?`: the same where a pipe has the same room."""
+def fits(system: Line, fdref: Line, asked: "Asked") -> bool:
+    """Whether two lines fit. How much a large write moved at once is `?`: the same where a pipe has the same room, by
+    bytes, and nothing where the pipe is full to the last byte."""
     if system.act != fdref.act:
         return False
     if system.outcome == "?":
@@ -356,7 +387,8 @@ def fits(system: Line, fdref: Line, has_same_room: bool) -> bool:
         totals = zip(system.outcome.split(" "), fdref.outcome.split(" "), strict=True)
         return all(word in ("?", other) for word, other in totals)
     if system.outcome == "parked ?":
-        return has_same_room and fdref.outcome.startswith("parked ")
+        is_full = fdref.outcome == "parked 0"
+        return asked.has_same_room and fdref.outcome.startswith("parked ") and (asked.counts_bytes or is_full)
     return (system.place == "-", system.outcome) == (fdref.place == "-", fdref.outcome)
 
 
@@ -366,10 +398,12 @@ def fits(system: Line, fdref: Line, has_same_room: bool) -> bool:
 class Asked:
     """The driver and fdref, as they are called."""
 
-    def __init__(self, program: list[str], driver: list[str]) -> None:
+    def __init__(self, program: list[str], driver: list[str], limits: Limits = DEFAULTS) -> None:
         self.program = program
         self.driver = driver
-        self.has_same_room = self.room() == PIPE_CAPACITY
+        self.limits = limits
+        self.has_same_room = self.room() == limits.capacity
+        self.counts_bytes = self.room(3_000, 3_000) == self.room()
 
     def run(self, words: list[str], script: bytes, who: str) -> list[Line]:
         """The lines that one of the two prints on a script."""
@@ -385,11 +419,13 @@ class Asked:
             lines[-1] = lines[-1]._replace(outcome=lines[-1].outcome.replace(lines[-1].outcome.split(" ")[1], "?", 1))
         return lines
 
-    def room(self) -> int:
-        """How many bytes go into an empty pipe of the system, or 65,536 where they are more."""
-        lines = [b"join", b"p0 mkfifo f", b"p0 open f r,nonblock", b"p0 open f w,nonblock", b"p0 write 1 61*65536"]
-        outcome = self.system(lines)[-2].outcome
-        return int(outcome) if outcome.isdigit() else 0
+    def room(self, *sizes: int) -> int:
+        """How many bytes go into an empty pipe of the system by writes of these sizes and one of 65,536, or 65,536
+        where they are more."""
+        lines = [b"join", b"p0 mkfifo f", b"p0 open f r,nonblock", b"p0 open f w,nonblock"]
+        lines += [b"p0 write 1 61*%d" % size for size in (*sizes, TRANSFER_MAX)]
+        outcomes = [line.outcome for line in self.system(lines)[4:-1]]
+        return min(sum(map(moved, outcomes)), TRANSFER_MAX)
 
     def system(self, lines: list[bytes]) -> list[Line]:
         """The run of a script as it happened."""
@@ -409,14 +445,15 @@ class Asked:
         ends = ends_of_closing(lines)
         script = "".join(act_of(line) + "\n" for place, line in enumerate(lines) if line.act and place not in ends)
         records = min(2 * len(lines) + 200, ALL_RECORDS)
-        return self.run([*self.program, "replay", "--records", str(records)], script.encode(), "fdref")
+        words = [*self.program, "replay", "--records", str(records), *capacity_words(self.limits)]
+        return self.run(words, script.encode(), "fdref")
 
 
 def first_unfit(asked: Asked, system: list[Line], fdref: list[Line], known: set[int]) -> int | None:
     """The place of the first lines that do not fit, but for those that are known, or None."""
     for place in range(max(len(system), len(fdref))):
         is_there = place < min(len(system), len(fdref))
-        if place not in known and not (is_there and fits(system[place], fdref[place], asked.has_same_room)):
+        if place not in known and not (is_there and fits(system[place], fdref[place], asked)):
             return place
     return None
 
@@ -455,10 +492,10 @@ def in_other_order(asked: Asked, lines: list[Line], place: int, known: set[int])
 # ---- scripts
 
 
-def with_looks(lines: list[bytes]) -> list[bytes]:
+def with_looks(lines: list[bytes], limits: Limits = DEFAULTS) -> list[bytes]:
     """A script with acts that look at what a pwrite under append did, at calls that wait on from before a setfl and, at
     the end, at all that is there."""
-    beside = Settled()
+    beside = Settled(limits)
     looked: list[bytes] = []
     for line in lines:
         act = plain_model.read_act(line)
@@ -495,10 +532,12 @@ def last_looks(world: plain_model.World) -> list[str]:
 
 
 def contents(process: plain_model.Process, fd: int, file: plain_model.Regular) -> list[str]:
-    """Acts that read a file through a descriptor, whatever its offset is."""
-    return [
-        f"p{process.number} pread {fd} {start} {TRANSFER_MAX}" for start in range(0, len(file.data) + 1, TRANSFER_MAX)
-    ]
+    """Acts that read a file through a descriptor, whatever its offset is: what was written, and the zeros before it and
+    behind it; the beginning, the middle and the end."""
+    size = len(file.data)
+    blocks = {start for number in file.data.blocks for start in range(max(number - 1, 0) * BLOCK, size, BLOCK)[:3]}
+    starts = sorted(blocks | {0, size // 2, max(size - TRANSFER_MAX, 0), size})
+    return [f"p{process.number} pread {fd} {start} {TRANSFER_MAX}" for start in starts]
 
 
 def by_name(world: plain_model.World, process: plain_model.Process) -> Iterator[str]:
@@ -513,10 +552,10 @@ def by_name(world: plain_model.World, process: plain_model.Process) -> Iterator[
 class Walk(walks.Walk):
     """A walk whose acts a system can follow: calls go on by themselves, and few acts reach a limit of the profile."""
 
-    def __init__(self, pick: random.Random, processes: int, fills_pipes: bool) -> None:
+    def __init__(self, pick: random.Random, processes: int, fills_pipes: bool, limits: Limits) -> None:
         self.fills_pipes = fills_pipes
         self.processes = processes
-        super().__init__(pick, Settled())
+        super().__init__(pick, Settled(limits))
 
     def is_odd(self) -> bool:
         """Whether the next choice makes no sense on purpose, which is seldom."""
@@ -577,9 +616,9 @@ class Walk(walks.Walk):
         return self.pick.choice([0, *[min(count, room) for count in (1, 2, 3, 5, 8, 16, 17, 40, 100, 300)]])
 
     def place(self, at: plain_model.Description) -> int:
-        """As in each walk, but seldom about the size limit, since a file of that size is slow to look at."""
+        """As in each walk, but seldom far from the beginning, since a file of many parts is slow to look at."""
         place = super().place(at)
-        return place if place < 2**16 or self.pick.random() < 0.1 else self.pick.randrange(100)
+        return place if place < 2**16 or self.pick.random() < 0.2 else self.pick.randrange(100)
 
     def move(self, at: plain_model.Description) -> list[walks.Field]:
         """A distance and what it counts from."""
@@ -598,10 +637,10 @@ def class_of(number: int, wanted: str) -> str:
     return wanted if wanted in CLASSES else CLASSES[number % 10 == 9]
 
 
-def random_lines(seed: str, number: int, acts: int, which: str) -> list[bytes]:
-    """The random script with a number of a seed, of so many acts and of a class."""
+def random_lines(seed: str, number: int, acts: int, which: str, limits: Limits = DEFAULTS) -> list[bytes]:
+    """The random script with a number of a seed, of so many acts and of a class, for a run of these limits."""
     pick = random.Random(f"{seed} {number} {acts} {which}")
-    walk = Walk(pick, pick.randrange(1, 7), which == "full-pipes")
+    walk = Walk(pick, pick.randrange(1, 7), which == "full-pipes", limits)
     walk.begin()
     walk.walk(acts)
     return walk.lines
@@ -630,8 +669,8 @@ def reason_of(difference: Difference) -> Reason | None:
 class Beside:
     """A run of the model beside the lines of a run, so that its world before a line is known."""
 
-    def __init__(self, lines: list[Line]) -> None:
-        self.run = plain_model.Run(ALL_RECORDS)
+    def __init__(self, lines: list[Line], limits: Limits) -> None:
+        self.run = plain_model.Run(ALL_RECORDS, limits)
         self.lines = lines
         self.ends = ends_of_closing(lines)
         self.place = 0
@@ -656,14 +695,14 @@ def compared(asked: Asked, lines: list[bytes]) -> tuple[list[Line], list[Differe
     fdref = asked.fdref(system)
     found: list[Difference] = []
     known: set[int] = set()
-    beside = Beside(system)
+    beside = Beside(system, asked.limits)
     while True:
         place = first_unfit(asked, system, fdref, known)
         if place is None:
             return system, found
         reordered = in_other_order(asked, system, place, known)
         if reordered:
-            system, fdref, beside = reordered, asked.fdref(reordered), Beside(reordered)
+            system, fdref, beside = reordered, asked.fdref(reordered), Beside(reordered, asked.limits)
             continue
         if place >= min(len(system), len(fdref)):
             raise CannotRun("the two runs have different numbers of lines")
@@ -693,7 +732,7 @@ def checked(asked: Asked, lines: list[bytes]) -> Checked:
     """Compares a script, and again without the acts after which system and fdref are apart."""
     result = Checked()
     apart: list[Difference] = []
-    lines = with_looks(lines)
+    lines = with_looks(lines, asked.limits)
     for _ in range(STRIKES_MOST):
         system, found = compared(asked, lines)
         result.last = None
@@ -840,6 +879,7 @@ def parse(words: Sequence[str]) -> argparse.Namespace:
     which = "small: pipes are never full; full-pipes: they are; all: every tenth"
     parser.add_argument("--class", dest="which", choices=[*CLASSES, "all"], default="all", help=which)
     add_program(parser)
+    add_capacity(parser)
     ask = "reads a script and prints its run: ask_kernel with its options, on whatever system; "
     ask += "compiled for this run where it is not given"
     parser.add_argument("--ask", metavar="COMMAND", help=ask)
@@ -858,11 +898,11 @@ def parse(words: Sequence[str]) -> argparse.Namespace:
 
 def check_all(args: argparse.Namespace, totals: Totals, driver: str) -> None:
     """Compares all scripts that are asked for."""
-    asked = Asked(program_of(args.program), shlex.split(driver))
+    asked = Asked(program_of(args.program), shlex.split(driver), args.limits)
     for name, lines in args.scripts:
         check_one(asked, totals, name, lines, False, args.keep)
     for number in range(args.first, args.first + args.random):
-        lines = random_lines(args.seed, number, args.acts, class_of(number, args.which))
+        lines = random_lines(args.seed, number, args.acts, class_of(number, args.which), args.limits)
         check_one(asked, totals, f"script {number} of seed {args.seed}", lines, True, args.keep)
 
 

@@ -22,9 +22,10 @@ are not seen: so printf is lost where dup2 puts a file of fdref at descriptor 1.
 
 Told is how both ended, and where they part: the first call whose answer differs and has no reason, else
 the first that differs, after some lines before it and with its reason. The reasons are those of
-tools/compare.py, who comes first at a pipe, and the size that a file may have. Each process is compared
-in the order of its own calls. Where a difference with a reason leaves system and fdref apart, answers
-that differ later may follow from it, and are only counted. At last fdref audits the trace of its server.
+tools/compare.py, who comes first at a pipe, and the size that a file may have. With --pipe-capacity
+65536 a pipe of fdref holds as much as one of Linux. Each process is compared in the order of its own
+calls. Where a difference with a reason leaves system and fdref apart, answers that differ later may
+follow from it, and are only counted. At last fdref audits the trace of its server.
 
 The processes of a program may come in another order in the next run, and where its answers depend on
 that, so may what is told of it.
@@ -56,7 +57,7 @@ sys.path.insert(1, str(Path(__file__).resolve().parents[1] / "tests"))
 import compare
 from partings import Compared, Finding
 from support import plain_model
-from support.commands import add_program, program_of
+from support.commands import add_capacity, add_program, capacity_words, program_of
 from support.counting import Failure
 from support.places import TOP
 from support.running import Ran, run
@@ -94,13 +95,13 @@ class CannotJudge(Exception):
 class Server:
     """fdref as it serves, with its trace, until it is finished."""
 
-    def __init__(self, program: list[str], folder: str, sessions: int) -> None:
+    def __init__(self, program: list[str], folder: str, sessions: int, limits: plain_model.Limits) -> None:
         self.sessions = sessions
         self.path = os.path.join(folder, "socket")
         self.trace = os.path.join(folder, "trace")
         words = serve_words(program[-1], self.path, sessions, ALL_RECORDS, self.trace)
         try:
-            self.process = started([*program[:-1], *words])
+            self.process = started([*program[:-1], *words, *capacity_words(limits)])
         except OSError as fault:
             raise CannotJudge(f"{program[0]}: {fault.strerror}") from None
 
@@ -197,6 +198,7 @@ class Job:
         self.stdin: str = os.devnull
         self.seconds = 60.0
         self.sessions = SESSIONS_MOST
+        self.limits = plain_model.DEFAULTS
         self.is_strict = False
 
     def ran(self, name: str, **more: str) -> tuple[Ended, bytes]:
@@ -218,7 +220,7 @@ class Job:
     def both(self) -> Both:
         """Runs it with fdref and on the system."""
         strict = {"FDREF_STRICT": "1"} if self.is_strict else {}
-        with Server(self.program, self.folder, self.sessions) as server:
+        with Server(self.program, self.folder, self.sessions, self.limits) as server:
             past = Path(self.folder, "past")
             past.touch()
             fdref, fdref_log = self.ran("fdref", FDREF_SOCKET=server.path, FDREF_PAST=str(past), **strict)
@@ -379,6 +381,7 @@ def parse(words: Sequence[str]) -> argparse.Namespace:
         description=__doc__, formatter_class=argparse.RawDescriptionHelpFormatter, usage=argparse.SUPPRESS
     )
     add_program(parser)
+    add_capacity(parser)
     parser.add_argument("--shim", metavar="PATH", help="the shim, where it is built already")
     parser.add_argument("--stdin", metavar="FILE", default=os.devnull, help="its standard input, else /dev/null")
     seconds = "how long each of its two runs may take; 60 where no number is given"
@@ -396,7 +399,8 @@ def parse(words: Sequence[str]) -> argparse.Namespace:
     # argparse would say that there has to be one
     rest.required = False
     args = parser.parse_args(words)
-    astray = [word for word in args.words if word.partition("=")[0] in (f"--{name}" for name in vars(args))]
+    own = [f"--{name}" for name in vars(args)] + ["--pipe-capacity"]
+    astray = [word for word in args.words if word.partition("=")[0] in own]
     if astray:
         print(f"judge.py: {astray[0]} is a word of {args.judged}: own options stand before it", file=sys.stderr)
     for path in (args.stdin, args.shim, args.keep):
@@ -411,6 +415,7 @@ def job_of(args: argparse.Namespace, folder: str) -> Job:
     shim = os.path.abspath(args.shim) if args.shim else built_shim(folder)
     job = Job([found(args.judged), *args.words], program, shim, folder)
     job.stdin, job.seconds, job.sessions, job.is_strict = args.stdin, args.seconds, args.sessions, args.strict
+    job.limits = args.limits
     return job
 
 

@@ -1,7 +1,7 @@
 #!/usr/bin/env python3
 """Tells whether there is an order of the calls of a history that explains what they gave.
 
-usage: tools/order.py HISTORY [--program COMMAND] [--seconds N] [--states N] [--quiet]
+usage: tools/order.py HISTORY [--program COMMAND] [--pipe-capacity N] [--seconds N] [--states N] [--quiet]
 
 HISTORY is a file, or - for the standard input. It has a line for each call, `START END pK ACT = OUTCOME`: the times
 before and after it, in nanoseconds, the call and its answer as in docs/FORMATS.md. A call that still waits at the end
@@ -13,9 +13,9 @@ searched for with the plain model of the tests, and then run through `fdref repl
 the program, and each was compared with the history. A call that waits has a line where it begins to wait, and one for
 each resume.
 
-In fdref a pipe has room for 1,024 bytes. Where no order explains a history with a pipe or FIFO, one is searched for
-with pipes of 65,536 bytes. If there is one the history has a reason, `room of a pipe (own)`: the standard leaves it
-open. What is printed then is the order by the plain model.
+In fdref a pipe has room for 1,024 bytes, or for as many as --pipe-capacity says. Where no order explains a history with
+a pipe or FIFO, one is searched for with pipes of 65,536 bytes, and run through `fdref replay --pipe-capacity 65536`. If
+there is one the history has a reason, `room of a pipe (own)`: the standard leaves it open.
 
 Where none explains a history a part of it is printed that has none either. In it `?` is an answer that does not
 matter, and END `-` with `?` is a call of which nothing else is known. Both may be asked, too. Then comes the call that
@@ -34,11 +34,10 @@ from pathlib import Path
 
 sys.path.insert(1, str(Path(__file__).resolve().parents[1] / "tests"))
 
-from support import plain_model
-from support.commands import add_program, program_of
+from support.commands import add_capacity, add_program, program_of
 from support.histories import BadHistory, Noted, form, history_text, read_histories
 from support.ordering import (
-    ROOM,
+    ROOMY,
     SECONDS,
     STATES_MOST,
     ByRoom,
@@ -53,7 +52,7 @@ from support.replaying import Differs, verified
 from support.running import CannotRun
 
 # The reason of a history that only larger pipes explain.
-ROOMY = "reason: room of a pipe (own; page of write)"
+BY_ROOM = "reason: room of a pipe (own; page of write)"
 
 EXPLAINED, NOT_EXPLAINED, WRONG_WORDS, CANNOT_RUN, NO_CALL, GIVEN_UP = 0, 1, 2, 3, 4, 5
 
@@ -79,28 +78,29 @@ class Orders:
         if isinstance(result, Explained) and is_new:
             told = self.ordered(history, result)
         else:
-            told = self.unordered(result) if is_new else f"as history {first}\n"
+            told = self.unordered(history, result) if is_new else f"as history {first}\n"
         if not (self.args.quiet and (isinstance(result, Explained | ByRoom) or not is_new)):
             print(("" if self.is_one else f"history {number}: ") + told, end="", flush=True)
 
     def found(self, history: Sequence[Noted]) -> Result | ByRoom:
         """Whether an order explains a history, with pipes as they are in fdref or with larger ones."""
-        limits = self.args.states, self.args.seconds
-        result = explain(history, *limits, shrink_seconds=0)
+        most = self.args.states, self.args.seconds
+        result = explain(history, *most, shrink_seconds=0, limits=self.args.limits)
         if not isinstance(result, Unexplained):
             return result
-        return by_room(history, *limits) or explain(history, *limits)
+        return by_room(history, *most) or explain(history, *most, limits=self.args.limits)
 
     def ordered(self, history: Sequence[Noted], result: Explained) -> str:
         """The order of a history, as the program printed it."""
-        lines = verified(self.program, history, result.steps)
+        lines = verified(self.program, history, result.steps, self.args.limits)
         return "an order explains it\n" + "".join(f"{line.place} {line.act} = {line.outcome}\n" for line in lines)
 
-    def unordered(self, result: Result | ByRoom) -> str:
+    def unordered(self, history: Sequence[Noted], result: Result | ByRoom) -> str:
         """What is told of a history without an order, or of one that was given up."""
         if isinstance(result, ByRoom):
-            lines = [f"  {plain_model.act_text(step.act)} = {step.outcome}" for step in result.steps]
-            return "\n".join([f"an order explains it where a pipe has room for {ROOM:,} bytes", *lines, ROOMY, ""])
+            lines = verified(self.program, history, result.steps, ROOMY)
+            told = [f"an order explains it where a pipe has room for {ROOMY.capacity:,} bytes"]
+            return "\n".join([*told, *(f"  {line.act} = {line.outcome}" for line in lines), BY_ROOM, ""])
         if not isinstance(result, Unexplained):
             return f"given up after {result.states} states\n" if isinstance(result, GivenUp) else ""
         parts = ["no order explains it, nor this part of it:", indented(result.shrunk)]
@@ -132,6 +132,7 @@ def parse(words: Sequence[str]) -> argparse.Namespace:
     )
     parser.add_argument("history", metavar="HISTORY", help="a file with histories, or - for the standard input")
     add_program(parser)
+    add_capacity(parser)
     parser.add_argument("--seconds", type=float, default=SECONDS, metavar="N", help="give a history up after so long")
     parser.add_argument("--states", type=int, default=STATES_MOST, metavar="N", help="or after so many states")
     parser.add_argument("--quiet", action="store_true", help="tell only of histories without order and reason")

@@ -41,13 +41,13 @@ def is_past_size(it: compare.Difference) -> bool:
     if not it.words("write", "pwrite", "ftruncate") or not it.at or it.at.pipe or not compare.is_moved(it.system):
         return it.words("ftruncate") and it.gives("error EFBIG") and it.system == "ok"
     is_less = it.gives("error EFBIG") or (it.fdref.isdigit() and int(it.fdref) < int(it.system))
-    return is_less and it.start(it.at) + it.count() > plain_model.FILE_SIZE_MAX
+    return is_less and it.start(it.at) + it.count() > it.world.limits.size
 
 
 # Scripts that are compared do not meet these: one process acts at a time there, and the system has a limit of its own.
 MORE_REASONS = [
     compare.Reason("what is read of a pipe depends on who comes first", compare.OWN, "page of read", is_of_time),
-    compare.Reason("more than 1,048,576 bytes in a file", compare.OWN, "page of write", is_past_size),
+    compare.Reason("more than 1,099,511,627,776 bytes in a file", compare.OWN, "page of write", is_past_size),
 ]
 APPENDED = next(reason for reason in compare.REASONS if reason.fits is compare.is_pwrite_appended)
 
@@ -74,9 +74,9 @@ def agrees(system: Line | None, fdref: Line | None) -> bool:
     return system.outcome == fdref.outcome or (word_of(system) == "fork" and are_numbers)
 
 
-def shared_reads(trace: list[Line]) -> set[int]:
+def shared_reads(trace: list[Line], limits: plain_model.Limits) -> set[int]:
     """The places of the reads of a pipe that several processes read, or several write: who is first is left open."""
-    judge = Judge()
+    judge = Judge(limits)
     users: dict[tuple[plain_model.Pipe, str], set[int]] = {}
     reads: list[tuple[int, plain_model.Pipe]] = []
     for place, line in enumerate(trace):
@@ -93,13 +93,13 @@ def shared_reads(trace: list[Line]) -> set[int]:
 class Story:
     """What fdref recorded, with the model beside it."""
 
-    def __init__(self, trace: list[Line]) -> None:
+    def __init__(self, trace: list[Line], limits: plain_model.Limits) -> None:
         self.trace = trace
-        self.judge = Judge()
+        self.judge = Judge(limits)
         self.place = 0
         # the files that a pwrite under append may have made another on the system
         self.appended: list[plain_model.Regular] = []
-        self.shared = shared_reads(trace)
+        self.shared = shared_reads(trace, limits)
 
     def start_of(self, line: Line) -> int:
         """The place at which a call began that ended with a line."""
@@ -229,9 +229,10 @@ class Compared:
     def __init__(self, system: bytes, fdref: bytes, trace: bytes, is_killed: bool) -> None:
         self.lines = read_lines(fdref)
         self.system, self.fdref = log_of(read_lines(system)), log_of(self.lines)
-        records = [line_of(text) for text in Frames(trace).lines]
+        frames = Frames(trace)
+        records = [line_of(text) for text in frames.lines]
         check_places(self.lines, records)
-        story = Story(records)
+        story = Story(records, frames.header.limits if frames.header else plain_model.DEFAULTS)
         add_waits(self.system, self.fdref, story, is_killed)
         self.findings = findings_of(all_partings(self.system, self.fdref, story), story)
         self.unexplained = next((it for it in self.findings if not it.reason and not it.follows), None)

@@ -1,13 +1,15 @@
 #!/usr/bin/env python3
 """Races processes on the system at hand, and tells which answers no order of their calls explains.
 
-usage: tools/race.py --seconds N [--kind WORD] [--seed WORD] [--processes N] [--pin] [--dir DIR] [--keep DIR]
+usage: tools/race.py --seconds N [--kind WORD] [--seed WORD] [--processes N] [--pipe-capacity N] [--pin] [--dir DIR]
+                     [--keep DIR]
 
 Random scripts of each kind (tools/race_kinds.py) are run by tools/race_kernel.c, many rounds of each: real processes
 make their calls at once, at full speed. XSH 2.9.7 asks that calls on regular files are atomic to each other, so there
 has to be an order of the calls of a round, which keeps each process's own order and that of time, in which the plain
 model gives all answers that were seen. The order is searched for, and given to `fdref replay`, which has to print the
-same answers. Histories of a script that have the same answers and the same calls before others are searched once.
+same answers. Histories of a script that have the same answers and the same calls before others are searched once. The
+pipes of model and fdref hold 1,024 bytes, or as many as --pipe-capacity says.
 
 A history that no order explains is told with its reason, if there is one: the page of the standard, and what is known
 of the system. The last lines count histories by kind and by reason. Exit status: 0 where each history that no order
@@ -31,10 +33,11 @@ from typing import NamedTuple
 sys.path.insert(1, str(Path(__file__).resolve().parents[1] / "tests"))
 
 from support import histories, ordering, plain_model, replaying
-from support.commands import add_program, program_of
+from support.commands import add_capacity, add_program, program_of
 from support.counting import Failure
 from support.drivers import compiled
 from support.histories import History, Noted
+from support.plain_model import DEFAULTS, Limits
 from support.running import CannotRun, run
 
 import race_kinds
@@ -58,16 +61,17 @@ PAGE = 4_096
 
 
 class Race:
-    """A history of a script, and what is known of it where no order explains it."""
+    """A history of a script, the limits by which it is judged, and what is known of it where no order explains it."""
 
-    def __init__(self, script: str, history: History) -> None:
+    def __init__(self, script: str, history: History, limits: Limits = DEFAULTS) -> None:
         self.script = script
         self.history = history
+        self.limits = limits
         setup, _, parts = script.partition("race\n")
         self.calls = history[setup.count("\n") :]
         self.words = {line.split(" ")[1] for line in parts.splitlines()}
         self.has_own_files = not re.search(r"\b(fork|dup2?|pipe|mkfifo)\b", script)
-        self.world = world_after(history[: setup.count("\n")])
+        self.world = world_after(history[: setup.count("\n")], limits)
 
     def description(self, noted: Noted) -> plain_model.Description | None:
         """The description that a call was made on, where no call of the race changes descriptors."""
@@ -90,9 +94,9 @@ class Race:
         return {0}.union(*data)
 
 
-def world_after(history: History) -> plain_model.World:
+def world_after(history: History, limits: Limits) -> plain_model.World:
     """The world after calls that come one after another."""
-    beside = plain_model.Run(len(history) + plain_model.RECORDS_DEFAULT)
+    beside = plain_model.Run(len(history) + plain_model.RECORDS_DEFAULT, limits)
     for noted in history:
         beside.take(noted.act)
     return beside.world
@@ -115,7 +119,8 @@ class Reason(NamedTuple):
     def fits(self, race: Race) -> bool:
         """Whether an order explains a history without what is doubted."""
         doubted = self.doubted(race)
-        return bool(doubted) and isinstance(explained(without(race.history, doubted)), ordering.Explained)
+        left = without(race.history, doubted)
+        return bool(doubted) and isinstance(explained(left, race.limits), ordering.Explained)
 
 
 class RoomReason(Reason):
@@ -192,9 +197,10 @@ def without(history: History, doubted: Sequence[Noted]) -> list[Noted]:
     return [noted._replace(outcome=histories.UNKNOWN) if id(noted) in gone else noted for noted in history]
 
 
-def explained(history: History, shrink_seconds: float = 0) -> ordering.Result:
-    """Whether an order explains a history; where none does, a part of it may be made short for so long."""
-    return ordering.explain(history, STATES_MOST, SEARCH_SECONDS, shrink_seconds)
+def explained(history: History, limits: Limits = DEFAULTS, shrink_seconds: float = 0) -> ordering.Result:
+    """Whether an order explains a history in a run of these limits; where none does, a part of it may be made short for
+    so long."""
+    return ordering.explain(history, STATES_MOST, SEARCH_SECONDS, shrink_seconds, limits)
 
 
 def reason_of(race: Race) -> Reason | None:
@@ -208,9 +214,10 @@ def reason_of(race: Race) -> Reason | None:
 class Asked:
     """The driver and fdref, as they are called."""
 
-    def __init__(self, program: str | list[str], driver: list[str]) -> None:
+    def __init__(self, program: str | list[str], driver: list[str], limits: Limits = DEFAULTS) -> None:
         self.program = program
         self.driver = driver
+        self.limits = limits
         self.verified: set[str] = set()
 
     def histories(self, script: str, rounds: int, seed: int) -> list[list[Noted]]:
@@ -228,7 +235,7 @@ class Asked:
         """Has fdref give the answers of a history in the order that was found, unless it gave them in it before."""
         key = "\n".join(f"{plain_model.act_text(step.act)} = {step.outcome}" for step in explanation.steps)
         if key not in self.verified:
-            replaying.verified(self.program, history, explanation.steps)
+            replaying.verified(self.program, history, explanation.steps, self.limits)
             self.verified.add(key)
 
 
@@ -296,13 +303,14 @@ class Races:
 
     def judged(self, counted: Counted, script: str, history: History, times: int) -> Iterator[Unexplained]:
         """Gives a history that no order explains, which came so many times."""
-        explanation = explained(history)
+        limits = self.asked.limits
+        explanation = explained(history, limits)
         if isinstance(explanation, ordering.Explained):
             self.asked.verify(history, explanation)
         elif isinstance(explanation, ordering.GivenUp):
             counted.given_up += times
         else:
-            found = Unexplained(script, history, reason_of(Race(script, history)))
+            found = Unexplained(script, history, reason_of(Race(script, history, limits)))
             if found.reason:
                 counted.by_reason[found.reason.name] += times
             else:
@@ -332,9 +340,9 @@ def told(history: History) -> str:
     return "\n".join(clipped(f"  {noted.text()}") for noted in history)
 
 
-def tell(found: Unexplained, name: str) -> None:
+def tell(found: Unexplained, name: str, limits: Limits) -> None:
     """Tells of a history without an order and without a reason: a short part of it, and the calls to look at."""
-    result = explained(found.history, SHRINK_SECONDS)
+    result = explained(found.history, limits, SHRINK_SECONDS)
     if isinstance(result, ordering.Unexplained):
         print(f"{name}: no order explains\n{told(result.shrunk)}\nwhich this call makes impossible", flush=True)
         print(f"{told(result.blamed)}\n{result.page}", flush=True)
@@ -362,6 +370,7 @@ def parse(words: Sequence[str]) -> argparse.Namespace:
     parser.add_argument("--processes", type=int, metavar="N", help="of each script; 3 to 5 where none is given")
     parser.add_argument("--dir", metavar="DIR", help="where the files are made; else in $TMPDIR or /tmp")
     add_program(parser)
+    add_capacity(parser)
     driver = "tools/race_kernel.c, as it was compiled; compiled for this run where it is not given"
     parser.add_argument("--driver", metavar="PATH", help=driver)
     parser.add_argument("--pin", action="store_true", help="each process has a processor of its own")
@@ -394,7 +403,7 @@ def race_all(args: argparse.Namespace, races: Races) -> None:
 def tell_and_keep(races: Races, found: Unexplained, name: str, folder: str | None) -> None:
     """Tells of a history without a reason, where not too many were told of, and keeps it where that is wanted."""
     if races.unexplained() <= TOLD_MOST:
-        tell(found, name)
+        tell(found, name, races.asked.limits)
     if folder:
         keep_files(found, name, folder)
 
@@ -404,7 +413,7 @@ def asked_for(args: argparse.Namespace, folder: str) -> Asked:
     program = program_of(args.program)
     driver = [os.path.abspath(args.driver) if args.driver else compiled("race_kernel", "c11", folder)]
     driver += ["--dir", args.dir] if args.dir else []
-    return Asked(program, [*driver, "--pin"] if args.pin else driver)
+    return Asked(program, [*driver, "--pin"] if args.pin else driver, args.limits)
 
 
 def end_quietly(number: int, _: object) -> None:

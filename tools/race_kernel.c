@@ -135,7 +135,7 @@ static void keep_act(const struct act *act)
     struct step *step = &steps[step_count++];
     *step = (struct step){.act = *act, .child = process_count};
     step->room = act->call == READ ? (size_t)act->numbers[1] : act->call == PREAD ? (size_t)act->numbers[2] : 0;
-    step->room = step->room < FILE_BYTES ? step->room : FILE_BYTES;
+    step->room = step->room < READ_MOST ? step->room : READ_MOST;
     need((step->bytes = malloc(act->size + 1)) != NULL, "malloc");
     memcpy(step->bytes, data, act->size);
     if (act->call == JOIN)
