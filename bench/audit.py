@@ -29,7 +29,7 @@ from typing import NamedTuple
 
 sys.path.insert(0, str(Path(__file__).resolve().parents[1] / "tests"))
 
-from support.frames import TRACE_HEADER, record_frame
+from support.frames import header_bytes, record_frame
 from support.options import absolute, add_count, add_path, is_missing
 from support.places import FDREF, SCRATCH
 from support.plain_model import data_text
@@ -90,7 +90,7 @@ def write_trace(path: str, kind: Kind, records: int) -> int:
     burst = [record_frame(line) for line in kind.burst]
     whole, some = divmod(records - len(first), len(burst))
     with open(path, "wb") as file:
-        file.write(TRACE_HEADER + b"".join(first))
+        file.write(header_bytes() + b"".join(first))
         for _ in range(whole):
             file.write(b"".join(burst))
         file.write(b"".join(burst[:some]))

@@ -24,10 +24,11 @@ exit; at most 60 processes are live. `pipes` writes 64 bytes into a pipe and rea
 to a pipe, each resumed 63 times and read by 1,024 bytes: `big 61*65536` of one byte, `big x6162..` of bytes
 that differ. `9,000 files` are made, written one byte at their end, unlinked and closed, one after another:
 what went must not stay in memory, so a peak of 80 MiB fails. `1,000 holes` are files that stay, of 1 MiB with
-one byte at the end: what nobody wrote must take no memory, so a peak of 40 MiB fails.
+one byte at the end: what nobody wrote must take no memory, so a peak of 40 MiB fails; of `far holes`, of 2^40
+bytes, one of 80 MiB.
 
-`64 KiB, ..` has writes of 65,536 bytes spread over files of sixteen writes each, since a file holds
-1,048,576 bytes. In the spelling `61*65536` there are 1,000 of them. In the spelling `x6162..` each
+`64 KiB, ..` has writes of 65,536 bytes spread over files of sixteen writes each. In the spelling
+`61*65536` there are 1,000 of them. In the spelling `x6162..` each
 takes 131,085 bytes of a script that holds 16,777,216 at most, so there are 127 of them; their bytes
 differ, since that is what such a spelling is for. The peak is what the system tells of the child,
 which cannot be less than what this script itself holds when it starts the child.
@@ -57,12 +58,14 @@ sys.path.insert(0, str(Path(__file__).resolve().parents[1] / "tests"))
 
 from support.options import absolute
 from support.places import FDREF
-from support.plain_model import FILE_SIZE_MAX as FILE_MOST
-from support.plain_model import PIPE_CAPACITY, SCRIPT_MOST
+from support.plain_model import FILE_SIZE_MAX, PIPE_CAPACITY, SCRIPT_MOST
 from support.plain_model import TRANSFER_MAX as BIG
 
 GIVEN_BACK_MOST = 80 * 2**20
 HOLES_MOST = 40 * 2**20
+FAR_HOLES_MOST = 80 * 2**20
+# How many bytes a long file has.
+LONG = 2**20
 RECORDS_MOST = 1_000_000
 BURST = 40
 BURST_ACTS = 2 * BURST + 6
@@ -152,7 +155,7 @@ def big(path: str, name: str, count: int, spell: Callable[[int], str]) -> Script
     """Writes of 64 KiB over files of sixteen writes each."""
     script = Script(name, path)
     script.act("join")
-    each = FILE_MOST // BIG
+    each = LONG // BIG
     for at in range(count):
         if at % each == 0:
             script.act(f"p0 open big{at // each} w,creat")
@@ -189,18 +192,18 @@ def scattered(path: str, acts: int, size: int) -> Script:
 def whole(path: str, acts: int, size: int, name: str) -> Script:
     """Reads of so many bytes at positions of a file of 1 MiB."""
     script = Script(name, path)
-    opened(script, FILE_MOST)
+    opened(script, LONG)
     for at in range(acts):
-        script.pread(0, 4096 * at % (FILE_MOST - BIG), size)
+        script.pread(0, 4096 * at % (LONG - BIG), size)
     return script.done()
 
 
 def rewritten(path: str, acts: int) -> Script:
     """Writes of 64 KiB at positions of a file of 1 MiB."""
     script = Script("64 KiB pwrites", path)
-    opened(script, FILE_MOST)
+    opened(script, LONG)
     for at in range(acts):
-        script.pwrite(0, 4096 * at % (FILE_MOST - BIG), f"61*{BIG}", BIG)
+        script.pwrite(0, 4096 * at % (LONG - BIG), f"61*{BIG}", BIG)
     return script.done()
 
 
@@ -348,13 +351,13 @@ def resumed(path: str, name: str, count: int, spell: Callable[[int], str]) -> Sc
     return script.done()
 
 
-def holes(path: str, count: int) -> Script:
-    """Files that stay, each of the greatest length, with one byte at its end."""
-    script = Script(f"{count:,} holes", path)
+def holes(path: str, name: str, count: int, length: int) -> Script:
+    """Files of this length that stay, each with one byte at its end."""
+    script = Script(name, path)
     script.act("join")
     for at in range(count):
         script.act(f"p0 open h{at} w,creat")
-        script.pwrite(0, FILE_MOST - 1, "x61", 1)
+        script.pwrite(0, length - 1, "x61", 1)
         script.act("p0 close 0")
     return script.done()
 
@@ -365,7 +368,7 @@ def ends(path: str, files: int) -> Script:
     script.act("join")
     for _ in range(files):
         script.act("p0 open f w,creat")
-        script.pwrite(0, FILE_MOST - 1, "61*1", 1)
+        script.pwrite(0, LONG - 1, "61*1", 1)
         script.act("p0 unlink f")
         script.act("p0 close 0")
     return script.done()
@@ -498,13 +501,14 @@ def table(program: str, runs: int, folder: str) -> None:
         many = line(kind(path, 999_000), few)
         print(f"an act of it over a small act: {few / costs[0]:.2f} of 10,000, {many / costs[-1]:.2f} of 999,000")
     line(ends(path, 9_000), most=GIVEN_BACK_MOST)
-    line(holes(path, 1_000), most=HOLES_MOST)
+    line(holes(path, "1,000 holes", 1_000, LONG), most=HOLES_MOST)
+    line(holes(path, "1,000 far holes", 1_000, FILE_SIZE_MAX), most=FAR_HOLES_MOST)
     line(big(path, "64 KiB, 61*65536", 1_000, counted))
     line(big(path, "64 KiB, x6162..", 127, spelled))
     line(resumed(path, "big 61*65536", 100, counted))
     line(resumed(path, "big x6162..", 100, spelled))
     short = line(scattered(path, 200_000, 1024))
-    line(scattered(path, 200_000, FILE_MOST), short)
+    line(scattered(path, 200_000, LONG), short)
     line(rewritten(path, 1_000))
     none = measure(program, whole(path, 2_000, 0, "preads of nothing"), target, runs).seconds
     all_of_it = whole(path, 2_000, BIG, "64 KiB preads")
