@@ -3,11 +3,11 @@
 
 usage: bench/audit.py [--program PATH] [--against OLD] [--rounds N] [--most N]
 
-The program is crates/fdref/out/fdref where no PATH is given. The traces are the same at each call, and all
-their records are right. Of `small` each burst writes 8 bytes at the start of a file, seeks back, reads them and
-seeks back once more. Of `churn` a file is made, written, given a second name, unlinked twice, read and closed.
-Of `pipes` 64 bytes go into a pipe and come out. Of `64 KiB` the data of a pwrite and a pread are 65,536 bytes
-that differ, so there are few records, and the rate is told in bytes too.
+The program is crates/fdref/out/fdref where no PATH is given. The traces are the same at each call, of version 1,
+which an older OLD reads too, and all their records are right. Of `small` each burst writes 8 bytes at the start of
+a file, seeks back, reads them and seeks back once more. Of `churn` a file is made, written, given a second name,
+unlinked twice, read and closed. Of `pipes` 64 bytes go into a pipe and come out. Of `64 KiB` the data of a pwrite
+and a pread are 65,536 bytes that differ, so there are few records, and the rate is told in bytes too.
 
 A time is the median of N rounds (3), from the start of the program to its end. The growth is the cost of a
 record over its cost in the trace before: 1.00 where it does not depend on the length. The peak is what the
@@ -29,7 +29,7 @@ from typing import NamedTuple
 
 sys.path.insert(0, str(Path(__file__).resolve().parents[1] / "tests"))
 
-from support.frames import header_bytes, record_frame
+from support.frames import OLD_MAGIC, record_frame
 from support.options import absolute, add_count, add_path, is_missing
 from support.places import FDREF, SCRATCH
 from support.plain_model import data_text
@@ -90,7 +90,7 @@ def write_trace(path: str, kind: Kind, records: int) -> int:
     burst = [record_frame(line) for line in kind.burst]
     whole, some = divmod(records - len(first), len(burst))
     with open(path, "wb") as file:
-        file.write(header_bytes() + b"".join(first))
+        file.write(OLD_MAGIC + b"".join(first))
         for _ in range(whole):
             file.write(b"".join(burst))
         file.write(b"".join(burst[:some]))
