@@ -1,5 +1,5 @@
 -- From a migration of what was read to what its end says; and what a migration keeps.
-use Rattle.std.proofs.Common.{◌≡◌, ◌∙◌, ℕ, ◌⊎◌, inl, inr, List, [], ◌∷◌, ◌++◌, Option, Ok, Err, drop, refl, sym, ap, subst, arith, append_assoc, length-append}
+use Rattle.std.proofs.Common.{◌≡◌, ◌∙◌, ℕ, ◌⊎◌, ◌↔◌, inl, inr, List, [], ◌∷◌, ◌++◌, Option, Ok, Err, drop, refl, sym, ap, subst, arith, append_assoc, length-append}
 use Rattle.std.proofs.lemmas.List.{take-append-le}
 use Rattle.std.proofs.Math.Seq.{drop-append_seam}
 use Rattle.std.specs.Io.KnownBytes.{Appends, Consumes}
@@ -170,11 +170,11 @@ module _ (one : OneForm SpellsRecord RECORD_LENGTH_MAX) (none : NoFrameThere Spe
       never_both left short (subst IsAtFault (sym (one_stop values h text (frames_of h) left rest frames (framed h have) begins (inl short) (inr fault))) fault)
 
   -- the verdict on the bytes after a header does not rest on its length, where no frame is at fault
-  verdict_after : (values : List Record) (text left : List ℕ) (verdict : Verdict) → AreFrames SpellsRecord RECORD_LENGTH_MAX values text → IsShort RECORD_LENGTH_MAX left
-      → IsVerdictAfter version_1 HEADER_1_LENGTH (text ++ left) verdict → IsVerdictAfter version_1 HEADER_2_LENGTH (text ++ left) verdict
-  verdict_after values text left (Legal records rest) frames short v = v
-  verdict_after values text left (Illegal place expected) frames short v = v
-  verdict_after values text left (Malformed at) frames short v = absurd (never_malformed values v.h text left v.left frames short v.begins.framed v.begins.is v.fault)
+  verdict_after : (one_length other : ℕ) (values : List Record) (text left : List ℕ) (verdict : Verdict) → AreFrames SpellsRecord RECORD_LENGTH_MAX values text → IsShort RECORD_LENGTH_MAX left
+      → IsVerdictAfter version_1 one_length (text ++ left) verdict → IsVerdictAfter version_1 other (text ++ left) verdict
+  verdict_after one_length other values text left (Legal records rest) frames short v = v
+  verdict_after one_length other values text left (Illegal place expected) frames short v = v
+  verdict_after one_length other values text left (Malformed at) frames short v = absurd (never_malformed values v.h text left v.left frames short v.begins.framed v.begins.is v.fault)
 
 -- what is read of the two headers
 old_headed : (input body : List ℕ) → HeadersAreRead → input ≡ header_1 ++ body → header input ≡ Headed version_1 HEADER_1_LENGTH
@@ -187,18 +187,24 @@ new_body : (written body : List ℕ) → HeadersAreRead → written ≡ header_2
 new_body written body heads is =
     ap (drop HEADER_2_LENGTH) is ∙ ap (λ (n : ℕ). drop n (header_2 version_1 ++ body)) (sym (heads.long version_1)) ∙ drop-append_seam (header_2 version_1) body
 
+-- the verdicts on a trace are those on the bytes after its header
+of_body : (bytes body : List ℕ) (long : ℕ) (verdict : Verdict) → header bytes ≡ Headed version_1 long → drop long bytes ≡ body → IsVerdict bytes verdict ↔ IsVerdictAfter version_1 long body verdict
+of_body bytes body long verdict headed is = (
+  λ v. subst (λ (x : List ℕ). IsVerdictAfter version_1 long x verdict) is (subst (λ (h : Header). IsVerdictBy h bytes verdict) headed v),
+  λ v. subst (λ (h : Header). IsVerdictBy h bytes verdict) (sym headed) (subst (λ (x : List ℕ). IsVerdictAfter version_1 long x verdict) (sym is) v),
+)
+
 rewritten_keeps : (input written : List ℕ) (records rest : ℕ) (verdict : Verdict) → HeadersAreRead → OneForm SpellsRecord RECORD_LENGTH_MAX → NoFrameThere SpellsRecord RECORD_LENGTH_MAX → IsRewritten input written records rest
-    → IsVerdict input verdict → IsVerdict written verdict
-rewritten_keeps input written records rest verdict heads one none m v =
+    → IsVerdict input verdict ↔ IsVerdict written verdict
+rewritten_keeps input written records rest verdict heads one none m =
     let body : List ℕ = m.text ++ m.left in
-    let old : IsVerdictAfter version_1 HEADER_1_LENGTH (drop HEADER_1_LENGTH input) verdict =
-    subst (λ (h : Header). IsVerdictBy h input verdict) (old_headed input body heads m.old.is) v in
-    let same : IsVerdictAfter version_1 HEADER_1_LENGTH body verdict =
-    subst (λ (x : List ℕ). IsVerdictAfter version_1 HEADER_1_LENGTH x verdict) (ap (drop HEADER_1_LENGTH) m.old.is) old in
-    let new : IsVerdictAfter version_1 HEADER_2_LENGTH body verdict = verdict_after one none m.values m.text m.left verdict m.old.frames m.unfinished same in
-    subst (λ (h : Header). IsVerdictBy h written verdict) (sym (new_headed written body heads m.written_is))
-    (subst (λ (x : List ℕ). IsVerdictAfter version_1 HEADER_2_LENGTH x verdict) (sym (new_body written body heads m.written_is)) new)
+    let old = of_body input body HEADER_1_LENGTH verdict (old_headed input body heads m.old.is) (ap (drop HEADER_1_LENGTH) m.old.is) in
+    let new = of_body written body HEADER_2_LENGTH verdict (new_headed written body heads m.written_is) (new_body written body heads m.written_is) in (
+      λ v. new.1 (verdict_after one none HEADER_1_LENGTH HEADER_2_LENGTH m.values m.text m.left verdict m.old.frames m.unfinished (old.0 v)),
+      λ v. old.1 (verdict_after one none HEADER_2_LENGTH HEADER_1_LENGTH m.values m.text m.left verdict m.old.frames m.unfinished (new.0 v)),
+    )
 
 pub verdicts_kept : HeadersAreRead → OneForm SpellsRecord RECORD_LENGTH_MAX → NoFrameThere SpellsRecord RECORD_LENGTH_MAX → MigrationsKeepVerdicts
-verdicts_kept heads one none input written records rest verdict (inl same) v = subst (λ (x : List ℕ). IsVerdict x verdict) (sym same.written_is) v
-verdicts_kept heads one none input written records rest verdict (inr m) v = rewritten_keeps input written records rest verdict heads one none m v
+verdicts_kept heads one none input written records rest verdict (inl same) =
+    (λ v. subst (λ (x : List ℕ). IsVerdict x verdict) (sym same.written_is) v, λ v. subst (λ (x : List ℕ). IsVerdict x verdict) same.written_is v)
+verdicts_kept heads one none input written records rest verdict (inr m) = rewritten_keeps input written records rest verdict heads one none m

@@ -1,5 +1,5 @@
 -- What a migration writes, and what its end says (own).
-use Rattle.std.specs.Prelude.{◌≡◌, ℕ, ◌⊎◌, List, ◌++◌, Option, codes, decimal}
+use Rattle.std.specs.Prelude.{◌≡◌, ℕ, ◌⊎◌, ◌↔◌, List, ◌++◌, Option, codes, decimal}
 use Rattle.std.specs.Io.KnownBytes.{Appends}
 use Rattle.audit_core.specs.Verdict.{IsVerdict}
 use Rattle.audit_core.specs.declared.verdict.Verdict.{Verdict}
@@ -93,7 +93,7 @@ MigrateEnds input out ended.CannotWrite = (BreaksOff input out ⊎ EndsShort inp
 MigrateEnds input out ended.NoMemory = BreaksOff input out ⊎ OfAll input (λ bytes. TellsNothing out bytes)
 MigrateEnds input out other = ⊥
 
--- where all of a trace was written anew, every verdict on it is one on what was written
+-- where all of a trace was written anew, the verdicts on it are those on what was written
 abbrev pub MigrationsKeepVerdicts : Type 0
 MigrationsKeepVerdicts =
-    (input written : List ℕ) (records rest : ℕ) (verdict : Verdict) → IsMigrated input written records rest → IsVerdict input verdict → IsVerdict written verdict
+    (input written : List ℕ) (records rest : ℕ) (verdict : Verdict) → IsMigrated input written records rest → IsVerdict input verdict ↔ IsVerdict written verdict

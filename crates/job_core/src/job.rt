@@ -146,6 +146,8 @@ Example:
 /// The same of `audit`.
 const AUDIT_HELP: &str = "Reads a trace that 'fdref serve' wrote, or a program of your own.
 Writes 'legal N rest B', 'illegal PLACE expected OUTCOME' or 'malformed AT'.
+Where the trace tells how many records its run may have, a record after which too
+few are left for the exits and the closing is illegal too.
 Ends with 0 where it is legal, 7 where it is illegal, 8 where it is malformed,
 4 where FILE cannot be read or output failed, 5 for want of memory.
 
@@ -160,12 +162,12 @@ Ends with 0 at its end, 8 where it is malformed, 4 where FILE cannot be read or
 output failed, 5 for want of memory.
 
 Example:
-  fdref show --acts /tmp/fdref.trace | fdref replay";
+  fdref show --acts /tmp/fdref.trace | fdref replay --records 100";
 
 /// The same of `migrate`.
 const MIGRATE_HELP: &str =
     "Reads a trace of version 1, and writes it to OUT under a header of version 2, which
-tells the limits of its run. All bytes after the header stay as they are.
+tells the limits of version 1. All bytes after the header stay as they are.
 Writes 'migrated N rest B', or 'malformed AT'; OUT has then the records before.
 Ends with 0 where all is written, 8 where the trace is malformed, 4 where IN cannot
 be read, OUT is there or cannot be written, or output failed, 5 for want of memory.

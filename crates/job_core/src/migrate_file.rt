@@ -15,7 +15,7 @@ use std::alloc::{AllocError, Global};
 use std::io::{Read, Write};
 use trace_writer::migrate::{MigrateFault, Migrated, migrate};
 
-/// Where all of a trace was written anew, every verdict on it is one on what was written. It does nothing.
+/// Where all of a trace was written anew, the verdicts on it are those on what was written. It does nothing.
 pub fn migrations_keep_verdicts()
     ensures { MigrationsKeepVerdicts }
 {
