@@ -56,7 +56,7 @@ abbrev pub MovesTo : Option (List ℕ) → Type 0 → Option (List ℕ) → Opti
 MovesTo input is_taken old new end =
     IsMoved input old new end ⊎ (IsUnserved (Unit {0}) ended.CannotRead old new end ⊎ IsUnserved is_taken ended.CannotWrite old new end)
 
--- what there is round a program, by paths: the bytes of files, the files that cannot be made, the paths at which something is, the
+-- what there is round a program, by paths: the bytes of files, the files that cannot be made, the paths at which no new one can be, the
 -- connections to come and the paths at which none can be
 pub record Surroundings : Type 1 where
   pub bytes_at : List ℕ → Option (List ℕ)
