@@ -380,14 +380,18 @@ def trial_rows(refuser: Refuser, trial: str) -> Makers:
     for script in scripts():
         if script.wanted.status == 0:
             for way in WAYS:
-                words = [trial, way, *records_of(script.words)]
+                words = [trial, way, *limits_of(script.words)]
                 name = f"trial by {way} of {script.name}"
                 yield name, functools.partial(TrialRow, refuser, words, script.text, script.wanted)
 
 
-def records_of(words: list[str]) -> list[str]:
-    """The number in `--records N` or `--records=N`, which the trial has as its last word."""
-    return [word.removeprefix("--records=") for word in words if word != "--records"]
+def limits_of(words: list[str]) -> list[str]:
+    """The numbers of `--records` and `--pipe-capacity`, which the trial has as its last words."""
+    pairs = " ".join(words).replace("=", " ").split()
+    given = dict(zip(pairs[::2], pairs[1::2], strict=True))
+    if "--pipe-capacity" in given:
+        return [given.get("--records", str(plain_model.RECORDS_DEFAULT)), given["--pipe-capacity"]]
+    return [given["--records"]] if "--records" in given else []
 
 
 # ---- each allocation of a row

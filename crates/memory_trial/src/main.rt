@@ -1,5 +1,5 @@
-//! The program `memory_trial WAY N`: runs the script on standard input in a run of at most N records (10,000 where there is no
-//! number), and prints the lines that `fdref replay` prints. WAY is `script`, where `Book::run_act` runs each act and keeps the seats; or
+//! The program `memory_trial WAY N C`: runs the script on standard input in a run of at most N records (10,000 where there is no
+//! number) whose pipes hold C bytes (1,024 where there is none), and prints the lines that `fdref replay` prints. WAY is `script`, where `Book::run_act` runs each act and keeps the seats; or
 //! `calls`, where each act is given by the call of `Book` for its kind (`join`, `attach`, `start`, `resume`, `exit`, `close_run`), as a
 //! session gives it, and the seats are kept here. An act for which memory is wanting must have left all as it was, and is given again; an
 //! exit or a closing must never be one. `tests/allocations.py`, at the top of the repository, refuses it each of its allocations in turn.
@@ -35,14 +35,23 @@ fn way_of(word: &str) -> Result<Way, TrialFault> {
     }
 }
 
+/// The number of a word.
+fn number_of(word: &str) -> Result<u64, TrialFault> {
+    word.parse::<u64>().map_err(|_| TrialFault::Usage)
+}
+
 /// How acts are given, and what the run may take, as the words of the command line say.
 fn job_of(words: &[String]) -> Result<(Way, Limits), TrialFault> {
-    let (way, records) = match words {
-        [_, way] => (way, DEFAULT_RECORDS),
-        [_, way, word] => (way, word.parse::<u64>().map_err(|_| TrialFault::Usage)?),
+    let (way, records, capacity) = match words {
+        [_, way] => (way, DEFAULT_RECORDS, PIPE_CAPACITY),
+        [_, way, records] => (way, number_of(records.as_str())?, PIPE_CAPACITY),
+        [_, way, records, capacity] => {
+            let records = number_of(records.as_str())?;
+            (way, records, number_of(capacity.as_str())?)
+        }
         _ => return Err(TrialFault::Usage),
     };
-    let limits = Limits::new(records, PIPE_CAPACITY).map_err(|_| TrialFault::Usage)?;
+    let limits = Limits::new(records, capacity).map_err(|_| TrialFault::Usage)?;
     Ok((way_of(way.as_str())?, limits))
 }
 

@@ -49,7 +49,9 @@ impl fmt::Display for TrialFault {
             TrialFault::RefusedTwice { act } => write!(f, "act {act}: refused twice\n"),
             TrialFault::EndRefused { act } => write!(f, "act {act}: an end is refused\n"),
             TrialFault::NoReceipt => f.write_str("no receipt\n"),
-            TrialFault::Usage => f.write_str("usage: memory_trial script|calls [RECORDS]\n"),
+            TrialFault::Usage => f.write_str(
+                "usage: memory_trial script|calls [RECORDS [CAPACITY]]\n",
+            ),
             TrialFault::BadScript => f.write_str("not a script\n"),
             TrialFault::CannotRead => f.write_str("cannot read\n"),
             TrialFault::CannotWrite => f.write_str("cannot write\n"),
