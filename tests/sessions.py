@@ -957,7 +957,7 @@ def filled(pick: random.Random, call: str) -> str:
         "d": lambda: str(pick.choice([0, 0, 1, 1, 2, 3, 4, 5, -1, 31, 32])),
         "c": lambda: str(pick.choice([0, 1, 5, 100, 1_024, 65_536, 65_537])),
         "x": lambda: pick.choice(["x", "x6162", "x68656c6c6f", "61*100", "62*512", "63*600", "64*1024", "65*2000"]),
-        "p": lambda: str(pick.choice([0, 1, 3, 10, -1, 1_048_575, 1_048_576, 2**63 - 1])),
+        "p": lambda: str(pick.choice([0, 1, 3, 10, -1, 2**40 - 1, 2**40, 2**63 - 1])),
         "w": lambda: pick.choice(["set", "cur", "end"]),
     }
     return " ".join(makers[word[1]]() if word.startswith("{") else word for word in call.split(" "))

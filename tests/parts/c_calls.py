@@ -301,13 +301,13 @@ EVERY = """
 open a rw,creat,excl; write 0 x68656c6c6f; pread 0 1 3; pwrite 0 4 x2121; lseek 0 0 cur; lseek 0 -1 end; lseek 0 2 set
 read 0 9; ftruncate 0 3; fstat 0; dup 0; dup2 0 9; close 1; pipe; fstat 1; mkfifo f; link a b; unlink a
 open f r,nonblock; open f w; fstat 3; fork; write 2 x616263; read 1 2; open b w,trunc,append; write 5 x7a; pread 0 0 9
-close 7; open a -; open a r,excl; lseek 1 0 set; pwrite 0 1048576 x61; ftruncate 0 1048577; open none r; open % r
+close 7; open a -; open a r,excl; lseek 1 0 set; pwrite 0 1099511627776 x61; ftruncate 0 1099511627777; open none r; open % r
 lseek 0 9223372036854775807 set; lseek 0 1 cur; lseek 0 -9223372036854775808 cur; lseek 0 0 set; open b rw,creat,excl
 link b c; link b d; link b e; link b g; link b h; link b i; link b j; link b k; read 3 5; mkfifo f; mkfifo %ff
 mkfifo nnnnnnnnnnnnnnnnnnnnnnnnnnnnnnnnnnnnnnnnnnnnnnnnnnnnnnnnnnnnnnnnn; mkfifo l; open l w,nonblock; close 1
 close 3; pipe; close 1; write 3 x61; close 3; close -2147483648; dup2 0 2147483647; pread 0 -1 1; read 0 4294967295
 write 0 61*65536; pread 0 0 65536; pread 0 1 65536; lseek 0 0 set; read 0 65536; read 0 1; write 0 61*65537
-write 0 61*65700; pwrite 0 983041 62*65536; pread 0 983040 65536; read 0 65537; pread 0 9223372036854775807 65536
+write 0 61*65700; pwrite 0 1099511562241 62*65536; pread 0 1099511562240 65536; read 0 65537; pread 0 9223372036854775807 65536
 getfl 0; setfl 0 w,creat,excl,trunc,append,nonblock; getfl 9; setfl 9 -; getfl 0; getfl 2; setfl 2 r,nonblock; getfl 2
 getfl -1; setfl 7 -; rename b j; rename f n; open f r; rename n f; rename c f; open f r; open c r; rename b b
 rename o b; rename % b; rename b %ff; rename f .

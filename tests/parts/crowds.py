@@ -49,8 +49,8 @@ FIELDS: dict[str, Callable[[random.Random], str]] = {
     "t": lambda pick: str(pick.choice([2, 3, 4, 5, 6, 31, 32])),
     "c": lambda pick: str(pick.choice([0, 1, 5, 100, 100, 1_024, 65_536, 65_537])),
     "x": data,
-    "p": lambda pick: str(pick.choice([0, 0, 1, 3, 10, 100, -1, 5_000, 1_048_576])),
-    "o": lambda pick: str(pick.choice([0, 0, 0, 1, 3, 10, -1, -20, 1_048_576, 2**63 - 1])),
+    "p": lambda pick: str(pick.choice([0, 0, 1, 3, 10, 100, -1, 5_000, 2**40 - 1, 2**40])),
+    "o": lambda pick: str(pick.choice([0, 0, 0, 1, 3, 10, -1, -20, 2**40, 2**63 - 1])),
     "w": lambda pick: pick.choice(["set", "cur", "end"]),
 }
 

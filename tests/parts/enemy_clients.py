@@ -443,7 +443,7 @@ def own_call(it: Talker, fds: Sequence[int]) -> str:
         "d": lambda: pick.choice([*fds, *fds, pick.randrange(34)]),
         "x": lambda: plain_model.data_text(pick.randbytes(pick.choice([0, 1, 5, 60, 900]))),
         "c": lambda: pick.choice([0, 1, 9, 300, 65_536, 65_537]),
-        "p": lambda: pick.choice([0, 0, 1, 50, 5_000, -1, 1_048_575, 1_048_576]),
+        "p": lambda: pick.choice([0, 0, 1, 50, 5_000, -1, 2**40 - 1, 2**40]),
         "w": lambda: pick.choice(["set", "cur", "end"]),
     }
     words = pick.choice(OWN_CALLS).split(" ")
