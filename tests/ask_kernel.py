@@ -367,14 +367,19 @@ def full_pipes_are_compared(bench: Bench) -> None:
     b"p0 write 1 61*65500\np0 write 1 61*600\n",
     ["p0 write 1 61*600 = parked 36: room of a pipe that is counted in pages"],
 )
+@case(
+    "nonblock that is set while a write waits",
+    b"p0 fork\np1 attach\np0 write 1 61*65536\np0 write 1 62*20480\np1 setfl 1 w,nonblock\np1 read 0 8192\n",
+    ["p0 resume = part 8192: nonblock set while a write waits"],
+)
 def room_is_told(bench: Bench, writes: bytes, wanted: list[str]) -> None:
-    """A write for which a pipe of Linux has less room, since it has pages, is told with that as its reason."""
+    """A write for which a pipe of Linux has less room, since it has pages, or that it ends, is told with its reason."""
     if IS_LINUX:
         lines = lines_of(b"join\np0 pipe\n" + writes)
         found = [
             f"{it.lines[it.place].act} = {it.fdref}: {it.reason and it.reason.name}"
             for it in compare.checked(bench.asked(limits=ROOMY), lines).differences
-            if it.words("write")
+            if it.words("write", "resume")
         ]
         require(found == wanted, f"{found}")
 

@@ -235,6 +235,15 @@ def is_paged_room(it: Difference) -> bool:
     return is_less and held > 0 and held + it.count() > it.at.pipe.capacity // 2 - PAGE
 
 
+def is_set_while_it_waits(it: Difference) -> bool:
+    """A write that waits ends on the system with what it moved, since nonblock was set on its description meanwhile."""
+    call = it.process.waits if it.words("resume") and it.process else None
+    if not isinstance(call, plain_model.WaitingWrite) or not it.system.isdigit() or not it.fdref.startswith("part "):
+        return False
+    ends = (at for process in it.world.processes.values() for at in process.table.values() if at.pipe is call.pipe)
+    return any("w" in at.mode and at.nonblock for at in ends)
+
+
 def moved(outcome: str) -> int:
     """How many bytes of a write went in at once."""
     number = outcome.removeprefix("parked ")
@@ -323,6 +332,7 @@ REASONS = [
     Reason("lseek past the greatest file of the file system is EINVAL", SYSTEM, "page of lseek", is_lseek_past_files),
     Reason("offset and count pass the greatest offset: EINVAL", SYSTEM, "pages of read and write", is_offset_and_count),
     Reason("order of refusals, where several are due", OWN, "XSH 2.3", is_order),
+    Reason("nonblock set while a write waits", OWN, "pages of fcntl and write", is_set_while_it_waits),
     Reason("room of a pipe that is counted in pages", OWN, "page of write", is_paged_room),
     Reason("room of a pipe", OWN, "page of write", is_room),
     Reason("size and links of a pipe in fstat", OWN, "page of fstat", is_stat_of_pipe),
