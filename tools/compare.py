@@ -884,7 +884,7 @@ def parse(words: Sequence[str]) -> argparse.Namespace:
     parser.add_argument("--random", type=int, default=0, metavar="N", help="make N random scripts")
     first = "the number of the first of them; 0 where none is given"
     parser.add_argument("--first", type=int, default=0, metavar="K", help=first)
-    parser.add_argument("--seed", default="1", help="any word; script K of a seed is always the same")
+    parser.add_argument("--seed", default="1", help="any word (1): script K of one is always the same")
     parser.add_argument("--acts", type=int, default=60, help="acts of a random script; 60 where no number is given")
     which = "small: pipes are never full; full-pipes: they are; all: every tenth"
     parser.add_argument("--class", dest="which", choices=[*CLASSES, "all"], default="all", help=which)

@@ -365,7 +365,7 @@ def parse(words: Sequence[str]) -> argparse.Namespace:
         description=__doc__, formatter_class=argparse.RawDescriptionHelpFormatter, usage=argparse.SUPPRESS
     )
     parser.add_argument("--seconds", type=float, required=True, metavar="N", help="how long it races")
-    parser.add_argument("--seed", default="1", metavar="WORD", help="any word; script K of a seed is always the same")
+    parser.add_argument("--seed", default="1", metavar="WORD", help="any word (1): script K of one is always the same")
     parser.add_argument("--kind", default="", metavar="WORD", help="only the kinds that have this word in their name")
     parser.add_argument("--processes", type=int, metavar="N", help="of each script; 3 to 5 where none is given")
     parser.add_argument("--dir", metavar="DIR", help="where the files are made; else in $TMPDIR or /tmp")
