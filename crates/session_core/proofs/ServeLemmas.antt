@@ -27,12 +27,12 @@ use Rattle.session_core.specs.Proved.Stages.{Stage, Over}
 use Rattle.session_core.specs.Proved.Output.{OutputState, Holds}
 use Rattle.session_core.specs.Proved.Turns.{IsGivenUp, IsTalking, OverBy}
 use Rattle.session_core.specs.Proved.Ends.{IsCutOff, IsMet, IsOver}
-use Rattle.session_core.specs.Proved.Closing.{with_last}
+use Rattle.session_core.specs.Proved.Closing.{ClosesAs, with_last}
 use Rattle.session_core.specs.Proved.Desk.{EndsAs, LeavesUnwritten, OverOf}
 use Rattle.session_core.specs.Proved.Settling.{Settles, unserved_by, why_of}
 use Rattle.session_core.specs.Said.{CutSaid, EndSaid}
 use Rattle.session_core.specs.Refusals.{BeginsSaid, RefusalSaid, ServesUnder}
-use Rattle.session_core.specs.Served.{ComesTo, HasRead, KeepsReader, Serves, SessionState, reads_of}
+use Rattle.session_core.specs.Served.{ComesTo, HasRead, KeepsReader, Serves, SessionState, failures_after, reads_of}
 use Rattle.session_core.proofs.CallLemmas.{converses, has_receipts}
 use Rattle.session_core.proofs.ClosingLemmas.{converses_more, first_none}
 use Rattle.session_core.proofs.CutLemmas.{cut_said}
@@ -264,6 +264,22 @@ pumps_of from also ring first p e f h = subst (λ (x : Option (List ℕ)). Pumps
 pushed_from : (from : Option (List ℕ)) (ring : PushingEnd) (p : PumpState) → IsFreshRing ring → (h : Pumps from ring p) → PushedBy (producer_capacity ring) h.input [] (sent p.producer) p.end_is
 pushed_from from ring p fresh h = subst (λ (l : List Request). PushedBy (producer_capacity ring) h.input l (sent p.producer) p.end_is) fresh.empty h.pushed
 
+-- a session whose thread was started ends otherwise than one without a thread
+has_thread : (source : LoggedReaderState) (found : Over) (old : OutputState) (answers : List Told) (given : End) → ClosesAs found old answers given → KeepsReader (Some source) given
+has_thread source found old answers end.NoThread h = absurd h
+has_thread source found old answers other h = tt
+
+no_failure : (found : Over) (old : OutputState) (answers : List Told) (given : End) (failures : ℕ) → ClosesAs found old answers given → failures_after given failures ≡ failures
+no_failure found old answers end.NoThread failures h = absurd h
+no_failure found old answers other failures h = refl
+
+pub started : (unopened : Request → Refusal → Type 0) (refused : SeatState → Call → Refusal → Type 0) (ended : SeatState → Why → Type 0) (always : Bool) (base : Option (List ℕ)) (p : PumpState) (s : SessionState) (failures : ℕ)
+    → Settles unopened refused ended always base p s → failures_after s.end_is failures ≡ failures
+started unopened refused ended always base p s failures settles =
+    let ending = settles.ending in
+    subst (λ (x : SessionState). failures_after x.end_is failures ≡ failures) settles.is
+    (no_failure ending.found ending.old (with_last settles.o.answers settles.left.last) settles.left.end failures ending.left_by.closes)
+
 -- what it comes to
 has_served : (unopened : Request → Refusal → Type 0) (refused : SeatState → Call → Refusal → Type 0) (ended : SeatState → Why → Type 0) (always : Bool) (from base : Option (List ℕ)) (ring : PushingEnd) (p : PumpState) (s : SessionState)
     → IsFreshRing ring → Pumps from ring p → Settles unopened refused ended always base p s → Serves always from base s
@@ -274,7 +290,9 @@ has_served unopened refused ended always from base ring p s fresh h settles =
     record {
       input = h.input;
       consumes = subst (λ (x : SessionState). HasRead from x.reader h.input) settles.is h.consumes;
-      kept = subst (λ (x : SessionState). KeepsReader x.reader x.end_is) settles.is tt;
+      kept =
+          subst (λ (x : SessionState). KeepsReader x.reader x.end_is) settles.is
+          (has_thread p.reader ending.found ending.old (with_last settles.o.answers settles.left.last) settles.left.end ending.left_by.closes);
       few_reads = subst (λ (x : SessionState). (reads_of x.reader).calls ≤ READS_MAX) settles.is h.few_reads;
       few_interrupted = (subst (λ (x : SessionState). (reads_of x.reader).interruptions ≤ INTERRUPTIONS_MAX) settles.is h.few_interrupted, settles.few);
       let_through = settles.let_through;

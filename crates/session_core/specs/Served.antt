@@ -19,7 +19,7 @@ use Rattle.session_core.specs.declared.end.End.TheVariants as end
 use Rattle.session_core.specs.declared.told.Told.{Told}
 use Rattle.session_core.specs.declared.told.Told.TheVariants as told
 use Rattle.session_core.specs.Answers.{answers_text, receipts_of, IsFrontWritten}
-use Rattle.logged_streams.specs.Streams.{LogState, LoggedReaderState, LoggedWriterState, fresh_log, IsWrittenNoMore, IsReadNoMore}
+use Rattle.logged_streams.specs.Streams.{LogState, LoggedReaderState, LoggedWriterState, fresh_log, one_more, IsWrittenNoMore, IsReadNoMore}
 use Rattle.session_core.specs.Talk.{AreAnswered, Converses, IsCut}
 
 -- ---- what was read
@@ -39,10 +39,11 @@ abbrev pub reads_of : Option LoggedReaderState → LogState
 reads_of None = fresh_log
 reads_of (Some reader) = reader.log
 
--- the reader is gone only where no thread could be started for it
+-- the reader is gone just where no thread could be started for it
 abbrev pub KeepsReader : Option LoggedReaderState → End → Type 0
 KeepsReader None found = found ≡ end.NoThread
-KeepsReader (Some reader) found = Unit {0}
+KeepsReader (Some reader) end.NoThread = ⊥
+KeepsReader (Some reader) other = Unit {0}
 
 -- the bytes that were read have no fault
 pub record HasNoFault (input : List ℕ) : Type 0 where
@@ -241,6 +242,11 @@ EndsFor input s end.RunFull = IsRunFull input s.answers
 EndsFor input s end.NoMemory = Unit {0}
 EndsFor input s end.Foreign = Unit {0}
 EndsFor input s end.NoThread = IsUnstarted input s
+
+-- how many threads its starter could not start, where they were so many before: one more where the session has no thread, and as many where it has another end
+abbrev pub failures_after : End → ℕ → ℕ
+failures_after end.NoThread failures = one_more failures
+failures_after other failures = failures
 
 -- what a session comes to that read these bytes and whose writer held this before
 pub record ComesTo (input : List ℕ) (base : Option (List ℕ)) (s : SessionState) : Type 0 where

@@ -18,6 +18,6 @@ pub enum End {
     NoMemory,
     /// The kernel does not know the seat, so no exit is recorded. One receipt may have no answer.
     Foreign,
-    /// The thread that reads could not be started: nothing was read, and there is no process.
+    /// The starter could not start the thread that reads, and has counted that: nothing was read, and there is no process.
     NoThread,
 }

@@ -14,6 +14,7 @@ pub mod note;
 mod output;
 pub mod serve;
 mod stage;
+pub mod starter;
 mod threads;
 pub mod told;
 mod turns;

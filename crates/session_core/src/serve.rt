@@ -10,6 +10,7 @@ ghost use Rattle.session_core.specs.Said.{CutSaid, EndSaid};
 ghost use Rattle.session_core.specs.Proved.Saying.{IsReadingEnd};
 ghost use Rattle.logged_streams.specs.Streams.{fresh_log};
 ghost use Rattle.session_core.specs.Refusals.{ServesUnder};
+ghost use Rattle.session_core.specs.Served.{failures_after};
 
 use crate::connection::Connection;
 use crate::desk::{Desk, Naming, leave_requests};
@@ -17,6 +18,7 @@ use crate::end::End;
 use crate::gate::Gate;
 use crate::output::Output;
 use crate::stage::LeaveCause;
+use crate::starter::Starter;
 use crate::threads::{Helper, Pushed, Shared, start_reading};
 use crate::told::Told;
 use byte_ledger::ledgers::Ledgers;
@@ -45,7 +47,7 @@ pub struct Served<R: Read, W: Write, L: Ledgers> {
     /// What it told its client, in order.
     pub answers: Vec<Told>,
     pub end: End,
-    /// The reader, with what became of its reads. `None` at `End::NoThread` alone.
+    /// The reader, with what became of its reads. `None` just at `End::NoThread`.
     pub reader: Option<LoggedReader<R>>,
     /// The writer, with what became of its writes.
     pub writer: LoggedWriter<W>,
@@ -63,9 +65,11 @@ impl<R: Read, W: Write, L: Ledgers> Model for Served<R, W, L> {
 /// Serves one process: reads its requests, asks the kernel for each, and writes each answer once the gate lets it through. This goes on
 /// until the session ends for one of the reasons of `End`; then its process is hung up and its connection shut. A thread of its own
 /// reads, so that the end of the connection is noticed while a call of the process waits: such a call is given up. The gate knows the
-/// session by its number. The admission is for its one opening.
+/// session by its number. The admission is for its one opening. The session is without a thread just where the starter could not start
+/// it, and has counted that.
 pub fn serve<
     Rt: Threads + Wait + Copy + Drop + Send + Sync + 'static,
+    T: Starter,
     R: Read + Send + Drop + 'static,
     W: Write + Connection + Send + Drop + 'static,
     G: Gate + Send + 'static,
@@ -74,6 +78,7 @@ pub fn serve<
 >(
     rt: Rt,
     alloc: Global,
+    starter: &mut T,
     reader: R,
     writer: W,
     kernel: Arc<K>,
@@ -84,6 +89,7 @@ pub fn serve<
     ensures serves { ServesUnder K.not_opened K.refused K.ended G.is_open (R.remaining reader) (W.contents writer) result }
     ensures said { EndSaid K.not_opened K.ended result.seat result.end_is }
     ensures given_up { CutSaid K.ended result.seat result.answers result.end_is }
+    ensures starts { T.failures starter.new ≡ failures_after result.end_is (T.failures starter.old) }
 {
     let (producer, consumer) = match RingBuffer::new(alloc, REQUESTS_AHEAD) {
         Ok(ends) => ends,
@@ -93,8 +99,8 @@ pub fn serve<
         }
     };
     match Output::new(alloc, writer, session, gate) {
-        Ok(output) => serve_named::<Rt, R, Brand, W, G, L, K>(
-            rt, alloc, reader, output, kernel, admission, producer, consumer,
+        Ok(output) => serve_named::<Rt, T, R, Brand, W, G, L, K>(
+            rt, alloc, starter, reader, output, kernel, admission, producer, consumer,
         ),
         Err(writer) => {
             let writer = LoggedWriter::new(writer);
@@ -106,6 +112,7 @@ pub fn serve<
 /// Serves the session that the type names.
 fn serve_named<
     Rt: Threads + Wait + Copy + Drop + Send + Sync + 'static,
+    T: Starter,
     R: Read + Send + Drop + 'static,
     D: Naming + Send + Sync + 'static,
     W: Write + Connection + Send + Drop + 'static,
@@ -115,6 +122,7 @@ fn serve_named<
 >(
     rt: Rt,
     alloc: Global,
+    starter: &mut T,
     reader: R,
     output: Output<W, G>,
     kernel: Arc<K>,
@@ -130,10 +138,11 @@ fn serve_named<
     ensures serves { ServesUnder K.not_opened K.refused K.ended G.is_open (R.remaining reader) D.base result }
     ensures said { EndSaid K.not_opened K.ended result.seat result.end_is }
     ensures given_up { CutSaid K.ended result.seat result.answers result.end_is }
+    ensures starts { T.failures starter.new ≡ failures_after result.end_is (T.failures starter.old) }
 {
     match shared_twice::<Rt, D, W, G, L, K>(rt, alloc, kernel) {
         Ok((shared, helper)) => serve_shared(
-            rt, alloc, reader, output, &*shared, helper, admission, producer, consumer,
+            rt, alloc, starter, reader, output, &*shared, helper, admission, producer, consumer,
         ),
         Err(_) => unstarted(alloc, Some(reader), output, admission, End::NoMemory),
     }
@@ -142,6 +151,7 @@ fn serve_named<
 /// Serves the session of two threads that share this: the helper is for the one that reads.
 fn serve_shared<
     Rt: Threads + Wait + Copy + Drop + Send + Sync + 'static,
+    T: Starter,
     R: Read + Send + Drop + 'static,
     D: Naming + Send + Sync + 'static,
     W: Write + Connection + Send + Drop + 'static,
@@ -151,6 +161,7 @@ fn serve_shared<
 >(
     rt: Rt,
     alloc: Global,
+    starter: &mut T,
     reader: R,
     output: Output<W, G>,
     shared: &Shared<D, W, G, L, K>,
@@ -167,17 +178,18 @@ fn serve_shared<
     ensures serves { ServesUnder K.not_opened K.refused K.ended G.is_open (R.remaining reader) D.base result }
     ensures said { EndSaid K.not_opened K.ended result.seat result.end_is }
     ensures given_up { CutSaid K.ended result.seat result.answers result.end_is }
+    ensures starts { T.failures starter.new ≡ failures_after result.end_is (T.failures starter.old) }
 {
     // the thread that reads finds the desk locked until it is there
     let mut place = shared.desk.lock(&rt);
-    match start_reading(rt, alloc, reader, producer, helper) {
-        Some(thread) => {
+    match start_reading(&rt, alloc, starter, reader, producer, helper) {
+        Ok(thread) => {
             drop(place.replace(Desk::new(consumer, output, admission)));
             drop(place);
             shared.answer_waits(&rt);
             leave_rest(&rt, shared, thread.join(&rt))
         }
-        None => unstarted(alloc, None, output, admission, End::NoThread),
+        Err(_) => unstarted(alloc, None, output, admission, End::NoThread),
     }
 }
 

@@ -1,6 +1,7 @@
 //! The two threads of a session. One reads, and answers too as long as no call waits; the other waits for such a call, or for the end.
 
-ghost use Rattle.std.specs.Prelude.{◌≡◌, IfSome};
+ghost use Rattle.std.specs.Prelude.{◌≡◌, IfOk, OnErr, OnOk};
+ghost use Rattle.logged_streams.specs.Streams.{one_more};
 ghost use Rattle.rtrb.specs.Ring.{SameProducer};
 ghost use Rattle.request_pump.specs.Pump.{Pumps};
 
@@ -8,6 +9,7 @@ use crate::connection::Connection;
 use crate::desk::{Attended, Desk, Naming};
 use crate::gate::Gate;
 use crate::note::Note;
+use crate::starter::{StartFailed, Starter, start};
 use byte_ledger::ledgers::Ledgers;
 use call_types::request::Request;
 use logged_streams::reader::LoggedReader;
@@ -250,16 +252,23 @@ fn read_to_end<R: Read, H: Attendant>(
 
 /// Starts the thread that reads, if one can be started.
 pub(crate) fn start_reading<
-    Rt: Threads + Copy + Drop + Send + 'static,
+    Rt: Threads,
+    T: Starter,
     R: Read + Send + Drop + 'static,
     H: Attendant + Send + 'static,
->(rt: Rt, alloc: Global, reader: R, producer: Producer<Request>, helper: H) -> Option<Reading<R>>
-    ensures { IfSome result (λ thread. (thread.promise.producer.value ≡ producer) × (R.remaining thread.promise.reader.value ≡ R.remaining reader)) }
+>(
+    rt: &Rt,
+    alloc: Global,
+    starter: &mut T,
+    reader: R,
+    producer: Producer<Request>,
+    helper: H,
+) -> Result<Reading<R>, StartFailed>
+    ensures promised { IfOk result (λ thread. (thread.promise.producer.value ≡ producer) × (R.remaining thread.promise.reader.value ≡ R.remaining reader)) }
+    ensures started { OnOk result (T.failures starter.new ≡ T.failures starter.old) }
+    ensures refused { OnErr result (T.failures starter.new ≡ one_more (T.failures starter.old)) }
 {
     let promise = Pushing::of(&reader, &producer);
     let reading = move || read_to_end(alloc, reader, producer, helper);
-    match thread::spawn_with(&rt, promise, reading) {
-        Ok(thread) => Some(thread),
-        Err(_) => None,
-    }
+    start(rt, starter, promise, reading)
 }

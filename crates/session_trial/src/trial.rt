@@ -18,6 +18,7 @@ use session_core::end::End;
 use session_core::gate::OpenGate;
 use session_core::memory::{MemoryReader, MemoryWriter};
 use session_core::serve::{Served, serve};
+use session_core::starter::SystemThreads;
 use std::alloc::{AllocError, Global};
 use std::sync::{Arc, Wait};
 use std::thread::Threads;
@@ -142,6 +143,17 @@ pub(crate) fn tried<
     let reader = MemoryReader::new(input, job.reads);
     let writer = MemoryWriter::new(alloc, job.writes);
     let admission = kernel.admit();
-    let served = serve(rt, alloc, reader, writer, shared, admission, 0, OpenGate);
+    let mut threads = SystemThreads::new();
+    let served = serve(
+        rt,
+        alloc,
+        &mut threads,
+        reader,
+        writer,
+        shared,
+        admission,
+        0,
+        OpenGate,
+    );
     lines_of(alloc, &served, kernel.counts(&rt))
 }

@@ -87,7 +87,7 @@ MayClose (over.Lost seat cause) = Unit {0}
 MayClose (over.Ended seat cause) = IsOfReads cause
 MayClose (over.Foreign seat) = ⊥
 
--- a session ends for that only after one of these, and with the answers that it had by then
+-- a session ends for that only after one of these, and with the answers that it had by then. Its thread was started
 abbrev pub ClosesAs : Over → OutputState → List Told → End → Type 0
 ClosesAs found old answers end.Closed = MayClose found × (answers ≡ old.answers)
 ClosesAs found old answers end.ReadFault = MayClose found × (answers ≡ old.answers)
@@ -97,7 +97,7 @@ ClosesAs found old answers end.Ahead = MayClose found × (answers ≡ old.answer
 ClosesAs found old answers end.RunFull = Unit {0}
 ClosesAs found old answers end.NoMemory = Unit {0}
 ClosesAs found old answers end.Foreign = Unit {0}
-ClosesAs found old answers end.NoThread = Unit {0}
+ClosesAs found old answers end.NoThread = ⊥
 
 -- the same of a session that is left
 abbrev pub ClosesBy : Over → OutputState → OutputState → LeftSession → Type 0

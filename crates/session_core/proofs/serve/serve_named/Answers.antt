@@ -1,7 +1,7 @@
-use Rattle.std.proofs.Common.{[], sym, subst}
+use Rattle.std.proofs.Common.{◌≡◌, [], refl, sym, subst}
 use Rattle.session_core.specs.Refusals.{ServesUnder}
 use Rattle.session_core.specs.Said.{CutSaid, EndSaid}
-use Rattle.session_core.specs.Served.{SessionState}
+use Rattle.session_core.specs.Served.{SessionState, failures_after}
 use Rattle.session_core.proofs.ServeLemmas as laws
 use Rattle.session_core.proofs.serve.serve_named.Goals as goal
 
@@ -13,3 +13,8 @@ returns-in-Err-clause-said g c = subst (λ (s : SessionState). EndSaid g.K.Kerne
 
 pub returns-in-Err-clause-given_up : goal.returns-in-Err-clause-given_up
 returns-in-Err-clause-given_up g c = subst (λ (s : SessionState). CutSaid g.K.Kernel.ended s.seat s.answers s.end_is) (sym (c.unstarted.ensures g.D.Naming.base c.requires.base)) (laws.unserved_open g.K.Kernel.ended [])
+
+pub returns-in-Err-clause-starts : goal.returns-in-Err-clause-starts
+returns-in-Err-clause-starts g c =
+    let failures = g.T.Starter.failures c.args.starter.now in
+    subst (λ (s : SessionState). failures ≡ failures_after s.end_is failures) (sym (c.unstarted.ensures g.D.Naming.base c.requires.base)) refl
