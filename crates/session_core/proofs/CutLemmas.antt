@@ -221,13 +221,15 @@ ended_unread ended seat why.Ahead of said = said
 
 given_up : (unopened : Request → Refusal → Type 0) (ended : SeatState → Why → Type 0) (base : Option (List ℕ)) (input : List ℕ) (o : OutputState) (found : Over) (left : LeftSession) (requests : List Request)
     → MayClose found → IsOver base input o found → OverSaid unopened ended found → KeepsSeat found left → IsCut requests o.answers None → SeatSaid ended (result_ok left.seat) ended_why.Lost
-given_up unopened ended base input o (over.Leaves at cause) left requests may (inl h) said keeps cut = absurd (leaves_uncut base h.handled h.next o at cause requests may h.is cut)
+given_up unopened ended base input o (over.Leaves at cause) left requests may (inl (inl h)) said keeps cut = absurd (leaves_uncut base h.handled h.next o at cause requests may h.is cut)
+given_up unopened ended base input o (over.Leaves at cause) left requests may (inl (inr h)) said keeps cut = absurd h
 given_up unopened ended base input o (over.Leaves at cause) left requests may (inr off) said keeps cut = absurd (off_uncut base input o at cause requests may off cut)
 given_up unopened ended base input o (over.Unwritten at) left requests may is said keeps cut = absurd may
 given_up unopened ended base input o (over.OpeningUntold seat) left requests may is said keeps cut = absurd may
 given_up unopened ended base input o (over.RefusalUntold seat) left requests may is said keeps cut = absurd may
 given_up unopened ended base input o (over.Untold seat receipt) left requests may is said keeps cut = absurd may
-given_up unopened ended base input o (over.Refused seat) left requests may (inl h) said keeps cut = absurd (not_cut (h.handled ++ h.next ∷ []) requests o.answers h.is.2 cut)
+given_up unopened ended base input o (over.Refused seat) left requests may (inl (inr h)) said keeps cut = absurd h
+given_up unopened ended base input o (over.Refused seat) left requests may (inl (inl h)) said keeps cut = absurd (not_cut (h.handled ++ h.next ∷ []) requests o.answers h.is.2 cut)
 given_up unopened ended base input o (over.Refused seat) left requests may (inr off) said keeps cut = absurd off
 given_up unopened ended base input o (over.Lost seat cause) left requests may is said keeps cut =
     subst (λ (s : Option SeatState). SeatSaid ended s ended_why.Lost) (sym (ap result_ok keeps)) said.0

@@ -11,6 +11,7 @@ use Rattle.frame_codec.specs.Frames.{AreFrames}
 use Rattle.frame_codec.specs.Records.{ActFits}
 use Rattle.frame_codec.specs.Requests.{RequestFits, SpellsRequest}
 use Rattle.record_book.specs.Seat.{Receipted, SeatState}
+use Rattle.request_pump.specs.Input.{Begins}
 use Rattle.session_core.specs.declared.end.End.{End}
 use Rattle.session_core.specs.declared.end.End.TheVariants as end
 use Rattle.session_core.specs.declared.told.Told.{Told}
@@ -128,9 +129,9 @@ conversation_fits handled answers fits (inl (inr h)) = talked_fits handled answe
 conversation_fits handled answers fits (inr (inl h)) = cut_fits handled answers h.0 fits h.1
 conversation_fits handled answers fits (inr (inr h)) = subst AllToldFit (sym h.1.answers_are) (tt, tt)
 
-first_fit : (input : List ℕ) (answers : List Told) → AnswersFirst input answers → AllToldFit answers
+first_fit : (input : List ℕ) (answers : List Told) → AnswersFirst (Begins input) answers → AllToldFit answers
 first_fit input answers h =
-    let requests = subst RequestsFit h.converses.requests_are (frames_fit 65792 h.requests h.begins.text h.begins.frames) in
+    let requests = subst RequestsFit h.converses.requests_are (frames_fit 65792 h.requests h.given.text h.given.frames) in
     conversation_fits h.converses.handled answers (all_first RequestFits h.converses.handled h.converses.later requests) h.converses.is
 
 -- ---- a seat
@@ -142,19 +143,19 @@ ReceiptFits receipt = ActFits receipt.record_is.act
 exited_fits : (seat : SeatState) (answers : List Told) → ActsFit (receipts_of answers) → HasExited seat answers → ActsFit seat.receipts
 exited_fits seat answers fits h = subst ActsFit (sym h.receipts) (all_joined ReceiptFits (receipts_of answers) (h.exit ∷ []) fits (exit_fits h.exit.record_is.act h.act_is, tt))
 
-untold_fits : (input : List ℕ) (receipts : List Receipted) (answers : List Told) → ActsFit (receipts_of answers) → HasUntold input receipts answers → ActsFit receipts
+untold_fits : (input : List ℕ) (receipts : List Receipted) (answers : List Told) → ActsFit (receipts_of answers) → HasUntold (Begins input) receipts answers → ActsFit receipts
 untold_fits input receipts answers fits h =
     let untold = all_last ToldFits answers (told.Recorded h.untold ∷ []) (first_fit input (answers ++ told.Recorded h.untold ∷ []) h.talks) in
     subst ActsFit (sym h.receipts_are) (all_joined ReceiptFits (receipts_of answers) (h.untold ∷ []) fits (untold.0, tt))
 
-exited_untold_fits : (input : List ℕ) (seat : SeatState) (answers : List Told) → ActsFit (receipts_of answers) → HasExitedUntold input seat answers → ActsFit seat.receipts
+exited_untold_fits : (input : List ℕ) (seat : SeatState) (answers : List Told) → ActsFit (receipts_of answers) → HasExitedUntold (Begins input) seat answers → ActsFit seat.receipts
 exited_untold_fits input seat answers fits h =
     subst ActsFit (sym h.receipts) (all_joined ReceiptFits h.before (h.exit ∷ []) (untold_fits input h.before answers fits h.has_untold) (exit_fits h.exit.record_is.act h.act_is, tt))
 
 refused_fits : (seat : SeatState) (answers : List Told) → ActsFit (receipts_of answers) → IsRefusedOpening seat answers → ActsFit seat.receipts
 refused_fits seat answers fits h = subst ActsFit (ap receipts_of h.answers_are ∙ sym h.receipts) fits
 
-seat_fits : (input : List ℕ) (seat : SeatState) (answers : List Told) (found : End) → ActsFit (receipts_of answers) → IsSeatOf input seat answers found → ActsFit seat.receipts
+seat_fits : (input : List ℕ) (seat : SeatState) (answers : List Told) (found : End) → ActsFit (receipts_of answers) → IsSeatOf (Begins input) seat answers found → ActsFit seat.receipts
 seat_fits input seat answers end.Closed fits (inl h) = exited_fits seat answers fits h
 seat_fits input seat answers end.Closed fits (inr h) = refused_fits seat answers fits h
 seat_fits input seat answers end.ReadFault fits h = exited_fits seat answers fits h
@@ -170,7 +171,7 @@ seat_fits input seat answers end.Foreign fits (granted, inl h) = subst ActsFit (
 seat_fits input seat answers end.Foreign fits (granted, inr h) = untold_fits input seat.receipts answers fits h
 seat_fits input seat answers end.NoThread fits h = absurd h
 
-seated_fits : (input : List ℕ) (seat : Option SeatState) (answers : List Told) (found : End) → ActsFit (receipts_of answers) → IsSeated input seat answers found → SeatFits seat
+seated_fits : (input : List ℕ) (seat : Option SeatState) (answers : List Told) (found : End) → ActsFit (receipts_of answers) → IsSeated (Begins input) seat answers found → SeatFits seat
 seated_fits input None answers found fits h = tt
 seated_fits input (Some seat) answers found fits h = seat_fits input seat answers found fits h
 

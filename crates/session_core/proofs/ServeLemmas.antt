@@ -26,7 +26,7 @@ use Rattle.session_core.specs.declared.told.Told.{Told}
 use Rattle.session_core.specs.Proved.Stages.{Stage, Over}
 use Rattle.session_core.specs.Proved.Output.{OutputState, Holds}
 use Rattle.session_core.specs.Proved.Turns.{IsGivenUp, IsTalking, OverBy}
-use Rattle.session_core.specs.Proved.Ends.{IsCutOff, IsMet, IsOver}
+use Rattle.session_core.specs.Proved.Ends.{IsCutOff, IsMet, IsOver, IsOverHere}
 use Rattle.session_core.specs.Proved.Closing.{ClosesAs, with_last}
 use Rattle.session_core.specs.Proved.Desk.{EndsAs, LeavesUnwritten, OverOf}
 use Rattle.session_core.specs.Proved.Settling.{Settles, unserved_by, why_of}
@@ -53,10 +53,10 @@ has_unserved always from base = record {
   few_interrupted = (omega arith, omega arith);
   let_through = λ given. refl;
   comes = record {
-    talks = first_none [] [] [] (first_nothing [] refl []) refl;
+    talks = first_none (Begins []) [] [] (first_nothing [] refl []) refl;
     written = Appends-nil base;
     seated = refl;
-    ends = tt;
+    ends = inl tt;
   };
 }
 
@@ -70,10 +70,10 @@ has_unstarted always from base = record {
   few_interrupted = (omega arith, omega arith);
   let_through = λ given. refl;
   comes = record {
-    talks = first_none [] [] [] (first_nothing [] refl []) refl;
+    talks = first_none (Begins []) [] [] (first_nothing [] refl []) refl;
     written = Appends-nil base;
     seated = refl;
-    ends = (refl, refl, refl);
+    ends = inr (refl, refl, refl);
   };
 }
 
@@ -135,33 +135,34 @@ met_at_one base handled next o source (over.Unwritten at) h = tt
 met_at_one base handled next o source (over.Lost seat cause) h = absurd h
 met_at_one base handled next o source other h = tt
 
-early_at : (base : Option (List ℕ)) (input : List ℕ) (taken handled later extra all : List Request) (next : Request) (o : OutputState) (found : Over) → taken ≡ handled ++ next ∷ [] → all ≡ taken ++ later → Begins input (all ++ extra)
-    → OverBy base handled next o found → IsOver base input o found
-early_at base input taken handled later extra all next o found e split begins h =
-    let joined : all ++ extra ≡ handled ++ next ∷ (later ++ extra) =
-    ap (λ (l : List Request). l ++ extra) split ∙ append_assoc taken later extra ∙ ap (λ (l : List Request). l ++ (later ++ extra)) e ∙ append_assoc handled (next ∷ []) (later ++ extra) in
-    inl (record { handled = handled; next = next; later = later ++ extra; begins = subst (Begins input) joined begins; is = h })
+early_at : (base : Option (List ℕ)) (Given : List Request → Type 0) (taken handled later : List Request) (next : Request) (o : OutputState) (found : Over) → taken ≡ handled ++ next ∷ [] → Given (taken ++ later) → OverBy base handled next o found
+    → IsOverHere base Given o found
+early_at base Given taken handled later next o found e given h =
+    let joined : taken ++ later ≡ handled ++ next ∷ later = ap (λ (l : List Request). l ++ later) e ∙ append_assoc handled (next ∷ []) later in
+    inl (record { handled = handled; next = next; later = later; given = subst Given joined given; is = h })
 
-early_unwritten : (base : Option (List ℕ)) (input : List ℕ) (taken later extra all : List Request) (o : OutputState) (source : LoggedReaderState) (found : Over) → all ≡ taken ++ later → Begins input (all ++ extra) → LeavesUnwritten base taken o found
-    → IsOver base input o found × IsMet source found
-early_unwritten base input taken later extra all o source (over.Unwritten at) split begins h =
-    let joined : all ++ extra ≡ taken ++ (later ++ extra) = ap (λ (l : List Request). l ++ extra) split ∙ append_assoc taken later extra in (
-      inr (record {
-        requests = taken ++ (later ++ extra);
-        begins = subst (Begins input) joined begins;
-        broke = h.0;
-        receipts = h.1;
-        converses = converses_more taken (later ++ extra) o.answers h.2;
-      }),
-      tt,
-    )
-early_unwritten base input taken later extra all o source other split begins h = absurd h
+early_unwritten : (base : Option (List ℕ)) (Given : List Request → Type 0) (taken later : List Request) (o : OutputState) (found : Over) → Given (taken ++ later) → LeavesUnwritten base taken o found → IsOverHere base Given o found
+early_unwritten base Given taken later o (over.Unwritten at) given h = inr (record {
+  requests = taken ++ later;
+  given = given;
+  broke = h.0;
+  receipts = h.1;
+  converses = converses_more taken later o.answers h.2;
+})
+early_unwritten base Given taken later o other given h = absurd h
 
-pub early_of : (base : Option (List ℕ)) (input : List ℕ) (taken later extra all : List Request) (o : OutputState) (source : LoggedReaderState) (found : Over) → all ≡ taken ++ later → Begins input (all ++ extra) → OverOf base taken o found
-    → IsOver base input o found × IsMet source found
-early_of base input taken later extra all o source found split begins (inl h) =
-    (early_at base input taken h.handled later extra all h.next o found h.taken_are split begins h.is, met_at_one base h.handled h.next o source found h.is)
-early_of base input taken later extra all o source found split begins (inr h) = early_unwritten base input taken later extra all o source found split begins h
+-- it is over with the last of these, and more may be given
+pub over_here : (base : Option (List ℕ)) (Given : List Request → Type 0) (taken later : List Request) (o : OutputState) (found : Over) → Given (taken ++ later) → OverOf base taken o found → IsOverHere base Given o found
+over_here base Given taken later o found given (inl h) = early_at base Given taken h.handled later h.next o found h.taken_are given h.is
+over_here base Given taken later o found given (inr h) = early_unwritten base Given taken later o found given h
+
+met_unwritten : (base : Option (List ℕ)) (taken : List Request) (o : OutputState) (source : LoggedReaderState) (found : Over) → LeavesUnwritten base taken o found → IsMet source found
+met_unwritten base taken o source (over.Unwritten at) h = tt
+met_unwritten base taken o source other h = absurd h
+
+met_early : (base : Option (List ℕ)) (taken : List Request) (o : OutputState) (source : LoggedReaderState) (found : Over) → OverOf base taken o found → IsMet source found
+met_early base taken o source found (inl h) = met_at_one base h.handled h.next o source found h.is
+met_early base taken o source found (inr h) = met_unwritten base taken o source found h
 
 -- ---- all requests were answered
 
@@ -243,7 +244,11 @@ after_cut pump_end.Ahead capacity base input all taken later o source seat room 
 is_over : (capacity : ℕ) (base : Option (List ℕ)) (input : List ℕ) (p : PumpState) (o : OutputState) (found : Over) → REQUESTS_AHEAD ≤ capacity → PushedBy capacity input [] (sent p.producer) p.end_is → PumpMet p.reader p.end_is
     → EndsAs base (sent p.producer) (why_of p.end_is) o found → IsOver base input o found × IsMet p.reader found
 is_over capacity base input p o found room pushed met (inl early) =
-    let b = begun p.end_is capacity input (sent p.producer) pushed in early_of base input early.taken early.later b.extra (sent p.producer) o p.reader found early.sent_are b.begins early.is
+    let b = begun p.end_is capacity input (sent p.producer) pushed in
+    let joined : sent p.producer ++ b.extra ≡ early.taken ++ (early.later ++ b.extra) = ap (λ (l : List Request). l ++ b.extra) early.sent_are ∙ append_assoc early.taken early.later b.extra in (
+      inl (over_here base (Begins input) early.taken (early.later ++ b.extra) o found (subst (Begins input) joined b.begins) early.is),
+      met_early base early.taken o p.reader found early.is,
+    )
 is_over capacity base input p o found room pushed met (inr (inr lost)) =
     subst (λ (f : Over). IsOver base input o f × IsMet p.reader f) (sym lost.found_is)
     (after_cut p.end_is capacity base input (sent p.producer) lost.taken lost.later o p.reader lost.seat room pushed met lost.sent_are lost.is)
@@ -286,7 +291,7 @@ has_served : (unopened : Request → Refusal → Type 0) (refused : SeatState �
 has_served unopened refused ended always from base ring p s fresh h settles =
     let ending = settles.ending in
     let at = is_over (producer_capacity ring) base h.input p ending.old ending.found fresh.room (pushed_from from ring p fresh h) h.met ending.ends in
-    let comes : ComesTo h.input base s = subst (ComesTo h.input base) settles.is (ending.left_by.leaves base h.input p.reader at.0 at.1) in
+    let comes : ComesTo h.input base s = subst (ComesTo h.input base) settles.is (ending.left_by.leaves.read base h.input p.reader at.0 at.1) in
     record {
       input = h.input;
       consumes = subst (λ (x : SessionState). HasRead from x.reader h.input) settles.is h.consumes;

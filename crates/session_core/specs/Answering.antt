@@ -1,19 +1,18 @@
 -- What the requests of a ring come to, answered in one thread while another sends them (own).
-use Rattle.std.specs.Prelude.{◌≡◌, ℕ, List, [], ◌++◌, Option, None, Some}
+use Rattle.std.specs.Prelude.{◌≡◌, ℕ, Bool, true, List, [], Option, None, Some}
 use Rattle.std.specs.Io.KnownBytes.{Appends}
 use Rattle.rtrb.specs.Ring.{received}
 use Rattle.call_types.specs.declared.call.Call.{Call}
 use Rattle.call_types.specs.declared.refusal.Refusal.{Refusal}
 use Rattle.call_types.specs.declared.request.Request.{Request}
-use Rattle.logged_streams.specs.Streams.{LoggedReaderState, LoggedWriterState}
+use Rattle.logged_streams.specs.Streams.{LoggedWriterState}
 use Rattle.record_book.specs.Seat.{SeatState}
-use Rattle.request_pump.specs.Input.{Begins}
 use Rattle.system_lock.specs.declared.kernel.Why.{Why}
 use Rattle.system_lock.specs.declared.kernel.Why.TheVariants as ended_why
 use Rattle.session_core.specs.Answers.{answers_text, receipts_of}
 use Rattle.session_core.specs.Refusals.{AreSaid, RefusalSaid}
 use Rattle.session_core.specs.Said.{EndSaid, SaidEnded}
-use Rattle.session_core.specs.Served.{ComesTo, HasExited, IsGranted}
+use Rattle.session_core.specs.Served.{AreTaken, ComesBy, EndsAt, HasExited, IsGranted}
 use Rattle.session_core.specs.Talk.{IsCut, Talked}
 use Rattle.session_core.specs.declared.answer.AnsweredSeat.{AnsweredSeat as SeatOf}
 use Rattle.session_core.specs.declared.answer.AnsweredSeat.TheVariants as seat
@@ -51,18 +50,17 @@ AnswersTaken ended taken answers (seat.None admission) = (taken ≡ []) × (answ
 AnswersTaken ended taken answers (seat.Live live) = Talked taken answers × (live.receipts ≡ receipts_of answers) × IsGranted live.receipts
 AnswersTaken ended taken answers (seat.Spent spent) = HasExited spent answers × IsCut taken answers None × SaidEnded ended spent ended_why.Lost
 
--- whatever bytes begin with the requests that were taken, it is what a session comes to that read them, has this end and is left
+-- it ends at one of the requests that were taken, and is left
 abbrev pub ComesToEnd : Option (List ℕ) → List Request → AnsweredState → End → Type 0
-ComesToEnd base taken s found =
-    (input : List ℕ) (later : List Request) (reader : LoggedReaderState) → Begins input (taken ++ later)
-    → ComesTo input base (record { reader = Some reader; writer = s.writer; seat = spent_of s.seat_is; answers = s.answers; end_is = found })
+ComesToEnd base taken s found = ComesBy (AreTaken taken) (EndsAt (AreTaken taken)) base s.writer (spent_of s.seat_is) s.answers found
 
 -- without an end of its own all that was taken is answered, but for a last call that is given up, and all answers are written after what the writer held
 abbrev pub HasAnswered : (Request → Refusal → Type 0) → (SeatState → Why → Type 0) → Option (List ℕ) → List Request → AnsweredState → Option End → Type 0
 HasAnswered unopened ended base taken s None = AnswersTaken ended taken s.answers s.seat_is × Appends base s.writer.contents (answers_text s.answers)
 HasAnswered unopened ended base taken s (Some found) = ComesToEnd base taken s found × EndSaid unopened ended (spent_of s.seat_is) found
 
--- what came of the requests of a ring, each refusal of which was said by the kernel
-pub record AnswersRing (unopened : Request → Refusal → Type 0) (refused : SeatState → Call → Refusal → Type 0) (ended : SeatState → Why → Type 0) (base : Option (List ℕ)) (s : AnsweredState) : Type 0 where
+-- what came of the requests of a ring, each refusal of which was said by the kernel; a gate that always says yes has refused no answer
+pub record AnswersRing (unopened : Request → Refusal → Type 0) (refused : SeatState → Call → Refusal → Type 0) (ended : SeatState → Why → Type 0) (always : Bool) (base : Option (List ℕ)) (s : AnsweredState) : Type 0 where
   pub answered : HasAnswered unopened ended base (received s.ring) s s.end_is
   pub said : AreSaid (RefusalSaid unopened refused ended (received s.ring)) s.answers
+  pub let_through : always ≡ true → s.writer.log.refusals ≡ 0

@@ -64,12 +64,16 @@ IsMisplaced [] (request.Attach process) = ⊥
 IsMisplaced [] (request.Call call) = Unit {0}
 IsMisplaced (one ∷ more) next = AsksForASeat next
 
--- ---- what was answered
+-- ---- what was answered: `Given` says of requests that they are what was given first
+
+-- just these requests were taken
+abbrev pub AreTaken : List Request → List Request → Type 0
+AreTaken taken requests = requests ≡ taken
 
 -- the answers belong to the first requests, in order
-pub record AnswersFirst (input : List ℕ) (answers : List Told) : Type 0 where
+pub record AnswersFirst (Given : List Request → Type 0) (answers : List Told) : Type 0 where
   pub requests : List Request
-  pub begins : Begins input requests
+  pub given : Given requests
   pub converses : Converses requests answers
 
 -- the bytes have no fault, and each of their requests is answered
@@ -87,11 +91,11 @@ pub record AnswersToFault (input : List ℕ) (answers : List Told) : Type 0 wher
   pub answered : AreAnswered requests answers
 
 -- each request is answered before one that has no place there
-pub record AnswersToMisplaced (input : List ℕ) (answers : List Told) : Type 0 where
+pub record AnswersToMisplaced (Given : List Request → Type 0) (answers : List Told) : Type 0 where
   pub requests : List Request
   pub next : Request
   pub later : List Request
-  pub begins : Begins input (requests ++ next ∷ later)
+  pub given : Given (requests ++ next ∷ later)
   pub answered : AreAnswered requests answers
   pub misplaced : IsMisplaced requests next
 
@@ -115,10 +119,10 @@ pub record AnswersToCutAhead (input : List ℕ) (answers : List Told) : Type 0 w
   pub cut : IsCut requests answers None
 
 -- each request is answered before a call that waits and is given up
-pub record AnswersToCut (input : List ℕ) (answers : List Told) (given_up : Option Refusal) : Type 0 where
+pub record AnswersToCut (Given : List Request → Type 0) (answers : List Told) (given_up : Option Refusal) : Type 0 where
   pub requests : List Request
   pub later : List Request
-  pub begins : Begins input (requests ++ later)
+  pub given : Given (requests ++ later)
   pub cut : IsCut requests answers given_up
 
 -- ---- the seat
@@ -136,18 +140,18 @@ pub record HasExited (seat : SeatState) (answers : List Told) : Type 0 where
   pub act_is : exit.record_is.act ≡ act.Exit
 
 -- the receipts are those of the answers, and one that would be the next answer, for which memory ran out
-pub record HasUntold (input : List ℕ) (receipts : List Receipted) (answers : List Told) : Type 0 where
+pub record HasUntold (Given : List Request → Type 0) (receipts : List Receipted) (answers : List Told) : Type 0 where
   pub untold : Receipted
   pub receipts_are : receipts ≡ receipts_of answers ++ untold ∷ []
-  pub talks : AnswersFirst input (answers ++ told.Recorded untold ∷ [])
+  pub talks : AnswersFirst Given (answers ++ told.Recorded untold ∷ [])
 
 -- such receipts, and after them that of the exit
-pub record HasExitedUntold (input : List ℕ) (seat : SeatState) (answers : List Told) : Type 0 where
+pub record HasExitedUntold (Given : List Request → Type 0) (seat : SeatState) (answers : List Told) : Type 0 where
   pub before : List Receipted
   pub exit : Receipted
   pub receipts : seat.receipts ≡ before ++ exit ∷ []
   pub granted : IsGranted before
-  pub has_untold : HasUntold input before answers
+  pub has_untold : HasUntold Given before answers
   pub act_is : exit.record_is.act ≡ act.Exit
 
 -- the opening is refused in the record: its one receipt is that of an error, and is answered
@@ -158,32 +162,32 @@ pub record IsRefusedOpening (seat : SeatState) (answers : List Told) : Type 0 wh
   pub is_error : IsError receipt.record_is.outcome
 
 -- the same, where memory ran out for the answer
-pub record IsRefusedUntold (input : List ℕ) (seat : SeatState) (answers : List Told) : Type 0 where
+pub record IsRefusedUntold (Given : List Request → Type 0) (seat : SeatState) (answers : List Told) : Type 0 where
   pub none : answers ≡ []
-  pub has_untold : HasUntold input seat.receipts answers
+  pub has_untold : HasUntold Given seat.receipts answers
   pub is_error : IsError has_untold.untold.record_is.outcome
 
 -- no exit is recorded: the receipts of the seat, of which the first is no error, are those of the answers, and at most one that would be the next answer
-abbrev pub HasNoExit : List ℕ → SeatState → List Told → Type 0
-HasNoExit input seat answers = IsGranted seat.receipts × ((seat.receipts ≡ receipts_of answers) ⊎ HasUntold input seat.receipts answers)
+abbrev pub HasNoExit : (List Request → Type 0) → SeatState → List Told → Type 0
+HasNoExit Given seat answers = IsGranted seat.receipts × ((seat.receipts ≡ receipts_of answers) ⊎ HasUntold Given seat.receipts answers)
 
 -- the receipts of a seat, at each end
-abbrev pub IsSeatOf : List ℕ → SeatState → List Told → End → Type 0
-IsSeatOf input seat answers end.Closed = HasExited seat answers ⊎ IsRefusedOpening seat answers
-IsSeatOf input seat answers end.ReadFault = HasExited seat answers
-IsSeatOf input seat answers (end.WriteFault sent) = HasExited seat answers ⊎ IsRefusedOpening seat answers
-IsSeatOf input seat answers end.Malformed = HasExited seat answers
-IsSeatOf input seat answers end.Ahead = HasExited seat answers
-IsSeatOf input seat answers end.RunFull = HasExited seat answers
-IsSeatOf input seat answers end.NoMemory = HasExited seat answers ⊎ (HasExitedUntold input seat answers ⊎ IsRefusedUntold input seat answers)
-IsSeatOf input seat answers end.Foreign = HasNoExit input seat answers
-IsSeatOf input seat answers end.NoThread = ⊥
+abbrev pub IsSeatOf : (List Request → Type 0) → SeatState → List Told → End → Type 0
+IsSeatOf Given seat answers end.Closed = HasExited seat answers ⊎ IsRefusedOpening seat answers
+IsSeatOf Given seat answers end.ReadFault = HasExited seat answers
+IsSeatOf Given seat answers (end.WriteFault sent) = HasExited seat answers ⊎ IsRefusedOpening seat answers
+IsSeatOf Given seat answers end.Malformed = HasExited seat answers
+IsSeatOf Given seat answers end.Ahead = HasExited seat answers
+IsSeatOf Given seat answers end.RunFull = HasExited seat answers
+IsSeatOf Given seat answers end.NoMemory = HasExited seat answers ⊎ (HasExitedUntold Given seat answers ⊎ IsRefusedUntold Given seat answers)
+IsSeatOf Given seat answers end.Foreign = HasNoExit Given seat answers
+IsSeatOf Given seat answers end.NoThread = ⊥
 
 -- without a seat no answer has a receipt
-abbrev pub IsSeated : List ℕ → Option SeatState → List Told → End → Type 0
-IsSeated input None answers end.Foreign = ⊥
-IsSeated input None answers other = receipts_of answers ≡ []
-IsSeated input (Some seat) answers end = IsSeatOf input seat answers end
+abbrev pub IsSeated : (List Request → Type 0) → Option SeatState → List Told → End → Type 0
+IsSeated Given None answers end.Foreign = ⊥
+IsSeated Given None answers other = receipts_of answers ≡ []
+IsSeated Given (Some seat) answers end = IsSeatOf Given seat answers end
 
 -- ---- what was written
 
@@ -209,51 +213,65 @@ IsTurnedAway seat answers = (spent : SeatState) × (seat ≡ Some spent) × IsRe
 
 -- the bytes have no fault, and each of their requests is answered, or each up to a call that waits and is given up
 abbrev pub AnswersAllOrCut : List ℕ → List Told → Type 0
-AnswersAllOrCut input answers = AnswersAll input answers ⊎ (HasNoFault input × AnswersToCut input answers None)
+AnswersAllOrCut input answers = AnswersAll input answers ⊎ (HasNoFault input × AnswersToCut (Begins input) answers None)
 
--- the reader is at its end, or the opening is refused
-abbrev pub IsClosedAtTheEnd : List ℕ → SessionState → Type 0
-IsClosedAtTheEnd input s = (IsReadToEnd s.reader × AnswersAllOrCut input s.answers) ⊎ IsTurnedAway s.seat s.answers
-
--- the bytes have a fault, or a request out of place
+-- the bytes have a fault
 abbrev pub IsFaulty : List ℕ → List Told → Type 0
-IsFaulty input answers = AnswersToFault input answers ⊎ (AnswersToMisplaced input answers ⊎ (HasFault input × AnswersToCut input answers None))
+IsFaulty input answers = AnswersToFault input answers ⊎ (HasFault input × AnswersToCut (Begins input) answers None)
 
 -- a request came after at least as many as the ring has room for
 abbrev pub IsOverrun : List ℕ → List Told → Type 0
 IsOverrun input answers = AnswersToAhead input answers ⊎ AnswersToCutAhead input answers
 
 -- the run was full for the opening, or when the call that waited could go on
-abbrev pub IsRunFull : List ℕ → List Told → Type 0
-IsRunFull input answers = (answers ≡ told.Refused refusal.RunFull ∷ []) ⊎ AnswersToCut input answers (Some refusal.RunFull)
+abbrev pub IsRunFull : (List Request → Type 0) → List Told → Type 0
+IsRunFull Given answers = (answers ≡ told.Refused refusal.RunFull ∷ []) ⊎ AnswersToCut Given answers (Some refusal.RunFull)
 
 -- nothing was read, there is no seat, and nothing is answered
-abbrev pub IsUnstarted : List ℕ → SessionState → Type 0
-IsUnstarted input s = (input ≡ []) × (s.seat ≡ None) × (s.answers ≡ [])
+abbrev pub IsUnstarted : List ℕ → Option SeatState → List Told → Type 0
+IsUnstarted input seat answers = (input ≡ []) × (seat ≡ None) × (answers ≡ [])
 
--- why a session ends. Nothing is said here of want of memory, and of a seat that the kernel does not know
-abbrev pub EndsFor : List ℕ → SessionState → End → Type 0
-EndsFor input s end.Closed = IsClosedAtTheEnd input s
-EndsFor input s end.ReadFault = IsReadNoMore READS_MAX (reads_of s.reader) × AnswersAllOrCut input s.answers
-EndsFor input s (end.WriteFault sent) = IsWrittenNoMore s.writer.log
-EndsFor input s end.Malformed = IsFaulty input s.answers
-EndsFor input s end.Ahead = IsOverrun input s.answers
-EndsFor input s end.RunFull = IsRunFull input s.answers
-EndsFor input s end.NoMemory = Unit {0}
-EndsFor input s end.Foreign = Unit {0}
-EndsFor input s end.NoThread = IsUnstarted input s
+-- why a session ends at one of the requests that it is given. Nothing is said here of want of memory, and of a seat that the kernel does not know
+abbrev pub EndsAt : (List Request → Type 0) → LoggedWriterState → Option SeatState → List Told → End → Type 0
+EndsAt Given writer seat answers end.Closed = IsTurnedAway seat answers
+EndsAt Given writer seat answers end.ReadFault = ⊥
+EndsAt Given writer seat answers (end.WriteFault sent) = IsWrittenNoMore writer.log
+EndsAt Given writer seat answers end.Malformed = AnswersToMisplaced Given answers
+EndsAt Given writer seat answers end.Ahead = ⊥
+EndsAt Given writer seat answers end.RunFull = IsRunFull Given answers
+EndsAt Given writer seat answers end.NoMemory = Unit {0}
+EndsAt Given writer seat answers end.Foreign = Unit {0}
+EndsAt Given writer seat answers end.NoThread = ⊥
+
+-- why it ends when no more is read. Nothing is said here of want of memory
+abbrev pub EndsAfter : List ℕ → Option LoggedReaderState → Option SeatState → List Told → End → Type 0
+EndsAfter input reader seat answers end.Closed = IsReadToEnd reader × AnswersAllOrCut input answers
+EndsAfter input reader seat answers end.ReadFault = IsReadNoMore READS_MAX (reads_of reader) × AnswersAllOrCut input answers
+EndsAfter input reader seat answers end.Malformed = IsFaulty input answers
+EndsAfter input reader seat answers end.Ahead = IsOverrun input answers
+EndsAfter input reader seat answers end.NoMemory = Unit {0}
+EndsAfter input reader seat answers end.NoThread = IsUnstarted input seat answers
+EndsAfter input reader seat answers other = ⊥
+
+-- why a session ends that read these bytes
+abbrev pub EndsFor : List ℕ → Option LoggedReaderState → LoggedWriterState → Option SeatState → List Told → End → Type 0
+EndsFor input reader writer seat answers found = EndsAt (Begins input) writer seat answers found ⊎ EndsAfter input reader seat answers found
+
+-- what a session comes to: the requests that it was given, why it ends, and what its writer held before
+pub record ComesBy (Given : List Request → Type 0) (Ends : LoggedWriterState → Option SeatState → List Told → End → Type 0) (base : Option (List ℕ)) (writer : LoggedWriterState) (seat : Option SeatState) (answers : List Told) (found : End) : Type 0 where
+  pub talks : AnswersFirst Given answers
+  pub written : IsWritten base writer.contents answers found
+  pub seated : IsSeated Given seat answers found
+  pub ends : Ends writer seat answers found
+
+-- the same of one that read these bytes
+abbrev pub ComesTo : List ℕ → Option (List ℕ) → SessionState → Type 0
+ComesTo input base s = ComesBy (Begins input) (EndsFor input s.reader) base s.writer s.seat s.answers s.end_is
 
 -- how many threads its starter could not start, where they were so many before: one more where the session has no thread, and as many where it has another end
 abbrev pub failures_after : End → ℕ → ℕ
 failures_after end.NoThread failures = one_more failures
 failures_after other failures = failures
-
--- what a session comes to that read these bytes and whose writer held this before
-pub record ComesTo (input : List ℕ) (base : Option (List ℕ)) (s : SessionState) : Type 0 where
-  pub talks : AnswersFirst input s.answers
-  pub written : IsWritten base s.writer.contents s.answers s.end_is
-  pub seated : IsSeated input s.seat s.answers s.end_is
-  pub ends : EndsFor input s s.end_is
 
 -- what a session comes to, where this is what its reader had and its writer held at the start; a gate that always says yes has refused no answer
 pub record Serves (always : Bool) (from base : Option (List ℕ)) (s : SessionState) : Type 0 where

@@ -1,6 +1,6 @@
 //! The requests of a session, answered in one thread while another reads them into a ring.
 
-ghost use Rattle.std.specs.Prelude.{◌≡◌, []};
+ghost use Rattle.std.specs.Prelude.{◌≡◌, [], true};
 ghost use Rattle.rtrb.specs.Ring.{received, SameConsumer};
 ghost use Rattle.session_core.specs.Answering.{AnswersRing};
 ghost use Rattle.session_core.specs.Proved.Leaving.{answered_of, seat_of};
@@ -116,7 +116,8 @@ fn answered_by<W: Write, G: Gate, L: Ledgers>(
     output: Output<W, G>,
     ring: Consumer<Request>,
 ) -> Answered<W, L>
-    ensures { result ≡ answered_of output ring standing }
+    ensures is { result ≡ answered_of output ring standing }
+    ensures let_through { G.is_open ≡ true → result.writer.log.refusals ≡ 0 }
 {
     let (seat, end, last) = match standing {
         Standing::Ready(Stage::Opening(admission)) => (AnsweredSeat::None(admission), None, None),
@@ -157,7 +158,7 @@ pub fn answer<
 ) -> Answered<W, L>
     requires fresh { received ring ≡ [] }
     ensures ring { SameConsumer ring result.ring }
-    ensures answers { AnswersRing K.not_opened K.refused K.ended (W.contents writer) result }
+    ensures answers { AnswersRing K.not_opened K.refused K.ended G.is_open (W.contents writer) result }
 {
     let mut output = match Output::new(alloc, writer, session, gate) {
         Ok(output) => output,

@@ -1,6 +1,7 @@
 -- How a session is closed (own).
 use Rattle.std.specs.Prelude.{◌≡◌, ◌≤◌, ℕ, ◌⊎◌, List, [], ◌∷◌, ◌++◌, Option, None, Some, Result, Ok, Err}
 use Rattle.std.specs.Result.{result_ok}
+use Rattle.call_types.specs.declared.request.Request.{Request}
 use Rattle.record_book.specs.Seat.{Receipted, SeatState}
 use Rattle.system_lock.specs.Kernel.{HasItsExit}
 use Rattle.session_core.specs.declared.end.End.{End}
@@ -14,8 +15,8 @@ use Rattle.session_core.specs.declared.stage.LeaveCause.TheVariants as why
 use Rattle.session_core.specs.declared.stage.Over.TheVariants as over
 use Rattle.logged_streams.specs.declared.stream_log.TheConstants.{INTERRUPTIONS_MAX}
 use Rattle.session_core.specs.Proved.Output.{OutputState, SendsAll, FailsToSend}
-use Rattle.session_core.specs.Proved.Ends.{IsOver, IsMet}
-use Rattle.session_core.specs.Served.{SessionState, ComesTo}
+use Rattle.session_core.specs.Proved.Ends.{IsOver, IsOverHere, IsMet}
+use Rattle.session_core.specs.Served.{AreTaken, ComesBy, ComesTo, EndsAt, SessionState}
 use Rattle.logged_streams.specs.Streams.{LoggedReaderState, LoggedWriterState}
 
 -- the end of a session that has written all its answers
@@ -62,10 +63,11 @@ session_of source o left = record {
   end_is = left.end;
 }
 
--- a session that is over is left
-abbrev pub LeavesAll : OutputState → OutputState → Over → LeftSession → Type 0
-LeavesAll old new found left =
-    (base : Option (List ℕ)) (input : List ℕ) (source : LoggedReaderState) → IsOver base input old found → IsMet source found → ComesTo input base (session_of source new left)
+-- a session that is over is left, whether the requests that were taken are known or the bytes that were read
+pub record LeavesAll (old new : OutputState) (found : Over) (left : LeftSession) : Type 0 where
+  pub here : (base : Option (List ℕ)) (taken : List Request) → IsOverHere base (AreTaken taken) old found
+      → ComesBy (AreTaken taken) (EndsAt (AreTaken taken)) base new.sink (result_ok left.seat) (with_last new.answers left.last) left.end
+  pub read : (base : Option (List ℕ)) (input : List ℕ) (source : LoggedReaderState) → IsOver base input old found → IsMet source found → ComesTo input base (session_of source new left)
 
 -- why no more is read, or taken up, of a session whose answers are all written
 abbrev pub IsOfReads : LeaveCause → Type 0

@@ -18,11 +18,11 @@ use Rattle.session_core.specs.Served.{HasNoFault, HasFault}
 use Rattle.session_core.specs.Proved.Turns.{IsTalking, IsGivenUp, HasReceipts, OverBy}
 
 -- a session that is over at one of its requests
-pub record IsOverAtOne (base : Option (List ℕ)) (input : List ℕ) (o : OutputState) (found : Over) : Type 0 where
+pub record IsOverAtOne (base : Option (List ℕ)) (Given : List Request → Type 0) (o : OutputState) (found : Over) : Type 0 where
   pub handled : List Request
   pub next : Request
   pub later : List Request
-  pub begins : Begins input (handled ++ next ∷ later)
+  pub given : Given (handled ++ next ∷ later)
   pub is : OverBy base handled next o found
 
 -- a session whose bytes have a fault; each request before that is answered
@@ -42,9 +42,9 @@ pub record IsAnswered (base : Option (List ℕ)) (input : List ℕ) (o : OutputS
   pub talking : IsTalking requests o.answers at
 
 -- a session whose writer has failed
-pub record IsUnwritten (base : Option (List ℕ)) (input : List ℕ) (o : OutputState) (at : Stage) : Type 0 where
+pub record IsUnwritten (base : Option (List ℕ)) (Given : List Request → Type 0) (o : OutputState) (at : Stage) : Type 0 where
   pub requests : List Request
-  pub begins : Begins input requests
+  pub given : Given requests
   pub broke : Broke base o
   pub receipts : HasReceipts at o.answers
   pub converses : Converses requests o.answers
@@ -84,6 +84,15 @@ pub record IsCutAhead (base : Option (List ℕ)) (input : List ℕ) (o : OutputS
   pub full : REQUESTS_AHEAD ≤ length (requests ++ behind)
   pub is : IsGivenUp base requests o seat
 
+-- the same of any way to be over
+abbrev pub IsUnwrittenHere : Option (List ℕ) → (List Request → Type 0) → OutputState → Over → Type 0
+IsUnwrittenHere base Given o (over.Unwritten at) = IsUnwritten base Given o at
+IsUnwrittenHere base Given o other = ⊥
+
+-- a session that is over at one of the requests that it is given, or whose writer has failed
+abbrev pub IsOverHere : Option (List ℕ) → (List Request → Type 0) → OutputState → Over → Type 0
+IsOverHere base Given o found = IsOverAtOne base Given o found ⊎ IsUnwrittenHere base Given o found
+
 -- why a session leaves off between two requests, or in a call that is given up
 abbrev pub LeavesOff : Option (List ℕ) → List ℕ → OutputState → Over → Type 0
 LeavesOff base input o (over.Leaves at why.Closed) = IsAnswered base input o at
@@ -91,7 +100,6 @@ LeavesOff base input o (over.Leaves at why.ReadFault) = IsAnswered base input o 
 LeavesOff base input o (over.Leaves at why.Malformed) = IsMalformed base input o at
 LeavesOff base input o (over.Leaves at why.NoMemory) = IsUnread base input o at
 LeavesOff base input o (over.Leaves at why.Ahead) = IsAhead base input o at
-LeavesOff base input o (over.Unwritten at) = IsUnwritten base input o at
 LeavesOff base input o (over.Lost seat why.Closed) = IsCutOff base input o seat × HasNoFault input
 LeavesOff base input o (over.Lost seat why.ReadFault) = IsCutOff base input o seat × HasNoFault input
 LeavesOff base input o (over.Lost seat why.Malformed) = IsCutOff base input o seat × HasFault input
@@ -101,7 +109,7 @@ LeavesOff base input o other = ⊥
 
 -- a session that is over
 abbrev pub IsOver : Option (List ℕ) → List ℕ → OutputState → Over → Type 0
-IsOver base input o found = IsOverAtOne base input o found ⊎ LeavesOff base input o found
+IsOver base input o found = IsOverHere base (Begins input) o found ⊎ LeavesOff base input o found
 
 -- a session is closed only at the end of its bytes, and has a read fault only where its reader is read no more
 abbrev pub IsMet : LoggedReaderState → Over → Type 0

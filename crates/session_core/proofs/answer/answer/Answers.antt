@@ -1,6 +1,6 @@
-use Rattle.std.proofs.Common.{sym, subst}
+use Rattle.std.proofs.Common.{◌≡◌, true, sym, subst}
 use Rattle.rtrb.specs.Ring.{received}
-use Rattle.session_core.specs.Answering.{AnswersRing}
+use Rattle.session_core.specs.Answering.{AnsweredState, AnswersRing}
 use Rattle.session_core.specs.Refusals.{RefusalSaid}
 use Rattle.session_core.proofs.AnswerLemmas.{answers_ring}
 use Rattle.session_core.proofs.DeskLemmas.{fresh_stands}
@@ -10,6 +10,7 @@ pub returns-clause-answers : goal.returns-clause-answers
 returns-clause-answers g c =
     let base = g.W.Write.contents c.args.writer in
     let fresh = fresh_stands (RefusalSaid g.K.Kernel.not_opened g.K.Kernel.refused g.K.Kernel.ended) base (received c.args.ring) c.in-Ok.output c.args.admission c.requires.fresh c.in-Ok.ensures.ok in
-    subst (AnswersRing g.K.Kernel.not_opened g.K.Kernel.refused g.K.Kernel.ended base) (sym c.answered_by.ensures)
-    (answers_ring g.K.Kernel.not_opened g.K.Kernel.refused g.K.Kernel.ended base c.answer_all-standing.new.output c.answer_all-standing.new.ring c.answer_all-standing.result
-    (c.answer_all-standing.ensures.stands base fresh) c.answer_all-standing.ensures.rests)
+    let let_through = λ (always : g.G.Gate.is_open ≡ true). subst (λ (s : AnsweredState). s.writer.log.refusals ≡ 0) c.answered_by.ensures.is (c.answered_by.ensures.let_through always) in
+    subst (AnswersRing g.K.Kernel.not_opened g.K.Kernel.refused g.K.Kernel.ended g.G.Gate.is_open base) (sym c.answered_by.ensures.is)
+    (answers_ring g.K.Kernel.not_opened g.K.Kernel.refused g.K.Kernel.ended g.G.Gate.is_open base c.answer_all-standing.new.output c.answer_all-standing.new.ring c.answer_all-standing.result
+    (c.answer_all-standing.ensures.stands base fresh) c.answer_all-standing.ensures.rests let_through)
