@@ -5,16 +5,17 @@ use Rattle.logged_streams.specs.declared.stream_log.TheConstants.{INTERRUPTIONS_
 use Rattle.logged_streams.specs.declared.stream_log.Gave.{Gave}
 use Rattle.logged_streams.specs.declared.stream_log.Gave.TheVariants as gave
 
--- how many calls there were, how many of the last ones were interrupted, whether one failed, and how often leave to write was refused in a row so far (own)
+-- how many calls there were, how many of them gave or took bytes, how many of the last ones were interrupted, whether one failed, and how often leave to write was refused in a row so far (own)
 pub record LogState : Type 0 where
   pub calls : ℕ
+  pub moved : ℕ
   pub interruptions : ℕ
   pub failed : Bool
   pub refusals : ℕ
 
 -- no call yet (own)
 abbrev pub fresh_log : LogState
-fresh_log = record { calls = 0; interruptions = 0; failed = false; refusals = 0 }
+fresh_log = record { calls = 0; moved = 0; interruptions = 0; failed = false; refusals = 0 }
 
 -- one call more, up to the greatest number that can be told (own)
 abbrev pub one_more : ℕ → ℕ
@@ -22,10 +23,10 @@ one_more calls = min (calls + 1) (2 ^ 64 - 1)
 
 -- the log after one call more (own)
 abbrev pub noted : LogState → Gave → LogState
-noted log (gave.Bytes count) = record { calls = one_more log.calls; interruptions = 0; failed = log.failed; refusals = log.refusals }
-noted log gave.Nothing = record { calls = one_more log.calls; interruptions = 0; failed = log.failed; refusals = log.refusals }
-noted log gave.Interrupted = record { calls = one_more log.calls; interruptions = log.interruptions + 1; failed = log.failed; refusals = log.refusals }
-noted log gave.Failed = record { calls = one_more log.calls; interruptions = 0; failed = true; refusals = log.refusals }
+noted log (gave.Bytes count) = record { calls = one_more log.calls; moved = one_more log.moved; interruptions = 0; failed = log.failed; refusals = log.refusals }
+noted log gave.Nothing = record { calls = one_more log.calls; moved = log.moved; interruptions = 0; failed = log.failed; refusals = log.refusals }
+noted log gave.Interrupted = record { calls = one_more log.calls; moved = log.moved; interruptions = log.interruptions + 1; failed = log.failed; refusals = log.refusals }
+noted log gave.Failed = record { calls = one_more log.calls; moved = log.moved; interruptions = 0; failed = true; refusals = log.refusals }
 
 -- a stream that failed, or was interrupted sixteen times in a row (own)
 abbrev pub IsBroken : LogState → Type 0
@@ -33,7 +34,7 @@ IsBroken log = (log.failed ≡ true) ⊎ (INTERRUPTIONS_MAX ≤ log.interruption
 
 -- the log after leave to write was asked for once more, and given or not (own)
 abbrev pub asked : LogState → Bool → LogState
-asked log is_given = record { calls = log.calls; interruptions = log.interruptions; failed = log.failed; refusals = if is_given then 0 else log.refusals + 1 }
+asked log is_given = record { calls = log.calls; moved = log.moved; interruptions = log.interruptions; failed = log.failed; refusals = if is_given then 0 else log.refusals + 1 }
 
 -- a writer to which no more is written: it is broken, or leave to write was refused as often as it is asked for (own)
 abbrev pub IsWrittenNoMore : LogState → Type 0

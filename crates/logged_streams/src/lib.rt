@@ -1,6 +1,7 @@
 //! Readers and writers, each with a log of what became of the calls on it.
 #![tactic(auto)]
 
+pub mod gate;
 pub mod laws;
 pub mod reader;
 pub mod stream_log;

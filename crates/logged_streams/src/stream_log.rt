@@ -32,6 +32,7 @@ pub enum Gave {
 #[derive(Debug, Drop)]
 pub struct StreamLog {
     calls: u64,
+    moved: u64,
     interruptions: u32,
     failed: bool,
     refusals: u32,
@@ -42,7 +43,7 @@ impl Model for StreamLog {
 
     ghost Value = { LogState };
 
-    ghost view = { λ log. record { calls = log.calls; interruptions = log.interruptions; failed = log.failed; refusals = log.refusals } };
+    ghost view = { λ log. record { calls = log.calls; moved = log.moved; interruptions = log.interruptions; failed = log.failed; refusals = log.refusals } };
 
     ghost use Rattle.std.specs.Prelude.{◌≤◌};
 
@@ -56,6 +57,7 @@ impl StreamLog {
     {
         StreamLog {
             calls: 0,
+            moved: 0,
             interruptions: 0,
             failed: false,
             refusals: 0,
@@ -67,6 +69,13 @@ impl StreamLog {
         ensures { result ≡ self.now.calls }
     {
         self.calls
+    }
+
+    /// How many of them gave or took bytes.
+    pub fn moved(&self) -> u64
+        ensures { result ≡ self.now.moved }
+    {
+        self.moved
     }
 
     /// How many of the last calls were interrupted, one after another.
@@ -99,7 +108,11 @@ impl StreamLog {
     {
         self.calls = self.calls.saturating_add(1);
         match gave {
-            Gave::Bytes(_) | Gave::Nothing => self.interruptions = 0,
+            Gave::Bytes(_) => {
+                self.moved = self.moved.saturating_add(1);
+                self.interruptions = 0;
+            }
+            Gave::Nothing => self.interruptions = 0,
             Gave::Interrupted => self.interruptions += 1,
             Gave::Failed => {
                 self.interruptions = 0;

@@ -1,10 +1,11 @@
 //! A writer with a log of its writes.
 
-ghost use Rattle.std.specs.Prelude.{◌≡◌, ◌<◌, length, IfOk, OnOk, OnErr};
+ghost use Rattle.std.specs.Prelude.{◌≡◌, ◌<◌, true, false, length, IfOk, OnOk, OnErr};
 ghost use Rattle.std.specs.Io.KnownBytes.{Keeps};
 ghost use Rattle.logged_streams.specs.Streams.{fresh_log, asked, WritesFront, WritesNone, SomeWritten, IsBroken};
 ghost use Rattle.logged_streams.specs.Proved.Writes.{WritesOnce};
 
+use crate::gate::Gate;
 use crate::stream_log::{Gave, INTERRUPTIONS_MAX, StreamLog, gave_of};
 use std::io::Write;
 use std::marker::Model;
@@ -53,12 +54,16 @@ impl<W: Write> LoggedWriter<W> {
         &self.writer
     }
 
-    /// Notes whether there was leave to write.
-    pub fn note_leave(&mut self, is_given: bool)
+    /// Asks a gate once whether an answer of a session may be written, and notes what it says.
+    pub fn ask<G: Gate>(&mut self, gate: &G, session: u64, place: u64) -> bool
         requires { self.old.log.refusals < 1000 }
-        ensures { self.new ≡ record { contents = self.old.contents; log = asked self.old.log is_given } }
+        ensures asks { self.new ≡ record { contents = self.old.contents; log = asked self.old.log result } }
+        ensures always { G.is_open ≡ true → result ≡ true }
+        ensures refused { result ≡ false → G.refused session place }
     {
-        self.log.note_leave(is_given);
+        let is_let = gate.may_write(session, place);
+        self.log.note_leave(is_let);
+        is_let
     }
 
     /// Writes once, of bytes that are not empty.
