@@ -1,3 +1,5 @@
+pub mod Bells
 pub mod Input
 pub mod Pump
+pub mod Pushes
 pub mod Proved

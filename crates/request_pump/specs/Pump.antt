@@ -1,5 +1,5 @@
 -- What a pump has come to: what it read, what it pushed, and why it ended (own).
-use Rattle.std.specs.Prelude.{◌≡◌, ℕ, ◌≤◌, false, List, ◌∷◌, ◌++◌, Option, length}
+use Rattle.std.specs.Prelude.{◌≡◌, ℕ, ◌-◌, ◌≤◌, false, List, ◌∷◌, ◌++◌, Option, length}
 use Rattle.std.specs.Io.KnownBytes.{Consumes, IsAtEnd}
 use Rattle.std.specs.declared.alloc.Global.{Global}
 use Rattle.rtrb.specs.Ring.{sent, producer_capacity}
@@ -10,7 +10,9 @@ use Rattle.frame_codec.specs.declared.decoder.Progress.{Progress}
 use Rattle.frame_codec.specs.declared.decoder.Progress.TheVariants as progress
 use Rattle.logged_streams.specs.Streams.{LoggedReaderState, IsReadNoMore}
 use Rattle.logged_streams.specs.declared.stream_log.TheConstants.{INTERRUPTIONS_MAX}
+use Rattle.request_pump.specs.Bells.{BellState, more_by}
 use Rattle.request_pump.specs.Input.{Begins, AreRequests, IsFault}
+use Rattle.request_pump.specs.Pushes.{PushState}
 use Rattle.request_pump.specs.declared.pump.TheConstants.{READS_MAX}
 use Rattle.request_pump.specs.declared.pumped.PumpEnd.{PumpEnd}
 use Rattle.request_pump.specs.declared.pumped.PumpEnd.TheVariants as end
@@ -66,11 +68,22 @@ IsMet reader end.Closed = IsAtEnd reader.remaining × (reader.log.failed ≡ fal
 IsMet reader end.ReadFault = IsReadNoMore READS_MAX reader.log
 IsMet reader other = reader.log.failed ≡ false
 
--- a pump that is over: what its reader has left, where that is known, and what became of the reads; the ring, and the end
+-- how many times in a row the ring had given back the request that comes next, at each end: only where it is ahead, and then twice
+abbrev pub back_at : PumpEnd → ℕ
+back_at end.Ahead = 2
+back_at other = 0
+
+-- a pump that is over: what its reader has left, where that is known, and what became of the reads; the ring, what it gave back, and the end
 pub record PumpState : Type 0 where
   pub reader : LoggedReaderState
   pub producer : PushingEnd
+  pub pushes : PushState
   pub end_is : PumpEnd
+
+-- the same, with how often its bell was rung
+pub record PumpedState : Type 0 where
+  pub pump : PumpState
+  pub rings : BellState
 
 -- what a pump comes to, where this is what its reader had and what its ring was at the start
 pub record Pumps (from : Option (List ℕ)) (ring : PushingEnd) (s : PumpState) : Type 0 where
@@ -80,3 +93,17 @@ pub record Pumps (from : Option (List ℕ)) (ring : PushingEnd) (s : PumpState) 
   pub few_interrupted : s.reader.log.interruptions ≤ INTERRUPTIONS_MAX
   pub met : IsMet s.reader s.end_is
   pub pushed : PushedBy (producer_capacity ring) input (sent ring) (sent s.producer) s.end_is
+  pub given_back : s.pushes.in_a_row ≡ back_at s.end_is
+
+-- ---- what was rung
+
+-- how many pieces are rung for, where so many reads gave bytes: all, but for the last one where its requests are not all in the ring
+abbrev pub pieces_rung : ℕ → PumpEnd → ℕ
+pieces_rung reads end.NoMemory = reads - 1
+pieces_rung reads end.Ahead = reads - 1
+pieces_rung reads other = reads
+
+-- room was asked for once for each request that the ring gave back, and the end of a piece was rung once after each read that gave bytes
+pub record Rings (old new : BellState) (s : PumpState) : Type 0 where
+  pub rooms : new.rooms ≡ more_by old.rooms s.pushes.requests
+  pub pieces : new.pieces ≡ more_by old.pieces (pieces_rung s.reader.log.moved s.end_is)

@@ -1,7 +1,9 @@
 //! What a pump has come to.
 
-use crate::inlet::{Bell, Inlet};
+use crate::inlet::{Bell, PushLog};
+use call_types::request::Request;
 use logged_streams::reader::LoggedReader;
+use rtrb::Producer;
 use std::io::Read;
 use std::marker::Model;
 
@@ -16,23 +18,26 @@ pub enum PumpEnd {
     Malformed,
     /// Memory ran out, for the buffer or for the requests of a piece. Where it ran out for the buffer, nothing was read.
     NoMemory,
-    /// The ring was full, and still was when room had been asked for. The request that came next is dropped.
+    /// The ring gave a request back, and once more when room had been asked for. That request is dropped.
     Ahead,
 }
 
-/// A pump that is over. Contracts see it as a `PumpState`.
+/// A pump that is over. Contracts see it as a `PumpedState`.
 #[derive(Drop)]
 pub struct Pumped<R: Read, B: Bell> {
     pub end: PumpEnd,
     /// The reader, and what became of its reads.
     pub reader: LoggedReader<R>,
-    pub ring: Inlet<B>,
+    pub producer: Producer<Request>,
+    /// What the ring gave back.
+    pub pushes: PushLog,
+    pub bell: B,
 }
 
 impl<R: Read, B: Bell> Model for Pumped<R, B> {
-    ghost use Rattle.request_pump.specs.Pump.{PumpState};
+    ghost use Rattle.request_pump.specs.Pump.{PumpedState};
 
-    ghost Value = { PumpState };
+    ghost Value = { PumpedState };
 
-    ghost view = { λ s. record { reader = s.reader; producer = s.ring.producer; end_is = s.end } };
+    ghost view = { λ s. record { pump = record { reader = s.reader; producer = s.producer; pushes = s.pushes; end_is = s.end }; rings = B.rings s.bell } };
 }

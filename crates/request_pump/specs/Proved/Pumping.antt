@@ -1,5 +1,5 @@
--- How a pump gets on: a piece, a read, all reads so far (own).
-use Rattle.std.specs.Prelude.{◌≡◌, ℕ, ◌<◌, false, List, ◌++◌, Option, None, Some}
+-- How a pump gets on: a piece, a read, all reads so far; and how its bell is rung meanwhile (own).
+use Rattle.std.specs.Prelude.{◌≡◌, ℕ, ◌+◌, ◌<◌, ◌≤◌, false, List, ◌++◌, Option, None, Some}
 use Rattle.std.specs.Io.KnownBytes.{Consumes}
 use Rattle.std.specs.List.{concat}
 use Rattle.call_types.specs.declared.request.Request.{Request}
@@ -10,7 +10,9 @@ use Rattle.frame_codec.specs.declared.decoder.Progress.{Progress}
 use Rattle.frame_codec.specs.declared.decoder.Progress.TheVariants as progress
 use Rattle.logged_streams.specs.Streams.{LoggedReaderState, one_more}
 use Rattle.logged_streams.specs.declared.stream_log.TheConstants.{INTERRUPTIONS_MAX}
-use Rattle.request_pump.specs.Pump.{PushedBy, IsMet}
+use Rattle.request_pump.specs.Bells.{BellState, more_by}
+use Rattle.request_pump.specs.Pump.{PushedBy, IsMet, back_at, pieces_rung}
+use Rattle.request_pump.specs.Pushes.{PushState}
 use Rattle.request_pump.specs.declared.pumped.PumpEnd.{PumpEnd}
 use Rattle.request_pump.specs.declared.pumped.PumpEnd.TheVariants as end
 
@@ -67,3 +69,30 @@ pub record PumpsAll (capacity : ℕ) (from to : LoggedReaderState) (old new : Li
   pub consumes : Consumes from.remaining to.remaining input
   pub met : IsMet to found
   pub pushed : PushedBy capacity input old new found
+
+-- ---- what was given back, and what was rung
+
+-- how many times in a row a request was given back, so far
+abbrev pub back_so_far : Option PumpEnd → ℕ
+back_so_far None = 0
+back_so_far (Some end) = back_at end
+
+-- how many pieces are rung for, so far
+abbrev pub rung_so_far : ℕ → Option PumpEnd → ℕ
+rung_so_far reads None = reads
+rung_so_far reads (Some end) = pieces_rung reads end
+
+-- what was given back and rung, where so many reads gave bytes; the base is how often the bell was rung before
+pub record IsRung (base bell : BellState) (pushes : PushState) (reads : ℕ) (found : Option PumpEnd) : Type 0 where
+  pub in_a_row : pushes.in_a_row ≡ back_so_far found
+  pub rooms : bell.rooms ≡ more_by base.rooms pushes.requests
+  pub pieces : bell.pieces ≡ more_by base.pieces (rung_so_far reads found)
+
+-- what a piece more adds, however often the bell was rung before
+abbrev pub RingsPiece : BellState → BellState → PushState → PushState → Option PumpEnd → Type 0
+RingsPiece bell bell_after pushes pushes_after found = (base : BellState) (reads : ℕ) → IsRung base bell pushes reads None → IsRung base bell_after pushes_after (reads + 1) found
+
+-- what one read adds
+pub record RingsOn (from to : LoggedReaderState) (bell bell_after : BellState) (pushes pushes_after : PushState) (found : Option PumpEnd) : Type 0 where
+  pub few : to.log.moved ≤ from.log.moved + 1
+  pub rings : (base : BellState) → IsRung base bell pushes from.log.moved None → IsRung base bell_after pushes_after to.log.moved found

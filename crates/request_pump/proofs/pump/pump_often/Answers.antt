@@ -1,6 +1,7 @@
 use Rattle.std.proofs.Common.{rules, ◌<◌, ℕ, arith, inr, ap, subst, sym}
 use Rattle.logged_streams.specs.Streams.{LogState}
 use Rattle.request_pump.proofs.ReadLemmas as laws
+use Rattle.request_pump.proofs.RingLemmas as rings
 use Rattle.request_pump.proofs.pump.pump_often.Goals as goal
 
 pub loop-turn-init : goal.loop-turn-init
@@ -11,6 +12,8 @@ loop-turn-init g c = record {
   calls = ap (λ (log : LogState). log.calls) c.requires.unread;
   ring = search rules;
   pumped = laws.pumped_none _ _ _ c.requires.unfed;
+  moved = omega (arith, ap (λ (log : LogState). log.moved) c.requires.unread);
+  rung = rings.none_rung _ _ _ c.requires.unpushed (ap (λ (log : LogState). log.moved) c.requires.unread);
 }
 
 pub returns-in-Some-clause-pumps : goal.returns-in-Some-clause-pumps
@@ -24,6 +27,8 @@ loop-turn-preserved g c = record {
   calls = laws.counted_more _ c.loop-turn._turn _ (omega arith) c.loop-turn.invariant.calls c.in-None.ensures.pumps.calls;
   ring = search rules;
   pumped = laws.pumped_more _ _ _ _ _ _ _ _ _ c.loop-turn.invariant.pumped c.in-None.ensures.pumps;
+  moved = omega (arith, c.loop-turn.invariant.moved, c.in-None.ensures.rings.few);
+  rung = c.in-None.ensures.rings.rings _ c.loop-turn.invariant.rung;
 }
 
 pub returns-clause-pumps : goal.returns-clause-pumps

@@ -1,4 +1,5 @@
-use Rattle.rtrb.specs.Ring.{producer_capacity}
+use Rattle.std.proofs.Common.{ap, ◌∙◌}
+use Rattle.rtrb.specs.Ring.{sent, producer_capacity}
 use Rattle.request_pump.proofs.PumpLemmas as laws
 use Rattle.request_pump.proofs.pump.pump_piece.Goals as goal
 
@@ -9,8 +10,9 @@ pub returns-in-Err-push_all-clause-pumps : goal.returns-in-Err-push_all-clause-p
 returns-in-Err-push_all-clause-pumps g c = laws.ahead c.cuts_do_not_matter.ensures.requests _ c.args.piece.now _ _ _ _ _ _ _ c.in-Ok.ensures.fed c.in-Err-push_all.ensures.full
 
 pub returns-in-More-clause-pumps : goal.returns-in-More-clause-pumps
-returns-in-More-clause-pumps g c = laws.piece_pushed (producer_capacity c.push_all.new.self.producer) c.args.piece.now _ _ _ _ _ _ c.in-Ok.ensures.fed c.in-Ok-push_all.ensures.ok c.in-More.is
+returns-in-More-clause-pumps g c =
+    laws.piece_pushed (producer_capacity c.end_of_piece.new.self.producer) c.args.piece.now _ _ _ _ _ _ c.in-Ok.ensures.fed (ap sent c.end_of_piece.ensures.producer ∙ c.in-Ok-push_all.ensures.ok) c.in-More.is
 
 pub returns-in_default-clause-pumps : goal.returns-in_default-clause-pumps
 returns-in_default-clause-pumps g c =
-    laws.malformed c.cuts_do_not_matter.ensures.requests (producer_capacity c.push_all.new.self.producer) c.args.piece.now _ _ _ _ _ _ c.in-Ok.ensures.fed c.in-Ok-push_all.ensures.ok c.in_default.not-More
+    laws.malformed c.cuts_do_not_matter.ensures.requests (producer_capacity c.end_of_piece.new.self.producer) c.args.piece.now _ _ _ _ _ _ c.in-Ok.ensures.fed (ap sent c.end_of_piece.ensures.producer ∙ c.in-Ok-push_all.ensures.ok) c.in_default.not-More

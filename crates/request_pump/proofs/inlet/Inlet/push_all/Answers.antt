@@ -8,6 +8,8 @@ pub loop-request-preserved : goal.loop-request-preserved
 loop-request-preserved g c = record {
   ring = search rules;
   sent = laws.one_pushed _ _ _ _ _ c.loop-request.invariant.sent c.in-Ok.ensures.ok;
+  in_a_row = search rules;
+  asks = laws.asks_more _ _ _ _ _ _ c.loop-request.invariant.asks c.push.ensures.asks;
 }
 
 pub returns-in-Err-clause-full : goal.returns-in-Err-clause-full
