@@ -1,6 +1,6 @@
 //! What is asked before an answer is written.
 
-ghost use Rattle.std.specs.Prelude.{◌≡◌, ℕ, Bool, true, false};
+ghost use Rattle.std.specs.Prelude.{◌≡◌, ℕ, Bool, true};
 
 use std::sync::Arc;
 
@@ -11,14 +11,14 @@ pub trait Gate: Drop {
     // whether it always says yes
     ghost is_open: { Bool };
 
-    // The gate refused this answer of a session. Where the gate is not known, only `may_write` tells this.
-    ghost refused: { ℕ → ℕ → Type 0 };
+    // The gate said so of an answer of this session at this place. Where the gate is not known, only `may_write` tells this.
+    ghost said: { ℕ → ℕ → Bool → Type 0 };
 
     /// Whether an answer may be written now. Sessions are numbered from 0, in the order in which their connections were accepted. The
     /// place is that of the answer's record. For a refusal that left no record, it is how many records the session's process has seen.
     fn may_write(&self, session: u64, place: u64) -> bool
         ensures always { is_open ≡ true → result ≡ true }
-        ensures refused { result ≡ false → refused session place };
+        ensures said { said session place result };
 
     /// Whether it always says yes. If it does, answers are gathered and written together; otherwise they are written one by one.
     fn is_always_open(&self) -> bool
@@ -30,11 +30,11 @@ pub trait Gate: Drop {
 pub struct OpenGate;
 
 impl Gate for OpenGate {
-    ghost use Rattle.std.specs.Prelude.{true};
+    ghost use Rattle.std.specs.Prelude.{◌≡◌, true};
 
     ghost is_open = { true };
 
-    ghost refused = { λ _ _. ⊥ };
+    ghost said = { λ _ _ is_let. is_let ≡ true };
 
     fn may_write(&self, _session: u64, _place: u64) -> bool {
         true
@@ -49,7 +49,7 @@ impl Gate for OpenGate {
 impl<G: Gate> Gate for Arc<G> {
     ghost is_open = { G.is_open };
 
-    ghost refused = { G.refused };
+    ghost said = { G.said };
 
     fn may_write(&self, session: u64, place: u64) -> bool {
         (**self).may_write(session, place)

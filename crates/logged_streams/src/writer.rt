@@ -1,6 +1,6 @@
 //! A writer with a log of its writes.
 
-ghost use Rattle.std.specs.Prelude.{◌≡◌, ◌<◌, true, false, length, IfOk, OnOk, OnErr};
+ghost use Rattle.std.specs.Prelude.{◌≡◌, ◌<◌, true, length, IfOk, OnOk, OnErr};
 ghost use Rattle.std.specs.Io.KnownBytes.{Keeps};
 ghost use Rattle.logged_streams.specs.Streams.{fresh_log, asked, WritesFront, WritesNone, SomeWritten, IsBroken};
 ghost use Rattle.logged_streams.specs.Proved.Writes.{WritesOnce};
@@ -59,7 +59,7 @@ impl<W: Write> LoggedWriter<W> {
         requires { self.old.log.refusals < 1000 }
         ensures asks { self.new ≡ record { contents = self.old.contents; log = asked self.old.log result } }
         ensures always { G.is_open ≡ true → result ≡ true }
-        ensures refused { result ≡ false → G.refused session place }
+        ensures said { G.said session place result }
     {
         let is_let = gate.may_write(session, place);
         self.log.note_leave(is_let);

@@ -64,7 +64,7 @@ impl Gate for EvenGate {
 
     ghost is_open = { false };
 
-    ghost refused = { λ _ _. Unit {0} };
+    ghost said = { λ _ _ _. Unit {0} };
 
     fn may_write(&self, _session: u64, place: u64) -> bool {
         place % 2 == 0
