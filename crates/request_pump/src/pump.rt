@@ -9,7 +9,8 @@ ghost use Rattle.request_pump.specs.Proved.Pumping.{PumpsPiece, IsPieceEnd, Pump
 ghost use Rattle.request_pump.specs.Pushes.{none_back};
 ghost use Rattle.request_pump.specs.declared.pump.TheConstants.{READS_MAX};
 
-use crate::inlet::{Bell, Inlet};
+use crate::bell::Bell;
+use crate::inlet::Inlet;
 use crate::pumped::{PumpEnd, Pumped};
 use call_types::request::Request;
 use frame_codec::decoder::{Decoder, Progress};

@@ -1,6 +1,7 @@
 //! What a pump has come to.
 
-use crate::inlet::{Bell, PushLog};
+use crate::bell::Bell;
+use crate::inlet::PushLog;
 use call_types::request::Request;
 use logged_streams::reader::LoggedReader;
 use rtrb::Producer;
