@@ -1,6 +1,5 @@
 //! What the two threads of a session tell each other.
 
-use request_pump::inlet::Bell;
 use std::sync::{Condvar, Mutex, Wait};
 use std::thread::Parker;
 
@@ -86,16 +85,5 @@ impl Note {
     /// Sleeps until it is woken; it may also wake up for no reason.
     pub(crate) fn sleep<R: Wait>(&self, rt: &R) {
         self.bed.park(rt);
-    }
-}
-
-/// Wakes the thread that answers.
-impl Bell for Note {
-    fn make_room(&self) {
-        self.wake();
-    }
-
-    fn end_of_piece(&self) {
-        self.wake();
     }
 }

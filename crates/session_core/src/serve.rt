@@ -26,6 +26,7 @@ use call_types::request::Request;
 use logged_streams::reader::LoggedReader;
 use logged_streams::writer::LoggedWriter;
 use record_book::seat::{Seat, SpentSeat};
+use request_pump::bell::RingCount;
 use request_pump::pumped::PumpEnd;
 use rtrb::{Consumer, Producer, RingBuffer};
 use std::alloc::{AllocError, Global};
@@ -208,7 +209,14 @@ fn shared_twice<
 ) -> Result<(Arc<Shared<D, W, G, L, K>>, Helper<Rt, D, W, G, L, K>), AllocError> {
     let shared = Arc::new(alloc, Shared::new(kernel))?;
     let other = Arc::try_clone(&shared)?;
-    Ok((shared, Helper { rt, shared: other }))
+    Ok((
+        shared,
+        Helper {
+            rt,
+            shared: other,
+            rings: RingCount::new(),
+        },
+    ))
 }
 
 /// Why a session leaves off whose requests are all answered.
@@ -242,6 +250,7 @@ fn leave_rest<
         end,
         reader,
         producer,
+        ..
     } = pushed;
     let Desk {
         mut consumer,

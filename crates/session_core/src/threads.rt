@@ -14,9 +14,10 @@ use byte_ledger::ledgers::Ledgers;
 use call_types::request::Request;
 use logged_streams::reader::LoggedReader;
 use record_book::seat::{Seat, SpentSeat};
-use request_pump::inlet::{Bell, Inlet};
+use request_pump::bell::{Bell, RingCount};
+use request_pump::inlet::PushLog;
 use request_pump::pump::pump;
-use request_pump::pumped::PumpEnd;
+use request_pump::pumped::{PumpEnd, Pumped};
 use rtrb::Producer;
 use std::alloc::Global;
 use std::io::{Read, Write};
@@ -148,6 +149,7 @@ pub(crate) struct Helper<
 > {
     pub(crate) rt: Rt,
     pub(crate) shared: Arc<Shared<D, W, G, L, K>>,
+    pub(crate) rings: RingCount,
 }
 
 impl<
@@ -158,12 +160,16 @@ impl<
     L: Ledgers,
     K: Kernel<Seat<L>, SpentSeat<L>> + Drop,
 > Bell for Helper<Rt, D, W, G, L, K> {
-    fn make_room(&self) {
+    ghost rings = { λ helper. helper.rings };
+
+    fn make_room(&mut self) {
         self.shared.wake(self.shared.make_room(&self.rt));
+        self.rings.add_room();
     }
 
-    fn end_of_piece(&self) {
+    fn end_of_piece(&mut self) {
         self.shared.wake(self.shared.answer(&self.rt));
+        self.rings.add_piece();
     }
 }
 
@@ -186,6 +192,7 @@ pub(crate) struct Pushed<R: Read> {
     pub(crate) end: PumpEnd,
     pub(crate) reader: LoggedReader<R>,
     pub(crate) producer: Producer<Request>,
+    pub(crate) pushes: PushLog,
 }
 
 impl<R: Read> Model for Pushed<R> {
@@ -193,7 +200,7 @@ impl<R: Read> Model for Pushed<R> {
 
     ghost Value = { PumpState };
 
-    ghost view = { λ s. record { reader = s.reader; producer = s.producer; end_is = s.end } };
+    ghost view = { λ s. record { reader = s.reader; producer = s.producer; pushes = s.pushes; end_is = s.end } };
 }
 
 /// What the thread that reads promises: that it pushes, in order, the requests that it reads from this reader into this ring.
@@ -236,17 +243,19 @@ fn read_to_end<R: Read, H: Attendant>(
     ensures ring { SameProducer producer result.producer }
     ensures pumps { Pumps (R.remaining reader) producer result }
 {
-    let inlet = Inlet {
+    let Pumped {
+        end,
+        reader,
         producer,
-        bell: helper,
-    };
-    let pumped = pump(alloc, reader, inlet);
-    let Inlet { producer, bell } = pumped.ring;
+        pushes,
+        bell,
+    } = pump(alloc, reader, producer, helper);
     bell.end_reading();
     Pushed {
-        end: pumped.end,
-        reader: pumped.reader,
+        end,
+        reader,
         producer,
+        pushes,
     }
 }
 
