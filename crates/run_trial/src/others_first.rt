@@ -42,6 +42,8 @@ impl<Rt: Clock + Drop> Gate for OthersFirst<Rt> {
 
     ghost is_open = { false };
 
+    ghost said = { λ _ _ _. Unit {0} };
+
     fn may_write(&self, session: u64, place: u64) -> bool {
         let (own, other) = self.own_and_other(session);
         if place == 0 && !other.load(Ordering::SeqCst) {

@@ -260,6 +260,8 @@ impl Gate for NotedGate {
 
     ghost is_open = { false };
 
+    ghost said = { λ _ _ _. Unit {0} };
+
     fn may_write(&self, session: u64, place: u64) -> bool {
         self.said.questions.fetch_add(1, Ordering::SeqCst);
         if !self.lets(session, place) {

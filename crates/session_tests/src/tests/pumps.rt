@@ -3,13 +3,12 @@
 use call_types::call::Call;
 use call_types::request::Request;
 use frame_codec::encode::encode_request;
-use request_pump::inlet::{Bell, Inlet};
+use request_pump::bell::{Bell, RingCount};
 use request_pump::pump::pump;
 use request_pump::pumped::{PumpEnd, Pumped};
 use rtrb::{Consumer, RingBuffer};
 use session_core::memory::{Manner, MemoryReader};
 use std::alloc::{AllocError, Global};
-use std::sync::Mutex;
 use std::test::Fail;
 
 /// How many requests the ring has room for.
@@ -64,39 +63,47 @@ impl Taken {
 #[derive(Drop)]
 struct Listener {
     is_awake: bool,
-    taken: Mutex<Taken>,
+    taken: Taken,
+    rings: RingCount,
 }
 
 impl Listener {
     /// Takes what is there, if it is awake.
-    fn hear(&self) {
-        if !self.is_awake {
-            return;
-        }
-        if let Some(mut taken) = self.taken.try_lock() {
-            taken.take();
+    fn hear(&mut self) {
+        if self.is_awake {
+            self.taken.take();
         }
     }
 }
 
 impl Bell for Listener {
-    fn make_room(&self) {
+    ghost rings = { λ listener. listener.rings };
+
+    fn make_room(&mut self) {
         self.hear();
+        self.rings.add_room();
     }
 
-    fn end_of_piece(&self) {
+    fn end_of_piece(&mut self) {
         self.hear();
+        self.rings.add_piece();
     }
 }
 
-/// How a pump of a join and so many forks ends, in reads of at most so many bytes, and how many of its requests came out of its ring
-/// in their order.
-fn pumped(
-    alloc: Global,
-    forks: u32,
-    most: usize,
-    is_awake: bool,
-) -> Result<(PumpEnd, usize), AllocError> {
+/// What a pump has come to.
+#[derive(Clone, Copy, Debug, PartialEq, Eq)]
+struct Outcome {
+    end: PumpEnd,
+    /// How many of its requests came out of its ring in their order.
+    taken: usize,
+    /// How many requests the ring gave back, and how many times in a row at the end.
+    back: (u64, u32),
+    /// How often room was asked for, and how often the end of a piece was rung.
+    rings: (u64, u64),
+}
+
+/// What a pump of a join and so many forks comes to, in reads of at most so many bytes.
+fn pumped(alloc: Global, forks: u32, most: usize, is_awake: bool) -> Result<Outcome, AllocError> {
     let manner = Manner {
         most,
         fails_at: None,
@@ -107,27 +114,72 @@ fn pumped(
     let (producer, consumer) = RingBuffer::new(alloc, ROOM)?;
     let bell = Listener {
         is_awake,
-        taken: Mutex::new(Taken { consumer, count: 0 }),
+        taken: Taken { consumer, count: 0 },
+        rings: RingCount::new(),
     };
-    let Pumped { end, ring, .. } = pump(alloc, reader, Inlet { producer, bell });
-    let Inlet { bell, .. } = ring;
-    let Listener { taken, .. } = bell;
-    let mut taken = taken.into_inner();
+    let Pumped {
+        end,
+        pushes,
+        bell,
+        ..
+    } = pump(alloc, reader, producer, bell);
+    let Listener {
+        mut taken,
+        rings,
+        ..
+    } = bell;
     taken.take();
-    Ok((end, taken.count))
+    Ok(Outcome {
+        end,
+        taken: taken.count,
+        back: (pushes.requests(), pushes.in_a_row()),
+        rings: (rings.rooms(), rings.pieces()),
+    })
 }
 
 #[test]
 fn pump_goes_ahead_by_as_many_as_the_ring_has_room_for(rt: HostRuntime) -> Result<(), Fail> {
-    assert!(rt; pumped(rt.alloc(), 15, 65_536, false)? == (PumpEnd::Closed, 16));
-    assert!(rt; pumped(rt.alloc(), 16, 65_536, false)? == (PumpEnd::Ahead, 16));
+    assert_eq!(rt;
+        pumped(rt.alloc(), 15, 65_536, false)?,
+        Outcome {
+            end: PumpEnd::Closed,
+            taken: 16,
+            back: (0, 0),
+            rings: (0, 1)
+        }
+    );
+    assert_eq!(rt;
+        pumped(rt.alloc(), 16, 65_536, false)?,
+        Outcome {
+            end: PumpEnd::Ahead,
+            taken: 16,
+            back: (1, 2),
+            rings: (1, 0)
+        }
+    );
     Ok(())
 }
 
 #[test]
 fn pump_goes_on_while_its_requests_are_taken(rt: HostRuntime) -> Result<(), Fail> {
     // a frame has five bytes
-    assert!(rt; pumped(rt.alloc(), 40, 5, true)? == (PumpEnd::Closed, 41));
-    assert!(rt; pumped(rt.alloc(), 40, 65_536, true)? == (PumpEnd::Closed, 41));
+    assert_eq!(rt;
+        pumped(rt.alloc(), 40, 5, true)?,
+        Outcome {
+            end: PumpEnd::Closed,
+            taken: 41,
+            back: (0, 0),
+            rings: (0, 41)
+        }
+    );
+    assert_eq!(rt;
+        pumped(rt.alloc(), 40, 65_536, true)?,
+        Outcome {
+            end: PumpEnd::Closed,
+            taken: 41,
+            back: (2, 0),
+            rings: (2, 1)
+        }
+    );
     Ok(())
 }
