@@ -12,7 +12,8 @@ use Rattle.system_lock.specs.declared.kernel.Why.{Why}
 use Rattle.logged_streams.specs.declared.stream_log.TheConstants.{INTERRUPTIONS_MAX}
 use Rattle.logged_streams.specs.Streams.{LoggedReaderState, LoggedWriterState, fresh_log}
 use Rattle.request_pump.specs.Input.{AreRequests, Begins}
-use Rattle.request_pump.specs.Pump.{PumpState, Pumps, PushedBy, PushingEnd, IsMet as PumpMet}
+use Rattle.request_pump.specs.Pump.{PumpState, Pumps, PushedBy, PushingEnd, back_at, IsMet as PumpMet}
+use Rattle.request_pump.specs.Pushes.{PushState}
 use Rattle.request_pump.proofs.InputLemmas.{begins_read}
 use Rattle.request_pump.specs.declared.pump.TheConstants.{READS_MAX}
 use Rattle.request_pump.specs.declared.pumped.PumpEnd.{PumpEnd}
@@ -124,16 +125,16 @@ begun pump_end.Ahead capacity input all h = record { extra = h.back ∷ h.later;
 
 -- ---- over at a request
 
-met_at_one : (base : Option (List ℕ)) (handled : List Request) (next : Request) (o : OutputState) (source : LoggedReaderState) (found : Over) → OverBy base handled next o found → IsMet source found
-met_at_one base handled next o source (over.Leaves at why.Closed) h = absurd h
-met_at_one base handled next o source (over.Leaves at why.ReadFault) h = absurd h
-met_at_one base handled next o source (over.Leaves at why.Malformed) h = tt
-met_at_one base handled next o source (over.Leaves at why.RunFull) h = tt
-met_at_one base handled next o source (over.Leaves at why.NoMemory) h = tt
-met_at_one base handled next o source (over.Leaves at why.Ahead) h = tt
-met_at_one base handled next o source (over.Unwritten at) h = tt
-met_at_one base handled next o source (over.Lost seat cause) h = absurd h
-met_at_one base handled next o source other h = tt
+met_at_one : (base : Option (List ℕ)) (handled : List Request) (next : Request) (o : OutputState) (source : LoggedReaderState) (pushes : PushState) (found : Over) → OverBy base handled next o found → IsMet source pushes found
+met_at_one base handled next o source pushes (over.Leaves at why.Closed) h = absurd h
+met_at_one base handled next o source pushes (over.Leaves at why.ReadFault) h = absurd h
+met_at_one base handled next o source pushes (over.Leaves at why.Malformed) h = tt
+met_at_one base handled next o source pushes (over.Leaves at why.RunFull) h = tt
+met_at_one base handled next o source pushes (over.Leaves at why.NoMemory) h = tt
+met_at_one base handled next o source pushes (over.Leaves at why.Ahead) h = absurd h
+met_at_one base handled next o source pushes (over.Unwritten at) h = tt
+met_at_one base handled next o source pushes (over.Lost seat cause) h = absurd h
+met_at_one base handled next o source pushes other h = tt
 
 early_at : (base : Option (List ℕ)) (Given : List Request → Type 0) (taken handled later : List Request) (next : Request) (o : OutputState) (found : Over) → taken ≡ handled ++ next ∷ [] → Given (taken ++ later) → OverBy base handled next o found
     → IsOverHere base Given o found
@@ -156,23 +157,23 @@ pub over_here : (base : Option (List ℕ)) (Given : List Request → Type 0) (ta
 over_here base Given taken later o found given (inl h) = early_at base Given taken h.handled later h.next o found h.taken_are given h.is
 over_here base Given taken later o found given (inr h) = early_unwritten base Given taken later o found given h
 
-met_unwritten : (base : Option (List ℕ)) (taken : List Request) (o : OutputState) (source : LoggedReaderState) (found : Over) → LeavesUnwritten base taken o found → IsMet source found
-met_unwritten base taken o source (over.Unwritten at) h = tt
-met_unwritten base taken o source other h = absurd h
+met_unwritten : (base : Option (List ℕ)) (taken : List Request) (o : OutputState) (source : LoggedReaderState) (pushes : PushState) (found : Over) → LeavesUnwritten base taken o found → IsMet source pushes found
+met_unwritten base taken o source pushes (over.Unwritten at) h = tt
+met_unwritten base taken o source pushes other h = absurd h
 
-met_early : (base : Option (List ℕ)) (taken : List Request) (o : OutputState) (source : LoggedReaderState) (found : Over) → OverOf base taken o found → IsMet source found
-met_early base taken o source found (inl h) = met_at_one base h.handled h.next o source found h.is
-met_early base taken o source found (inr h) = met_unwritten base taken o source found h
+met_early : (base : Option (List ℕ)) (taken : List Request) (o : OutputState) (source : LoggedReaderState) (pushes : PushState) (found : Over) → OverOf base taken o found → IsMet source pushes found
+met_early base taken o source pushes found (inl h) = met_at_one base h.handled h.next o source pushes found h.is
+met_early base taken o source pushes found (inr h) = met_unwritten base taken o source pushes found h
 
 -- ---- all requests were answered
 
-after_all : (found : PumpEnd) (capacity : ℕ) (base : Option (List ℕ)) (input : List ℕ) (all : List Request) (o : OutputState) (source : LoggedReaderState) (at : Stage) → REQUESTS_AHEAD ≤ capacity → PushedBy capacity input [] all found
-    → PumpMet source found → Holds base o → IsTalking all o.answers at → IsOver base input o (over.Leaves at (why_of found)) × IsMet source (over.Leaves at (why_of found))
-after_all pump_end.Closed capacity base input all o source at room h met holds talking =
+after_all : (found : PumpEnd) (capacity : ℕ) (base : Option (List ℕ)) (input : List ℕ) (all : List Request) (o : OutputState) (source : LoggedReaderState) (pushes : PushState) (at : Stage) → REQUESTS_AHEAD ≤ capacity → PushedBy capacity input [] all found
+    → PumpMet source found → pushes.in_a_row ≡ back_at found → Holds base o → IsTalking all o.answers at → IsOver base input o (over.Leaves at (why_of found)) × IsMet source pushes (over.Leaves at (why_of found))
+after_all pump_end.Closed capacity base input all o source pushes at room h met back holds talking =
     (inr (record { requests = all; read = subst (λ (l : List Request). AreRequests input l progress.More) (sym h.is) h.read; holds = holds; talking = talking }), met.0)
-after_all pump_end.ReadFault capacity base input all o source at room h met holds talking =
+after_all pump_end.ReadFault capacity base input all o source pushes at room h met back holds talking =
     (inr (record { requests = all; read = subst (λ (l : List Request). AreRequests input l progress.More) (sym h.is) h.read; holds = holds; talking = talking }), met)
-after_all pump_end.Malformed capacity base input all o source at room h met holds talking = (
+after_all pump_end.Malformed capacity base input all o source pushes at room h met back holds talking = (
   inr (record {
     requests = all;
     told = h.told;
@@ -183,7 +184,7 @@ after_all pump_end.Malformed capacity base input all o source at room h met hold
   }),
   tt,
 )
-after_all pump_end.NoMemory capacity base input all o source at room h met holds talking = (
+after_all pump_end.NoMemory capacity base input all o source pushes at room h met back holds talking = (
   inr (record {
     requests = all;
     begins = subst (Begins input) (sym h.is) h.begins;
@@ -193,7 +194,7 @@ after_all pump_end.NoMemory capacity base input all o source at room h met holds
   }),
   tt,
 )
-after_all pump_end.Ahead capacity base input all o source at room h met holds talking = (
+after_all pump_end.Ahead capacity base input all o source pushes at room h met back holds talking = (
   inr (record {
     requests = all;
     back = h.back;
@@ -203,7 +204,7 @@ after_all pump_end.Ahead capacity base input all o source at room h met holds ta
     holds = holds;
     talking = talking;
   }),
-  tt,
+  back,
 )
 
 -- ---- a call was given up
@@ -215,16 +216,16 @@ cut_off_at found capacity base input all taken later o seat h split is =
     let joined : all ++ b.extra ≡ taken ++ (later ++ b.extra) = ap (λ (l : List Request). l ++ b.extra) split ∙ append_assoc taken later b.extra in
     record { requests = taken; later = later ++ b.extra; begins = subst (Begins input) joined b.begins; is = is }
 
-after_cut : (found : PumpEnd) (capacity : ℕ) (base : Option (List ℕ)) (input : List ℕ) (all taken later : List Request) (o : OutputState) (source : LoggedReaderState) (seat : SeatState) → REQUESTS_AHEAD ≤ capacity → PushedBy capacity input [] all found
-    → PumpMet source found → all ≡ taken ++ later → IsGivenUp base taken o seat → IsOver base input o (over.Lost seat (why_of found)) × IsMet source (over.Lost seat (why_of found))
-after_cut pump_end.Closed capacity base input all taken later o source seat room h met split is =
+after_cut : (found : PumpEnd) (capacity : ℕ) (base : Option (List ℕ)) (input : List ℕ) (all taken later : List Request) (o : OutputState) (source : LoggedReaderState) (pushes : PushState) (seat : SeatState) → REQUESTS_AHEAD ≤ capacity → PushedBy capacity input [] all found
+    → PumpMet source found → pushes.in_a_row ≡ back_at found → all ≡ taken ++ later → IsGivenUp base taken o seat → IsOver base input o (over.Lost seat (why_of found)) × IsMet source pushes (over.Lost seat (why_of found))
+after_cut pump_end.Closed capacity base input all taken later o source pushes seat room h met back split is =
     (inr (cut_off_at pump_end.Closed capacity base input all taken later o seat h split is, record { requests = h.requests; read = h.read }), met.0)
-after_cut pump_end.ReadFault capacity base input all taken later o source seat room h met split is =
+after_cut pump_end.ReadFault capacity base input all taken later o source pushes seat room h met back split is =
     (inr (cut_off_at pump_end.ReadFault capacity base input all taken later o seat h split is, record { requests = h.requests; read = h.read }), met)
-after_cut pump_end.Malformed capacity base input all taken later o source seat room h met split is =
+after_cut pump_end.Malformed capacity base input all taken later o source pushes seat room h met back split is =
     (inr (cut_off_at pump_end.Malformed capacity base input all taken later o seat h split is, record { requests = h.requests; told = h.told; fault = h.fault; read = h.read }), tt)
-after_cut pump_end.NoMemory capacity base input all taken later o source seat room h met split is = (inr (cut_off_at pump_end.NoMemory capacity base input all taken later o seat h split is), tt)
-after_cut pump_end.Ahead capacity base input all taken later o source seat room h met split is =
+after_cut pump_end.NoMemory capacity base input all taken later o source pushes seat room h met back split is = (inr (cut_off_at pump_end.NoMemory capacity base input all taken later o seat h split is), tt)
+after_cut pump_end.Ahead capacity base input all taken later o source pushes seat room h met back split is =
     let rest = h.back ∷ h.later in
     let joined : all ++ rest ≡ taken ++ (later ++ rest) = ap (λ (l : List Request). l ++ rest) split ∙ append_assoc taken later rest in (
       inr (record {
@@ -236,24 +237,24 @@ after_cut pump_end.Ahead capacity base input all taken later o source seat room 
         full = subst (λ (l : List Request). REQUESTS_AHEAD ≤ length l) split (omega (arith, room, h.full));
         is = is;
       }),
-      tt,
+      back,
     )
 
 -- ---- how a session is over
 
-is_over : (capacity : ℕ) (base : Option (List ℕ)) (input : List ℕ) (p : PumpState) (o : OutputState) (found : Over) → REQUESTS_AHEAD ≤ capacity → PushedBy capacity input [] (sent p.producer) p.end_is → PumpMet p.reader p.end_is
-    → EndsAs base (sent p.producer) (why_of p.end_is) o found → IsOver base input o found × IsMet p.reader found
-is_over capacity base input p o found room pushed met (inl early) =
+is_over : (capacity : ℕ) (base : Option (List ℕ)) (input : List ℕ) (p : PumpState) (o : OutputState) (found : Over) → REQUESTS_AHEAD ≤ capacity → PushedBy capacity input [] (sent p.producer) p.end_is → PumpMet p.reader p.end_is → p.pushes.in_a_row ≡ back_at p.end_is
+    → EndsAs base (sent p.producer) (why_of p.end_is) o found → IsOver base input o found × IsMet p.reader p.pushes found
+is_over capacity base input p o found room pushed met back (inl early) =
     let b = begun p.end_is capacity input (sent p.producer) pushed in
     let joined : sent p.producer ++ b.extra ≡ early.taken ++ (early.later ++ b.extra) = ap (λ (l : List Request). l ++ b.extra) early.sent_are ∙ append_assoc early.taken early.later b.extra in (
       inl (over_here base (Begins input) early.taken (early.later ++ b.extra) o found (subst (Begins input) joined b.begins) early.is),
-      met_early base early.taken o p.reader found early.is,
+      met_early base early.taken o p.reader p.pushes found early.is,
     )
-is_over capacity base input p o found room pushed met (inr (inr lost)) =
-    subst (λ (f : Over). IsOver base input o f × IsMet p.reader f) (sym lost.found_is)
-    (after_cut p.end_is capacity base input (sent p.producer) lost.taken lost.later o p.reader lost.seat room pushed met lost.sent_are lost.is)
-is_over capacity base input p o found room pushed met (inr (inl all)) =
-    subst (λ (f : Over). IsOver base input o f × IsMet p.reader f) (sym all.is) (after_all p.end_is capacity base input (sent p.producer) o p.reader all.at room pushed met all.holds all.talking)
+is_over capacity base input p o found room pushed met back (inr (inr lost)) =
+    subst (λ (f : Over). IsOver base input o f × IsMet p.reader p.pushes f) (sym lost.found_is)
+    (after_cut p.end_is capacity base input (sent p.producer) lost.taken lost.later o p.reader p.pushes lost.seat room pushed met back lost.sent_are lost.is)
+is_over capacity base input p o found room pushed met back (inr (inl all)) =
+    subst (λ (f : Over). IsOver base input o f × IsMet p.reader p.pushes f) (sym all.is) (after_all p.end_is capacity base input (sent p.producer) o p.reader p.pushes all.at room pushed met back all.holds all.talking)
 
 -- a pump whose ring was empty and has so much room
 pub record IsFreshRing (ring : PushingEnd) : Type 0 where
@@ -290,8 +291,8 @@ has_served : (unopened : Request → Refusal → Type 0) (refused : SeatState �
     → IsFreshRing ring → Pumps from ring p → Settles unopened refused ended always base p s → Serves always from base s
 has_served unopened refused ended always from base ring p s fresh h settles =
     let ending = settles.ending in
-    let at = is_over (producer_capacity ring) base h.input p ending.old ending.found fresh.room (pushed_from from ring p fresh h) h.met ending.ends in
-    let comes : ComesTo h.input base s = subst (ComesTo h.input base) settles.is (ending.left_by.leaves.read base h.input p.reader at.0 at.1) in
+    let at = is_over (producer_capacity ring) base h.input p ending.old ending.found fresh.room (pushed_from from ring p fresh h) h.met h.given_back ending.ends in
+    let comes : ComesTo h.input base s = subst (ComesTo h.input base) settles.is (ending.left_by.leaves.read base h.input p.reader p.pushes at.0 at.1) in
     record {
       input = h.input;
       consumes = subst (λ (x : SessionState). HasRead from x.reader h.input) settles.is h.consumes;
@@ -313,7 +314,7 @@ pub given_up : (unopened : Request → Refusal → Type 0) (refused : SeatState 
 given_up unopened refused ended always from base ring p s fresh h settles =
     let ending = settles.ending in
     let by = ending.left_by in
-    let at = is_over (producer_capacity ring) base h.input p ending.old ending.found fresh.room (pushed_from from ring p fresh h) h.met ending.ends in
+    let at = is_over (producer_capacity ring) base h.input p ending.old ending.found fresh.room (pushed_from from ring p fresh h) h.met h.given_back ending.ends in
     subst (λ (x : SessionState). CutSaid ended x.seat x.answers x.end_is) settles.is
     (cut_said unopened ended base h.input ending.old settles.o ending.found settles.left (with_last settles.o.answers settles.left.last) at.0 by.over_said by.keeps by.closes refl)
 

@@ -12,6 +12,7 @@ use Rattle.record_book.specs.Seat.{Receipted, SeatState}
 use Rattle.system_lock.specs.Kernel.{AsksForASeat, IsError, IsNoError}
 use Rattle.logged_streams.specs.declared.stream_log.TheConstants.{INTERRUPTIONS_MAX}
 use Rattle.request_pump.specs.Input.{Begins, AreRequests, IsFault}
+use Rattle.request_pump.specs.Pushes.{PushState}
 use Rattle.request_pump.specs.declared.pump.TheConstants.{READS_MAX}
 use Rattle.session_core.specs.declared.serve.TheConstants.{REQUESTS_AHEAD}
 use Rattle.session_core.specs.declared.end.End.{End}
@@ -199,10 +200,11 @@ IsWritten old new answers other = Appends old new (answers_text answers)
 
 -- ---- why it ended
 
--- a session that is over: its reader, if that is handed back, and its writer, each with what became of its calls; its seat, its answers and its end
+-- a session that is over: its reader, if that is handed back, and its writer, each with what became of its calls; what its ring gave back; its seat, its answers and its end
 pub record SessionState : Type 0 where
   pub reader : Option LoggedReaderState
   pub writer : LoggedWriterState
+  pub pushes : PushState
   pub seat : Option SeatState
   pub answers : List Told
   pub end_is : End
@@ -219,9 +221,9 @@ AnswersAllOrCut input answers = AnswersAll input answers ⊎ (HasNoFault input �
 abbrev pub IsFaulty : List ℕ → List Told → Type 0
 IsFaulty input answers = AnswersToFault input answers ⊎ (HasFault input × AnswersToCut (Begins input) answers None)
 
--- a request came after at least as many as the ring has room for
-abbrev pub IsOverrun : List ℕ → List Told → Type 0
-IsOverrun input answers = AnswersToAhead input answers ⊎ AnswersToCutAhead input answers
+-- a request came after at least as many as the ring has room for, and the ring gave it back, and once more when room had been asked for
+abbrev pub IsOverrun : List ℕ → PushState → List Told → Type 0
+IsOverrun input pushes answers = (pushes.in_a_row ≡ 2) × (AnswersToAhead input answers ⊎ AnswersToCutAhead input answers)
 
 -- the run was full for the opening, or when the call that waited could go on
 abbrev pub IsRunFull : (List Request → Type 0) → List Told → Type 0
@@ -244,18 +246,18 @@ EndsAt Given writer seat answers end.Foreign = Unit {0}
 EndsAt Given writer seat answers end.NoThread = ⊥
 
 -- why it ends when no more is read. Nothing is said here of want of memory
-abbrev pub EndsAfter : List ℕ → Option LoggedReaderState → Option SeatState → List Told → End → Type 0
-EndsAfter input reader seat answers end.Closed = IsReadToEnd reader × AnswersAllOrCut input answers
-EndsAfter input reader seat answers end.ReadFault = IsReadNoMore READS_MAX (reads_of reader) × AnswersAllOrCut input answers
-EndsAfter input reader seat answers end.Malformed = IsFaulty input answers
-EndsAfter input reader seat answers end.Ahead = IsOverrun input answers
-EndsAfter input reader seat answers end.NoMemory = Unit {0}
-EndsAfter input reader seat answers end.NoThread = IsUnstarted input seat answers
-EndsAfter input reader seat answers other = ⊥
+abbrev pub EndsAfter : List ℕ → Option LoggedReaderState → PushState → Option SeatState → List Told → End → Type 0
+EndsAfter input reader pushes seat answers end.Closed = IsReadToEnd reader × AnswersAllOrCut input answers
+EndsAfter input reader pushes seat answers end.ReadFault = IsReadNoMore READS_MAX (reads_of reader) × AnswersAllOrCut input answers
+EndsAfter input reader pushes seat answers end.Malformed = IsFaulty input answers
+EndsAfter input reader pushes seat answers end.Ahead = IsOverrun input pushes answers
+EndsAfter input reader pushes seat answers end.NoMemory = Unit {0}
+EndsAfter input reader pushes seat answers end.NoThread = IsUnstarted input seat answers
+EndsAfter input reader pushes seat answers other = ⊥
 
 -- why a session ends that read these bytes
-abbrev pub EndsFor : List ℕ → Option LoggedReaderState → LoggedWriterState → Option SeatState → List Told → End → Type 0
-EndsFor input reader writer seat answers found = EndsAt (Begins input) writer seat answers found ⊎ EndsAfter input reader seat answers found
+abbrev pub EndsFor : List ℕ → Option LoggedReaderState → PushState → LoggedWriterState → Option SeatState → List Told → End → Type 0
+EndsFor input reader pushes writer seat answers found = EndsAt (Begins input) writer seat answers found ⊎ EndsAfter input reader pushes seat answers found
 
 -- what a session comes to: the requests that it was given, why it ends, and what its writer held before
 pub record ComesBy (Given : List Request → Type 0) (Ends : LoggedWriterState → Option SeatState → List Told → End → Type 0) (base : Option (List ℕ)) (writer : LoggedWriterState) (seat : Option SeatState) (answers : List Told) (found : End) : Type 0 where
@@ -266,7 +268,7 @@ pub record ComesBy (Given : List Request → Type 0) (Ends : LoggedWriterState �
 
 -- the same of one that read these bytes
 abbrev pub ComesTo : List ℕ → Option (List ℕ) → SessionState → Type 0
-ComesTo input base s = ComesBy (Begins input) (EndsFor input s.reader) base s.writer s.seat s.answers s.end_is
+ComesTo input base s = ComesBy (Begins input) (EndsFor input s.reader s.pushes) base s.writer s.seat s.answers s.end_is
 
 -- how many threads its starter could not start, where they were so many before: one more where the session has no thread, and as many where it has another end
 abbrev pub failures_after : End → ℕ → ℕ

@@ -27,6 +27,7 @@ use logged_streams::reader::LoggedReader;
 use logged_streams::writer::LoggedWriter;
 use record_book::seat::{Seat, SpentSeat};
 use request_pump::bell::RingCount;
+use request_pump::inlet::PushLog;
 use request_pump::pumped::PumpEnd;
 use rtrb::{Consumer, Producer, RingBuffer};
 use std::alloc::{AllocError, Global};
@@ -52,6 +53,8 @@ pub struct Served<R: Read, W: Write, L: Ledgers> {
     pub reader: Option<LoggedReader<R>>,
     /// The writer, with what became of its writes.
     pub writer: LoggedWriter<W>,
+    /// What the ring of its requests gave back.
+    pub pushes: PushLog,
 }
 
 impl<R: Read, W: Write, L: Ledgers> Model for Served<R, W, L> {
@@ -60,7 +63,7 @@ impl<R: Read, W: Write, L: Ledgers> Model for Served<R, W, L> {
 
     ghost Value = { SessionState };
 
-    ghost view = { λ s. record { reader = s.reader; writer = s.writer; seat = result_ok s.seat; answers = s.answers.items; end_is = s.end } };
+    ghost view = { λ s. record { reader = s.reader; writer = s.writer; pushes = s.pushes; seat = result_ok s.seat; answers = s.answers.items; end_is = s.end } };
 }
 
 /// Serves one process: reads its requests, asks the kernel for each, and writes each answer once the gate lets it through. This goes on
@@ -209,14 +212,12 @@ fn shared_twice<
 ) -> Result<(Arc<Shared<D, W, G, L, K>>, Helper<Rt, D, W, G, L, K>), AllocError> {
     let shared = Arc::new(alloc, Shared::new(kernel))?;
     let other = Arc::try_clone(&shared)?;
-    Ok((
-        shared,
-        Helper {
-            rt,
-            shared: other,
-            rings: RingCount::new(),
-        },
-    ))
+    let helper = Helper {
+        rt,
+        shared: other,
+        rings: RingCount::new(),
+    };
+    Ok((shared, helper))
 }
 
 /// Why a session leaves off whose requests are all answered.
@@ -250,7 +251,7 @@ fn leave_rest<
         end,
         reader,
         producer,
-        ..
+        pushes,
     } = pushed;
     let Desk {
         mut consumer,
@@ -280,6 +281,7 @@ fn leave_rest<
         end: left.end,
         reader: Some(reader),
         writer,
+        pushes,
     }
 }
 
@@ -304,6 +306,7 @@ fn unserved<R: Read, W: Write + Connection + Drop, L: Ledgers>(
         end,
         reader,
         writer,
+        pushes: PushLog::new(),
     }
 }
 

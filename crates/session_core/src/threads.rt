@@ -149,6 +149,7 @@ pub(crate) struct Helper<
 > {
     pub(crate) rt: Rt,
     pub(crate) shared: Arc<Shared<D, W, G, L, K>>,
+    /// How often it was rung.
     pub(crate) rings: RingCount,
 }
 
@@ -160,7 +161,7 @@ impl<
     L: Ledgers,
     K: Kernel<Seat<L>, SpentSeat<L>> + Drop,
 > Bell for Helper<Rt, D, W, G, L, K> {
-    ghost rings = { λ helper. helper.rings };
+    ghost rings = { λ h. h.rings };
 
     fn make_room(&mut self) {
         self.shared.wake(self.shared.make_room(&self.rt));

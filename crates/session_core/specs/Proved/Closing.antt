@@ -18,6 +18,7 @@ use Rattle.session_core.specs.Proved.Output.{OutputState, SendsAll, FailsToSend}
 use Rattle.session_core.specs.Proved.Ends.{IsOver, IsOverHere, IsMet}
 use Rattle.session_core.specs.Served.{AreTaken, ComesBy, ComesTo, EndsAt, SessionState}
 use Rattle.logged_streams.specs.Streams.{LoggedReaderState, LoggedWriterState}
+use Rattle.request_pump.specs.Pushes.{PushState}
 
 -- the end of a session that has written all its answers
 abbrev pub end_of : LeaveCause → End
@@ -54,10 +55,11 @@ pub record IsTaken (o : OutputState) (last : Option Receipted) (answers : List T
   pub few : writer.log.interruptions ≤ INTERRUPTIONS_MAX
 
 -- the session that is left
-abbrev pub session_of : LoggedReaderState → OutputState → LeftSession → SessionState
-session_of source o left = record {
+abbrev pub session_of : LoggedReaderState → PushState → OutputState → LeftSession → SessionState
+session_of source pushes o left = record {
   reader = Some source;
   writer = o.sink;
+  pushes = pushes;
   seat = result_ok left.seat;
   answers = with_last o.answers left.last;
   end_is = left.end;
@@ -67,7 +69,7 @@ session_of source o left = record {
 pub record LeavesAll (old new : OutputState) (found : Over) (left : LeftSession) : Type 0 where
   pub here : (base : Option (List ℕ)) (taken : List Request) → IsOverHere base (AreTaken taken) old found
       → ComesBy (AreTaken taken) (EndsAt (AreTaken taken)) base new.sink (result_ok left.seat) (with_last new.answers left.last) left.end
-  pub read : (base : Option (List ℕ)) (input : List ℕ) (source : LoggedReaderState) → IsOver base input old found → IsMet source found → ComesTo input base (session_of source new left)
+  pub read : (base : Option (List ℕ)) (input : List ℕ) (source : LoggedReaderState) (pushes : PushState) → IsOver base input old found → IsMet source pushes found → ComesTo input base (session_of source pushes new left)
 
 -- why no more is read, or taken up, of a session whose answers are all written
 abbrev pub IsOfReads : LeaveCause → Type 0

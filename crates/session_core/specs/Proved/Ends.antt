@@ -1,5 +1,5 @@
 -- A session that is over, and the bytes that it read (own).
-use Rattle.std.specs.Prelude.{ℕ, ◌≤◌, ◌⊎◌, List, ◌∷◌, ◌++◌, Option, length}
+use Rattle.std.specs.Prelude.{◌≡◌, ℕ, ◌≤◌, ◌⊎◌, List, ◌∷◌, ◌++◌, Option, length}
 use Rattle.std.specs.Io.KnownBytes.{IsAtEnd}
 use Rattle.call_types.specs.declared.request.Request.{Request}
 use Rattle.record_book.specs.Seat.{SeatState}
@@ -11,6 +11,7 @@ use Rattle.session_core.specs.declared.stage.Over.TheVariants as over
 use Rattle.session_core.specs.Proved.Output.{OutputState, Holds, Broke}
 use Rattle.logged_streams.specs.Streams.{LoggedReaderState, IsReadNoMore}
 use Rattle.request_pump.specs.Input.{Begins, AreRequests, IsFault}
+use Rattle.request_pump.specs.Pushes.{PushState}
 use Rattle.request_pump.specs.declared.pump.TheConstants.{READS_MAX}
 use Rattle.session_core.specs.declared.serve.TheConstants.{REQUESTS_AHEAD}
 use Rattle.session_core.specs.Talk.{Converses}
@@ -111,10 +112,12 @@ LeavesOff base input o other = ⊥
 abbrev pub IsOver : Option (List ℕ) → List ℕ → OutputState → Over → Type 0
 IsOver base input o found = IsOverHere base (Begins input) o found ⊎ LeavesOff base input o found
 
--- a session is closed only at the end of its bytes, and has a read fault only where its reader is read no more
-abbrev pub IsMet : LoggedReaderState → Over → Type 0
-IsMet source (over.Leaves at why.Closed) = IsAtEnd source.remaining
-IsMet source (over.Leaves at why.ReadFault) = IsReadNoMore READS_MAX source.log
-IsMet source (over.Lost seat why.Closed) = IsAtEnd source.remaining
-IsMet source (over.Lost seat why.ReadFault) = IsReadNoMore READS_MAX source.log
-IsMet source other = Unit {0}
+-- a session is closed only at the end of its bytes, has a read fault only where its reader is read no more, and is ahead only where its ring gave a request back twice
+abbrev pub IsMet : LoggedReaderState → PushState → Over → Type 0
+IsMet source pushes (over.Leaves at why.Closed) = IsAtEnd source.remaining
+IsMet source pushes (over.Leaves at why.ReadFault) = IsReadNoMore READS_MAX source.log
+IsMet source pushes (over.Leaves at why.Ahead) = pushes.in_a_row ≡ 2
+IsMet source pushes (over.Lost seat why.Closed) = IsAtEnd source.remaining
+IsMet source pushes (over.Lost seat why.ReadFault) = IsReadNoMore READS_MAX source.log
+IsMet source pushes (over.Lost seat why.Ahead) = pushes.in_a_row ≡ 2
+IsMet source pushes other = Unit {0}

@@ -10,6 +10,7 @@ use Rattle.system_lock.specs.declared.kernel.Why.{Why}
 use Rattle.logged_streams.specs.Streams.{LoggedReaderState, fresh_log}
 use Rattle.logged_streams.specs.declared.stream_log.TheConstants.{INTERRUPTIONS_MAX}
 use Rattle.request_pump.specs.Pump.{PumpState}
+use Rattle.request_pump.specs.Pushes.{none_back}
 use Rattle.request_pump.specs.declared.pumped.PumpEnd.{PumpEnd}
 use Rattle.request_pump.specs.declared.pumped.PumpEnd.TheVariants as pump_end
 use Rattle.session_core.specs.declared.end.End.{End}
@@ -34,7 +35,7 @@ pub record Settles (unopened : Request → Refusal → Type 0) (refused : SeatSt
   pub o : OutputState
   pub left : LeftSession
   pub ending : IsEnding unopened refused ended base (sent p.producer) (why_of p.end_is) o left
-  pub is : session_of p.reader o left ≡ s
+  pub is : session_of p.reader p.pushes o left ≡ s
   pub few : s.writer.log.interruptions ≤ INTERRUPTIONS_MAX
   pub let_through : always ≡ true → s.writer.log.refusals ≡ 0
 
@@ -44,4 +45,4 @@ unread remaining = record { remaining = remaining; log = fresh_log }
 
 -- a session that has read nothing
 abbrev pub unserved_by : Option (Option (List ℕ)) → Option (List ℕ) → End → SessionState
-unserved_by remaining contents found = record { reader = option_map unread remaining; writer = record { contents = contents; log = fresh_log }; seat = None; answers = []; end_is = found }
+unserved_by remaining contents found = record { reader = option_map unread remaining; writer = record { contents = contents; log = fresh_log }; pushes = none_back; seat = None; answers = []; end_is = found }
