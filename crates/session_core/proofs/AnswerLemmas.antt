@@ -14,11 +14,12 @@ use Rattle.session_core.specs.declared.answer.AnsweredSeat.TheVariants as seat
 use Rattle.session_core.specs.declared.end.End.TheVariants as end
 use Rattle.session_core.specs.declared.stage.Stage.TheVariants as stage
 use Rattle.session_core.specs.declared.stage.Standing.TheVariants as standing
-use Rattle.session_core.specs.Answering.{AnswersRing, ComesToEnd, spent_of, TakingEnd}
-use Rattle.session_core.specs.Proved.Leaving.{answered_of, seat_of}
+use Rattle.session_core.specs.Answering.{AnswersRing, ComesToEnd, IsShutAtItsEnd, spent_of, TakingEnd}
+use Rattle.session_core.specs.Proved.Leaving.{answered_of, end_at, seat_of}
 use Rattle.session_core.specs.Proved.Closing.{with_last}
 use Rattle.session_core.specs.Proved.Desk.{HasLeft, IsAtRest, Stands}
 use Rattle.session_core.specs.Proved.Output.{OutputState}
+use Rattle.session_core.specs.Proved.Shutting.{ShutIfLeft}
 use Rattle.session_core.specs.Refusals.{RefusalSaid}
 use Rattle.session_core.specs.Said.{EndSaid}
 use Rattle.session_core.specs.Served.{AreTaken, ComesBy, EndsAt}
@@ -73,3 +74,11 @@ answers_nothing unopened refused ended always base ring admission writer e =
       said = empty_said (RefusalSaid unopened refused ended (received ring)) [] refl;
       let_through = λ given. refl;
     })
+
+-- ---- the connection
+
+pub shut_at_its_end : (was_shut : Option (List ℕ) → Type 0) (o : OutputState) (at : Standing) → ShutIfLeft was_shut o at → IsShutAtItsEnd was_shut o.sink (end_at at)
+shut_at_its_end was_shut o (standing.Left left) h = h
+shut_at_its_end was_shut o (standing.Ready at) h = tt
+shut_at_its_end was_shut o (standing.Waits live) h = tt
+shut_at_its_end was_shut o (standing.Lost spent) h = tt

@@ -59,6 +59,11 @@ abbrev pub HasAnswered : (Request → Refusal → Type 0) → (SeatState → Why
 HasAnswered unopened ended base taken s None = AnswersTaken ended taken s.answers s.seat_is × Appends base s.writer.contents (answers_text s.answers)
 HasAnswered unopened ended base taken s (Some found) = ComesToEnd base taken s found × EndSaid unopened ended (spent_of s.seat_is) found
 
+-- a connection was shut that held what the writer holds, where there is an end of its own
+abbrev pub IsShutAtItsEnd : (Option (List ℕ) → Type 0) → LoggedWriterState → Option End → Type 0
+IsShutAtItsEnd was_shut writer None = Unit {0}
+IsShutAtItsEnd was_shut writer (Some found) = was_shut writer.contents
+
 -- what came of the requests of a ring, each refusal of which was said by the kernel; a gate that always says yes has refused no answer
 pub record AnswersRing (unopened : Request → Refusal → Type 0) (refused : SeatState → Call → Refusal → Type 0) (ended : SeatState → Why → Type 0) (always : Bool) (base : Option (List ℕ)) (s : AnsweredState) : Type 0 where
   pub answered : HasAnswered unopened ended base (received s.ring) s s.end_is

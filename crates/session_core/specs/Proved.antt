@@ -6,6 +6,7 @@ pub mod Closing
 pub mod Memory
 pub mod Desk
 pub mod Settling
+pub mod Shutting
 pub mod Laws
 pub mod Saying
 pub mod Leaving

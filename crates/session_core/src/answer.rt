@@ -2,9 +2,10 @@
 
 ghost use Rattle.std.specs.Prelude.{◌≡◌, [], true};
 ghost use Rattle.rtrb.specs.Ring.{received, SameConsumer};
-ghost use Rattle.session_core.specs.Answering.{AnswersRing};
+ghost use Rattle.session_core.specs.Answering.{AnswersRing, IsShutAtItsEnd};
 ghost use Rattle.session_core.specs.Proved.Leaving.{answered_of, seat_of};
 ghost use Rattle.session_core.specs.Proved.Desk.{StandsOn, IsAtRest};
+ghost use Rattle.session_core.specs.Proved.Shutting.{ShutIfLeft};
 
 use crate::connection::Connection;
 use crate::desk::{send_ready, take_ready, wait_on};
@@ -77,6 +78,7 @@ fn answer_all<
     ensures ring { SameConsumer ring.old ring.new }
     ensures stands { StandsOn K.not_opened K.refused K.ended (received ring.old) output.old standing (received ring.new) output.new result }
     ensures rests { IsAtRest output.new result }
+    ensures shut { ShutIfLeft W.was_shut output.old standing → ShutIfLeft W.was_shut output.new result }
 {
     let mut standing = standing;
     for _ in rt.forever() {
@@ -159,11 +161,13 @@ pub fn answer<
     requires fresh { received ring ≡ [] }
     ensures ring { SameConsumer ring result.ring }
     ensures answers { AnswersRing K.not_opened K.refused K.ended G.is_open (W.contents writer) result }
+    ensures shut { IsShutAtItsEnd W.was_shut result.writer result.end_is }
 {
     let mut output = match Output::new(alloc, writer, session, gate) {
         Ok(output) => output,
         Err(writer) => {
             note.none_opened(rt);
+            writer.shut();
             return Answered {
                 seat: AnsweredSeat::None(admission),
                 answers: Vec::new(alloc),

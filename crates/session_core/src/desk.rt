@@ -3,6 +3,7 @@
 ghost use Rattle.std.specs.Prelude.{◌≡◌, ◌∷◌, ◌++◌, ℕ, List, Option, Some, [], length};
 ghost use Rattle.rtrb.specs.Ring.{received, known_items, SameConsumer};
 ghost use Rattle.call_types.specs.declared.request.Request.{Request};
+ghost use Rattle.session_core.specs.Proved.Shutting.{ShutIfLeft};
 ghost use Rattle.session_core.specs.Proved.Desk.{TurnStands, StandsBy, StandsOn, SendsOn, SentIfOn, SentIfReady, IsReady, LeftBy, EndsOn, attended_by};
 ghost use Rattle.session_core.specs.Refusals.{AreSaid, RefusalSaid};
 ghost use Rattle.session_core.specs.Proved.Saying.{IsReadingEnd, OverSaid, TurnSaid};
@@ -47,7 +48,13 @@ impl Naming for Brand {
 /// What answers the requests of a session: the end of the ring that gives them, the answers, and where the session stands. Its type
 /// names the session and its kernel.
 #[derive(Drop)]
-pub(crate) struct Desk<D: Naming, W: Write, G: Gate, L: Ledgers, K: Kernel<Seat<L>, SpentSeat<L>>> {
+pub(crate) struct Desk<
+    D: Naming,
+    W: Write + Connection,
+    G: Gate,
+    L: Ledgers,
+    K: Kernel<Seat<L>, SpentSeat<L>>,
+> {
     pub(crate) consumer: Consumer<Request>,
     pub(crate) output: Output<W, G>,
     /// It is taken away only while it changes.
@@ -56,16 +63,17 @@ pub(crate) struct Desk<D: Naming, W: Write, G: Gate, L: Ledgers, K: Kernel<Seat<
     kernel: PhantomData<K>,
 }
 
-impl<D: Naming, W: Write, G: Gate, L: Ledgers, K: Kernel<Seat<L>, SpentSeat<L>>> Model
+impl<D: Naming, W: Write + Connection, G: Gate, L: Ledgers, K: Kernel<Seat<L>, SpentSeat<L>>> Model
     for Desk<D, W, G, L, K> {
     ghost use Rattle.rtrb.specs.Ring.{received};
     ghost use Rattle.session_core.specs.Proved.Desk.{DeskState, IsRingOf, StandsThere};
+    ghost use Rattle.session_core.specs.Proved.Shutting.{ShutThere};
 
     ghost Value = { DeskState };
 
     ghost view = { λ d. record { ring = d.consumer; output_is = d.output; standing = d.standing } };
 
-    ghost invariant = { λ d. IsRingOf D.ring d.consumer × StandsThere K.not_opened K.refused K.ended D.base (received d.consumer) d.output d.standing };
+    ghost invariant = { λ d. IsRingOf D.ring d.consumer × StandsThere K.not_opened K.refused K.ended D.base (received d.consumer) d.output d.standing × ShutThere W.was_shut d.output d.standing };
 }
 
 /// Leaves a session that is over, and shuts its connection.
@@ -75,7 +83,8 @@ fn leave<Rt: Wait, W: Write + Connection, G: Gate, L: Ledgers, K: Kernel<Seat<L>
     kernel: &K,
     over: OverOf<L>,
 ) -> LeftOf<L>
-    ensures { (requests : List Request) → AreSaid (RefusalSaid K.not_opened K.refused K.ended requests) output.old.answers → OverSaid K.not_opened K.ended over → LeftBy K.not_opened K.refused K.ended requests output.old over output.new result }
+    ensures left { (requests : List Request) → AreSaid (RefusalSaid K.not_opened K.refused K.ended requests) output.old.answers → OverSaid K.not_opened K.ended over → LeftBy K.not_opened K.refused K.ended requests output.old over output.new result }
+    ensures shut { W.was_shut output.new.sink.contents }
 {
     let left = leave_all(rt, output, kernel, over);
     output.shut();
@@ -92,6 +101,7 @@ fn stand<Rt: Wait, W: Write + Connection, G: Gate, L: Ledgers, K: Kernel<Seat<L>
 ) -> StandingOf<L>
     ensures stands { StandsBy K.not_opened K.refused K.ended output.old turn output.new result }
     ensures sent { SentIfOn output.old turn → SentIfReady output.new result }
+    ensures shut { ShutIfLeft W.was_shut output.new result }
 {
     match turn {
         Turn::GoesOn(stage) => Standing::Ready(stage),
@@ -147,6 +157,7 @@ pub(crate) fn take_ready<
 ) -> StandingOf<L>
     ensures ring { SameConsumer consumer.old consumer.new }
     ensures stands { StandsOn K.not_opened K.refused K.ended (received consumer.old) output.old standing (received consumer.new) output.new result }
+    ensures shut { ShutIfLeft W.was_shut output.old standing → ShutIfLeft W.was_shut output.new result }
 {
     match standing {
         Standing::Ready(stage) => {
@@ -184,6 +195,7 @@ pub(crate) fn send_ready<
 >(rt: &Rt, kernel: &K, output: &mut Output<W, G>, standing: StandingOf<L>) -> StandingOf<L>
     ensures stands { (taken : List Request) → StandsOn K.not_opened K.refused K.ended taken output.old standing taken output.new result }
     ensures sent { SentIfReady output.new result }
+    ensures shut { ShutIfLeft W.was_shut output.old standing → ShutIfLeft W.was_shut output.new result }
 {
     match standing {
         Standing::Ready(stage) => {
@@ -204,7 +216,8 @@ pub(crate) fn wait_on<
     L: Ledgers,
     K: Kernel<Seat<L>, SpentSeat<L>>,
 >(rt: &Rt, kernel: &K, output: &mut Output<W, G>, seat: Seat<L>) -> StandingOf<L>
-    ensures { (taken : List Request) → StandsOn K.not_opened K.refused K.ended taken output.old (standings.Waits seat) taken output.new result }
+    ensures stands { (taken : List Request) → StandsOn K.not_opened K.refused K.ended taken output.old (standings.Waits seat) taken output.new result }
+    ensures shut { ShutIfLeft W.was_shut output.new result }
 {
     let turn = wait_once(rt, output, kernel, seat);
     stand(rt, output, kernel, turn)
@@ -218,7 +231,8 @@ fn wait_ready<
     L: Ledgers,
     K: Kernel<Seat<L>, SpentSeat<L>>,
 >(rt: &Rt, kernel: &K, output: &mut Output<W, G>, standing: StandingOf<L>) -> StandingOf<L>
-    ensures { (taken : List Request) → StandsOn K.not_opened K.refused K.ended taken output.old standing taken output.new result }
+    ensures stands { (taken : List Request) → StandsOn K.not_opened K.refused K.ended taken output.old standing taken output.new result }
+    ensures shut { ShutIfLeft W.was_shut output.old standing → ShutIfLeft W.was_shut output.new result }
 {
     match standing {
         Standing::Waits(seat) => wait_on(rt, kernel, output, seat),
@@ -266,7 +280,8 @@ fn take_late<
     stage: StageOf<L>,
     request: Request,
 ) -> StandingOf<L>
-    ensures { (taken : List Request) → StandsOn K.not_opened K.refused K.ended taken output.old (standings.Ready stage) (taken ++ request ∷ []) output.new result }
+    ensures stands { (taken : List Request) → StandsOn K.not_opened K.refused K.ended taken output.old (standings.Ready stage) (taken ++ request ∷ []) output.new result }
+    ensures shut { ShutIfLeft W.was_shut output.new result }
 {
     let is_opening = is_opening(&stage);
     let turn = take_next(rt, note, output, kernel, stage, request);
@@ -297,7 +312,8 @@ pub(crate) fn leave_requests<
 ) -> LeftOf<L>
     requires count { length (known_items consumer.old) ≡ count }
     requires reading { IsReadingEnd why }
-    ensures { EndsOn K.not_opened K.refused K.ended (received consumer.old) (known_items consumer.old) why output.old standing output.new result }
+    ensures ends { EndsOn K.not_opened K.refused K.ended (received consumer.old) (known_items consumer.old) why output.old standing output.new result }
+    ensures shut { ShutIfLeft W.was_shut output.old standing → W.was_shut output.new.sink.contents }
 {
     let mut standing = standing;
     let mut count = count;

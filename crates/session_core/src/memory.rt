@@ -193,6 +193,8 @@ impl Write for MemoryWriter {
 }
 
 impl Connection for MemoryWriter {
+    ghost was_shut = { λ _. Unit {0} };
+
     /// Memory has no other end.
     fn shut(&self) {}
 }

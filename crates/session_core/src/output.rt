@@ -219,7 +219,9 @@ impl<W: Write, G: Gate> Output<W, G> {
 
 impl<W: Write + Connection, G: Gate> Output<W, G> {
     /// Shuts the connection.
-    pub(crate) fn shut(&self) {
+    pub(crate) fn shut(&self)
+        ensures { W.was_shut self.now.sink.contents }
+    {
         self.sink.get_ref().shut();
     }
 }

@@ -94,6 +94,7 @@ pub fn serve<
     ensures said { EndSaid K.not_opened K.ended result.seat result.end_is }
     ensures given_up { CutSaid K.ended result.seat result.answers result.end_is }
     ensures starts { T.failures starter.new ≡ failures_after result.end_is (T.failures starter.old) }
+    ensures shut { W.was_shut result.writer.contents }
 {
     let (producer, consumer) = match RingBuffer::new(alloc, REQUESTS_AHEAD) {
         Ok(ends) => ends,
@@ -143,6 +144,7 @@ fn serve_named<
     ensures said { EndSaid K.not_opened K.ended result.seat result.end_is }
     ensures given_up { CutSaid K.ended result.seat result.answers result.end_is }
     ensures starts { T.failures starter.new ≡ failures_after result.end_is (T.failures starter.old) }
+    ensures shut { W.was_shut result.writer.contents }
 {
     match shared_twice::<Rt, D, W, G, L, K>(rt, alloc, kernel) {
         Ok((shared, helper)) => serve_shared(
@@ -183,6 +185,7 @@ fn serve_shared<
     ensures said { EndSaid K.not_opened K.ended result.seat result.end_is }
     ensures given_up { CutSaid K.ended result.seat result.answers result.end_is }
     ensures starts { T.failures starter.new ≡ failures_after result.end_is (T.failures starter.old) }
+    ensures shut { W.was_shut result.writer.contents }
 {
     // the thread that reads finds the desk locked until it is there
     let mut place = shared.desk.lock(&rt);
@@ -245,7 +248,8 @@ fn leave_rest<
     K: Kernel<Seat<L>, SpentSeat<L>>,
 >(rt: &Rt, shared: &Shared<D, W, G, L, K>, pushed: Pushed<R>) -> Served<R, W, L>
     requires { IsNamedPair D.ring pushed.producer }
-    ensures { Settles K.not_opened K.refused K.ended G.is_open D.base pushed result }
+    ensures settles { Settles K.not_opened K.refused K.ended G.is_open D.base pushed result }
+    ensures shut { W.was_shut result.writer.contents }
 {
     let Pushed {
         end,
@@ -293,7 +297,8 @@ fn unserved<R: Read, W: Write + Connection + Drop, L: Ledgers>(
     admission: AdmissionTo<L>,
     end: End,
 ) -> Served<R, W, L>
-    ensures { writer.log ≡ fresh_log → result ≡ unserved_by (option_map R.remaining reader) writer.contents end }
+    ensures is { writer.log ≡ fresh_log → result ≡ unserved_by (option_map R.remaining reader) writer.contents end }
+    ensures shut { W.was_shut result.writer.contents }
 {
     writer.get_ref().shut();
     let reader = match reader {
@@ -318,7 +323,8 @@ fn unstarted<R: Read, W: Write + Connection + Drop, G: Gate, L: Ledgers>(
     admission: AdmissionTo<L>,
     end: End,
 ) -> Served<R, W, L>
-    ensures { (base : Option (List ℕ)) → output ≡ fresh_output base → result ≡ unserved_by (option_map R.remaining reader) base end }
+    ensures is { (base : Option (List ℕ)) → output ≡ fresh_output base → result ≡ unserved_by (option_map R.remaining reader) base end }
+    ensures shut { W.was_shut result.writer.contents }
 {
     let (_none, writer) = output.into_parts(None);
     unserved(alloc, reader, writer, admission, end)

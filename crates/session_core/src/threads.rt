@@ -33,7 +33,7 @@ use system_lock::kernel::Kernel;
 #[derive(Drop)]
 pub(crate) struct Shared<
     D: Naming,
-    W: Write,
+    W: Write + Connection,
     G: Gate,
     L: Ledgers,
     K: Kernel<Seat<L>, SpentSeat<L>>,
@@ -142,7 +142,7 @@ pub(crate) trait Attendant: Bell {
 pub(crate) struct Helper<
     Rt: Wait + Drop,
     D: Naming,
-    W: Write + Drop,
+    W: Write + Connection + Drop,
     G: Gate,
     L: Ledgers,
     K: Kernel<Seat<L>, SpentSeat<L>> + Drop,

@@ -313,6 +313,8 @@ impl Write for GuardedWriter {
 }
 
 impl Connection for GuardedWriter {
+    ghost was_shut = { λ _. Unit {0} };
+
     fn shut(&self) {}
 }
 
@@ -568,6 +570,8 @@ impl Write for TellingWriter {
 }
 
 impl Connection for TellingWriter {
+    ghost was_shut = { λ _. Unit {0} };
+
     fn shut(&self) {}
 }
 

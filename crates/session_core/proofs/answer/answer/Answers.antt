@@ -1,8 +1,8 @@
 use Rattle.std.proofs.Common.{◌≡◌, true, sym, subst}
 use Rattle.rtrb.specs.Ring.{received}
-use Rattle.session_core.specs.Answering.{AnsweredState, AnswersRing}
+use Rattle.session_core.specs.Answering.{AnsweredState, AnswersRing, IsShutAtItsEnd}
 use Rattle.session_core.specs.Refusals.{RefusalSaid}
-use Rattle.session_core.proofs.AnswerLemmas.{answers_ring}
+use Rattle.session_core.proofs.AnswerLemmas.{answers_ring, shut_at_its_end}
 use Rattle.session_core.proofs.DeskLemmas.{fresh_stands}
 use Rattle.session_core.proofs.answer.answer.Goals as goal
 
@@ -14,3 +14,8 @@ returns-clause-answers g c =
     subst (AnswersRing g.K.Kernel.not_opened g.K.Kernel.refused g.K.Kernel.ended g.G.Gate.is_open base) (sym c.answered_by.ensures.is)
     (answers_ring g.K.Kernel.not_opened g.K.Kernel.refused g.K.Kernel.ended g.G.Gate.is_open base c.answer_all-standing.new.output c.answer_all-standing.new.ring c.answer_all-standing.result
     (c.answer_all-standing.ensures.stands base fresh) c.answer_all-standing.ensures.rests let_through)
+
+pub returns-clause-shut : goal.returns-clause-shut
+returns-clause-shut g c =
+    subst (λ (s : AnsweredState). IsShutAtItsEnd g.W.Connection.was_shut s.writer s.end_is) (sym c.answered_by.ensures.is)
+    (shut_at_its_end g.W.Connection.was_shut c.answer_all-standing.new.output c.answer_all-standing.result (c.answer_all-standing.ensures.shut tt))

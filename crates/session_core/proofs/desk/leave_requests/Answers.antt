@@ -3,26 +3,36 @@ use Rattle.rtrb.specs.Ring.{received, known_items}
 use Rattle.call_types.specs.declared.request.Request.{Request}
 use Rattle.session_core.specs.Proved.Desk.{Stands}
 use Rattle.session_core.proofs.DeskLemmas as laws
+use Rattle.session_core.specs.Proved.Shutting.{ShutIfLeft}
 use Rattle.session_core.proofs.desk.leave_requests.Goals as goal
 
-pub returns-then-count-eq0 : goal.returns-then-count-eq0
-returns-then-count-eq0 g c base is =
+pub returns-then-count-eq0-clause-ends : goal.returns-then-count-eq0-clause-ends
+returns-then-count-eq0-clause-ends g c base is =
     laws.ends_after_all g.K.Kernel.not_opened g.K.Kernel.refused g.K.Kernel.ended base (received c.loop.consumer) (known_items c.loop.consumer)
     (received c.args.consumer.now ++ known_items c.args.consumer.now) c.args.why c.in-Ready.stage c.loop.output c.leave.new.output c.leave.result c.loop.invariant.same
     (c.loop.invariant.left ∙ c.if-count-eq0.true) (subst (Stands g.K.Kernel.not_opened g.K.Kernel.refused g.K.Kernel.ended base (received c.loop.consumer) c.loop.output) c.in-Ready.is (c.loop.invariant.stands base is))
-    c.leave.ensures (laws.reading_said g.K.Kernel.not_opened g.K.Kernel.ended c.in-Ready.stage c.args.why c.requires.reading)
+    c.leave.ensures.left (laws.reading_said g.K.Kernel.not_opened g.K.Kernel.ended c.in-Ready.stage c.args.why c.requires.reading)
 
-pub returns-in-Lost : goal.returns-in-Lost
-returns-in-Lost g c base is =
+pub returns-in-Lost-clause-ends : goal.returns-in-Lost-clause-ends
+returns-in-Lost-clause-ends g c base is =
     laws.ends_given_up g.K.Kernel.not_opened g.K.Kernel.refused g.K.Kernel.ended base (received c.loop.consumer) (known_items c.loop.consumer)
     (received c.args.consumer.now ++ known_items c.args.consumer.now) c.args.why c.in-Lost.seat c.loop.output c.leave-in-Lost.new.output c.leave-in-Lost.result c.loop.invariant.same c.requires.reading
-    (subst (Stands g.K.Kernel.not_opened g.K.Kernel.refused g.K.Kernel.ended base (received c.loop.consumer) c.loop.output) c.in-Lost.is (c.loop.invariant.stands base is)) c.leave-in-Lost.ensures
+    (subst (Stands g.K.Kernel.not_opened g.K.Kernel.refused g.K.Kernel.ended base (received c.loop.consumer) c.loop.output) c.in-Lost.is (c.loop.invariant.stands base is)) c.leave-in-Lost.ensures.left
 
-pub returns-in-Left : goal.returns-in-Left
-returns-in-Left g c base is =
+pub returns-in-Left-clause-ends : goal.returns-in-Left-clause-ends
+returns-in-Left-clause-ends g c base is =
     laws.ends_early g.K.Kernel.not_opened g.K.Kernel.refused g.K.Kernel.ended base (received c.loop.consumer) (known_items c.loop.consumer)
     (received c.args.consumer.now ++ known_items c.args.consumer.now) c.args.why c.loop.output c.in-Left.left c.loop.invariant.same
     (subst (Stands g.K.Kernel.not_opened g.K.Kernel.refused g.K.Kernel.ended base (received c.loop.consumer) c.loop.output) c.in-Left.is (c.loop.invariant.stands base is))
+
+pub returns-then-count-eq0-clause-shut : goal.returns-then-count-eq0-clause-shut
+returns-then-count-eq0-clause-shut g c first = c.leave.ensures.shut
+
+pub returns-in-Lost-clause-shut : goal.returns-in-Lost-clause-shut
+returns-in-Lost-clause-shut g c first = c.leave-in-Lost.ensures.shut
+
+pub returns-in-Left-clause-shut : goal.returns-in-Left-clause-shut
+returns-in-Left-clause-shut g c first = subst (ShutIfLeft g.W.Connection.was_shut c.loop.output) c.in-Left.is (c.loop.invariant.shut first)
 
 pub loop-preserved-else-count-eq0 : goal.loop-preserved-else-count-eq0
 loop-preserved-else-count-eq0 g c = record {
@@ -30,7 +40,8 @@ loop-preserved-else-count-eq0 g c = record {
   same = laws.rest_taken (received c.loop.consumer) (received c.pop_known.new.self) (known_items c.loop.consumer) (known_items c.pop_known.new.self) c.pop_known.result c.pop_known.ensures.received.0 c.pop_known.ensures.received.1 ∙ c.loop.invariant.same;
   stands = λ base is.
       subst (λ (l : List Request). Stands g.K.Kernel.not_opened g.K.Kernel.refused g.K.Kernel.ended base l c.take_late.new.output c.take_late.result) (sym c.pop_known.ensures.received.0)
-      (c.take_late.ensures (received c.loop.consumer) base (subst (Stands g.K.Kernel.not_opened g.K.Kernel.refused g.K.Kernel.ended base (received c.loop.consumer) c.loop.output) c.in-Ready.is (c.loop.invariant.stands base is)));
+      (c.take_late.ensures.stands (received c.loop.consumer) base (subst (Stands g.K.Kernel.not_opened g.K.Kernel.refused g.K.Kernel.ended base (received c.loop.consumer) c.loop.output) c.in-Ready.is (c.loop.invariant.stands base is)));
+  shut = λ first. c.take_late.ensures.shut;
 }
 
 pub loop-preserved : goal.loop-preserved
@@ -38,5 +49,6 @@ loop-preserved g c = record {
   left = c.loop.invariant.left;
   same = c.loop.invariant.same;
   stands = λ base is.
-      c.wait_on.ensures (received c.loop.consumer) base (subst (Stands g.K.Kernel.not_opened g.K.Kernel.refused g.K.Kernel.ended base (received c.loop.consumer) c.loop.output) c.in-Waits.is (c.loop.invariant.stands base is));
+      c.wait_on.ensures.stands (received c.loop.consumer) base (subst (Stands g.K.Kernel.not_opened g.K.Kernel.refused g.K.Kernel.ended base (received c.loop.consumer) c.loop.output) c.in-Waits.is (c.loop.invariant.stands base is));
+  shut = λ first. c.wait_on.ensures.shut;
 }

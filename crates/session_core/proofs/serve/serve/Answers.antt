@@ -7,14 +7,14 @@ use Rattle.session_core.proofs.serve.serve.Goals as goal
 
 pub returns-in-Err-clause-serves : goal.returns-in-Err-clause-serves
 returns-in-Err-clause-serves g c =
-    let is = laws.unwritten_by c.unserved.result (Some (g.R.Read.remaining c.args.reader)) (g.W.Write.contents c.args.writer) c.new-writer.result end.NoMemory c.new-writer.ensures c.unserved.ensures in
+    let is = laws.unwritten_by c.unserved.result (Some (g.R.Read.remaining c.args.reader)) (g.W.Write.contents c.args.writer) c.new-writer.result end.NoMemory c.new-writer.ensures c.unserved.ensures.is in
     subst (ServesUnder g.K.Kernel.not_opened g.K.Kernel.refused g.K.Kernel.ended g.G.Gate.is_open (g.R.Read.remaining c.args.reader) (g.W.Write.contents c.args.writer)) (sym is)
     (laws.unserved g.K.Kernel.not_opened g.K.Kernel.refused g.K.Kernel.ended g.G.Gate.is_open (g.R.Read.remaining c.args.reader) (g.W.Write.contents c.args.writer))
 
 pub returns-in-Err-new-clause-serves : goal.returns-in-Err-new-clause-serves
 returns-in-Err-new-clause-serves g c =
     let is =
-    laws.unwritten_by c.unserved-in-Err-new.result (Some (g.R.Read.remaining c.args.reader)) (g.W.Write.contents c.in-Err-new.writer) c.new-writer-in-Err-new.result end.NoMemory c.new-writer-in-Err-new.ensures c.unserved-in-Err-new.ensures in
+    laws.unwritten_by c.unserved-in-Err-new.result (Some (g.R.Read.remaining c.args.reader)) (g.W.Write.contents c.in-Err-new.writer) c.new-writer-in-Err-new.result end.NoMemory c.new-writer-in-Err-new.ensures c.unserved-in-Err-new.ensures.is in
     subst (ServesUnder g.K.Kernel.not_opened g.K.Kernel.refused g.K.Kernel.ended g.G.Gate.is_open (g.R.Read.remaining c.args.reader) (g.W.Write.contents c.args.writer))
     (sym (is ∙ ap (λ w. unserved_by (Some (g.R.Read.remaining c.args.reader)) (g.W.Write.contents w) end.NoMemory) c.in-Err-new.ensures.err))
     (laws.unserved g.K.Kernel.not_opened g.K.Kernel.refused g.K.Kernel.ended g.G.Gate.is_open (g.R.Read.remaining c.args.reader) (g.W.Write.contents c.args.writer))

@@ -2,6 +2,7 @@ use Rattle.std.proofs.Common.{sym, subst}
 use Rattle.rtrb.specs.Ring.{received}
 use Rattle.session_core.specs.Proved.Desk.{StandsThere}
 use Rattle.session_core.proofs.DeskLemmas as laws
+use Rattle.session_core.specs.Proved.Shutting.{ShutThere}
 use Rattle.session_core.proofs.desk.Desk.attend.Goals as goal
 
 pub invariant_of-self : goal.invariant_of-self
@@ -10,5 +11,7 @@ invariant_of-self g c = (
   subst (StandsThere g.K.Kernel.not_opened g.K.Kernel.refused g.K.Kernel.ended g.D.Naming.base (received c.take_ready-standing.new.consumer) c.send_ready-standing.new.output) (sym c.put_back.ensures.place)
       (c.send_ready-standing.ensures.stands (received c.take_ready-standing.new.consumer) g.D.Naming.base
       (c.take_ready-standing.ensures.stands g.D.Naming.base
-      (subst (StandsThere g.K.Kernel.not_opened g.K.Kernel.refused g.K.Kernel.ended g.D.Naming.base (received c.self.inside.consumer) c.self.inside.output) (sym c.in-Some.ensures.value) c.self.invariant.1))),
+      (subst (StandsThere g.K.Kernel.not_opened g.K.Kernel.refused g.K.Kernel.ended g.D.Naming.base (received c.self.inside.consumer) c.self.inside.output) (sym c.in-Some.ensures.value) c.self.invariant.1.0))),
+  subst (ShutThere g.W.Connection.was_shut c.send_ready-standing.new.output) (sym c.put_back.ensures.place)
+      (c.send_ready-standing.ensures.shut (c.take_ready-standing.ensures.shut (subst (ShutThere g.W.Connection.was_shut c.self.inside.output) (sym c.in-Some.ensures.value) c.self.invariant.1.1))),
 )
