@@ -1,11 +1,11 @@
 -- What was written so far.
-use Rattle.std.proofs.Common.{◌≡◌, ℕ, ◌+◌, ◌-◌, ◌≤◌, List, Option, length, take, drop, length-drop, arith, refl, sym, ◌∙◌, ap, subst}
+use Rattle.std.proofs.Common.{◌≡◌, ℕ, ◌+◌, ◌-◌, ◌<◌, ◌≤◌, List, Option, length, take, drop, length-drop, arith, refl, sym, ◌∙◌, ap, subst}
 use Rattle.std.proofs.Math.Seq.{take-add}
 use Rattle.std.proofs.KnownBytes.{Appends-trans}
 use Rattle.std.specs.Io.KnownBytes.{Appends}
 use Rattle.logged_streams.specs.declared.stream_log.Gave.{Gave}
 use Rattle.logged_streams.specs.declared.stream_log.Gave.TheVariants as gave
-use Rattle.logged_streams.specs.Streams.{LogState, SomeWritten, WritesFront, noted}
+use Rattle.logged_streams.specs.Streams.{IsWell, LogState, SomeWritten, WritesFront, noted, one_more}
 
 -- after some bytes, more of the rest were written
 wrote_more : (a b c : Option (List ℕ)) (bytes : List ℕ) (n more : ℕ) → Appends a b (take n bytes) → Appends b c (take more (drop n bytes)) → Appends a c (take (n + more) bytes)
@@ -27,3 +27,14 @@ noted_leave log (gave.Bytes count) = refl
 noted_leave log gave.Nothing = refl
 noted_leave log gave.Interrupted = refl
 noted_leave log gave.Failed = refl
+
+-- a write is one call more
+pub noted_calls : (log : LogState) (found : Gave) → (noted log found).calls ≡ one_more log.calls
+noted_calls log (gave.Bytes count) = refl
+noted_calls log gave.Nothing = refl
+noted_calls log gave.Interrupted = refl
+noted_calls log gave.Failed = refl
+
+-- some bytes more were written well
+pub wrote_well : (old mid new : LogState) (written more : ℕ) → IsWell old mid written → new.failed ≡ mid.failed → new.calls ≤ mid.calls + 16 → 0 < more → IsWell old new (written + more)
+wrote_well old mid new written more h sound few some = record { sound = sound ∙ h.sound; few = omega (arith, h.few, few, some) }

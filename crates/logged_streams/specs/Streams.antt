@@ -1,5 +1,5 @@
 -- Streams, and what became of the calls on them (own).
-use Rattle.std.specs.Prelude.{◌≡◌, ℕ, ◌+◌, ◌-◌, ◌^◌, ◌≤◌, ◌<◌, ◌⊎◌, min, Bool, true, false, List, [], Option, length, take, if◌then◌else◌}
+use Rattle.std.specs.Prelude.{◌≡◌, ℕ, ◌+◌, ◌-◌, ◌*◌, ◌^◌, ◌≤◌, ◌<◌, ◌⊎◌, min, Bool, true, false, List, [], Option, length, take, if◌then◌else◌}
 use Rattle.std.specs.Io.KnownBytes.{Appends, Consumes, Keeps, IsAtEnd}
 use Rattle.logged_streams.specs.declared.stream_log.TheConstants.{INTERRUPTIONS_MAX, REFUSALS_MAX}
 use Rattle.logged_streams.specs.declared.stream_log.Gave.{Gave}
@@ -31,6 +31,11 @@ noted log gave.Failed = record { calls = one_more log.calls; moved = log.moved; 
 -- a stream that failed, or was interrupted sixteen times in a row (own)
 abbrev pub IsBroken : LogState → Type 0
 IsBroken log = (log.failed ≡ true) ⊎ (INTERRUPTIONS_MAX ≤ log.interruptions)
+
+-- no call failed, and there were no more than sixteen for each byte (own)
+pub record IsWell (old new : LogState) (count : ℕ) : Type 0 where
+  pub sound : new.failed ≡ old.failed
+  pub few : new.calls ≤ old.calls + INTERRUPTIONS_MAX * count
 
 -- the log after leave to write was asked for once more, and given or not (own)
 abbrev pub asked : LogState → Bool → LogState

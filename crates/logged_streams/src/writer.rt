@@ -1,8 +1,8 @@
 //! A writer with a log of its writes.
 
-ghost use Rattle.std.specs.Prelude.{◌≡◌, ◌<◌, true, length, IfOk, OnOk, OnErr};
+ghost use Rattle.std.specs.Prelude.{◌≡◌, ◌+◌, ◌*◌, ◌<◌, ◌≤◌, true, length, IfOk, OnOk, OnErr};
 ghost use Rattle.std.specs.Io.KnownBytes.{Keeps};
-ghost use Rattle.logged_streams.specs.Streams.{fresh_log, asked, WritesFront, WritesNone, SomeWritten, IsBroken};
+ghost use Rattle.logged_streams.specs.Streams.{fresh_log, asked, WritesFront, WritesNone, SomeWritten, IsBroken, IsWell};
 ghost use Rattle.logged_streams.specs.Proved.Writes.{WritesOnce};
 
 use crate::gate::Gate;
@@ -78,10 +78,12 @@ impl<W: Write> LoggedWriter<W> {
     }
 
     /// Writes some of the bytes, at least one, from the first on; an error says that the writer is broken.
-    #[tactic(auto, using(crate::proofs::WriteLemmas::noted_leave))]
+    #[tactic(auto, using(crate::proofs::WriteLemmas::noted_leave, crate::proofs::WriteLemmas::noted_calls))]
     pub fn write_some(&mut self, bytes: &[u8]) -> Result<usize, WriterFailed>
         ensures ok { IfOk result (λ count. SomeWritten self.old.contents self.new.contents bytes.now count) }
+        ensures sound { OnOk result (self.new.log.failed ≡ self.old.log.failed) }
         ensures err { OnErr result (WritesNone self.old self.new) }
+        ensures few { self.new.log.calls ≤ self.old.log.calls + INTERRUPTIONS_MAX }
         ensures leave { self.new.log.refusals ≡ self.old.log.refusals }
     {
         while self.log.interruptions() < INTERRUPTIONS_MAX {
@@ -99,6 +101,7 @@ impl<W: Write> LoggedWriter<W> {
         ensures keeps { Keeps self.old.contents self.new.contents }
         ensures ok { OnOk result (self.new.log ≡ self.old.log) }
         ensures err { OnErr result (IsBroken self.new.log) }
+        ensures calls { self.new.log.calls ≡ self.old.log.calls }
         ensures leave { self.new.log.refusals ≡ self.old.log.refusals }
     {
         match self.writer.flush() {
@@ -114,7 +117,9 @@ impl<W: Write> LoggedWriter<W> {
     pub fn write_all(&mut self, bytes: &[u8]) -> (usize, Result<(), WriterFailed>)
         ensures front { WritesFront self.old.contents self.new.contents bytes.now result.0 }
         ensures whole { OnOk result.1 (result.0 ≡ length bytes.now) }
+        ensures sound { OnOk result.1 (IsWell self.old.log self.new.log result.0) }
         ensures broken { OnErr result.1 (IsBroken self.new.log) }
+        ensures few { self.new.log.calls ≤ self.old.log.calls + INTERRUPTIONS_MAX * (result.0 + 1) }
         ensures leave { self.new.log.refusals ≡ self.old.log.refusals }
     {
         let mut written: usize = 0;
