@@ -1,1 +1,2 @@
 pub mod WriteLemmas
+pub mod ReadingLemmas
