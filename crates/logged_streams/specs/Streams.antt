@@ -88,6 +88,11 @@ pub record WritesFront (old new : Option (List ℕ)) (bytes : List ℕ) (count :
   pub within : count ≤ length bytes
   pub appends : Appends old new (take count bytes)
 
+-- all of these bytes were written, and no write failed (own)
+pub record Writes (old new : LoggedWriterState) (bytes : List ℕ) : Type 0 where
+  pub appends : Appends old.contents new.contents bytes
+  pub well : IsWell old.log new.log (length bytes)
+
 -- nothing was written, and the writer is broken (own)
 pub record WritesNone (old new : LoggedWriterState) : Type 0 where
   pub keeps : Keeps old.contents new.contents

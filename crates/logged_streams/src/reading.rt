@@ -16,11 +16,11 @@ pub trait Takes<O> {
     /// What is told where no more is taken.
     type Told;
 
-    /// These bytes were taken since the output was so, and more may be.
-    ghost has_taken: { O → Self → O → List ℕ → Type 0 };
+    /// These bytes were taken since taker and output were so, and more may be.
+    ghost has_taken: { Self → O → Self → O → List ℕ → Type 0 };
 
-    /// These bytes were taken since the output was so, and this was told of them.
-    ghost has_told: { O → Self → O → List ℕ → Self.Told → Type 0 };
+    /// These bytes were taken since taker and output were so, and this was told of them.
+    ghost has_told: { Self → O → Self → O → List ℕ → Self.Told → Type 0 };
 
     /// Takes a piece, of any length. Where something is told no more may be taken.
     fn take(&mut self, out: &mut O, piece: &[u8]) -> Option<Self::Told>
@@ -81,10 +81,10 @@ fn read_often<R: Read, O, T: Takes<O>>(
 ) -> ReadEnd<T::Told>
     requires room { 0 < length buffer.old }
     requires short { most * length buffer.old ≤ taken_max }
-    requires begun { T.has_taken out.old taker.old out.old [] }
+    requires begun { T.has_taken taker.old out.old taker.old out.old [] }
     requires may { reader.old.log.interruptions < INTERRUPTIONS_MAX }
     ensures few { reader.new.log.calls ≤ reader.old.log.calls + most }
-    ensures reads { Reads T.has_taken T.has_told most reader.old reader.new out.old taker.new out.new result }
+    ensures reads { Reads T.has_taken T.has_told most reader.old reader.new taker.old out.old taker.new out.new result }
 {
     for _turn in 0..most {
         match read_piece(reader, taker, out, buffer) {
@@ -106,10 +106,10 @@ pub fn read_all<R: Read, O, T: Takes<O>>(
 ) -> ReadEnd<T::Told>
     requires room { 0 < length buffer.old }
     requires short { most * length buffer.old ≤ taken_max }
-    requires begun { T.has_taken out.old taker.old out.old [] }
+    requires begun { T.has_taken taker.old out.old taker.old out.old [] }
     ensures few { reader.new.log.calls ≤ reader.old.log.calls + most }
     ensures few_interrupted { reader.new.log.interruptions ≤ INTERRUPTIONS_MAX }
-    ensures reads { Reads T.has_taken T.has_told most reader.old reader.new out.old taker.new out.new result }
+    ensures reads { Reads T.has_taken T.has_told most reader.old reader.new taker.old out.old taker.new out.new result }
 {
     let interruptions = reader.log().interruptions();
     if reader.log().has_failed() || interruptions >= INTERRUPTIONS_MAX {

@@ -5,7 +5,7 @@ use Rattle.logged_streams.proofs.reading.read_often.Goals as goal
 
 pub returns-in-Some-clause-reads : goal.returns-in-Some-clause-reads
 returns-in-Some-clause-reads g c =
-    laws.read_over g.T.Takes.has_taken g.T.Takes.has_told (length c.args.buffer.now) c.args.most c.loop-turn._turn c.args.reader.now c.loop-turn.reader c.read_piece.new.reader c.args.out.now c.loop-turn.taker c.loop-turn.out
+    laws.read_over g.T.Takes.has_taken g.T.Takes.has_told (length c.args.buffer.now) c.args.most c.loop-turn._turn c.args.reader.now c.loop-turn.reader c.read_piece.new.reader c.args.taker.now c.args.out.now c.loop-turn.taker c.loop-turn.out
     c.read_piece.new.taker c.read_piece.new.out c.in-Some.end (omega (arith, c.loop-turn-test.true)) c.requires.short c.loop-turn.invariant.has_read
     (subst (λ (n : ℕ). ReadsPiece g.T.Takes.has_taken g.T.Takes.has_told n c.loop-turn.reader c.read_piece.new.reader c.loop-turn.taker c.loop-turn.out c.read_piece.new.taker c.read_piece.new.out (Some c.in-Some.end)) c.loop-turn.invariant.room
     c.in-Some.ensures.reads)
@@ -18,7 +18,7 @@ loop-turn-preserved g c =
       few = more.0;
       many = more.1;
       may = c.in-None.ensures.reads.logged.0;
-      has_read = laws.read_more g.T.Takes.has_taken g.T.Takes.has_told (length c.args.buffer.now) c.args.most c.loop-turn._turn c.args.reader.now c.loop-turn.reader c.read_piece.new.reader c.args.out.now c.loop-turn.taker
+      has_read = laws.read_more g.T.Takes.has_taken g.T.Takes.has_told (length c.args.buffer.now) c.args.most c.loop-turn._turn c.args.reader.now c.loop-turn.reader c.read_piece.new.reader c.args.taker.now c.args.out.now c.loop-turn.taker
           c.loop-turn.out c.read_piece.new.taker c.read_piece.new.out (omega (arith, c.loop-turn-test.true)) c.requires.short c.loop-turn.invariant.has_read
           (subst (λ (n : ℕ). ReadsPiece g.T.Takes.has_taken g.T.Takes.has_told n c.loop-turn.reader c.read_piece.new.reader c.loop-turn.taker c.loop-turn.out c.read_piece.new.taker c.read_piece.new.out None) c.loop-turn.invariant.room
           c.in-None.ensures.reads);

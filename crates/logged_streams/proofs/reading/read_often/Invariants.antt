@@ -11,5 +11,5 @@ invariant-loop-turn g l = record {
   few : l.reader.log.calls ≤ l.fn.reader.log.calls + l._turn;
   many : more_calls l._turn l.fn.reader.log ≤ l.reader.log.calls;
   may : l.reader.log.interruptions < INTERRUPTIONS_MAX;
-  has_read : HasRead g.T.Takes.has_taken (length l.fn.buffer) l.fn.reader l.reader l.fn.out l.taker l.out l._turn;
+  has_read : HasRead g.T.Takes.has_taken (length l.fn.buffer) l.fn.reader l.reader l.fn.taker l.fn.out l.taker l.out l._turn;
 }
