@@ -18,7 +18,7 @@ use Rattle.call_types.specs.declared.outcome.Outcome.TheVariants as outcomes
 use Rattle.call_types.specs.declared.outcome.Reply.TheVariants as replies
 use Rattle.frame_codec.specs.Answers.{outcome_bytes}
 use Rattle.frame_codec.specs.Fields.{number_bytes, field_bytes, fields_bytes}
-use Rattle.frame_codec.specs.Records.{act_bytes, record_bytes, ActFits, MayAct}
+use Rattle.frame_codec.specs.Records.{act_bytes, record_bytes, ActFits, IsInRange, MayAct}
 use Rattle.frame_codec.specs.Requests.{frame_parts, call_bytes, CallFits}
 use Rattle.posix_model.specs.declared.world.World.{World}
 use Rattle.posix_model.specs.Exit.{close_run}
@@ -28,7 +28,7 @@ use Rattle.posix_model.specs.Proved.Lengths.{act_length, outcome_length, record_
 use Rattle.posix_model.specs.Step.{Stepped, stepped, step}
 use Rattle.posix_model.specs.Proved.Whole.{IsWhole}
 use Rattle.audit_core.specs.Proved.Laws.{LegalHaveFrames, AllInRange}
-use Rattle.audit_core.specs.Trace.{HasFrame, HaveFrames, IsInRange}
+use Rattle.audit_core.specs.Trace.{HasFrame, HaveFrames}
 
 -- ---- a frame has as many bytes as the model counts
 

@@ -1,14 +1,9 @@
 -- The records of a trace, and the bytes after its header (own).
-use Rattle.std.specs.Prelude.{◌≡◌, ℕ, ◌*◌, ◌^◌, ◌≤◌, ◌<◌, ◌⊎◌, List, [], ◌∷◌, ◌++◌, length}
-use Rattle.call_types.specs.Flags.{nonblocking}
-use Rattle.call_types.specs.declared.act.Act.{Act}
-use Rattle.call_types.specs.declared.act.Act.TheVariants as acts
+use Rattle.std.specs.Prelude.{◌≡◌, ℕ, ◌≤◌, ◌⊎◌, List, [], ◌∷◌, ◌++◌, length}
 use Rattle.call_types.specs.declared.act.Record.{Record}
-use Rattle.call_types.specs.declared.call.Call.TheVariants as calls
 use Rattle.call_types.specs.declared.limits.TheConstants.{RECORD_LENGTH_MAX}
-use Rattle.frame_codec.specs.Answers.{OutcomeFits}
 use Rattle.frame_codec.specs.Frames.{IsShort, IsTooLong, IsMalformed}
-use Rattle.frame_codec.specs.Records.{record_bytes, ActFits, RecordFits, SpellsRecord}
+use Rattle.frame_codec.specs.Records.{record_bytes, RecordFits, SpellsRecord}
 use Rattle.frame_codec.specs.Trace.{frames_of}
 
 -- a record that a frame can tell: its fields are in range, and its payload is not too long
@@ -19,16 +14,6 @@ HasFrame r = RecordFits r × (length (record_bytes r) ≤ RECORD_LENGTH_MAX)
 abbrev pub HaveFrames : List Record → Type 0
 HaveFrames [] = Unit {0}
 HaveFrames (r ∷ h) = HasFrame r × HaveFrames h
-
--- the flags of an open or a setfl have no bit past that of nonblock, the last one
-abbrev pub FlagsFit : Act → Type 0
-FlagsFit (acts.Call (calls.Open name flags)) = flags.0 < 2 * nonblocking
-FlagsFit (acts.Call (calls.Setfl fd flags)) = flags.0 < 2 * nonblocking
-FlagsFit other = Unit {0}
-
--- a record with its fields in range, whether or not its actor may do its act
-abbrev pub IsInRange : Record → Type 0
-IsInRange r = (r.actor < 2 ^ 32) × ActFits r.act × OutcomeFits r.outcome
 
 -- bytes that begin with the frames of these records, and after them have this rest
 pub record Begins (bytes : List ℕ) (h : List Record) (rest : List ℕ) : Type 0 where

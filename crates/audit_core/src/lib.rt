@@ -5,7 +5,6 @@ pub mod audit;
 mod body;
 pub mod judge;
 pub mod laws;
-pub mod ranges;
 mod state;
 pub mod trace;
 pub mod verdict;

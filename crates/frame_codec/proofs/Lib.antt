@@ -14,3 +14,4 @@ pub mod StreamLaws
 pub mod KindStreams
 pub mod ShortRecords
 pub mod HeaderLaws
+pub mod Framing

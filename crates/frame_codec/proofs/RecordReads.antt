@@ -73,11 +73,11 @@ act_reads = record { again = act_again; takes = act_takes }
 
 -- ---- actors
 
-may : (act : Act) (actor : ℕ) → MayAct act actor → may_act act actor ≡ true
+pub may : (act : Act) (actor : ℕ) → MayAct act actor → may_act act actor ≡ true
 may acts.CloseRun actor h = ap (λ (n : ℕ). eqb n HOUSE) h
 may other actor h = refl
 
-may_only : (act : Act) (actor : ℕ) → may_act act actor ≡ true → MayAct act actor
+pub may_only : (act : Act) (actor : ℕ) → may_act act actor ≡ true → MayAct act actor
 may_only acts.CloseRun actor e = eqb-true actor HOUSE e
 may_only other actor e = tt
 

@@ -18,7 +18,7 @@ use Rattle.frame_codec.specs.Frames.{frame, IsFrame}
 use Rattle.frame_codec.proofs.Lengths.{call_length, record_length}
 
 -- the fields of a call, the longest of which are those of a pwrite
-fields_short : (call : Call) → CallFits call → fields_length (parts call).entry.fields (parts call).values ≤ 65716
+pub fields_short : (call : Call) → CallFits call → fields_length (parts call).entry.fields (parts call).values ≤ 65716
 fields_short (calls.Open name flags) h = omega (arith, h.1.0.1)
 fields_short (calls.Write fd bytes) h = omega (arith, h.1.0.1)
 fields_short (calls.Pwrite fd start bytes) h = omega (arith, h.1.1.0.1)

@@ -18,6 +18,10 @@ pub record IsFrame {A : Type 0} (Spells : A → List ℕ → Type 0) (most : ℕ
   pub spelled : Spells value payload
   pub is : bytes ≡ frame payload
 
+-- no bytes are the frame of a value
+abbrev pub HasNoFrame : {A : Type 0} → (A → List ℕ → Type 0) → ℕ → A → Type 0
+HasNoFrame Spells most value = (bytes : List ℕ) → IsFrame Spells most value bytes → ⊥
+
 -- the frames of values, one after another
 abbrev pub AreFrames : {A : Type 0} → (A → List ℕ → Type 0) → ℕ → List A → List ℕ → Type 0
 AreFrames Spells most [] bytes = bytes ≡ []

@@ -3,6 +3,7 @@ pub mod Requests
 pub mod Answers
 pub mod Records
 pub mod Frames
+pub mod Encoding
 pub mod Decoding
 pub mod Trace
 pub mod Proved

@@ -1,10 +1,12 @@
 -- Records as the payloads of frames: who acted, what the actor did, and what came of it (own).
-use Rattle.std.specs.Prelude.{◌≡◌, ℕ, ◌<◌, ◌^◌, List, [], ◌∷◌, ◌++◌}
+use Rattle.std.specs.Prelude.{◌≡◌, ℕ, ◌*◌, ◌<◌, ◌^◌, List, [], ◌∷◌, ◌++◌}
 use Rattle.std.specs.Int.{w32}
+use Rattle.call_types.specs.Flags.{nonblocking}
 use Rattle.call_types.specs.declared.act.TheConstants.{HOUSE}
 use Rattle.call_types.specs.declared.act.Act.{Act}
 use Rattle.call_types.specs.declared.act.Act.TheVariants as acts
 use Rattle.call_types.specs.declared.act.Record.{Record}
+use Rattle.call_types.specs.declared.call.Call.TheVariants as calls
 use Rattle.frame_codec.specs.Fields.{number_bytes}
 use Rattle.frame_codec.specs.Requests.{call_bytes, CallFits}
 use Rattle.frame_codec.specs.Answers.{outcome_bytes, OutcomeFits}
@@ -39,3 +41,13 @@ RecordFits r = (r.actor < 2 ^ 32) × ActFits r.act × MayAct r.act r.actor × Ou
 -- what payload spells a record
 abbrev pub SpellsRecord : Record → List ℕ → Type 0
 SpellsRecord r payload = RecordFits r × (payload ≡ record_bytes r)
+
+-- the flags of an open or a setfl have no bit past that of nonblock, the last one
+abbrev pub FlagsFit : Act → Type 0
+FlagsFit (acts.Call (calls.Open name flags)) = flags.0 < 2 * nonblocking
+FlagsFit (acts.Call (calls.Setfl fd flags)) = flags.0 < 2 * nonblocking
+FlagsFit other = Unit {0}
+
+-- a record with its fields in range, whether or not its actor may do its act
+abbrev pub IsInRange : Record → Type 0
+IsInRange r = (r.actor < 2 ^ 32) × ActFits r.act × OutcomeFits r.outcome

@@ -27,7 +27,7 @@ abbrev pub is_most : Option ℕ → Bool
 is_most None = true
 is_most (Some most) = nat_le 1 most && nat_le most RECORDS_MAX
 
--- whether a header may tell this: pipes of 512 to 65,536 bytes, and files as in runs of version 1 or as in all others
+-- whether a header may tell this: 1 to 1,000,000 records if their number is told, pipes of 512 to 65,536 bytes, and files as in runs of version 1 or as in all others
 abbrev pub is_told : ToldLimits → Bool
 is_told told =
     is_most told.records

@@ -1,22 +1,28 @@
 //! Requests, answers and records as whole frames. A frame's length stands before its payload, so it is counted first.
 #![tactic(auto, using(crate::proofs::Fronts::keeps_after), unfolding(crate::specs::Fields::number_bytes))]
 
-ghost use Rattle.std.specs.Prelude.{◌≡◌, ◌+◌, ◌≤◌, length};
+ghost use Rattle.std.specs.Prelude.{◌≡◌, ◌+◌, ◌≤◌, true, false, length};
 ghost use Rattle.call_types.specs.Writing.{Appends};
 ghost use Rattle.call_types.specs.declared.request.Request.TheVariants as requests;
 ghost use Rattle.frame_codec.specs.declared.answer.Answer.TheVariants as answers;
 ghost use Rattle.frame_codec.specs.Fields.{number_bytes};
-ghost use Rattle.frame_codec.specs.Requests.{request_bytes};
+ghost use Rattle.frame_codec.specs.Requests.{request_bytes, SpellsRequest};
 ghost use Rattle.frame_codec.specs.Answers.{reply_bytes, outcome_bytes, refusal_bytes, answer_bytes};
-ghost use Rattle.frame_codec.specs.Records.{act_bytes, record_bytes};
-ghost use Rattle.frame_codec.specs.Frames.{frame};
+ghost use Rattle.frame_codec.specs.Records.{act_bytes, record_bytes, SpellsRecord};
+ghost use Rattle.frame_codec.specs.Frames.{frame, IsFrame, HasNoFrame};
+ghost use Rattle.frame_codec.specs.Encoding.{Encodes};
+ghost use Rattle.frame_codec.specs.declared.frame_kind.TheConstants.{REQUEST_LENGTH_MAX};
 
 use crate::answer::Answer;
 use crate::begun::HEAD;
 use crate::calls::{encode_call, fields_bytes};
+use crate::fault::EncodeFault;
 use crate::put::{put_byte, put_u32, put_u64};
+use crate::ranges::{call_fits, call_flags_fit, flags_fit, number_fits, record_is_in_range};
+use crate::records::is_its_actor;
 use crate::written_outcomes::{put_outcome, put_refusal};
 use call_types::act::{Act, Record};
+use call_types::limits::RECORD_LENGTH_MAX;
 use call_types::outcome::{Outcome, Reply};
 use call_types::refusal::Refusal;
 use call_types::request::Request;
@@ -56,13 +62,43 @@ fn put_request(out: &mut Vec<u8>, request: &Request) -> Result<(), AllocError>
     }
 }
 
-/// Appends a request's frame. An error says that memory ran out; the bytes before are still the front.
+/// Whether a request has a frame: its flags are in range.
+fn request_has_frame(request: &Request) -> bool
+    ensures framed { result ≡ true → IsFrame SpellsRequest REQUEST_LENGTH_MAX request.now (frame (request_bytes request.now)) }
+    ensures none { result ≡ false → HasNoFrame SpellsRequest REQUEST_LENGTH_MAX request.now }
+{
+    match request {
+        Request::Join => true,
+        Request::Attach { process } => {
+            number_fits(*process);
+            true
+        }
+        Request::Call(call) => {
+            call_fits(call);
+            call_flags_fit(call)
+        }
+    }
+}
+
+/// Appends the length of a request's payload, and the payload.
 #[tactic(auto, using(crate::proofs::Fronts::keeps_after))]
-pub fn encode_request(out: &mut Vec<u8>, request: &Request) -> Result<(), AllocError>
+fn put_request_frame(out: &mut Vec<u8>, request: &Request) -> Result<(), AllocError>
     ensures { Appends result out.old.items out.new.items (frame (request_bytes request.now)) }
 {
     put_u32(out, request_length(request))?;
     put_request(out, request)?;
+    Ok(())
+}
+
+/// Appends a request's frame, which reads as the request. An open or a setfl with a bit that is no flag has none: then nothing is
+/// appended. After want of memory the bytes before are still the front.
+pub fn encode_request(out: &mut Vec<u8>, request: &Request) -> Result<(), EncodeFault>
+    ensures { Encodes SpellsRequest REQUEST_LENGTH_MAX request.now (frame (request_bytes request.now)) result out.old.items out.new.items }
+{
+    if !request_has_frame(request) {
+        return Err(EncodeFault::Unspellable);
+    }
+    put_request_frame(out, request)?;
     Ok(())
 }
 
@@ -234,15 +270,45 @@ fn put_record(out: &mut Vec<u8>, record: &Record) -> Result<(), AllocError>
     Ok(())
 }
 
-/// Appends a record's frame. An error says that memory ran out; the bytes before are still the front. It also writes
-/// records that no decoder takes, such as a closing by another actor than `HOUSE`: see `records_have_frames`.
-#[tactic(auto, using(crate::proofs::Fronts::keeps, crate::proofs::Fronts::keeps_after))]
-pub fn encode_record(out: &mut Vec<u8>, record: &Record) -> Result<(), AllocError>
-    ensures appends { Appends result out.old.items out.new.items (frame (record_bytes «record».now)) }
-    ensures few { length (frame (record_bytes «record».now)) ≤ RECORD_FRAME_MAX }
+/// Appends the length of a record's payload, and the payload.
+#[tactic(auto, using(crate::proofs::Fronts::keeps_after))]
+fn put_record_frame(out: &mut Vec<u8>, record: &Record) -> Result<(), AllocError>
+    ensures { Appends result out.old.items out.new.items (frame (record_bytes «record».now)) }
 {
-    out.reserve(record_frame_length(record))?;
     put_u32(out, record_length(record))?;
     put_record(out, record)?;
+    Ok(())
+}
+
+/// Whether a record has a frame, which would have so many bytes: its flags are in range, its act may have its actor, and it is no longer
+/// than a record may be.
+fn has_frame(record: &Record, room: usize) -> bool
+    requires { room ≡ length (frame (record_bytes «record».now)) }
+    ensures framed { result ≡ true → IsFrame SpellsRecord RECORD_LENGTH_MAX «record».now (frame (record_bytes «record».now)) }
+    ensures none { result ≡ false → HasNoFrame SpellsRecord RECORD_LENGTH_MAX «record».now }
+{
+    record_is_in_range(record);
+    if !flags_fit(&record.act) {
+        return false;
+    }
+    if !is_its_actor(&record.act, record.actor) {
+        return false;
+    }
+    room <= HEAD + RECORD_LENGTH_MAX
+}
+
+/// Appends a record's frame, which reads as the record. Some records have none: those with a bit that is no flag, a closing by
+/// another actor than `HOUSE`, and those of more than `RECORD_LENGTH_MAX` bytes, as a long write that is answered with long data. Then
+/// nothing is appended. After want of memory the bytes before are still the front. See `records_have_frames`.
+pub fn encode_record(out: &mut Vec<u8>, record: &Record) -> Result<(), EncodeFault>
+    ensures encodes { Encodes SpellsRecord RECORD_LENGTH_MAX «record».now (frame (record_bytes «record».now)) result out.old.items out.new.items }
+    ensures few { length (frame (record_bytes «record».now)) ≤ RECORD_FRAME_MAX }
+{
+    let room = record_frame_length(record);
+    if !has_frame(record, room) {
+        return Err(EncodeFault::Unspellable);
+    }
+    out.reserve(room)?;
+    put_record_frame(out, record)?;
     Ok(())
 }

@@ -1,4 +1,4 @@
-//! Why a payload is not read.
+//! Why a payload is not read, or a frame not written.
 
 ghost use Rattle.std.specs.Prelude.{◌≡◌};
 
@@ -20,5 +20,24 @@ impl From<AllocError> for PayloadFault {
 
     fn from(_fault: AllocError) -> PayloadFault {
         PayloadFault::NoMemory
+    }
+}
+
+/// Why a value's frame isn't written.
+#[derive(Clone, Copy, Debug, PartialEq, Eq)]
+pub enum EncodeFault {
+    /// No frame spells the value: a field is out of its range, or the frame would be longer than one may be.
+    Unspellable,
+    /// Memory ran out.
+    NoMemory,
+}
+
+impl From<AllocError> for EncodeFault {
+    ghost use Rattle.frame_codec.specs.declared.fault.EncodeFault.TheVariants.{NoMemory};
+
+    ghost from_gives = { λ _ e. e ≡ NoMemory };
+
+    fn from(_fault: AllocError) -> EncodeFault {
+        EncodeFault::NoMemory
     }
 }

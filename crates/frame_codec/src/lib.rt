@@ -13,6 +13,7 @@ pub mod frame_kind;
 pub mod laws;
 mod outcomes;
 mod put;
+pub mod ranges;
 mod records;
 mod requests;
 pub mod trace;

@@ -38,7 +38,7 @@ fn act(alloc: Global, bytes: &[u8]) -> Result<(Act, &[u8]), PayloadFault>
 }
 
 /// Whether an act may have an actor.
-fn is_its_actor(act: &Act, actor: u32) -> bool
+pub(crate) fn is_its_actor(act: &Act, actor: u32) -> bool
     ensures { result ≡ may_act act.now actor }
 {
     match act {

@@ -5,6 +5,7 @@ use call_types::call::Call;
 use call_types::request::Request;
 use frame_codec::answer::Answer;
 use frame_codec::encode::{encode_answer, encode_record, encode_request};
+use frame_codec::fault::EncodeFault;
 use frame_codec::frame_kind::{Answers, FrameKind, Records, Requests};
 use script_text::lines::{write_record, write_refused, write_still};
 use std::alloc::AllocError;
@@ -15,7 +16,7 @@ pub(crate) trait Shown: FrameKind {
     fn put_line(out: &mut Vec<u8>, before: u64, value: &Self::Value) -> Result<(), AllocError>;
 
     /// Appends the frame of a value.
-    fn put_frame(out: &mut Vec<u8>, value: &Self::Value) -> Result<(), AllocError>;
+    fn put_frame(out: &mut Vec<u8>, value: &Self::Value) -> Result<(), EncodeFault>;
 }
 
 impl Shown for Requests {
@@ -38,7 +39,7 @@ impl Shown for Requests {
         }
     }
 
-    fn put_frame(out: &mut Vec<u8>, value: &Request) -> Result<(), AllocError> {
+    fn put_frame(out: &mut Vec<u8>, value: &Request) -> Result<(), EncodeFault> {
         encode_request(out, value)
     }
 }
@@ -64,8 +65,9 @@ impl Shown for Answers {
         }
     }
 
-    fn put_frame(out: &mut Vec<u8>, value: &Answer) -> Result<(), AllocError> {
-        encode_answer(out, value)
+    fn put_frame(out: &mut Vec<u8>, value: &Answer) -> Result<(), EncodeFault> {
+        encode_answer(out, value)?;
+        Ok(())
     }
 }
 
@@ -74,7 +76,7 @@ impl Shown for Records {
         write_record(out, before, value)
     }
 
-    fn put_frame(out: &mut Vec<u8>, value: &Record) -> Result<(), AllocError> {
+    fn put_frame(out: &mut Vec<u8>, value: &Record) -> Result<(), EncodeFault> {
         encode_record(out, value)
     }
 }

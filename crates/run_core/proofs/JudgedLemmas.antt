@@ -9,7 +9,7 @@ use Rattle.call_types.specs.declared.act.Act.TheVariants as acts
 use Rattle.call_types.specs.declared.act.Record.{Record}
 use Rattle.call_types.specs.declared.call.Call.TheVariants as calls
 use Rattle.call_types.specs.declared.limits.Limits.{Limits}
-use Rattle.frame_codec.specs.Records.{ActFits}
+use Rattle.frame_codec.specs.Records.{ActFits, FlagsFit, IsInRange}
 use Rattle.frame_codec.specs.Trace.{header_2, told_of, whole_in}
 use Rattle.posix_model.specs.declared.world.World.{World}
 use Rattle.posix_model.specs.Reserve.{IsLegalRun}
@@ -18,7 +18,6 @@ use Rattle.record_book.specs.Exits.{closing_record, closing_records, exit_record
 use Rattle.record_book.specs.Seat.{Receipted, SeatState}
 use Rattle.session_core.specs.Proved.Laws.{ActsFit, SeatFits, ActsOfSeatsFit}
 use Rattle.audit_core.specs.Proved.Laws.{WrittenIsLegal, AllInRange}
-use Rattle.audit_core.specs.Trace.{FlagsFit, IsInRange}
 use Rattle.audit_core.specs.Verdict.{IsVerdict}
 use Rattle.audit_core.specs.declared.verdict.Verdict.TheVariants.{Legal}
 use Rattle.run_core.specs.Receipts.{Held, GoodAt, GoodFrom, names, named, wanted, held_by}

@@ -3,7 +3,7 @@ use Rattle.std.specs.Prelude.{◌≡◌, ℕ, List, Option, IfSome, length}
 use Rattle.std.specs.Io.KnownBytes.{Appends}
 use Rattle.std.specs.List.{slice_get}
 use Rattle.call_types.specs.declared.act.Record.{Record}
-use Rattle.audit_core.specs.Trace.{FlagsFit, IsInRange}
+use Rattle.frame_codec.specs.Records.{FlagsFit, IsInRange}
 use Rattle.audit_core.specs.Verdict.{IsVerdict}
 use Rattle.audit_core.specs.declared.verdict.Verdict.TheVariants.{Legal}
 

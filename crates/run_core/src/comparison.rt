@@ -7,9 +7,9 @@ ghost use Rattle.std.specs.Arc.{arc_value};
 ghost use Rattle.run_core.specs.Judged.{FlagsDecideAt};
 ghost use Rattle.run_core.specs.Receipts.{Held, Agrees, IsGood, IsOwn, IsAbove, GoodFrom, GoodAt, IsBefore, IsReceivedAt, names, named, wanted, IsSound};
 
-use audit_core::ranges::record_is_in_range;
 use byte_ledger::ledgers::Ledgers;
 use call_types::act::{Act, HOUSE, Record};
+use frame_codec::ranges::record_is_in_range;
 use posix_model::laws::reserve_was_kept;
 use record_book::closed::ClosedBook;
 use record_book::seat::{Receipt, SpentSeat};

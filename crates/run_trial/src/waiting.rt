@@ -3,15 +3,18 @@
 ghost use Rattle.std.specs.Prelude.{◌≡◌, All, Some, IfOk};
 ghost use Rattle.run_core.specs.Run.{IsBlank};
 
-use call_types::call::Call;
-use call_types::request::Request;
-use frame_codec::encode::encode_request;
 use run_core::source::{AcceptFailed, Source};
 use session_core::memory::{Manner, MemoryReader, MemoryWriter};
 use std::alloc::{AllocError, Global};
 
 /// How many connections there are.
 pub(crate) const SESSIONS: usize = 2;
+
+/// The frame of a join.
+const JOIN: [u8; 5] = [0, 0, 0, 1, 1];
+
+/// The frame of an fstat of descriptor 0.
+const FSTAT: [u8; 9] = [0, 0, 0, 5, 30, 0, 0, 0, 0];
 
 /// A reader and a writer over memory.
 pub(crate) type Connection = (MemoryReader, MemoryWriter);
@@ -27,8 +30,8 @@ const WELL: Manner = Manner {
 /// The frames of a join, and of a question about descriptor 0.
 fn two_requests(alloc: Global) -> Result<Vec<u8>, AllocError> {
     let mut bytes = Vec::new(alloc);
-    encode_request(&mut bytes, &Request::Join)?;
-    encode_request(&mut bytes, &Request::Call(Call::Fstat { fd: 0 }))?;
+    bytes.extend_from_slice(&JOIN)?;
+    bytes.extend_from_slice(&FSTAT)?;
     Ok(bytes)
 }
 

@@ -2,11 +2,12 @@
 use Rattle.std.specs.Prelude.{◌≡◌, ℕ, ◌-◌, true, Option, List, [], ◌++◌, length, ◌∷◌}
 use Rattle.call_types.specs.declared.act.Record.{Record}
 use Rattle.call_types.specs.declared.limits.Bounds.{Bounds}
+use Rattle.frame_codec.specs.Records.{IsInRange}
 use Rattle.frame_codec.specs.Trace.{header_2, is_told, text, whole_in}
 use Rattle.frame_codec.specs.declared.trace.ToldLimits.{ToldLimits}
 use Rattle.posix_model.specs.History.{legal}
 use Rattle.posix_model.specs.Reserve.{IsLegalRun}
-use Rattle.audit_core.specs.Trace.{HaveFrames, IsAtFault, IsInRange}
+use Rattle.audit_core.specs.Trace.{HaveFrames, IsAtFault}
 use Rattle.audit_core.specs.Verdict.{IsVerdict}
 use Rattle.audit_core.specs.declared.verdict.Verdict.{Verdict}
 use Rattle.audit_core.specs.declared.verdict.Verdict.TheVariants.{Legal}

@@ -4,10 +4,7 @@ ghost use Rattle.std.specs.Prelude.{◌≡◌, ◌≤◌, ◌+◌, ◌<◌, All,
 ghost use Rattle.run_core.specs.Run.{IsBlank};
 
 use byte_ledger::ledgers::{Blanks, Ledgers};
-use call_types::call::Call;
 use call_types::limits::Limits;
-use call_types::request::Request;
-use frame_codec::encode::encode_request;
 use run_core::report::{Report, Session};
 use run_core::sessions::run_sessions;
 use run_core::source::{AcceptFailed, Source};
@@ -34,6 +31,12 @@ const REPEATED: u32 = 100;
 
 /// How often a reader waits for the other session.
 const WAITS: u32 = 1_000;
+
+/// The frame of a join.
+const JOIN: [u8; 5] = [0, 0, 0, 1, 1];
+
+/// The frame of an fstat of descriptor 0.
+const FSTAT: [u8; 9] = [0, 0, 0, 5, 30, 0, 0, 0, 0];
 
 /// A stream over memory that neither fails nor is interrupted.
 const WELL: StreamManner = StreamManner {
@@ -321,8 +324,8 @@ impl Connection for GuardedWriter {
 /// The frames of a join, and of a question about descriptor 0, which is not open.
 fn two_requests(alloc: Global) -> Result<Vec<u8>, AllocError> {
     let mut bytes = Vec::new(alloc);
-    encode_request(&mut bytes, &Request::Join)?;
-    encode_request(&mut bytes, &Request::Call(Call::Fstat { fd: 0 }))?;
+    bytes.extend_from_slice(&JOIN)?;
+    bytes.extend_from_slice(&FSTAT)?;
     Ok(bytes)
 }
 
@@ -582,9 +585,9 @@ fn one_by_one(
     other: &Arc<AtomicBool>,
 ) -> Result<(ShyReader, TellingWriter), AllocError> {
     let mut first = Vec::new(alloc);
-    encode_request(&mut first, &Request::Join)?;
+    first.extend_from_slice(&JOIN)?;
     let mut second = Vec::new(alloc);
-    encode_request(&mut second, &Request::Call(Call::Fstat { fd: 0 }))?;
+    second.extend_from_slice(&FSTAT)?;
     let reader = ShyReader {
         first,
         second,

@@ -3,12 +3,13 @@
 use call_types::call::Call;
 use call_types::request::Request;
 use frame_codec::encode::encode_request;
+use frame_codec::fault::EncodeFault;
 use request_pump::bell::{Bell, RingCount};
 use request_pump::pump::pump;
 use request_pump::pumped::{PumpEnd, Pumped};
 use rtrb::{Consumer, RingBuffer};
 use session_core::memory::{Manner, MemoryReader};
-use std::alloc::{AllocError, Global};
+use std::alloc::Global;
 use std::test::Fail;
 
 /// How many requests the ring has room for.
@@ -18,7 +19,7 @@ const ROOM: usize = 16;
 const TAKEN_MOST: u32 = 100;
 
 /// The frames of a join and of so many forks.
-fn join_and_forks(alloc: Global, forks: u32) -> Result<Vec<u8>, AllocError> {
+fn join_and_forks(alloc: Global, forks: u32) -> Result<Vec<u8>, EncodeFault> {
     let mut bytes = Vec::new(alloc);
     encode_request(&mut bytes, &Request::Join)?;
     for _ in 0..forks {
@@ -103,7 +104,7 @@ struct Outcome {
 }
 
 /// What a pump of a join and so many forks comes to, in reads of at most so many bytes.
-fn pumped(alloc: Global, forks: u32, most: usize, is_awake: bool) -> Result<Outcome, AllocError> {
+fn pumped(alloc: Global, forks: u32, most: usize, is_awake: bool) -> Result<Outcome, EncodeFault> {
     let manner = Manner {
         most,
         fails_at: None,

@@ -1,6 +1,6 @@
 use Rattle.std.proofs.Common.{rules, FitsSigned}
 use Rattle.std.specs.Int.{w32, w64}
-use Rattle.audit_core.proofs.ranges.call_fits.Goals as goal
+use Rattle.frame_codec.proofs.ranges.call_fits.Goals as goal
 
 pub returns-in-Open : goal.returns-in-Open
 returns-in-Open c =

@@ -1,18 +1,21 @@
-//! What the types of a record's parts say of their ranges. No function does anything; its contract is the law.
+//! What the types of a value's parts say of their ranges, and whether its flags are in theirs. A function without a result does
+//! nothing; its contract is the law.
 
-ghost use Rattle.std.specs.Prelude.{◌<◌, ◌≤◌, ◌^◌, FitsSigned, length};
+ghost use Rattle.std.specs.Prelude.{◌≡◌, ◌*◌, ◌<◌, ◌≤◌, ◌^◌, ◌↔◌, true, FitsSigned, length};
 ghost use Rattle.std.specs.Int.{w32, w64};
 ghost use Rattle.call_types.specs.CallTable.{a_name};
+ghost use Rattle.call_types.specs.Flags.{nonblocking};
 ghost use Rattle.call_types.specs.Ranges.{AreBytes, FieldFits};
 ghost use Rattle.call_types.specs.declared.act.Act.TheVariants as acts;
 ghost use Rattle.frame_codec.specs.Requests.{CallFits};
 ghost use Rattle.frame_codec.specs.Answers.{ReplyFits, OutcomeFits};
-ghost use Rattle.frame_codec.specs.Records.{ActFits};
-ghost use Rattle.audit_core.specs.Trace.{FlagsFit, IsInRange};
+ghost use Rattle.frame_codec.specs.Records.{ActFits, FlagsFit, IsInRange};
 
+use bitflags::Flags;
 use call_types::act::{Act, Record};
 use call_types::bounded::{Data, Name};
 use call_types::call::Call;
+use call_types::flags::OpenFlags;
 use call_types::outcome::{Outcome, Reply};
 use call_types::span::Span;
 
@@ -22,7 +25,7 @@ fn byte_fits(byte: u8)
 {}
 
 /// A number of 32 bits without a sign is below 2^32.
-fn number_fits(number: u32)
+pub(crate) fn number_fits(number: u32)
     ensures { number < 2 ^ 32 }
 {}
 
@@ -65,7 +68,7 @@ fn data_fits<const MOST: usize>(given: &Data<MOST>)
 }
 
 /// The fields of a call are in range, if its flags are.
-fn call_fits(call: &Call)
+pub(crate) fn call_fits(call: &Call)
     ensures { FlagsFit (acts.Call call.now) → CallFits call.now }
 {
     match call {
@@ -116,6 +119,34 @@ fn call_fits(call: &Call)
         Call::Getfl { fd } => descriptor_fits(*fd),
         Call::Setfl { fd, .. } => descriptor_fits(*fd),
         Call::Pipe | Call::Fork => {}
+    }
+}
+
+/// Whether flags have no bit past that of nonblock, the last one. Their type has one bit more.
+fn are_flags(flags: OpenFlags) -> bool
+    ensures { (result ≡ true) ↔ (flags.0 < 2 * nonblocking) }
+{
+    flags.bits() < 128
+}
+
+/// Whether the flags of a call are in range, if it has some.
+pub(crate) fn call_flags_fit(call: &Call) -> bool
+    ensures { (result ≡ true) ↔ FlagsFit (acts.Call call.now) }
+{
+    match call {
+        Call::Open { flags, .. } => are_flags(*flags),
+        Call::Setfl { flags, .. } => are_flags(*flags),
+        _ => true,
+    }
+}
+
+/// Whether the flags of an act are in range, if it has some.
+pub(crate) fn flags_fit(act: &Act) -> bool
+    ensures { (result ≡ true) ↔ FlagsFit act.now }
+{
+    match act {
+        Act::Call(call) => call_flags_fit(call),
+        _ => true,
     }
 }
 
