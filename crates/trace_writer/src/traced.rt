@@ -15,6 +15,8 @@ pub enum TraceFault {
     Write,
     /// All was written, and the sink failed to sync.
     Sync,
+    /// No frame spells a record that came out of the ring. Neither it nor a later one was written.
+    Unspellable,
     /// Memory ran out.
     NoMemory,
 }

@@ -3,8 +3,6 @@
 ghost use Rattle.std.specs.Prelude.{◌≡◌, ◌+◌, ◌-◌, ◌<◌, ◌^◌, ◌⊎◌, [], Some, None, true, false, map, length, IfOk};
 ghost use Rattle.std.specs.Arc.{arc_value};
 ghost use Rattle.call_types.specs.declared.limits.TheConstants.{RECORDS_MAX};
-ghost use Rattle.frame_codec.specs.Frames.{frame};
-ghost use Rattle.frame_codec.specs.Records.{record_bytes};
 ghost use Rattle.call_types.specs.declared.limits.Limits.{Limits};
 ghost use Rattle.frame_codec.specs.Trace.{header_2, is_told, told_of, text, whole_in};
 ghost use Rattle.frame_codec.specs.declared.trace.ToldLimits.{ToldLimits};
@@ -16,6 +14,7 @@ use crate::traced::{TraceFault, Traced, whole_records};
 use call_types::act::Record;
 use call_types::limits::Limits;
 use frame_codec::encode::{RECORD_FRAME_MAX, encode_record};
+use frame_codec::fault::EncodeFault;
 use frame_codec::trace::{HEADER_2_LENGTH, ToldLimits, headers_are_read, put_header};
 use std::alloc::{AllocError, Global};
 use std::marker::Model;
@@ -77,14 +76,15 @@ fn first_unsent(alloc: Global, told: &ToldLimits) -> (Vec<u8>, Option<TraceFault
 
 /// Appends a record's frame, unless something went wrong before; what went wrong.
 fn make_frame(unsent: &mut Vec<u8>, told: &Record, fault: Option<TraceFault>) -> Option<TraceFault>
-    ensures { MakesFrame unsent.old.items unsent.new.items fault result (frame (record_bytes told.now)) }
+    ensures { MakesFrame unsent.old.items unsent.new.items fault result told.now }
 {
     if fault.is_some() {
         return fault;
     }
     match encode_record(unsent, told) {
         Ok(()) => None,
-        Err(_) => Some(TraceFault::NoMemory),
+        Err(EncodeFault::Unspellable) => Some(TraceFault::Unspellable),
+        Err(EncodeFault::NoMemory) => Some(TraceFault::NoMemory),
     }
 }
 

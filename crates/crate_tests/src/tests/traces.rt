@@ -5,7 +5,7 @@ ghost use Rattle.rtrb.specs.Ring.{received};
 
 use super::audits::TRACE_2;
 use call_types::act::{Act, Record};
-use call_types::bounded::Payload;
+use call_types::bounded::{Content, Payload};
 use call_types::call::Call;
 use call_types::limits::Limits;
 use call_types::outcome::{Outcome, Reply};
@@ -166,6 +166,34 @@ fn is_long(rt: &impl Abort, ended: &(MemorySink, Traced)) -> Result<(), Fail> {
 fn long_records_are_written_while_others_come(rt: HostRuntime) -> Result<(), Fail> {
     let ended = long_traced(&rt, rt.alloc())?;
     is_long(&rt, &ended)
+}
+
+/// A record of a write of 65,536 bytes that is answered with as many. Its frame would be longer than one may be.
+fn record_without_a_frame(alloc: Global) -> Result<Arc<Record>, Fail> {
+    let call = Call::Write {
+        fd: 3,
+        bytes: Payload::same(7, 65_536),
+    };
+    record_of(
+        alloc,
+        Act::Call(call),
+        Reply::Data(Content::same(7, 65_536)),
+    )
+}
+
+/// What becomes of three records in a sink over memory that is sound, if the second has no frame.
+fn unframed_traced<R: Wait + Clock>(rt: &R, alloc: Global) -> Result<(MemorySink, Traced), Fail> {
+    let join = record_of(alloc, Act::Join, Reply::Number(0))?;
+    let exit = record_of(alloc, Act::Exit, Reply::Done)?;
+    let mut end = ring_of(alloc, join, record_without_a_frame(alloc)?, exit)?;
+    let sink = MemorySink::new(alloc, Manner::sound());
+    Ok(write_trace(rt, alloc, &mut end, limits()?, sink))
+}
+
+#[test]
+fn record_without_a_frame_ends_a_trace(rt: HostRuntime) -> Result<(), Fail> {
+    let ended = unframed_traced(&rt, rt.alloc())?;
+    is_traced(&rt, &ended, &[], 0, 0, 0, Some(TraceFault::Unspellable))
 }
 
 #[test]

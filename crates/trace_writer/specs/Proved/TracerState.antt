@@ -7,7 +7,7 @@ use Rattle.frame_codec.specs.declared.encode.TheConstants.{RECORD_FRAME_MAX}
 use Rattle.frame_codec.specs.Trace.{text}
 use Rattle.frame_codec.specs.declared.trace.TheConstants.{HEADER_2_LENGTH}
 use Rattle.frame_codec.specs.declared.trace.ToldLimits.{ToldLimits}
-use Rattle.trace_writer.specs.Traces.{CountsFailures}
+use Rattle.trace_writer.specs.Traces.{CountsFailures, IsSpelled}
 use Rattle.trace_writer.specs.declared.traced.TraceFault.{TraceFault}
 use Rattle.trace_writer.specs.declared.traced.TraceFault.TheVariants as faults
 
@@ -32,6 +32,7 @@ pub record Writes (told : ToldLimits) (base now : Option (List ℕ)) (before aft
   pub unsent_is : fault ≡ None → unsent ≡ rest
   pub never_synced : fault ≡ Some faults.Sync → ⊥
   pub tells : CountsFailures fault before after
+  pub spelled : IsSpelled told front fault received
   pub torn : is_torn ≡ true → fault ≡ Some faults.NoMemory
   pub long : fault ≡ None → length (text told received) ≤ HEADER_2_LENGTH + RECORD_FRAME_MAX * length received
   pub few : length received ≤ RECORDS_MAX

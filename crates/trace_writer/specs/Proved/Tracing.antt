@@ -2,8 +2,10 @@
 use Rattle.std.specs.Prelude.{◌≡◌, ℕ, ◌+◌, ◌≤◌, Bool, true, false, List, [], ◌∷◌, ◌++◌, ◌⊎◌, Option, None, Some, length}
 use Rattle.std.specs.Io.KnownBytes as io
 use Rattle.call_types.specs.declared.act.Record.{Record}
+use Rattle.frame_codec.specs.Frames.{frame}
+use Rattle.frame_codec.specs.Records.{record_bytes}
 use Rattle.frame_codec.specs.declared.encode.TheConstants.{RECORD_FRAME_MAX}
-use Rattle.trace_writer.specs.Traces.{IsTrace}
+use Rattle.trace_writer.specs.Traces.{BeginsUnspelled, HasFrame, IsTrace}
 use Rattle.trace_writer.specs.Proved.TracerState.{TracerState}
 use Rattle.trace_writer.specs.declared.traced.TraceFault.{TraceFault}
 use Rattle.trace_writer.specs.declared.traced.TraceFault.TheVariants as faults
@@ -21,11 +23,11 @@ pub record Flushes (old new : TracerState) : Type 0 where
   pub stays : Stays old new
   pub all : new.fault ≡ None → new.unsent ≡ []
 
--- a frame more is not written yet, unless something went wrong (own)
-pub record MakesFrame (old new : List ℕ) (before after : Option TraceFault) (frame : List ℕ) : Type 0 where
-  pub made : after ≡ None → (before ≡ None) × (new ≡ old ++ frame)
-  pub few : after ≡ None → length frame ≤ RECORD_FRAME_MAX
-  pub told : (after ≡ before) ⊎ ((before ≡ None) × (after ≡ Some faults.NoMemory))
+-- a record's frame more is not written yet, unless something went wrong, as that the record has none (own)
+pub record MakesFrame (old new : List ℕ) (before after : Option TraceFault) (r : Record) : Type 0 where
+  pub made : after ≡ None → (before ≡ None) × (new ≡ old ++ frame (record_bytes r)) × HasFrame r
+  pub few : after ≡ None → length (frame (record_bytes r)) ≤ RECORD_FRAME_MAX
+  pub told : (after ≡ before) ⊎ ((before ≡ None) × (((after ≡ Some faults.NoMemory) × HasFrame r) ⊎ ((after ≡ Some faults.Unspellable) × BeginsUnspelled (r ∷ []))))
 
 -- the sink was synced, unless something went wrong before (own)
 pub record Syncs (old new : Option (List ℕ)) (counted counts : ℕ) (is_synced : Bool) (before after : Option TraceFault) : Type 0 where
