@@ -1,15 +1,23 @@
 -- What the lock of a run says of ends and of refusals (own).
-use Rattle.std.specs.Prelude.{◌≡◌, true, false, is_some, None, Some}
+use Rattle.std.specs.Prelude.{◌≡◌, true, false, is_some, [], Option, None, Some}
 use Rattle.call_types.specs.declared.call.Call.{Call}
+use Rattle.call_types.specs.declared.limits.Limits.{Limits}
 use Rattle.call_types.specs.declared.refusal.Refusal.{Refusal}
 use Rattle.call_types.specs.declared.refusal.Refusal.TheVariants as refusal
 use Rattle.call_types.specs.declared.request.Request.{Request}
 use Rattle.call_types.specs.declared.request.Request.TheVariants as request
+use Rattle.posix_model.specs.Reserve.{IsLegalRun}
 use Rattle.record_book.specs.Seat.{SeatState}
 use Rattle.record_book.specs.Book.{BookState}
 use Rattle.record_book.specs.Refusals.{is_ready_in, IsDue, join_refusal, attach_refusal, start_refusal, exit_refusal, resume_refusal}
 use Rattle.system_lock.specs.declared.kernel.Why.{Why}
 use Rattle.system_lock.specs.declared.kernel.Why.TheVariants as why
+
+-- a book that may stand under the lock of a run with these limits: its records so far are a legal run, and its house has no receipt yet
+pub record StandsUnder (limits : Option Limits) (b : BookState) : Type 0 where
+  pub limits_are : limits ≡ Some b.limits
+  pub is_legal : IsLegalRun b.limits.bounds (Some b.limits.records) b.history
+  pub house_is : b.house ≡ Some []
 
 -- a refusal of an opening that is due in this book
 abbrev pub IsNotOpenedIn : BookState → Request → Refusal → Type 0
@@ -17,23 +25,23 @@ IsNotOpenedIn b request.Join told = IsDue (join_refusal b) told
 IsNotOpenedIn b (request.Attach process) told = IsDue (attach_refusal b process) told
 IsNotOpenedIn b (request.Call call) told = ⊥
 
--- why a process may end in this book: it is hung up; the book does not know its seat, or is full for its resume; or no refusal of its
--- resume is due, and memory is wanting for its call, which is ready, or its call is given up, which is not
+-- why a process may end in this book: it is hung up, and the book knows its seat; the book does not know it, or is full for its resume; or
+-- no refusal of its resume is due, and memory is wanting for its call, which is ready, or its call is given up, which is not
 abbrev pub IsEndIn : BookState → SeatState → Why → Type 0
 IsEndIn b s why.Foreign = is_some (exit_refusal b s) ≡ true
 IsEndIn b s why.RunFull = resume_refusal b s ≡ Some refusal.RunFull
 IsEndIn b s why.NoMemory = (resume_refusal b s ≡ None) × (is_ready_in b s.pid ≡ true)
-IsEndIn b s why.HungUp = Unit {0}
+IsEndIn b s why.HungUp = exit_refusal b s ≡ None
 IsEndIn b s why.Lost = (resume_refusal b s ≡ None) × (is_ready_in b s.pid ≡ false)
 
--- an opening is refused: that is due in some book
-abbrev pub IsNotOpened : Request → Refusal → Type 0
-IsNotOpened request told = (b : BookState) × IsNotOpenedIn b request told
+-- an opening is refused: that is due in some book that may stand under the lock of a run with these limits
+abbrev pub IsNotOpened : Option Limits → Request → Refusal → Type 0
+IsNotOpened limits request told = (b : BookState) × StandsUnder limits b × IsNotOpenedIn b request told
 
--- a call is refused: that is due in some book
-abbrev pub IsRefused : SeatState → Call → Refusal → Type 0
-IsRefused s call told = (b : BookState) × IsDue (start_refusal b s call) told
+-- a call is refused: that is due in some such book
+abbrev pub IsRefused : Option Limits → SeatState → Call → Refusal → Type 0
+IsRefused limits s call told = (b : BookState) × StandsUnder limits b × IsDue (start_refusal b s call) told
 
--- a process ends: for a reason that it may have in some book
-abbrev pub IsEnded : SeatState → Why → Type 0
-IsEnded s reason = (b : BookState) × IsEndIn b s reason
+-- a process ends: for a reason that it may have in some such book
+abbrev pub IsEnded : Option Limits → SeatState → Why → Type 0
+IsEnded limits s reason = (b : BookState) × StandsUnder limits b × IsEndIn b s reason

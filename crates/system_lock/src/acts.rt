@@ -3,7 +3,7 @@
 ghost use Rattle.system_lock.specs.Kernel.{AsksForASeat, CallsBy};
 ghost use Rattle.system_lock.specs.Proved.Reasons.{OpensBy, IsReason, EndsByReason};
 ghost use Rattle.system_lock.specs.Proved.Acts.{TriesBy};
-ghost use Rattle.system_lock.specs.Proved.Events.{OpensIn, CallsIn, ExitsIn, TriesIn, StillIsDue, GivesNoneUp};
+ghost use Rattle.system_lock.specs.Proved.Events.{OpensIn, CallsIn, ExitsIn, ExitIsDue, TriesIn, StillIsDue, GivesNoneUp};
 
 use crate::kernel::{Ended, EndedIn, Why};
 use byte_ledger::ledgers::Ledgers;
@@ -53,6 +53,7 @@ pub(crate) fn exit<L: Ledgers>(book: &mut Book<L>, seat: Seat<L>, reason: Why) -
     requires { IsReason reason }
     ensures ends { EndsByReason seat reason result }
     ensures event { ExitsIn book.old book.new seat result.seat result.why }
+    ensures due { ExitIsDue book.old seat result.why }
 {
     match book.exit(seat) {
         Ok(seat) => Ended { seat, why: reason },

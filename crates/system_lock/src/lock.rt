@@ -68,11 +68,11 @@ impl<L: Ledgers> SystemLock<L> {
 impl<L: Ledgers> Kernel<Seat<L>, SpentSeat<L>> for SystemLock<L> {
     ghost use Rattle.system_lock.specs.Says.{IsNotOpened, IsRefused, IsEnded};
 
-    ghost not_opened = { IsNotOpened };
+    ghost not_opened = { IsNotOpened L.limits };
 
-    ghost refused = { IsRefused };
+    ghost refused = { IsRefused L.limits };
 
-    ghost ended = { IsEnded };
+    ghost ended = { IsEnded L.limits };
 
     fn open<R: Wait>(
         &self,
@@ -82,7 +82,7 @@ impl<L: Ledgers> Kernel<Seat<L>, SpentSeat<L>> for SystemLock<L> {
     ) -> Result<OpenedIn<L>, NotOpenedIn<L>>
         requires { AsksForASeat request }
         ensures opens { OpensAs itself itself request result }
-        ensures refused { IfErr result (λ back. IsNotOpened request back.refusal) }
+        ensures refused { IfErr result (λ back. IsNotOpened L.limits request back.refusal) }
     {
         let mut system = self.system.lock(rt);
         match system.open(self.alloc, &self.bells, request) {
@@ -98,7 +98,7 @@ impl<L: Ledgers> Kernel<Seat<L>, SpentSeat<L>> for SystemLock<L> {
 
     fn finish<R: Wait>(&self, rt: &R, seat: Seat<L>) -> FinishedIn<L>
         ensures finishes { FinishesBy seat result }
-        ensures ended { SaysEnded IsEnded seat result }
+        ensures ended { SaysEnded (IsEnded L.limits) seat result }
     {
         let process = seat.pid();
         let mut seat = seat;
@@ -117,7 +117,7 @@ impl<L: Ledgers> Kernel<Seat<L>, SpentSeat<L>> for SystemLock<L> {
 
     fn hang_up<R: Wait>(&self, rt: &R, seat: Seat<L>) -> EndedIn<L>
         ensures hangs_up { HangsUpBy seat result }
-        ensures ended { IsEnded seat result.why }
+        ensures ended { IsEnded L.limits seat result.why }
     {
         let mut system = self.system.lock(rt);
         system.hang_up(&self.bells, seat)

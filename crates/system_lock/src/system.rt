@@ -6,10 +6,11 @@ ghost use Rattle.record_book.specs.Refusals.{resume_refusal, is_ready_in};
 ghost use Rattle.system_lock.specs.Kernel.{AsksForASeat, CallsBy, HangsUpBy};
 ghost use Rattle.system_lock.specs.Proved.Reasons.{OpensBy, IsReason, EndsByReason};
 ghost use Rattle.system_lock.specs.Proved.Acts.{TriesBy};
+ghost use Rattle.system_lock.specs.Says.{StandsUnder};
 ghost use Rattle.system_lock.specs.System.{is_live_in, is_among, AreDistinct, AreLive, AreUnmarked};
 ghost use Rattle.system_lock.specs.Proved.Sleepers.{pipe_in};
 ghost use Rattle.system_lock.specs.Proved.Doors.{lost_with, asleep_without};
-ghost use Rattle.system_lock.specs.Proved.Events.{OpensIn, CallsIn, ExitsIn, TriesIn, GivesUpTheLost, IsLeftWaiting, still_asleep, still_lost, with_sleeper};
+ghost use Rattle.system_lock.specs.Proved.Events.{OpensIn, CallsIn, ExitsIn, ExitIsDue, TriesIn, GivesUpTheLost, IsLeftWaiting, still_asleep, still_lost, with_sleeper};
 ghost use Rattle.record_book.specs.Book.{new_book};
 
 use crate::acts;
@@ -23,6 +24,7 @@ use call_types::call::Call;
 use call_types::limits::Limits;
 use call_types::refusal::Refusal;
 use call_types::request::Request;
+use posix_model::laws::reserve_was_kept;
 use record_book::book::Book;
 use record_book::opening::OpenedIn;
 use record_book::seat::{Receipt, Seat};
@@ -101,6 +103,14 @@ impl<L: Ledgers> System<L> {
         self.book
     }
 
+    /// Promises that the book has the limits that the type names, and that its records so far are a legal run. It does nothing.
+    fn is_run(&self)
+        ensures { StandsUnder L.limits self.now.book_is }
+    {
+        reserve_was_kept();
+        let _sums = self.book.counts();
+    }
+
     /// Whether a process sleeps.
     pub(crate) fn sleeps(&self, process: u32) -> bool {
         self.doors.sleepers.has(process)
@@ -116,10 +126,12 @@ impl<L: Ledgers> System<L> {
         requires { AsksForASeat request }
         ensures opens { OpensBy request result }
         ensures event { OpensIn self.old.book_is self.new.book_is request result }
+        ensures stood { StandsUnder L.limits self.old.book_is }
         ensures asleep { self.new.asleep_are ≡ still_asleep self.new.book_is self.old.asleep_are }
         ensures lost { self.new.lost_are ≡ still_lost self.new.book_is self.old.lost_are }
     {
         events_spare();
+        self.is_run();
         let process = opener(&self.book, &request);
         let opened = acts::open(&mut self.book, alloc, request);
         self.doors
@@ -137,10 +149,12 @@ impl<L: Ledgers> System<L> {
     ) -> Result<Receipt, Refusal>
         ensures calls { CallsBy seat.old seat.new call result }
         ensures event { CallsIn self.old.book_is self.new.book_is seat.old seat.new call result }
+        ensures stood { StandsUnder L.limits self.old.book_is }
         ensures asleep { self.new.asleep_are ≡ still_asleep self.new.book_is self.old.asleep_are }
         ensures lost { self.new.lost_are ≡ still_lost self.new.book_is self.old.lost_are }
     {
         events_spare();
+        self.is_run();
         let stirred = Stirred::by(self.book.machine(), seat.pid(), &call);
         let told = acts::call(&mut self.book, alloc, seat, call);
         self.doors.settle(&self.book, bells, stirred.told(&told));
@@ -172,12 +186,14 @@ impl<L: Ledgers> System<L> {
     pub(crate) fn take_up(&mut self, alloc: Global, bells: &Bells, seat: Seat<L>) -> TriedIn<L>
         ensures tries { TriesBy seat result }
         ensures event { TriesIn self.old.book_is self.new.book_is seat result }
+        ensures stood { StandsUnder L.limits self.old.book_is }
         ensures given_up { GivesUpTheLost self.old.lost_are seat result }
         ensures still { IsLeftWaiting self.old self.new seat result }
         ensures asleep { self.new.asleep_are ≡ still_asleep self.new.book_is (with_sleeper self.old.asleep_are result) }
         ensures lost { self.new.lost_are ≡ still_lost self.new.book_is self.old.lost_are }
     {
         events_spare();
+        self.is_run();
         let process = seat.pid();
         let pipe = pipe_waited(self.book.machine(), process);
         match acts::resume(&mut self.book, alloc, seat) {
@@ -200,6 +216,7 @@ impl<L: Ledgers> System<L> {
         requires { IsReason reason }
         ensures ends { EndsByReason seat reason result }
         ensures event { ExitsIn self.old.book_is self.new.book_is seat result.seat result.why }
+        ensures due { ExitIsDue self.old.book_is seat result.why }
         ensures asleep { self.new.asleep_are ≡ still_asleep self.new.book_is self.old.asleep_are }
         ensures lost { self.new.lost_are ≡ still_lost self.new.book_is self.old.lost_are }
     {
@@ -215,9 +232,12 @@ impl<L: Ledgers> System<L> {
     pub(crate) fn hang_up(&mut self, bells: &Bells, seat: Seat<L>) -> EndedIn<L>
         ensures hangs_up { HangsUpBy seat result }
         ensures event { ExitsIn self.old.book_is self.new.book_is seat result.seat result.why }
+        ensures due { ExitIsDue self.old.book_is seat result.why }
+        ensures stood { StandsUnder L.limits self.old.book_is }
         ensures asleep { self.new.asleep_are ≡ still_asleep self.new.book_is self.old.asleep_are }
         ensures lost { self.new.lost_are ≡ still_lost self.new.book_is self.old.lost_are }
     {
+        self.is_run();
         self.exit(bells, seat, Why::HungUp)
     }
 

@@ -39,6 +39,11 @@ abbrev pub ExitsIn : BookState → BookState → SeatState → SeatState → Why
 ExitsIn old new s t why.Foreign = (new ≡ old) × (t ≡ s) × (is_some (exit_refusal old s) ≡ true)
 ExitsIn old new s t other = Exits old new s t
 
+-- an exit is recorded only where the book knows the seat
+abbrev pub ExitIsDue : BookState → SeatState → Why → Type 0
+ExitIsDue b s why.Foreign = Unit {0}
+ExitIsDue b s other = exit_refusal b s ≡ None
+
 -- why a call that waits may end its process: memory is wanting, where no refusal is due and the call is ready; the run is full; the book
 -- knows no such seat; or the call is not ready, where no refusal is due and the connection is lost
 abbrev pub IsDueEnd : BookState → SeatState → Why → Type 0
