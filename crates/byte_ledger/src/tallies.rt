@@ -1,7 +1,7 @@
 //! The three tallies of a run, and the shares of each who adds to them.
 
 ghost use Rattle.std.specs.Prelude.{◌≡◌, ◌<◌, ◌+◌, ◌^◌, map, sum, length, IfOk, IfErr, OnOk};
-ghost use Rattle.byte_ledger.specs.Counted.{counted_more};
+ghost use Rattle.byte_ledger.specs.Counted.{counted_more, IsPartOf};
 ghost use Rattle.byte_ledger.specs.Tally.{Misses};
 
 use crate::gather::{Merged, Missing};
@@ -89,6 +89,16 @@ impl<L: Ledgers> Tallies<L> {
             bytes_in: self.bytes_in.open_share(),
             bytes_out: self.bytes_out.open_share(),
         }
+    }
+
+    /// Promises that what one holder counted is part of what these tallies counted. It does nothing.
+    pub fn have_part(&mut self, shares: &mut Shares<L>)
+        ensures part { IsPartOf shares.old self.old.counted }
+        ensures same { (self.new ≡ self.old) × (shares.new ≡ shares.old) }
+    {
+        self.records.has_part(&mut shares.records);
+        self.bytes_in.has_part(&mut shares.bytes_in);
+        self.bytes_out.has_part(&mut shares.bytes_out);
     }
 
     /// Counts one record, and the bytes that it took and gave, through shares of these tallies.

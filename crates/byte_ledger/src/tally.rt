@@ -1,4 +1,4 @@
-ghost use Rattle.std.specs.Prelude.{◌≡◌, ◌+◌, ◌^◌, ◌<◌};
+ghost use Rattle.std.specs.Prelude.{◌≡◌, ◌+◌, ◌^◌, ◌<◌, ◌≤◌};
 ghost use Rattle.byte_ledger.specs.Tally.{TallyState};
 
 use std::marker::Model;
@@ -82,14 +82,21 @@ impl<L: Ledger> Tally<L> {
         }
     }
 
+    /// Promises that what was added through a share of this tally is part of its sum. It does nothing.
+    pub fn has_part(&mut self, share: &mut Share<L>)
+        ensures part { share.old ≤ self.old.total }
+        ensures same { (self.new ≡ self.old) × (share.new ≡ share.old) }
+    {
+        self.book.audit(&mut share.mark);
+    }
+
     /// Adds an amount, through a share of this tally.
     pub fn add(&mut self, share: &mut Share<L>, amount: u64)
         requires { self.old.total + amount < 2 ^ 64 }
         ensures total { self.new ≡ record self.old { total = self.old.total + amount } }
         ensures share { share.new ≡ share.old + amount }
     {
-        // so the share's amount is no more than the sum
-        self.book.audit(&mut share.mark);
+        self.has_part(share);
         self.book.add(&mut share.mark, amount);
         self.total += amount;
         share.amount += amount;
