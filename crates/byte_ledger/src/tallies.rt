@@ -78,6 +78,13 @@ impl<L: Ledgers> Tallies<L> {
         }
     }
 
+    /// How many holders have shares.
+    pub fn opened(&self) -> u64
+        ensures { result ≡ self.now.opened }
+    {
+        self.records.opened
+    }
+
     /// Shares for one holder more, who has counted nothing.
     pub fn open_shares(&mut self) -> Shares<L>
         requires { self.old.opened < 1000000 }

@@ -58,6 +58,13 @@ impl<L: Ledgers> ClosedBook<L> {
         self.records.len() as u64
     }
 
+    /// How many seats the book has given, that of the house among them.
+    pub fn seats(&self) -> u64
+        ensures { result ≡ seats_given self.now }
+    {
+        self.tallies.opened()
+    }
+
     /// How many records the book holds, and how many bytes they took and gave, as `Book::counts` tells them.
     pub fn counts(&self) -> Sums
         ensures { CountsOf self.now result }

@@ -1,6 +1,6 @@
 //! The closing of a run. It takes no memory: what it needs was made with the book and with each process.
 
-ghost use Rattle.std.specs.Prelude.{◌≡◌, ◌∷◌, [], false, true, is_some};
+ghost use Rattle.std.specs.Prelude.{◌≡◌, ◌∷◌, [], false, true, None, is_some, IfNone};
 ghost use Rattle.slots.specs.Slots.{slot};
 ghost use Rattle.record_book.specs.Book.{world_now};
 ghost use Rattle.record_book.specs.Exits.{closing_record};
@@ -67,8 +67,10 @@ impl<L: Ledgers> Book<L> {
     pub fn close_run(&mut self) -> Option<SpentSeat<L>>
         ensures closes { Closes self.old self.new result }
         ensures closed { (world_now self.new).closed ≡ true }
+        ensures none { IfNone result (self.old.house ≡ None) }
     {
         if self.journal.is_closed() {
+            self.journal.has_no_house();
             return None;
         }
         self.end_orphans();

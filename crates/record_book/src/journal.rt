@@ -1,6 +1,6 @@
 //! A book without its counts: the records of a run, and the machine after them.
 
-ghost use Rattle.std.specs.Prelude.{◌≡◌, ◌≤◌, ◌+◌, false, true, is_some, length, IfOk};
+ghost use Rattle.std.specs.Prelude.{◌≡◌, ◌≤◌, ◌+◌, false, true, None, is_some, length, IfOk};
 ghost use Rattle.slots.specs.Slots.{slot};
 ghost use Rattle.process_table.specs.Processes.{awaits};
 ghost use Rattle.posix_model.specs.History.{legal};
@@ -101,6 +101,13 @@ impl Journal {
     /// Promises that the house of an open run holds its receipts. It does nothing.
     pub(crate) fn has_house(&self)
         ensures { (world_now self.now).closed ≡ false → is_some self.now.house ≡ true }
+    {
+        let _house = &self.house;
+    }
+
+    /// Promises that the house of a closed run holds none. It does nothing.
+    pub(crate) fn has_no_house(&self)
+        ensures { (world_now self.now).closed ≡ true → self.now.house ≡ None }
     {
         let _house = &self.house;
     }
