@@ -160,9 +160,9 @@ fn serve_with<
     );
     let report = match ran {
         Ok(report) => report,
-        Err(fault) => {
+        Err(unreported) => {
             return Served {
-                end: end_without_report(fault),
+                end: end_without_report(unreported.fault),
                 sink: None,
             };
         }

@@ -1,14 +1,16 @@
--- Why a run that is closed is not reported.
-use Rattle.std.proofs.Common.{◌≡◌, ℕ, List, Option, Some, length, arith}
+-- Why a run that is closed comes to no totals, or is not reported.
+use Rattle.std.proofs.Common.{◌≡◌, ◌≤◌, ℕ, List, Option, Some, length}
 use Rattle.call_types.specs.declared.act.Record.{Record}
 use Rattle.record_book.specs.Book.{BookState}
 use Rattle.record_book.specs.Counting.{seats_given}
 use Rattle.trace_writer.specs.declared.traced.TraceFault.{TraceFault}
-use Rattle.run_core.specs.Proved.Closing.{DiffersFor, UnreportedFor}
+use Rattle.run_core.specs.Proved.Closing.{DiffersFor}
 use Rattle.run_core.specs.Receipts.{Held}
 use Rattle.run_core.specs.Run.{ClosesFor, IsLeast, fault_of_closing}
+use Rattle.run_core.specs.Unreported.{UnreportedFor}
 use Rattle.run_core.specs.declared.closing.CloseFault.{CloseFault}
 use Rattle.run_core.specs.declared.closing.CloseFault.TheVariants as fault
+use Rattle.run_core.specs.declared.report.RunFault.TheVariants as run_fault
 
 -- where all shares are there and not all places agree, the run is closed for that
 pub closes_for : (b : BookState) (seats : ℕ) (held : List Held) (why : Option TraceFault) (received : List Record) (records : ℕ) (least : Option ℕ) (closing : CloseFault)
@@ -20,9 +22,19 @@ closes_for b seats held why received records least (fault.Missing m) all are is_
 closes_for b seats held why received records least (fault.Disagree place) all are is_least differs =
     (all, is_least place differs.0, λ torn. differs.1 (torn.0, rw are torn.1))
 
--- a run that is closed for this is not reported for it
-pub unreported_for : (b : BookState) (seats : ℕ) (held : List Held) (why : Option TraceFault) (received : List Record) (closing : CloseFault)
-    → ClosesFor b seats held why received closing → UnreportedFor b seats held why received (fault_of_closing closing)
-unreported_for b seats held why received fault.NoMemory closes = tt
-unreported_for b seats held why received (fault.Missing m) closes = omega (arith, closes.0, closes.1, closes.2)
-unreported_for b seats held why received (fault.Disagree place) closes = closes
+-- where no share is missing and not all places agree, that is why the run is not reported
+pub unreported_for : (b : BookState) (seats : ℕ) (held : List Held) (why : Option TraceFault) (received : List Record) (records : ℕ) (least : Option ℕ) (closing : CloseFault)
+    → seats_given b ≤ seats → records ≡ length b.history
+    → ((place : ℕ) → least ≡ Some place → IsLeast b.history held received place)
+    → DiffersFor least why records received closing → UnreportedFor b seats held why received (fault_of_closing closing)
+unreported_for b seats held why received records least fault.NoMemory all are is_least differs = tt
+unreported_for b seats held why received records least (fault.Missing m) all are is_least differs = absurd differs
+unreported_for b seats held why received records least (fault.Disagree place) all are is_least differs =
+    (all, is_least place differs.0, λ torn. differs.1 (torn.0, rw are torn.1))
+
+-- nor is that the want of a thread
+pub no_thread_for : (least : Option ℕ) (why : Option TraceFault) (records : ℕ) (received : List Record) (closing : CloseFault)
+    → DiffersFor least why records received closing → fault_of_closing closing ≡ run_fault.NoThread → ⊥
+no_thread_for least why records received fault.NoMemory differs is = cc
+no_thread_for least why records received (fault.Missing m) differs is = cc
+no_thread_for least why records received (fault.Disagree place) differs is = cc

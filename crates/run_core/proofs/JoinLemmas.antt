@@ -15,6 +15,7 @@ use Rattle.record_book.specs.Book.{BookState}
 use Rattle.call_types.specs.declared.act.Record.{Record}
 use Rattle.run_core.specs.Run.{Connection, GivesConnections, IsBlank, IsProcessOf, IsRun, IsRunOf, ReportedSession, RunTold, ServesConnection, ServesEach, ServesInRun, Streams, at_start, counted_by, streams, with_seat}
 use Rattle.run_core.specs.Proved.Joining.{HasEnded, IsJoined}
+use Rattle.run_core.specs.declared.sessions.Want.{Want}
 
 -- ---- what a source gives
 
@@ -105,13 +106,13 @@ joined_all {T} always connection yielded all sessions shares is h = subst (λ (t
 -- ---- the run
 
 -- what was gathered of the seats of these sessions, and of their trace
-pub run_of : (told : RunTold) (limits : Option Limits) (book : BookState) (house : SeatState) (ends : List ReportedSession) (shares : List Counted) (received : List Record) (trace : TraceTold)
-    → told.ends ≡ ends → told.received ≡ received → told.trace ≡ trace → limits ≡ Some told.limits_are
-    → HasEnded told.always limits told.coming told.later book house ends shares
+pub run_of : (told : RunTold) (limits : Option Limits) (lacked : Option Want) (book : BookState) (house : SeatState) (ends : List ReportedSession) (shares : List Counted) (received : List Record) (trace : TraceTold)
+    → told.ends ≡ ends → told.received ≡ received → told.trace ≡ trace → limits ≡ Some told.limits_are → lacked ≡ None
+    → HasEnded told.always limits lacked told.coming told.later book house ends shares
     → IsRunOf book.limits told.records told.taken told.given book house shares (map (λ s. held_by s.process) ends) received
     → IsTold (told_of told.limits_are) trace received
     → IsRun told
-run_of told limits book house ends shares received trace those got traced within ended run written =
+run_of told limits lacked book house ends shares received trace those got traced within whole ended run written =
     let same : book.limits ≡ told.limits_are = (let known = ended.limits_are in let given = ended.closing.limits_are in cc) in
     let held = map (λ s. held_by s.process) ends in
     let limited = subst (λ (l : Limits). IsRunOf l told.records told.taken told.given book house shares held received) same run in
@@ -119,7 +120,7 @@ run_of told limits book house ends shares received trace those got traced within
     let of_those = subst (λ (es : List ReportedSession). IsRunOf told.limits_are told.records told.taken told.given book house (counted_by ended.joined.connections) (map (λ s. held_by s.process) es) received) (sym those) counted in
     record {
       connections = ended.joined.connections;
-      gives = subst (λ (ts : List Streams). GivesConnections told.coming told.later ts) (sym ended.joined.told_are) ended.gives;
+      gives = subst (λ (ts : List Streams). GivesConnections told.coming told.later ts) (sym ended.joined.told_are) (ended.gives whole);
       each = subst (λ (es : List ReportedSession). ServesEach told.always ended.joined.connections es) (sym those) ended.joined.each;
       before = ended.before;
       book = book;

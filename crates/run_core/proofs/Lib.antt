@@ -2,3 +2,4 @@ pub mod ReceiptLemmas
 pub mod ClosingLemmas
 pub mod JoinLemmas
 pub mod JudgedLemmas
+pub mod LeftLemmas

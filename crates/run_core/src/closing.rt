@@ -1,6 +1,6 @@
 //! The closing of a run whose sessions have ended: their receipts are compared with its records, and what they counted is gathered.
 
-ghost use Rattle.std.specs.Prelude.{◌≡◌, ◌↔◌, ◌++◌, ◌∷◌, ℕ, List, Option, [], true, map, None, Some, length, vec_len, OnOk, IfOk, IfErr};
+ghost use Rattle.std.specs.Prelude.{◌≡◌, ◌↔◌, ◌++◌, ◌∷◌, ◌+◌, ◌≤◌, ℕ, List, Option, [], true, map, None, Some, length, vec_len, vec_capacity, OnOk, IfOk, IfErr};
 ghost use Rattle.std.specs.Arc.{arc_value};
 ghost use Rattle.posix_model.specs.Reserve.{IsLegalRun};
 ghost use Rattle.posix_model.specs.Turns.{bytes_in, bytes_out};
@@ -12,6 +12,7 @@ ghost use Rattle.run_core.specs.Proved.Closing.{DiffersFor};
 ghost use Rattle.run_core.specs.Proved.Laws.{FlagsDecideAll};
 ghost use Rattle.run_core.specs.Receipts.{Held};
 ghost use Rattle.run_core.specs.Run.{AreAll, ClosesFor, IsClosing, IsGathered, IsLeast, IsRunOf, IsTorn, held_in};
+ghost use Rattle.run_core.specs.Unreported.{UnreportedFor};
 ghost use Rattle.trace_writer.specs.declared.traced.TraceFault.{TraceFault as FaultOfTrace};
 
 use crate::comparison::{HasReceipts, compare};
@@ -234,19 +235,17 @@ fn end_trace<L: Ledgers>(book: Book<L>) -> ClosedBook<L>
     }
 }
 
-/// Closes a run, whose house has no receipt yet, and ends what the trace thread is to receive. Also where that fails nothing more comes
-/// to the trace thread.
-pub(crate) fn close<L: Ledgers>(book: Book<L>) -> Result<Closed<L>, RunFault>
+/// Closes a run, whose house has no receipt yet, and ends what the trace thread is to receive.
+pub(crate) fn close<L: Ledgers>(book: Book<L>) -> Closed<L>
     requires { book.house ≡ Some [] }
-    ensures closing { IfOk result (λ closed. IsClosing book closed.book closed.house) }
-    ensures fault { IfErr result (λ fault. fault ≡ run_fault.NoThread → ⊥) }
+    ensures { IsClosing book result.book result.house }
 {
     let mut book = book;
     let house = book.close_run();
     let book = end_trace(book);
     match house {
-        Some(house) => Ok(Closed { book, house }),
-        None => Err(RunFault::Missing),
+        Some(house) => Closed { book, house },
+        None => unreachable!(),
     }
 }
 
@@ -273,59 +272,82 @@ fn compare_with_house<L: Ledgers, T: HasReceipts>(
     Ok(least)
 }
 
-/// These shares, and those of the house as the last.
-fn with_house<L: Ledgers>(
-    house: SpentSeat<L>,
-    shares: Vec<Shares<L>>,
-) -> Result<Vec<Shares<L>>, AllocError>
-    ensures { IfOk result (λ all. all.items ≡ shares.items ++ house.counted ∷ []) }
+/// Finds why a closed run of so many shares beside those of the house has no totals, if there is a reason but for want of memory. The
+/// faults are those of `close_run`.
+fn check_run<L: Ledgers, T: HasReceipts>(
+    alloc: Global,
+    closed: &Closed<L>,
+    holders: &[T],
+    shares: usize,
+    traced: &Traced,
+) -> Result<(), RunFault>
+    ensures is_legal { OnOk result (IsLegalRun closed.now.book.limits.bounds (Some closed.now.book.limits.records) closed.now.book.history) }
+    ensures all { OnOk result (AreAll closed.now.book.history (map T.held holders.now ++ held_in closed.now.house ∷ []) (map arc_value traced.now.received.items)) }
+    ensures decided { OnOk result (FlagsDecideAll (map arc_value traced.now.received.items)) }
+    ensures whole { OnOk result (seats_given closed.now.book ≤ shares + 1) }
+    ensures fault { IfErr result (UnreportedFor closed.now.book (shares + 1) (map T.held holders.now ++ held_in closed.now.house ∷ []) traced.now.fault (map arc_value traced.now.received.items)) }
+    ensures no_thread { IfErr result (λ fault. fault ≡ run_fault.NoThread → ⊥) }
 {
-    let mut shares = shares;
-    let (_receipts, counted) = house.into_parts();
-    if shares.push(counted).is_err() {
-        return Err(AllocError);
+    let least = compare_with_house(alloc, closed, holders, traced.received.as_slice())?;
+    if (shares as u64) < closed.book.seats() - 1 {
+        return Err(RunFault::Missing);
     }
-    Ok(shares)
+    all_agree(traced, closed.book.len(), least)?;
+    Ok(())
 }
 
-/// Gathers these shares and those of the house: the number of the records of a closed run, and of the bytes that they took and gave. Where
-/// shares are missing, that is the fault.
-fn gather_with_house<L: Ledgers>(
-    closed: Closed<L>,
-    shares: Vec<Shares<L>>,
-) -> Result<Sums, CloseFault>
-    ensures records { IfOk result (λ sums. sums.records ≡ length closed.book.history) }
-    ensures bytes_in { IfOk result (λ sums. sums.bytes_in ≡ bytes_in closed.book.limits.bounds closed.book.history) }
-    ensures bytes_out { IfOk result (λ sums. sums.bytes_out ≡ bytes_out closed.book.limits.bounds closed.book.history) }
-    ensures gathered { IfOk result (λ sums. IsGathered closed.book (shares.items ++ closed.house.counted ∷ []) sums.records sums.bytes_in sums.bytes_out) }
-    ensures fault { IfErr result (λ fault. (held : List Held) (why : Option FaultOfTrace) (received : List Record) → ClosesFor closed.book (length (shares.items ++ closed.house.counted ∷ [])) held why received fault) }
+/// Gathers these shares and those of the house, of which none is missing: the number of the records of a closed run, and of the bytes that
+/// they took and gave.
+fn gather_with_house<L: Ledgers>(closed: Closed<L>, shares: Vec<Shares<L>>) -> Sums
+    requires room { vec_len shares + 1 ≤ vec_capacity shares }
+    requires whole { seats_given closed.book ≤ vec_len shares + 1 }
+    ensures records { result.records ≡ length closed.book.history }
+    ensures bytes_in { result.bytes_in ≡ bytes_in closed.book.limits.bounds closed.book.history }
+    ensures bytes_out { result.bytes_out ≡ bytes_out closed.book.limits.bounds closed.book.history }
+    ensures gathered { IsGathered closed.book (shares.items ++ closed.house.counted ∷ []) result.records result.bytes_in result.bytes_out }
 {
     let Closed { book, house } = closed;
-    let shares = with_house(house, shares)?;
-    let sums = book.gather(shares)?;
-    Ok(sums)
+    let (_receipts, own) = house.into_parts();
+    let mut shares = shares;
+    shares.push_reserved(own);
+    match book.gather(shares) {
+        Ok(sums) => sums,
+        Err(_) => unreachable!(),
+    }
+}
+
+/// A closed run without totals.
+#[derive(Drop)]
+pub(crate) struct Unended<L: Ledgers> {
+    pub(crate) fault: RunFault,
+    pub(crate) closed: Closed<L>,
 }
 
 /// Ends a run that is closed and whose seats are parted into holders of their receipts and shares. It compares the receipts with the
 /// records and with what was received, and gathers the shares: the number of the records, and of the bytes that they took and gave. The
-/// faults are those of `close_run`.
+/// faults are those of `close_run`, and give the run back.
 pub(crate) fn end_run<L: Ledgers, T: HasReceipts>(
     alloc: Global,
     closed: Closed<L>,
     holders: &[T],
     shares: Vec<Shares<L>>,
     traced: &Traced,
-) -> Result<Sums, CloseFault>
+) -> Result<Sums, Unended<L>>
     ensures run { IfOk result (λ sums. IsRunOf closed.book.limits sums.records sums.bytes_in sums.bytes_out closed.book closed.house shares.items (map T.held holders.now) (map arc_value traced.now.received.items)) }
     ensures decided { OnOk result (FlagsDecideAll (map arc_value traced.now.received.items)) }
-    ensures fault { IfErr result (ClosesFor closed.book (length (shares.items ++ closed.house.counted ∷ [])) (map T.held holders.now ++ held_in closed.house ∷ []) traced.now.fault (map arc_value traced.now.received.items)) }
+    ensures fault { IfErr result (λ unended. UnreportedFor closed.book (vec_len shares + 1) (map T.held holders.now ++ held_in closed.house ∷ []) traced.now.fault (map arc_value traced.now.received.items) unended.fault) }
+    ensures no_thread { IfErr result (λ unended. unended.fault ≡ run_fault.NoThread → ⊥) }
+    ensures back { IfErr result (λ unended. unended.closed ≡ closed) }
 {
-    let received = traced.received.as_slice();
-    let least = compare_with_house(alloc, &closed, holders, received);
-    // This takes the run and the shares, so no way out has to drop them. A fault of the comparison is told first.
-    let sums = gather_with_house(closed, shares);
-    let least = least?;
-    let sums = sums?;
-    all_agree(traced, sums.records, least)?;
-    Ok(sums)
+    let mut shares = shares;
+    if let Err(fault) = check_run(alloc, &closed, holders, shares.len(), traced) {
+        return Err(Unended { fault, closed });
+    }
+    if shares.reserve(1).is_err() {
+        return Err(Unended {
+            fault: RunFault::NoMemory,
+            closed,
+        });
+    }
+    Ok(gather_with_house(closed, shares))
 }

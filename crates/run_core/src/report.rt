@@ -4,9 +4,11 @@ ghost use Rattle.std.specs.Prelude.{◌≡◌};
 ghost use Rattle.run_core.specs.Receipts.{held_by};
 
 use crate::comparison::HasReceipts;
+use byte_ledger::ledgers::Ledgers;
 use logged_streams::reader::LoggedReader;
 use logged_streams::writer::LoggedWriter;
-use record_book::seat::Receipt;
+use record_book::closed::ClosedBook;
+use record_book::seat::{Receipt, SpentSeat};
 use session_core::end::End;
 use session_core::told::Told;
 use std::alloc::AllocError;
@@ -109,7 +111,8 @@ pub struct Report<R: Read, W: Write, K: Sink> {
 /// Why a run gives no report.
 #[derive(Clone, Copy, Debug, PartialEq, Eq, Drop, Error)]
 pub enum RunFault {
-    /// Memory ran out before the first session, when the run was closed, or for the list of the records that were received.
+    /// Memory ran out before the first session, for what a session shares with the others, for the closing, or for the list of the
+    /// records that were received.
     #[error("no memory")]
     NoMemory,
     /// The thread of the trace could not be started, or that of a session. The sessions before it were served to their end.
@@ -121,6 +124,43 @@ pub enum RunFault {
     /// The receipts of the sessions, the records and what the trace thread received differ: this is the least place at which they do.
     #[error("disagree at {place}")]
     Disagree { place: u64 },
+}
+
+/// What a run left that gives no report: all its sessions have ended, it is closed, and its trace is written as far as the sink took it.
+#[derive(Drop)]
+pub struct Left<R: Read, W: Write, K: Sink, L: Ledgers> {
+    /// What became of the trace.
+    pub traced: Traced,
+    /// The sessions, in the order in which they were accepted.
+    pub ends: Vec<Session<R, W>>,
+    /// What took the trace.
+    pub sink: K,
+    /// The records of the run.
+    pub book: ClosedBook<L>,
+    /// The seat of the house, which closed the run.
+    pub house: SpentSeat<L>,
+}
+
+/// A run without a report.
+#[derive(Drop)]
+pub struct Unreported<R: Read, W: Write, K: Sink, L: Ledgers> {
+    pub fault: RunFault,
+    /// What it left. `None` where no session began, since memory was wanting, or the thread of the trace.
+    pub left: Option<Left<R, W, K, L>>,
+}
+
+impl<R: Read, W: Write, K: Sink, L: Ledgers> From<AllocError> for Unreported<R, W, K, L> {
+    ghost use Rattle.std.specs.Prelude.{None};
+    ghost use Rattle.run_core.specs.declared.report.RunFault.TheVariants.{NoMemory};
+
+    ghost from_gives = { λ _ unreported. (unreported.fault ≡ NoMemory) × (unreported.left ≡ None) };
+
+    fn from(_fault: AllocError) -> Self {
+        Unreported {
+            fault: RunFault::NoMemory,
+            left: None,
+        }
+    }
 }
 
 impl From<AllocError> for RunFault {

@@ -1,21 +1,23 @@
 //! The sessions of a run, each in a thread of its own.
 
-ghost use Rattle.std.specs.Prelude.{◌≡◌, ◌≤◌, ◌<◌, ◌+◌, ◌^◌, ◌++◌, ◌∷◌, [], true, false, Some, map, length, vec_len, vec_capacity, IfOk, IfErr, IfSome, OnOk};
+ghost use Rattle.std.specs.Prelude.{◌≡◌, ◌≤◌, ◌<◌, ◌+◌, ◌^◌, ◌++◌, ◌∷◌, [], true, None, Some, map, length, vec_len, vec_capacity, IfOk, IfErr, IfSome, OnOk};
 ghost use Rattle.std.specs.Option.{option_map};
 ghost use Rattle.std.specs.Arc.{arc_value};
 ghost use Rattle.rtrb.specs.Ring.{received};
 ghost use Rattle.run_core.specs.Judged.{IsJudged};
-ghost use Rattle.run_core.specs.Proved.Closing.{UnreportedFor};
 ghost use Rattle.run_core.specs.Proved.Laws.{FlagsDecideAll};
 ghost use Rattle.run_core.specs.Receipts.{held_by};
 ghost use Rattle.run_core.specs.Run.{IsRun, IsRunOf, IsBlank, IsProcessOf, FailsIfFewer, GivesConnections, ServesInRun, held_in, streams, with_seat};
 ghost use Rattle.run_core.specs.Proved.Joining.{HasEnded, IsJoined};
+ghost use Rattle.run_core.specs.Unreported.{IsNoWant, IsUnreported, UnreportedFor};
+ghost use Rattle.run_core.specs.declared.sessions.Want.{Want};
+ghost use Rattle.run_core.specs.declared.sessions.Want.TheVariants as wants;
 ghost use Rattle.run_core.specs.declared.report.RunFault.TheVariants as run_fault;
 ghost use Rattle.run_core.specs.declared.sessions.Shortage.TheVariants as shortage;
 
 use crate::closing::{Closed, close, end_run, unshared};
 use crate::laws::runs_are_judged;
-use crate::report::{Process, Report, RunFault, Session};
+use crate::report::{Left, Process, Report, RunFault, Session, Unreported};
 use crate::source::Source;
 use crate::tracing::{Done, Traces, start_trace};
 use byte_ledger::ledgers::{Blanks, Ledgers};
@@ -138,8 +140,30 @@ fn start<
 enum Shortage {
     /// The source gave no connection.
     NoConnection,
-    /// No thread could be started for one.
-    NoThread,
+    /// It gave one, for which memory or a thread was wanting.
+    Lost(Want),
+}
+
+/// What was wanting for a session.
+#[derive(Clone, Copy, Debug, PartialEq, Eq)]
+enum Want {
+    /// Memory for what it shares with the others.
+    Memory,
+    /// A thread of its own.
+    Thread,
+}
+
+impl From<Want> for RunFault {
+    ghost use Rattle.run_core.specs.Proved.Joining.{fault_of_want};
+
+    ghost from_gives = { λ want fault. fault ≡ fault_of_want want };
+
+    fn from(want: Want) -> RunFault {
+        match want {
+            Want::Memory => RunFault::NoMemory,
+            Want::Thread => RunFault::NoThread,
+        }
+    }
 }
 
 /// Accepts a connection, and serves it in a thread of its own.
@@ -161,7 +185,7 @@ fn next_session<
     ensures accepted { OnOk result (S.accepted source.new ≡ S.accepted source.old + 1) }
     ensures next { IfOk result (λ thread. GivesConnections (S.coming source.old) (S.coming source.new) (streams (S.Reader.Read.remaining thread.promise.reader.value) (S.Writer.Write.contents thread.promise.writer.value) ∷ [])) }
     ensures no_connection { IfErr result (λ why. why ≡ shortage.NoConnection → (S.failures source.new ≡ S.failures source.old + 1) × (S.accepted source.new ≡ S.accepted source.old) × (S.coming source.new ≡ S.coming source.old)) }
-    ensures no_thread { IfErr result (λ why. why ≡ shortage.NoThread → S.failures source.new ≡ S.failures source.old) }
+    ensures lost { IfErr result (λ why. (want : Want) → why ≡ shortage.Lost want → S.failures source.new ≡ S.failures source.old) }
 {
     let (reader, writer) = match source.accept() {
         Ok(connection) => connection,
@@ -169,17 +193,17 @@ fn next_session<
     };
     match shared.share() {
         Ok(shared) => start::<Rt, S, G, L>(rt, alloc, shared, reader, writer, session).ok_or(
-            Shortage::NoThread,
+            Shortage::Lost(Want::Thread),
         ),
-        Err(_) => Err(Shortage::NoThread),
+        Err(_) => Err(Shortage::Lost(Want::Memory)),
     }
 }
 
-/// The sessions that were started, and whether a connection was accepted after them for which no thread could be started.
+/// The sessions that were started, and what was wanting for a connection that was accepted after them, if there was one.
 #[derive(Drop)]
 struct Started<R: Read, W: Write, G: Gate, L: Ledgers> {
     running: Vec<Running<R, W, G, L>>,
-    no_thread: bool,
+    want: Option<Want>,
 }
 
 /// Accepts so many connections, and serves each in a thread of its own. There is room for them.
@@ -201,10 +225,10 @@ fn start_all<
     requires room { sessions ≤ vec_capacity room }
     requires empty { vec_len room ≡ 0 }
     ensures few { vec_len result.running ≤ sessions }
-    ensures failures { result.no_thread ≡ false → FailsIfFewer (vec_len result.running) sessions (S.failures source.old) (S.failures source.new) }
-    ensures accepted { result.no_thread ≡ false → S.accepted source.new ≡ S.accepted source.old + vec_len result.running }
-    ensures lost { result.no_thread ≡ true → S.failures source.new ≡ S.failures source.old }
-    ensures gives { result.no_thread ≡ false → GivesConnections (S.coming source.old) (S.coming source.new) (map (λ thread. streams (S.Reader.Read.remaining thread.promise.reader.value) (S.Writer.Write.contents thread.promise.writer.value)) result.running.items) }
+    ensures failures { result.want ≡ None → FailsIfFewer (vec_len result.running) sessions (S.failures source.old) (S.failures source.new) }
+    ensures accepted { result.want ≡ None → S.accepted source.new ≡ S.accepted source.old + vec_len result.running }
+    ensures lost { (want : Want) → result.want ≡ Some want → S.failures source.new ≡ S.failures source.old }
+    ensures gives { result.want ≡ None → GivesConnections (S.coming source.old) (S.coming source.new) (map (λ thread. streams (S.Reader.Read.remaining thread.promise.reader.value) (S.Writer.Write.contents thread.promise.writer.value)) result.running.items) }
 {
     let mut running = room;
     for session in 0..sessions {
@@ -213,20 +237,20 @@ fn start_all<
             Err(Shortage::NoConnection) => {
                 return Started {
                     running,
-                    no_thread: false,
+                    want: None,
                 };
             }
-            Err(Shortage::NoThread) => {
+            Err(Shortage::Lost(want)) => {
                 return Started {
                     running,
-                    no_thread: true,
+                    want: Some(want),
                 };
             }
         }
     }
     Started {
         running,
-        no_thread: false,
+        want: None,
     }
 }
 
@@ -343,15 +367,17 @@ fn shared_by<G: Gate, L: Ledgers>(
     Ok((shared, end))
 }
 
-/// Sessions that have ended, and their run, which is closed.
+/// Sessions that have ended, their run, which is closed, and what was wanting for a connection that was accepted after them, if there was
+/// one.
 #[derive(Drop)]
 struct Ended<R: Read, W: Write, L: Ledgers> {
     closed: Closed<L>,
     parted: Parted<R, W, L>,
+    want: Option<Want>,
 }
 
-/// Accepts so many connections, serves each in a thread of its own, and closes the run when all have ended. In any case no thread goes
-/// on then, and no record is put into the ring any more.
+/// Accepts so many connections, serves each in a thread of its own, and closes the run when all have ended. No thread goes on then, and
+/// no record is put into the ring any more.
 fn serve_all<
     Rt: Threads + Wait + Copy + Drop + Send + Sync + 'static,
     S: Source + Send + 'static,
@@ -364,28 +390,50 @@ fn serve_all<
     source: &mut S,
     sessions: usize,
     rooms: Rooms<S::Reader, S::Writer, G, L>,
-) -> Result<Ended<S::Reader, S::Writer, L>, RunFault>
+) -> Ended<S::Reader, S::Writer, L>
     requires failures { S.failures source.old + 1 < 2 ^ 64 }
     requires accepted { S.accepted source.old + sessions < 2 ^ 64 }
     requires running { (vec_len rooms.running ≡ 0) × (sessions ≤ vec_capacity rooms.running) }
     requires ends { (vec_len rooms.ends.sessions ≡ 0) × (sessions ≤ vec_capacity rooms.ends.sessions) }
     requires shares { (vec_len rooms.ends.shares ≡ 0) × (sessions ≤ vec_capacity rooms.ends.shares) }
-    ensures failures { IfOk result (λ ended. FailsIfFewer (vec_len ended.parted.sessions) sessions (S.failures source.old) (S.failures source.new)) }
-    ensures accepted { IfOk result (λ ended. S.accepted source.new ≡ S.accepted source.old + vec_len ended.parted.sessions) }
-    ensures few { IfOk result (λ ended. vec_len ended.parted.sessions ≤ sessions) }
-    ensures ended { IfOk result (λ ended. HasEnded G.is_open L.limits (S.coming source.old) (S.coming source.new) ended.closed.book ended.closed.house ended.parted.sessions.items ended.parted.shares.items) }
-    ensures lost { IfErr result (λ fault. fault ≡ run_fault.NoThread → S.failures source.new ≡ S.failures source.old) }
+    ensures failures { result.want ≡ None → FailsIfFewer (vec_len result.parted.sessions) sessions (S.failures source.old) (S.failures source.new) }
+    ensures accepted { result.want ≡ None → S.accepted source.new ≡ S.accepted source.old + vec_len result.parted.sessions }
+    ensures few { vec_len result.parted.sessions ≤ sessions }
+    ensures ended { HasEnded G.is_open L.limits result.want (S.coming source.old) (S.coming source.new) result.closed.book result.closed.house result.parted.sessions.items result.parted.shares.items }
+    ensures lost { (want : Want) → result.want ≡ Some want → S.failures source.new ≡ S.failures source.old }
 {
     let Rooms { running, ends } = rooms;
     let started = start_all(rt, alloc, &shared, source, sessions, running);
-    let Started { running, no_thread } = started;
+    let Started { running, want } = started;
     let parted = join_all(&rt, running, ends);
-    if no_thread {
-        return Err(RunFault::NoThread);
+    let closed = close(unshared(&rt, shared.lock).take().into_book());
+    Ended {
+        closed,
+        parted,
+        want,
     }
-    match close(unshared(&rt, shared.lock).take().into_book()) {
-        Ok(closed) => Ok(Ended { closed, parted }),
-        Err(fault) => Err(fault),
+}
+
+/// What a run left that gives no report for this.
+fn unreported<R: Read, W: Write, L: Ledgers, K: Sink>(
+    fault: RunFault,
+    closed: Closed<L>,
+    ends: Vec<Session<R, W>>,
+    done: Done<K>,
+) -> Unreported<R, W, K, L>
+    ensures { result ≡ record { fault = fault; left = Some (record { traced = done.traced; ends = ends; sink = done.sink; book = closed.book; house = closed.house }) } }
+{
+    let Closed { book, house } = closed;
+    let Done { traced, sink } = done;
+    Unreported {
+        fault,
+        left: Some(Left {
+            traced,
+            ends,
+            sink,
+            book,
+            house,
+        }),
     }
 }
 
@@ -394,29 +442,41 @@ fn report_of<R: Read + Drop, W: Write + Drop, L: Ledgers, K: Sink + Drop>(
     alloc: Global,
     ended: Ended<R, W, L>,
     done: Done<K>,
-) -> Result<Report<R, W, K>, RunFault>
+) -> Result<Report<R, W, K>, Unreported<R, W, K, L>>
     ensures run { IfOk result (λ report. IsRunOf ended.closed.book.limits report.records report.bytes_in report.bytes_out ended.closed.book ended.closed.house ended.parted.shares.items (map (λ s. held_by s.process) ended.parted.sessions.items) (map arc_value done.traced.received.items)) }
     ensures decided { OnOk result (FlagsDecideAll (map arc_value done.traced.received.items)) }
+    ensures whole { OnOk result (ended.want ≡ None) }
     ensures ends { IfOk result (λ report. (report.ends ≡ ended.parted.sessions) × (report.sessions ≡ vec_len ended.parted.sessions)) }
     ensures trace { IfOk result (λ report. (report.traced ≡ done.traced) × (report.sink ≡ done.sink)) }
-    ensures fault { IfErr result (UnreportedFor ended.closed.book (length (ended.parted.shares.items ++ ended.closed.house.counted ∷ [])) (map (λ s. held_by s.process) ended.parted.sessions.items ++ held_in ended.closed.house ∷ []) done.traced.fault (map arc_value done.traced.received.items)) }
+    ensures fault { IfErr result (λ u. UnreportedFor ended.closed.book (vec_len ended.parted.shares + 1) (map (λ s. held_by s.process) ended.parted.sessions.items ++ held_in ended.closed.house ∷ []) done.traced.fault (map arc_value done.traced.received.items) u.fault) }
+    ensures want { IfErr result (λ u. IsNoWant u.fault → ended.want ≡ None) }
+    ensures no_thread { IfErr result (λ u. u.fault ≡ run_fault.NoThread → ended.want ≡ Some wants.Thread) }
+    ensures left { IfErr result (λ u. u.left ≡ Some (record { traced = done.traced; ends = ended.parted.sessions; sink = done.sink; book = ended.closed.book; house = ended.closed.house })) }
 {
-    let Ended { closed, parted } = ended;
+    let Ended {
+        closed,
+        parted,
+        want,
+    } = ended;
     let Parted {
         sessions: ends,
         shares,
     } = parted;
-    let Done { traced, sink } = done;
-    let sums = end_run(alloc, closed, ends.as_slice(), shares, &traced)?;
-    Ok(Report {
-        sessions: ends.len(),
-        records: sums.records,
-        bytes_in: sums.bytes_in,
-        bytes_out: sums.bytes_out,
-        traced,
-        ends,
-        sink,
-    })
+    if let Some(want) = want {
+        return Err(unreported(RunFault::from(want), closed, ends, done));
+    }
+    match end_run(alloc, closed, ends.as_slice(), shares, &done.traced) {
+        Ok(sums) => Ok(Report {
+            sessions: ends.len(),
+            records: sums.records,
+            bytes_in: sums.bytes_in,
+            bytes_out: sums.bytes_out,
+            traced: done.traced,
+            ends,
+            sink: done.sink,
+        }),
+        Err(unended) => Err(unreported(unended.fault, unended.closed, ends, done)),
+    }
 }
 
 /// Serves so many sessions while their trace goes on, then waits until it is written, and compares and gathers what they left. The sink
@@ -436,7 +496,7 @@ fn serve_traced<
     rooms: Rooms<S::Reader, S::Writer, G, L>,
     limits: Limits,
     traces: Traces<K>,
-) -> Result<Report<S::Reader, S::Writer, K>, RunFault>
+) -> Result<Report<S::Reader, S::Writer, K>, Unreported<S::Reader, S::Writer, K, L>>
     requires limits { L.limits ≡ Some limits }
     requires traced { traces.thread.promise.limits ≡ limits }
     requires failures { S.failures source.old + 1 < 2 ^ 64 }
@@ -449,12 +509,13 @@ fn serve_traced<
     ensures few { IfOk result (λ report. (report.sessions ≡ vec_len report.ends) × (report.sessions ≤ sessions)) }
     ensures run { IfOk result (λ report. IsRun (record { always = G.is_open; limits_are = limits; coming = S.coming source.old; later = S.coming source.new; records = report.records; taken = report.bytes_in; given = report.bytes_out; ends = report.ends.items; received = map arc_value report.traced.received.items; trace = record { base = K.contents traces.thread.promise.sink.value; now = K.contents report.sink; before = K.failures traces.thread.promise.sink.value; after = K.failures report.sink; is_synced = K.is_synced report.sink; whole = report.traced.whole; bytes = report.traced.bytes; fault = report.traced.fault } })) }
     ensures judged { IfOk result (λ report. IsJudged (K.contents traces.thread.promise.sink.value) (K.contents report.sink) report.traced.whole report.traced.bytes) }
-    ensures lost { IfErr result (λ fault. fault ≡ run_fault.NoThread → S.failures source.new ≡ S.failures source.old) }
+    ensures unreported { IfErr result (λ u. IsUnreported (option_map (λ left. record { always = G.is_open; limits_are = limits; coming = S.coming source.old; later = S.coming source.new; ends = left.ends.items; received = map arc_value left.traced.received.items; trace = record { base = K.contents traces.thread.promise.sink.value; now = K.contents left.sink; before = K.failures traces.thread.promise.sink.value; after = K.failures left.sink; is_synced = K.is_synced left.sink; whole = left.traced.whole; bytes = left.traced.bytes; fault = left.traced.fault }; book = left.book; house = left.house }) u.left) u.fault) }
+    ensures unbegun { IfErr result (λ u. u.left ≡ None → S.accepted source.new ≡ S.accepted source.old) }
+    ensures lost { IfErr result (λ u. u.fault ≡ run_fault.NoThread → S.failures source.new ≡ S.failures source.old) }
 {
     runs_are_judged(limits);
     let ended = serve_all(rt, alloc, shared, source, sessions, rooms);
     let done = traces.join(&rt);
-    let ended = ended?;
     let report = report_of(alloc, ended, done)?;
     Ok(report)
 }
@@ -462,9 +523,10 @@ fn serve_traced<
 /// Runs so many sessions, each in a thread of its own, and a thread beside them that writes the trace into a sink. An answer is written
 /// once the gate lets it through. When all sessions have ended, the run is closed, what their seats counted is gathered, and receipts,
 /// records and what the trace thread received are compared. Where accepting fails, the sessions before are served to their end, and the
-/// report has fewer. Where a session's own thread cannot be started they are too, but there is no report. Where the sink fails, the
-/// report tells it. The trace tells the limits of the run, and an audit finds what the sink took legal, with the whole records that are
-/// told. In any case no thread goes on then.
+/// report has fewer. Where a session's own thread cannot be started, or memory is wanting for it, they are too, but there is no report.
+/// Where the sink fails, the report tells it. The trace tells the limits of the run, and an audit finds what the sink took legal, with
+/// the whole records that are told. A run without a report hands out what its sessions left, its records and what the trace thread
+/// received, in which its fault can be seen. In any case no thread goes on then.
 pub fn run_sessions<
     Rt: Threads + Wait + Clock + Copy + Drop + Send + Sync + 'static,
     S: Source + Send + 'static,
@@ -480,7 +542,7 @@ pub fn run_sessions<
     blanks: Blanks,
     gate: G,
     sink: K,
-) -> Result<Report<S::Reader, S::Writer, K>, RunFault>
+) -> Result<Report<S::Reader, S::Writer, K>, Unreported<S::Reader, S::Writer, K, L>>
     requires failures { S.failures source.old + 1 < 2 ^ 64 }
     requires accepted { S.accepted source.old + sessions < 2 ^ 64 }
     requires ledgers { blanks ≡ L.names }
@@ -492,12 +554,17 @@ pub fn run_sessions<
     ensures few { IfOk result (λ report. (report.sessions ≡ vec_len report.ends) × (report.sessions ≤ sessions)) }
     ensures run { IfOk result (λ report. IsRun (record { always = G.is_open; limits_are = limits; coming = S.coming source.old; later = S.coming source.new; records = report.records; taken = report.bytes_in; given = report.bytes_out; ends = report.ends.items; received = map arc_value report.traced.received.items; trace = record { base = K.contents sink; now = K.contents report.sink; before = K.failures sink; after = K.failures report.sink; is_synced = K.is_synced report.sink; whole = report.traced.whole; bytes = report.traced.bytes; fault = report.traced.fault } })) }
     ensures judged { IfOk result (λ report. IsJudged (K.contents sink) (K.contents report.sink) report.traced.whole report.traced.bytes) }
-    ensures lost { IfErr result (λ fault. fault ≡ run_fault.NoThread → S.failures source.new ≡ S.failures source.old) }
+    ensures unreported { IfErr result (λ u. IsUnreported (option_map (λ left. record { always = G.is_open; limits_are = limits; coming = S.coming source.old; later = S.coming source.new; ends = left.ends.items; received = map arc_value left.traced.received.items; trace = record { base = K.contents sink; now = K.contents left.sink; before = K.failures sink; after = K.failures left.sink; is_synced = K.is_synced left.sink; whole = left.traced.whole; bytes = left.traced.bytes; fault = left.traced.fault }; book = left.book; house = left.house }) u.left) u.fault) }
+    ensures unbegun { IfErr result (λ u. u.left ≡ None → S.accepted source.new ≡ S.accepted source.old) }
+    ensures lost { IfErr result (λ u. u.fault ≡ run_fault.NoThread → S.failures source.new ≡ S.failures source.old) }
 {
     let rooms = rooms_for(alloc, sessions)?;
     let (shared, end) = shared_by::<G, L>(alloc, limits, blanks, gate)?;
     match start_trace(rt, alloc, end, limits, sink) {
         Some(traces) => serve_traced(rt, alloc, shared, source, sessions, rooms, limits, traces),
-        None => Err(RunFault::NoThread),
+        None => Err(Unreported {
+            fault: RunFault::NoThread,
+            left: None,
+        }),
     }
 }

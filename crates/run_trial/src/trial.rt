@@ -30,7 +30,7 @@ pub(crate) fn ran<
     requires limits { L.limits ≡ Some limits }
 {
     let mut source = Waiting::new(alloc)?;
-    Ok(run_sessions::<Rt, Waiting, OthersFirst<Rt>, L, MemorySink>(
+    let ran = run_sessions::<Rt, Waiting, OthersFirst<Rt>, L, MemorySink>(
         rt,
         alloc,
         &mut source,
@@ -39,5 +39,9 @@ pub(crate) fn ran<
         blanks,
         OthersFirst::new(rt),
         MemorySink::new(alloc, Manner::sound()),
-    )?)
+    );
+    match ran {
+        Ok(report) => Ok(report),
+        Err(unreported) => Err(TrialFault::from(unreported.fault)),
+    }
 }

@@ -3,7 +3,7 @@ use Rattle.fdref.proofs.ServeLemmas.{lost_connection, never_lost, reported, unre
 use Rattle.fdref.proofs.serve.serve_with.Goals as goal
 
 pub returns-in-Err : goal.returns-in-Err
-returns-in-Err g c = record { reports = rw c.end_without_report.ensures (unreported _ c.in-Err.fault); failed = λ is. absurd (never_lost c.in-Err.fault (sym c.end_without_report.ensures ∙ is)) }
+returns-in-Err g c = record { reports = rw c.end_without_report.ensures (unreported _ c.in-Err.unreported.fault); failed = λ is. absurd (never_lost c.in-Err.unreported.fault (sym c.end_without_report.ensures ∙ is)) }
 
 pub returns : goal.returns
 returns g c =
