@@ -20,8 +20,8 @@ use Rattle.byte_ledger.specs.declared.tallies.Sums.{Sums}
 use Rattle.record_book.specs.Seat.{Receipted}
 use Rattle.record_book.specs.Book.{BookState, world_now, Appends}
 use Rattle.posix_model.specs.Reserve.{exits_left}
-use Rattle.record_book.specs.Counting.{seats_of, seats_in, seats_given, only_records, CountsOf}
-use Rattle.record_book.specs.Proved.Counted.{counted_in, IsCounted}
+use Rattle.record_book.specs.Counting.{seats_of, seats_in, seats_given, only_records, counted_in, CountsOf}
+use Rattle.record_book.specs.Proved.Counted.{IsCounted}
 use Rattle.record_book.specs.Exits.{exit_record, closing_record, receipts_from}
 use Rattle.record_book.specs.Ends.{told_more}
 use Rattle.record_book.specs.Proved.Leaving.{IsOrphansExit, IsShutBy}

@@ -1,4 +1,5 @@
 pub mod Closed
+pub mod Quiet
 pub mod House
 pub mod History
 pub mod Planned

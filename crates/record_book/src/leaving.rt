@@ -12,6 +12,7 @@ ghost use Rattle.record_book.specs.Exits.{exit_record};
 ghost use Rattle.record_book.specs.Proved.Planned.{IsPlanned};
 ghost use Rattle.record_book.specs.Refusals.{is_too_full};
 ghost use Rattle.record_book.specs.Proved.Leaving.{IsOrphansExit, IsShutBy};
+ghost use Rattle.record_book.specs.Proved.Quiet.{AreQuiet};
 
 use crate::history::History;
 use crate::journal::Journal;
@@ -120,7 +121,8 @@ impl Journal {
     /// Records the closing of an open run. Returns the receipts of the house, of which the last is that of the closing.
     pub(crate) fn record_closing(&mut self) -> Vec<Receipt>
         requires { (world_now self.old).closed ≡ false }
-        ensures { IsShutBy self.old self.new result.items }
+        ensures shut { IsShutBy self.old self.new result.items }
+        ensures quiet { AreQuiet result.items }
     {
         self.is_closing_planned();
         let decided = decide_close_run();

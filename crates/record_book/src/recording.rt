@@ -5,7 +5,7 @@ ghost use Rattle.byte_ledger.specs.Counted.{counted_more};
 ghost use Rattle.posix_model.specs.Proved.Sound.{ended, closes};
 ghost use Rattle.record_book.specs.Book.{Records};
 ghost use Rattle.record_book.specs.Openings.{IsOpening};
-ghost use Rattle.record_book.specs.Counting.{seats_of, only_records};
+ghost use Rattle.record_book.specs.Counting.{seats_of, only_records, CountsOwn};
 ghost use Rattle.record_book.specs.Proved.Planned.{IsPlanned};
 
 use crate::append::Appended;
@@ -33,6 +33,7 @@ fn open_seat<L: Ledgers>(
     requires place { appended.receipt.place + 1 < 2 ^ 64 }
     requires empty { receipts.items ≡ [] }
     requires room { 2 ≤ vec_capacity receipts }
+    requires own { CountsOwn (counted_more appended.bytes_in appended.bytes_out (only_records 0)) (appended.shared ∷ []) }
     ensures tallies { tallies.new ≡ record { opened = tallies.old.opened + 1; counted = counted_more appended.bytes_in appended.bytes_out tallies.old.counted } }
     ensures seat { result.0 ≡ record { pid = pid; seen = appended.receipt.place + 1; receipts = appended.shared ∷ []; counted = counted_more appended.bytes_in appended.bytes_out (only_records 0) } }
     ensures receipt { result.1 ≡ appended.receipt }

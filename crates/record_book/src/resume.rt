@@ -2,7 +2,9 @@
 
 ghost use Rattle.std.specs.Prelude.{◌≡◌, None, true, false, IfOk, IfErr, OnOk, OnErr};
 ghost use Rattle.posix_model.specs.Resume.{is_ready};
+ghost use Rattle.byte_ledger.specs.Counted.{IsPartOf};
 ghost use Rattle.record_book.specs.Book.{world_now, Records};
+ghost use Rattle.record_book.specs.Counting.{counted_in};
 ghost use Rattle.record_book.specs.Refusals.{exit_refusal, resume_refusal, is_ready_in, is_too_full, ResumeRefused};
 ghost use Rattle.record_book.specs.Resumes.{Resumes};
 
@@ -45,13 +47,15 @@ impl<L: Ledgers> Book<L> {
 
     /// Takes up the call that the seat's process waits in, if it is ready. The seat gets the receipt too. Neither a `Refusal` nor
     /// `Still` is recorded, and both leave book and seat as they were. `Still` is told before the run can be full and before memory
-    /// can run out.
+    /// can run out. What the seat counts is part of what the book counts.
     pub fn resume(&mut self, alloc: Global, seat: &mut Seat<L>) -> Result<Resumed, Refusal>
         ensures resumed { IfOk result (λ resumed. Resumes self.old self.new seat.old seat.new resumed) }
         ensures not_refused { OnOk result (resume_refusal self.old seat.old ≡ None) }
         ensures refused { IfErr result (λ refusal. ResumeRefused self.old seat.old refusal) }
         ensures unchanged { OnErr result ((self.new ≡ self.old) × (seat.new ≡ seat.old)) }
+        ensures part { IsPartOf seat.old.counted (counted_in self.old) }
     {
+        self.tallies.have_part(&mut seat.shares);
         if let Some(refusal) = self.journal.exit_refusal(seat) {
             return Err(refusal);
         }

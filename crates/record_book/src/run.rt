@@ -124,7 +124,14 @@ impl<L: Ledgers> Book<L> {
             None => return Err(Refusal::NotHere),
         }
         match seats.slots[number].take() {
-            Some(mut seat) => Ok(self.record_exit(&mut seat)),
+            Some(seat) => {
+                let Seat {
+                    pid,
+                    mut shares,
+                    ..
+                } = seat;
+                Ok(self.record_exit(pid, &mut shares))
+            }
             None => unreachable!(),
         }
     }

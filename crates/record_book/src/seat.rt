@@ -1,7 +1,8 @@
-ghost use Rattle.std.specs.Prelude.{◌≡◌, ◌+◌, ◌<◌, ◌++◌, ◌∷◌, [], ◌^◌, max, IfOk};
+ghost use Rattle.std.specs.Prelude.{◌≡◌, max, IfOk};
 ghost use Rattle.std.specs.Arc.{arc_value};
 ghost use Rattle.posix_model.specs.Proved.Lengths.{IsShortRecord};
 ghost use Rattle.record_book.specs.Seat.{Receipted, SeatState};
+ghost use Rattle.record_book.specs.Counting.{CountsOwn};
 
 use byte_ledger::ledgers::Ledgers;
 use byte_ledger::tallies::Shares;
@@ -98,8 +99,9 @@ impl<L: Ledgers> Model for Seat<L> {
     ghost view = { λ s. record { pid = s.pid; seen = s.seen; receipts = s.receipts.items; counted = s.shares } };
 
     ghost use Rattle.std.specs.Prelude.{◌<◌, vec_len, vec_capacity};
+    ghost use Rattle.record_book.specs.Counting.{CountsOwn};
 
-    ghost invariant = { λ s. vec_len s.receipts < vec_capacity s.receipts };
+    ghost invariant = { λ s. (vec_len s.receipts < vec_capacity s.receipts) × CountsOwn s.shares s.receipts.items };
 }
 
 impl<L: Ledgers> Seat<L> {
@@ -117,9 +119,10 @@ impl<L: Ledgers> Seat<L> {
         self.seen
     }
 
-    /// The receipts, in the order of their places.
+    /// The receipts, in the order of their places. The seat counts them, and nothing else.
     pub fn receipts(&self) -> &[Receipt]
-        ensures { result.now ≡ self.now.receipts }
+        ensures receipts { result.now ≡ self.now.receipts }
+        ensures own { CountsOwn self.now.counted result.now }
     {
         self.receipts.as_slice()
     }
@@ -129,22 +132,6 @@ impl<L: Ledgers> Seat<L> {
         ensures { self.new ≡ record self.old { seen = max self.old.seen seen } }
     {
         self.seen = self.seen.max(seen);
-    }
-
-    /// Adds the last receipt, for which there is always room. Its record is counted already.
-    pub(crate) fn spend(self, receipt: Receipt) -> SpentSeat<L>
-        requires { receipt.place + 1 < 2 ^ 64 }
-        ensures { result ≡ record { pid = self.pid; seen = receipt.place + 1; receipts = self.receipts ++ receipt ∷ []; counted = self.counted } }
-    {
-        let mut receipts = self.receipts;
-        let seen = receipt.place() + 1;
-        receipts.push_reserved(receipt);
-        SpentSeat {
-            pid: self.pid,
-            seen,
-            receipts,
-            shares: self.shares,
-        }
     }
 }
 
@@ -164,6 +151,10 @@ impl<L: Ledgers> Model for SpentSeat<L> {
     ghost Value = { SeatState };
 
     ghost view = { λ s. record { pid = s.pid; seen = s.seen; receipts = s.receipts.items; counted = s.shares } };
+
+    ghost use Rattle.record_book.specs.Counting.{CountsOwn};
+
+    ghost invariant = { λ s. CountsOwn s.shares s.receipts.items };
 }
 
 impl<L: Ledgers> SpentSeat<L> {
@@ -193,17 +184,19 @@ impl<L: Ledgers> SpentSeat<L> {
         self.seen
     }
 
-    /// The receipts, in the order of their places.
+    /// The receipts, in the order of their places. The seat counts them, and nothing else.
     pub fn receipts(&self) -> &[Receipt]
-        ensures { result.now ≡ self.now.receipts }
+        ensures receipts { result.now ≡ self.now.receipts }
+        ensures own { CountsOwn self.now.counted result.now }
     {
         self.receipts.as_slice()
     }
 
-    /// Its receipts and its shares.
+    /// Its receipts, and its shares, which count these receipts and nothing else.
     pub fn into_parts(self) -> (Vec<Receipt>, Shares<L>)
         ensures receipts { result.0.items ≡ self.receipts }
         ensures counted { result.1 ≡ self.counted }
+        ensures own { CountsOwn result.1 result.0.items }
     {
         (self.receipts, self.shares)
     }

@@ -1,5 +1,7 @@
 ghost use Rattle.std.specs.Prelude.{◌≡◌, None, IfOk, IfErr, OnOk, OnErr};
+ghost use Rattle.byte_ledger.specs.Counted.{IsPartOf};
 ghost use Rattle.record_book.specs.Book.{Records};
+ghost use Rattle.record_book.specs.Counting.{counted_in};
 ghost use Rattle.record_book.specs.Refusals.{start_refusal, IsDue};
 
 use crate::book::Book;
@@ -36,7 +38,7 @@ impl<L: Ledgers> Book<L> {
     }
 
     /// Records a call of the seat's process, whatever its outcome. The seat gets the receipt too. A `Refusal` is not
-    /// recorded, and leaves book and seat as they were.
+    /// recorded, and leaves book and seat as they were. What the seat counts is part of what the book counts.
     pub fn start(
         &mut self,
         alloc: Global,
@@ -47,7 +49,9 @@ impl<L: Ledgers> Book<L> {
         ensures not_refused { OnOk result (start_refusal self.old seat.old call ≡ None) }
         ensures refused { IfErr result (λ refusal. IsDue (start_refusal self.old seat.old call) refusal) }
         ensures unchanged { OnErr result ((self.new ≡ self.old) × (seat.new ≡ seat.old)) }
+        ensures part { IsPartOf seat.old.counted (counted_in self.old) }
     {
+        self.tallies.have_part(&mut seat.shares);
         if let Some(refusal) = self.journal.start_refusal(seat, &call) {
             return Err(refusal);
         }

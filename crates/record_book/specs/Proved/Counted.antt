@@ -2,14 +2,9 @@
 use Rattle.std.specs.Prelude.{◌≡◌, ◌+◌, ◌≤◌, ◌*◌, Option, length, if◌then◌else◌}
 use Rattle.std.specs.Option.{option_map}
 use Rattle.call_types.specs.declared.limits.TheConstants.{GIVEN_BYTES_MAX}
-use Rattle.posix_model.specs.Turns.{bytes_in, bytes_out}
 use Rattle.byte_ledger.specs.Counted.{Counted, TalliesState}
 use Rattle.record_book.specs.Book.{BookState, world_now}
-use Rattle.record_book.specs.Counting.{seats_given, only_records}
-
--- how many records a book holds, and how many bytes they took and gave
-abbrev pub counted_in : BookState → Counted
-counted_in b = record { records = length b.history; bytes_in = bytes_in b.limits.bounds b.history; bytes_out = bytes_out b.limits.bounds b.history }
+use Rattle.record_book.specs.Counting.{seats_given, only_records, counted_in}
 
 -- the tallies count the records of a book and the bytes that they took and gave, there are shares for each seat, the shares of the
 -- house count its receipts, and no count is too great

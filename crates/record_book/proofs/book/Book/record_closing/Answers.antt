@@ -1,5 +1,6 @@
 use Rattle.std.proofs.Common.{◌≡◌, ◌∙◌, Some, refl, sym}
 use Rattle.record_book.proofs.CountLemmas.{counts_closing, house_counts}
+use Rattle.record_book.proofs.OwnLemmas.{own_quiet}
 use Rattle.record_book.proofs.book.Book.record_closing.Goals as goal
 
 pub invariant_of-self : goal.invariant_of-self
@@ -7,12 +8,12 @@ invariant_of-self g c =
     let has : c.self.inside.house ≡ Some c.in-Some.shares = sym c.take.ensures.value ∙ c.in-Some.is in
     rw c.take.ensures.after
     (counts_closing c.self.inside.journal c.record_closing-receipts.new.self c.self.inside.tallies c.count.new.self c.in-Some.shares c.record_closing-receipts.result.items (rw has at c.self.invariant)
-    c.record_closing-receipts.ensures c.count.ensures.tallies)
+    c.record_closing-receipts.ensures.shut c.count.ensures.tallies)
 
 pub returns : goal.returns
 returns g c =
     let has : c.self.inside.house ≡ Some c.in-Some.shares = sym c.take.ensures.value ∙ c.in-Some.is in
-    let shut = c.record_closing-receipts.ensures in
+    let shut = c.record_closing-receipts.ensures.shut in
     rw (← c.self.view_is) (record {
       limits = shut.limits;
       is_traced = shut.is_traced;
@@ -24,3 +25,12 @@ returns g c =
           c.count.ensures.shares;
       given_away = shut.given_away;
     })
+
+-- the seat of the house counts its receipts
+pub invariant_of-result : goal.invariant_of-result
+invariant_of-result g c =
+    let has : c.self.inside.house ≡ Some c.in-Some.shares = sym c.take.ensures.value ∙ c.in-Some.is in
+    let receipts = c.record_closing-receipts.result.items in
+    let counts = house_counts c.self.inside.journal c.record_closing-receipts.new.self c.in-Some.shares c.count.new.shares receipts c.self.inside.tallies (rw has at c.self.invariant) c.record_closing-receipts.ensures.shut
+    c.count.ensures.shares in
+    own_quiet receipts c.count.new.shares counts c.record_closing-receipts.ensures.quiet
