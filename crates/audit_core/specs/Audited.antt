@@ -1,7 +1,8 @@
 -- What an audit of a reader gives (own).
-use Rattle.std.specs.Prelude.{ℕ, List, Result, Ok, Err}
+use Rattle.std.specs.Prelude.{◌≡◌, ℕ, List, Result, Ok, Err}
 use Rattle.std.specs.Io.KnownBytes.{Consumes, IsAtEnd}
 use Rattle.logged_streams.specs.Streams.{LoggedReaderState, IsReadNoMore}
+use Rattle.logged_streams.specs.Reading.{more_calls}
 use Rattle.audit_core.specs.Verdict.{IsVerdict}
 use Rattle.audit_core.specs.declared.audit.AuditFault.{AuditFault}
 use Rattle.audit_core.specs.declared.audit.AuditFault.TheVariants as faults
@@ -9,12 +10,12 @@ use Rattle.audit_core.specs.declared.audit.TheConstants.{READS_MAX}
 use Rattle.audit_core.specs.declared.verdict.Verdict.{Verdict}
 use Rattle.audit_core.specs.declared.verdict.Verdict.TheVariants.{Legal}
 
--- a trace is legal only where the reader's end was met, and there is a read fault only where the reader is read no more
-abbrev pub MeetsItsEnd : LoggedReaderState → Result Verdict AuditFault → Type 0
-MeetsItsEnd reader (Ok (Legal records rest)) = IsAtEnd reader.remaining
-MeetsItsEnd reader (Ok other) = Unit {0}
-MeetsItsEnd reader (Err faults.Read) = IsReadNoMore READS_MAX reader.log
-MeetsItsEnd reader (Err faults.NoMemory) = Unit {0}
+-- a trace is legal only where the reader's end was met, and there is a read fault only where the reader is read no more; else no read failed
+abbrev pub MeetsItsEnd : LoggedReaderState → LoggedReaderState → Result Verdict AuditFault → Type 0
+MeetsItsEnd from to (Ok (Legal records rest)) = IsAtEnd to.remaining × (to.log.failed ≡ from.log.failed)
+MeetsItsEnd from to (Ok other) = to.log.failed ≡ from.log.failed
+MeetsItsEnd from to (Err faults.Read) = IsReadNoMore (more_calls READS_MAX from.log) to.log
+MeetsItsEnd from to (Err faults.NoMemory) = to.log.failed ≡ from.log.failed
 
 -- what is answered is the verdict on these bytes, or a fault
 abbrev pub IsAnswer : List ℕ → Result Verdict AuditFault → Type 0
@@ -26,4 +27,4 @@ pub record Audits (from to : LoggedReaderState) (answer : Result Verdict AuditFa
   pub input : List ℕ
   pub consumes : Consumes from.remaining to.remaining input
   pub answers : IsAnswer input answer
-  pub met : MeetsItsEnd to answer
+  pub met : MeetsItsEnd from to answer

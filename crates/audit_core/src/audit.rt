@@ -1,15 +1,13 @@
 //! An audit: a trace is read to its end, or to the first fault.
 
-ghost use Rattle.std.specs.Prelude.{◌≡◌, ◌<◌, ◌≤◌, length};
+ghost use Rattle.std.specs.Prelude.{◌+◌, ◌≤◌};
 ghost use Rattle.audit_core.specs.Audited.{Audits};
-ghost use Rattle.audit_core.specs.Proved.Auditing.{ReadsOn};
-ghost use Rattle.logged_streams.specs.Streams.{fresh_log};
-ghost use Rattle.audit_core.specs.Proved.Taking.{fresh_trace};
 
 use crate::trace::TraceAudit;
 use crate::verdict::Verdict;
 use logged_streams::reader::LoggedReader;
-use logged_streams::stream_log::{Gave, INTERRUPTIONS_MAX};
+use logged_streams::reading::{ReadEnd, Takes, read_all};
+use logged_streams::stream_log::INTERRUPTIONS_MAX;
 use std::alloc::{AllocError, Global};
 use std::io::Read;
 
@@ -40,65 +38,54 @@ impl From<AllocError> for AuditFault {
     }
 }
 
-/// Reads once more, and takes what that gives.
-fn read_on<R: Read>(
+/// A trace that is judged while it is read.
+#[derive(Drop)]
+struct Auditing {
     alloc: Global,
-    reader: &mut LoggedReader<R>,
-    trace: &mut TraceAudit,
-    buffer: &mut [u8],
-) -> Result<Option<Verdict>, AuditFault>
-    requires room { 0 < length buffer.old }
-    requires short { length buffer.old ≤ READ_LENGTH }
-    requires few { reader.old.log.interruptions < INTERRUPTIONS_MAX }
-    ensures reads { ReadsOn reader.old reader.new trace.old trace.new result }
-    ensures long { length buffer.new ≡ length buffer.old }
-{
-    match reader.read(buffer) {
-        Gave::Bytes(count) => {
-            let (piece, _) = buffer.split_at(count);
-            Ok(trace.take(alloc, piece)?)
-        }
-        Gave::Nothing => Ok(Some(trace.end())),
-        Gave::Interrupted => {
-            if reader.log().interruptions() < INTERRUPTIONS_MAX {
-                Ok(None)
-            } else {
-                Err(AuditFault::Read)
-            }
-        }
-        Gave::Failed => Err(AuditFault::Read),
-    }
+    trace: TraceAudit,
 }
 
-/// Reads as often as an audit may, and takes what that gives, until there is a verdict.
-fn read_often<R: Read>(
-    alloc: Global,
-    reader: &mut LoggedReader<R>,
-    trace: &mut TraceAudit,
-    buffer: &mut [u8],
-) -> Result<Verdict, AuditFault>
-    requires room { length buffer.old ≡ READ_LENGTH }
-    requires unread { reader.old.log ≡ fresh_log }
-    requires fresh { trace.old ≡ fresh_trace }
-    ensures few { reader.new.log.calls ≤ READS_MAX }
-    ensures audits { Audits reader.old reader.new result }
-{
-    for _turn in 0..READS_MAX {
-        if let Some(verdict) = read_on(alloc, reader, trace, buffer)? {
-            return Ok(verdict);
+impl Takes<()> for Auditing {
+    ghost use Rattle.audit_core.specs.Proved.Taking.{IsTaking};
+    ghost use Rattle.audit_core.specs.Proved.Auditing.{IsTold};
+
+    type Told = Result<Verdict, AuditFault>;
+
+    ghost has_taken = { λ _ _ auditing _ bytes. IsTaking bytes auditing.trace };
+
+    ghost has_told = { λ _ _ _ _ bytes answer. IsTold bytes answer };
+
+    fn take(&mut self, _out: &mut (), piece: &[u8]) -> Option<Result<Verdict, AuditFault>> {
+        match self.trace.take(self.alloc, piece) {
+            Ok(None) => None,
+            Ok(Some(verdict)) => Some(Ok(verdict)),
+            Err(_) => Some(Err(AuditFault::NoMemory)),
         }
     }
-    Err(AuditFault::Read)
 }
 
 /// Audits the trace that a reader gives, of either version. What comes after a record that breaks what is legal, or after a frame at
 /// fault, need not be read. Nothing is kept of the records but the state that they led to, and one frame at a time.
 pub fn audit<R: Read>(alloc: Global, reader: &mut LoggedReader<R>) -> Result<Verdict, AuditFault>
-    requires { reader.old.log ≡ fresh_log }
-    ensures few { reader.new.log.calls ≤ READS_MAX }
+    ensures few { reader.new.log.calls ≤ reader.old.log.calls + READS_MAX }
+    ensures few_interrupted { reader.new.log.interruptions ≤ INTERRUPTIONS_MAX }
     ensures audits { Audits reader.old reader.new result }
 {
+    let _few = reader.log().interruptions();
     let mut buffer = vec![in alloc; 0u8; READ_LENGTH]?;
-    let mut trace = TraceAudit::new(alloc);
-    read_often(alloc, reader, &mut trace, buffer.as_mut_slice())
+    let mut auditing = Auditing {
+        alloc,
+        trace: TraceAudit::new(alloc),
+    };
+    match read_all(
+        reader,
+        &mut auditing,
+        &mut (),
+        buffer.as_mut_slice(),
+        READS_MAX,
+    ) {
+        ReadEnd::AtEnd => Ok(auditing.trace.end()),
+        ReadEnd::CannotRead => Err(AuditFault::Read),
+        ReadEnd::Told(answer) => answer,
+    }
 }
