@@ -1,19 +1,20 @@
--- What is written of a trace that is migrated, read by read.
-use Rattle.std.proofs.Common.{◌≡◌, ◌∙◌, ℕ, ◌+◌, ◌*◌, ◌^◌, ◌<◌, ◌≤◌, inl, inr, List, [], ◌∷◌, ◌++◌, Option, None, Some, Result, Ok, Err, length, take, drop, refl, sym, ap, subst, arith, append_assoc, length-append}
+-- What is written of a trace that is migrated, piece by piece.
+use Rattle.std.proofs.Common.{◌≡◌, ◌∙◌, ℕ, ◌+◌, ◌*◌, ◌^◌, ◌<◌, ◌≤◌, inl, inr, List, [], ◌∷◌, ◌++◌, Option, None, Some, Ok, Err, length, take, drop, refl, sym, ap, subst, arith, append_assoc, length-append}
 use Rattle.std.proofs.lemmas.Bool.{cases_lt, lt-ltb, le-ltb}
 use Rattle.std.proofs.lemmas.List.{append-nil, length-take, take_all, take-append-drop}
-use Rattle.std.proofs.KnownBytes.{Appends-nil, Appends-trans, Consumes-nil, Consumes-trans}
-use Rattle.std.specs.Io.KnownBytes.{Appends, Consumes}
+use Rattle.std.proofs.KnownBytes.{Appends-nil, Appends-trans, Consumes-nil}
+use Rattle.std.specs.Io.KnownBytes.{Appends, Consumes, IsAtEnd}
 use Rattle.frame_codec.specs.Trace.{header_1, header_2, version_1}
 use Rattle.frame_codec.specs.declared.trace.TheConstants.{HEADER_2_LENGTH}
-use Rattle.logged_streams.specs.Streams.{IsBroken, LogState, LoggedReaderState, LoggedWriterState, ReadsOnce, WritesFront, fresh_log, one_more}
-use Rattle.logged_streams.specs.declared.stream_log.Gave.TheVariants as gave
-use Rattle.trace_writer.specs.Migrations.{Becomes, IsBegun, IsFront, IsMigrated, IsStopped, Migrates, new_trace}
-use Rattle.trace_writer.specs.Proved.Migrating.{BreaksIn, HasRead, IsFound, IsMigrating, IsUnderWay, MigrationState, ReadBy, ReadsOn, TakesPiece, WritesOut, WritesPiece, WritesRest, fresh_migration, left_over, sent_of}
+use Rattle.logged_streams.specs.Reading.{more_calls, taken_max}
+use Rattle.logged_streams.specs.Streams.{IsBroken, IsReadNoMore, IsWell, LogState, LoggedReaderState, LoggedWriterState, Writes, WritesFront, fresh_log}
+use Rattle.logged_streams.proofs.WriteLemmas.{well_on, wrote_nothing, wrote_on}
+use Rattle.trace_writer.specs.Migrations.{IsBegun, IsFront, IsMigrated, IsStopped, MeetsItsFault, Migrates, WritesFew, new_trace}
+use Rattle.trace_writer.specs.Proved.Migrating.{BreaksIn, HasStopped, HasWritten, IsFound, IsMigrating, IsOwn, IsUnderWay, MigrationState, TakesPiece, WritesOut, WritesPiece, WritesRest, fresh_migration, left_over, sent_of}
 use Rattle.trace_writer.specs.declared.migrate.Migrated.{Migrated}
 use Rattle.trace_writer.specs.declared.migrate.MigrateFault.{MigrateFault}
 use Rattle.trace_writer.specs.declared.migrate.MigrateFault.TheVariants as faults
-use Rattle.trace_writer.specs.declared.migrate.TheConstants.{READ_LENGTH, READS_MAX}
+use Rattle.trace_writer.specs.declared.migrate.TheConstants.{READS_MAX}
 use Rattle.trace_writer.proofs.MigrationLemmas.{few_values, header_2_long, header_front, new_after, new_before, none_migrating, none_text, was_frames}
 
 -- ---- fronts
@@ -114,14 +115,16 @@ pub piece_unmade : {A : Type 0} (piece : List ℕ) (was : LoggedWriterState) (ol
 piece_unmade piece was old new = record {
   front = [];
   appends = Appends-nil was.contents;
+  few = record { sound = refl; few = omega arith };
+  own = tt;
   goes = λ reader input written h few. begun_on input piece (written ++ []) (subst (λ (x : List ℕ). IsBegun input x) (sym (append-nil written)) (migrating_begun input written old h));
 }
 
-pub piece_whole : {A : Type 0} (piece out : List ℕ) (was is : LoggedWriterState) (old new : MigrationState) (done : A) → TakesPiece piece old new out None → Appends was.contents is.contents out → WritesPiece piece was is old new (Ok done)
-piece_whole piece out was is old new done takes appends = record { front = out; appends = appends; goes = λ reader input written h few. takes input written h few }
+pub piece_whole : {A : Type 0} (piece out : List ℕ) (was is : LoggedWriterState) (old new : MigrationState) (done : A) → TakesPiece piece old new out None → Writes was is out → WritesPiece piece was is old new (Ok done)
+piece_whole piece out was is old new done takes w = record { front = out; appends = w.appends; few = w.well; own = tt; goes = λ reader input written h few. takes input written h few }
 
-pub piece_stops : {A : Type 0} (piece out : List ℕ) (was is : LoggedWriterState) (old new : MigrationState) (at : ℕ) → TakesPiece piece old new out (Some at) → Appends was.contents is.contents out → WritesPiece {A = A} piece was is old new (Err (faults.Malformed at))
-piece_stops piece out was is old new at takes appends = record { front = out; appends = appends; goes = λ reader input written h few. takes input written h few }
+pub piece_stops : {A : Type 0} (piece out : List ℕ) (was is : LoggedWriterState) (old new : MigrationState) (at : ℕ) → TakesPiece piece old new out (Some at) → Writes was is out → WritesPiece {A = A} piece was is old new (Err (faults.Malformed at))
+piece_stops piece out was is old new at takes w = record { front = out; appends = w.appends; few = w.well; own = tt; goes = λ reader input written h few. takes input written h few }
 
 -- the writer failed in the middle of a piece
 pub piece_breaks : {A : Type 0} (B : Type 0) (piece out bytes : List ℕ) (was is : LoggedWriterState) (old new : MigrationState) (found : Option ℕ) (sent : ℕ) (fault : MigrateFault) → TakesPiece piece old new out found → sent ≡ sent_of old
@@ -129,6 +132,8 @@ pub piece_breaks : {A : Type 0} (B : Type 0) (piece out bytes : List ℕ) (was i
 piece_breaks B piece out bytes was is old new found sent (faults.Write after) takes before same b = record {
   front = b.front;
   appends = b.appends;
+  few = b.few;
+  own = tt;
   goes = λ reader input written h few. record {
     front = inl (begun_front (input ++ piece) (written ++ b.front) (written ++ out) (front_on written b.front out (subst (λ (x : List ℕ). IsFront b.front x) same b.first)) (found_begun (input ++ piece) (written ++ out) new found (takes input written h few)));
     sent_is = omega (arith, b.sent_is, before, sent_is input written old h (omega (arith, few)), length-append written b.front);
@@ -176,11 +181,13 @@ pub rest_fits : (rest : List ℕ) (m : MigrationState) (sent : ℕ) → IsUnderW
 rest_fits rest m sent u is before =
     omega (arith, left_short u.input u.written m u.is, length-append u.written (left_over m), sent_is u.input u.written m u.is (omega (arith, u.few)), before, ap length is, u.few)
 
-pub rest_whole : (rest : List ℕ) (was is : LoggedWriterState) (m : MigrationState) (migrated : Migrated) → rest ≡ left_over m → Appends was.contents is.contents rest → migrated.records ≡ m.records → migrated.rest ≡ length rest
+pub rest_whole : (rest : List ℕ) (was is : LoggedWriterState) (m : MigrationState) (migrated : Migrated) → rest ≡ left_over m → Writes was is rest → migrated.records ≡ m.records → migrated.rest ≡ length rest
     → WritesRest was is m (Ok migrated)
-rest_whole rest was is m migrated rest_is appends records_are long = record {
+rest_whole rest was is m migrated rest_is w records_are long = record {
   front = left_over m;
-  appends = subst (λ (x : List ℕ). Appends was.contents is.contents x) rest_is appends;
+  appends = subst (λ (x : List ℕ). Appends was.contents is.contents x) rest_is w.appends;
+  few = subst (λ (x : List ℕ). IsWell was.log is.log (length x)) rest_is w.well;
+  own = tt;
   goes = λ reader input written h few end.
       (rw (records_are, long ∙ ap length rest_is) (migrated_all input written m h), end);
 }
@@ -190,6 +197,8 @@ pub rest_breaks : (A : Type 0) (rest : List ℕ) (was is : LoggedWriterState) (m
 rest_breaks A rest was is m sent (faults.Write after) rest_is before b = record {
   front = b.front;
   appends = b.appends;
+  few = b.few;
+  own = tt;
   goes = λ reader input written h few end. record {
     front = inr (
       end,
@@ -211,191 +220,121 @@ rest_breaks A rest was is m sent faults.NoMemory rest_is before b = absurd b
 
 -- ---- writes
 
-pub breaks_so : (was is : LoggedWriterState) (bytes : List ℕ) (before count : ℕ) → WritesFront was.contents is.contents bytes count → IsBroken is.log → BreaksIn was is bytes before (before + count)
-breaks_so was is bytes before count w broken = record {
+pub breaks_so : (was is : LoggedWriterState) (bytes : List ℕ) (before count : ℕ) → WritesFront was.contents is.contents bytes count → IsBroken is.log → is.log.calls ≤ was.log.calls + 16 * (count + 1)
+    → BreaksIn was is bytes before (before + count)
+breaks_so was is bytes before count w broken few = record {
   front = take count bytes;
   appends = w.appends;
   first = record { rest = drop count bytes; is = sym (take-append-drop count bytes) };
   sent_is = omega (arith, length-take count bytes, w.within);
   broken = broken;
+  few = omega (arith, length-take count bytes, w.within, few);
 }
 
-pub written_so : (was is : LoggedWriterState) (bytes : List ℕ) (count : ℕ) → WritesFront was.contents is.contents bytes count → count ≡ length bytes → Appends was.contents is.contents bytes
-written_so was is bytes count w all = subst (λ (x : List ℕ). Appends was.contents is.contents x) (take_all count bytes (omega (arith, all))) w.appends
+few_on : (A B : Type 0) (was now is : LogState) (count more all : ℕ) (fault : MigrateFault) → IsWell was now count → WritesFew {A = A} now is more (Err fault) → all ≡ count + more → WritesFew {A = B} was is all (Err fault)
+few_on A B was now is count more all (faults.Malformed at) h k same = well_on was now is count more all h k same
+few_on A B was now is count more all faults.Read h k same = well_on was now is count more all h k same
+few_on A B was now is count more all (faults.Write sent) h k same = omega (arith, h.few, k, same)
+few_on A B was now is count more all faults.NoMemory h k same = well_on was now is count more all h k same
 
--- ---- reads
+-- ---- pieces
 
-under_way : (m : MigrationState) (more less : ℕ) → less ≤ more → IsUnderWay m more → IsUnderWay m less
-under_way m more less few u = record { input = u.input; written = u.written; is = u.is; few = omega (arith, few, u.few) }
+piece_fits : (input piece : ℕ) → input + piece ≤ taken_max → input + piece + HEADER_2_LENGTH < 2 ^ 64
+piece_fits input piece few = omega (arith, few)
 
-piece_short : (buffer piece : List ℕ) (count : ℕ) → length buffer ≡ READ_LENGTH → piece ≡ take count buffer → length piece ≤ READ_LENGTH
-piece_short buffer piece count long e = omega (arith, long, ap length e, length-take count buffer)
+-- a migration may go on
+pub under_way : (was : LoggedWriterState) (m : MigrationState) (is : LoggedWriterState) (input : List ℕ) (more : ℕ) → HasWritten was m is input → length input + more ≤ taken_max → IsUnderWay m more
+under_way was m is input more h few = record { input = input; written = h.written; is = h.migrating; few = piece_fits (length input) more few }
 
-pub piece_under_way : (m : MigrationState) (buffer piece : List ℕ) (count : ℕ) → IsUnderWay m READ_LENGTH → length buffer ≡ READ_LENGTH → piece ≡ take count buffer → IsUnderWay m (length piece)
-piece_under_way m buffer piece count u long e = under_way m READ_LENGTH (length piece) (piece_short buffer piece count long e) u
+-- some reader
+any_reader : LoggedReaderState
+any_reader = record { remaining = None; log = fresh_log }
 
-pub end_under_way : (m : MigrationState) → IsUnderWay m READ_LENGTH → IsUnderWay m 0
-end_under_way m u = under_way m READ_LENGTH 0 (omega arith) u
-
--- a piece was read
-pub bytes_read : {A : Type 0} (from to : LoggedReaderState) (was is : LoggedWriterState) (old new : MigrationState) (buffer piece : List ℕ) (count : ℕ) (done : A) → length buffer ≡ READ_LENGTH → ReadsOnce from to buffer (gave.Bytes count)
-    → piece ≡ take count buffer → WritesPiece piece was is old new (Ok done) → ReadsOn from to was is old new (Ok None)
-bytes_read from to was is old new buffer piece count done long h e w = record {
-  piece = piece;
-  front = w.front;
-  short = piece_short buffer piece count long e;
-  consumes = subst (λ (x : List ℕ). Consumes from.remaining to.remaining x) (sym e) h.gives.consumes;
-  appends = w.appends;
-  reads = ap (λ (log : LogState). log.calls) h.log;
-  may = omega (arith, ap (λ (log : LogState). log.interruptions) h.log);
-  goes = λ input written m few. w.goes to input written m few;
+pub piece_taken : {A : Type 0} (piece : List ℕ) (was now is : LoggedWriterState) (old new : MigrationState) (done : A) (input : List ℕ) → HasWritten was old now input → length input + length piece ≤ taken_max
+    → WritesPiece piece now is old new (Ok done) → HasWritten was new is (input ++ piece)
+piece_taken piece was now is old new done input h few w = record {
+  written = h.written ++ w.front;
+  writes = wrote_on was now is h.written w.front h.writes (record { appends = w.appends; well = w.few });
+  migrating = w.goes any_reader input h.written h.migrating (piece_fits (length input) (length piece) few);
 }
 
-pub bytes_stop : {A : Type 0} (from to : LoggedReaderState) (was is : LoggedWriterState) (old new : MigrationState) (buffer piece : List ℕ) (count : ℕ) (fault : MigrateFault) → length buffer ≡ READ_LENGTH → ReadsOnce from to buffer (gave.Bytes count)
-    → piece ≡ take count buffer → WritesPiece {A = A} piece was is old new (Err fault) → ReadsOn from to was is old new (Err fault)
-bytes_stop from to was is old new buffer piece count fault long h e w = record {
-  piece = piece;
-  front = w.front;
-  short = piece_short buffer piece count long e;
-  consumes = subst (λ (x : List ℕ). Consumes from.remaining to.remaining x) (sym e) h.gives.consumes;
-  appends = w.appends;
-  reads = ap (λ (log : LogState). log.calls) h.log;
-  may = tt;
-  goes = λ input written m few. w.goes to input written m few;
+pub piece_stopped : {A : Type 0} (piece : List ℕ) (was now is : LoggedWriterState) (old new : MigrationState) (fault : MigrateFault) (input : List ℕ) → HasWritten was old now input → length input + length piece ≤ taken_max
+    → WritesPiece {A = A} piece now is old new (Err fault) → HasStopped was is (input ++ piece) fault
+piece_stopped {A} piece was now is old new fault input h few w = record {
+  written = h.written ++ w.front;
+  appends = Appends-trans was.contents now.contents is.contents h.written w.front h.writes.appends w.appends;
+  few = few_on A Migrated was.log now.log is.log (length h.written) (length w.front) (length (h.written ++ w.front)) fault h.writes.well w.few (length-append h.written w.front);
+  fails = λ reader. w.goes reader input h.written h.migrating (piece_fits (length input) (length piece) few);
+  is_own = w.own;
 }
 
--- the end was met
-pub end_read : (from to : LoggedReaderState) (was is : LoggedWriterState) (m : MigrationState) (buffer : List ℕ) (migrated : Migrated) → ReadsOnce from to buffer gave.Nothing → WritesRest was is m (Ok migrated)
-    → ReadsOn from to was is m m (Ok (Some migrated))
-end_read from to was is m buffer migrated h w = record {
-  piece = [];
-  front = w.front;
-  short = omega arith;
-  consumes = h.gives.0;
-  appends = w.appends;
-  reads = ap (λ (log : LogState). log.calls) h.log;
-  may = tt;
-  goes = λ input written g few.
-      subst (λ (x : List ℕ). Becomes to is x (written ++ w.front) (Ok migrated)) (sym (append-nil input)) (w.goes to input written g (omega (arith, few)) h.gives.1);
-}
+-- ---- the whole migration
 
-pub end_breaks : (from to : LoggedReaderState) (was is : LoggedWriterState) (m : MigrationState) (buffer : List ℕ) (fault : MigrateFault) → ReadsOnce from to buffer gave.Nothing → WritesRest was is m (Err fault)
-    → ReadsOn from to was is m m (Err fault)
-end_breaks from to was is m buffer fault h w = record {
-  piece = [];
-  front = w.front;
-  short = omega arith;
-  consumes = h.gives.0;
-  appends = w.appends;
-  reads = ap (λ (log : LogState). log.calls) h.log;
-  may = tt;
-  goes = λ input written g few.
-      subst (λ (x : List ℕ). Becomes to is x (written ++ w.front) (Err fault)) (sym (append-nil input)) (w.goes to input written g (omega (arith, few)) h.gives.1);
-}
+pub none_written : (is : LoggedWriterState) (m : MigrationState) → m ≡ fresh_migration → HasWritten is m is []
+none_written is m e = record { written = []; writes = wrote_nothing is; migrating = subst (λ (s : MigrationState). IsMigrating [] [] s) (sym e) none_migrating }
 
--- nothing was read
-nothing_new : (to : LoggedReaderState) (is : LoggedWriterState) (m : MigrationState) (input written : List ℕ) (found : Result (Option Migrated) MigrateFault) → ReadBy to is input written m found → ReadBy to is (input ++ []) (written ++ []) m found
-nothing_new to is m input written found r = rw (append-nil input, append-nil written) r
+met_own : (from to : LoggedReaderState) (fault : MigrateFault) → to.log.failed ≡ from.log.failed → IsOwn fault → MeetsItsFault from to (Err fault)
+met_own from to (faults.Malformed at) sound own = sound
+met_own from to faults.Read sound own = absurd own
+met_own from to (faults.Write sent) sound own = sound
+met_own from to faults.NoMemory sound own = sound
 
-pub none_interrupted : (from to : LoggedReaderState) (was : LoggedWriterState) (m : MigrationState) (buffer : List ℕ) → ReadsOnce from to buffer gave.Interrupted → to.log.interruptions < 16 → ReadsOn from to was was m m (Ok None)
-none_interrupted from to was m buffer h few = record {
-  piece = [];
-  front = [];
-  short = omega arith;
-  consumes = h.gives;
-  appends = Appends-nil was.contents;
-  reads = ap (λ (log : LogState). log.calls) h.log;
-  may = few;
-  goes = λ input written g short. nothing_new to was m input written (Ok None) g;
-}
-
-none_more : (from to : LoggedReaderState) (was : LoggedWriterState) (m : MigrationState) → Consumes from.remaining to.remaining [] → to.log.calls ≡ one_more from.log.calls → IsBroken to.log → ReadsOn from to was was m m (Err faults.Read)
-none_more from to was m consumes reads broken = record {
-  piece = [];
-  front = [];
-  short = omega arith;
+pub ended_whole : (from to : LoggedReaderState) (was now is : LoggedWriterState) (m : MigrationState) (input : List ℕ) (migrated : Migrated) → Consumes from.remaining to.remaining input → length input ≤ taken_max → IsAtEnd to.remaining
+    → to.log.failed ≡ from.log.failed → HasWritten was m now input → WritesRest now is m (Ok migrated) → Migrates from to was is (Ok migrated)
+ended_whole from to was now is m input migrated consumes few end sound h w = record {
+  input = input;
+  written = h.written ++ w.front;
   consumes = consumes;
-  appends = Appends-nil was.contents;
-  reads = reads;
-  may = tt;
-  goes = λ input written g short. nothing_new to was m input written (Err faults.Read) (migrating_begun input written m g, inl broken);
+  appends = Appends-trans was.contents now.contents is.contents h.written w.front h.writes.appends w.appends;
+  becomes = w.goes to input h.written h.migrating (omega (arith, few)) end;
+  met = sound;
+  writes = well_on was.log now.log is.log (length h.written) (length w.front) (length (h.written ++ w.front)) h.writes.well w.few (length-append h.written w.front);
 }
 
-pub often_interrupted : (from to : LoggedReaderState) (was : LoggedWriterState) (m : MigrationState) (buffer : List ℕ) → ReadsOnce from to buffer gave.Interrupted → 16 ≤ to.log.interruptions → ReadsOn from to was was m m (Err faults.Read)
-often_interrupted from to was m buffer h often = none_more from to was m h.gives (ap (λ (log : LogState). log.calls) h.log) (inr often)
-
-pub read_failed : (from to : LoggedReaderState) (was : LoggedWriterState) (m : MigrationState) (buffer : List ℕ) → ReadsOnce from to buffer gave.Failed → ReadsOn from to was was m m (Err faults.Read)
-read_failed from to was m buffer h = none_more from to was m h.gives (ap (λ (log : LogState). log.calls) h.log) (inl (ap (λ (log : LogState). log.failed) h.log))
-
--- ---- one read after another
-
-pub none_read : (reader : LoggedReaderState) (writer : LoggedWriterState) (m : MigrationState) → reader.log ≡ fresh_log → m ≡ fresh_migration → HasRead reader reader writer writer m 0
-none_read reader writer m unread e = record {
-  input = [];
-  written = [];
-  consumes = Consumes-nil reader.remaining;
-  appends = Appends-nil writer.contents;
-  migrating = subst (λ (s : MigrationState). IsMigrating [] [] s) (sym e) none_migrating;
-  long = omega arith;
-  reads = ap (λ (log : LogState). log.calls) unread;
+pub ended_short : (from to : LoggedReaderState) (was now is : LoggedWriterState) (m : MigrationState) (input : List ℕ) (fault : MigrateFault) → Consumes from.remaining to.remaining input → length input ≤ taken_max → IsAtEnd to.remaining
+    → to.log.failed ≡ from.log.failed → HasWritten was m now input → WritesRest now is m (Err fault) → Migrates from to was is (Err fault)
+ended_short from to was now is m input fault consumes few end sound h w = record {
+  input = input;
+  written = h.written ++ w.front;
+  consumes = consumes;
+  appends = Appends-trans was.contents now.contents is.contents h.written w.front h.writes.appends w.appends;
+  becomes = w.goes to input h.written h.migrating (omega (arith, few)) end;
+  met = met_own from to fault sound w.own;
+  writes = few_on Migrated Migrated was.log now.log is.log (length h.written) (length w.front) (length (h.written ++ w.front)) fault h.writes.well w.few (length-append h.written w.front);
 }
 
-fits : (turns long piece all : ℕ) → turns < READS_MAX → long ≤ turns * READ_LENGTH → piece ≤ READ_LENGTH → all ≡ long + piece → (all ≤ (turns + 1) * READ_LENGTH) × (long + piece + HEADER_2_LENGTH < 2 ^ 64)
-fits turns long piece all few h short e = (omega (arith, few, h, short, e), omega (arith, few, h, short, e))
-
-pub counted_more : (reads turns new : ℕ) → turns < READS_MAX → reads ≡ turns → new ≡ one_more reads → new ≡ turns + 1
-counted_more reads turns new few same more = omega (arith, few, same, more)
-
-pub may_go_on : (from mid : LoggedReaderState) (was is : LoggedWriterState) (m : MigrationState) (turns : ℕ) → turns < READS_MAX → HasRead from mid was is m turns → IsUnderWay m READ_LENGTH
-may_go_on from mid was is m turns few h = record { input = h.input; written = h.written; is = h.migrating; few = (fits turns (length h.input) READ_LENGTH (length h.input + READ_LENGTH) few h.long (omega arith) refl).1 }
-
-pub read_more : (from mid to : LoggedReaderState) (was now is : LoggedWriterState) (old new : MigrationState) (turns : ℕ) → turns < READS_MAX → HasRead from mid was now old turns → ReadsOn mid to now is old new (Ok None)
-    → HasRead from to was is new (turns + 1)
-read_more from mid to was now is old new turns few h k =
-    let long = fits turns (length h.input) (length k.piece) (length (h.input ++ k.piece)) few h.long k.short (length-append h.input k.piece) in
-    record {
-      input = h.input ++ k.piece;
-      written = h.written ++ k.front;
-      consumes = Consumes-trans from.remaining mid.remaining to.remaining h.input k.piece h.consumes k.consumes;
-      appends = Appends-trans was.contents now.contents is.contents h.written k.front h.appends k.appends;
-      migrating = k.goes h.input h.written h.migrating long.1;
-      long = long.0;
-      reads = counted_more mid.log.calls turns to.log.calls few h.reads k.reads;
-    }
-
-pub read_over : (from mid to : LoggedReaderState) (was now is : LoggedWriterState) (old new : MigrationState) (turns : ℕ) (migrated : Migrated) → turns < READS_MAX → HasRead from mid was now old turns
-    → ReadsOn mid to now is old new (Ok (Some migrated)) → Migrates from to was is (Ok migrated)
-read_over from mid to was now is old new turns migrated few h k =
-    let long = fits turns (length h.input) (length k.piece) (length (h.input ++ k.piece)) few h.long k.short (length-append h.input k.piece) in
-    record {
-      input = h.input ++ k.piece;
-      written = h.written ++ k.front;
-      consumes = Consumes-trans from.remaining mid.remaining to.remaining h.input k.piece h.consumes k.consumes;
-      appends = Appends-trans was.contents now.contents is.contents h.written k.front h.appends k.appends;
-      becomes = k.goes h.input h.written h.migrating long.1;
-    }
-
-pub read_fault : (from mid to : LoggedReaderState) (was now is : LoggedWriterState) (old new : MigrationState) (turns : ℕ) (fault : MigrateFault) → turns < READS_MAX → HasRead from mid was now old turns
-    → ReadsOn mid to now is old new (Err fault) → Migrates from to was is (Err fault)
-read_fault from mid to was now is old new turns fault few h k =
-    let long = fits turns (length h.input) (length k.piece) (length (h.input ++ k.piece)) few h.long k.short (length-append h.input k.piece) in
-    record {
-      input = h.input ++ k.piece;
-      written = h.written ++ k.front;
-      consumes = Consumes-trans from.remaining mid.remaining to.remaining h.input k.piece h.consumes k.consumes;
-      appends = Appends-trans was.contents now.contents is.contents h.written k.front h.appends k.appends;
-      becomes = k.goes h.input h.written h.migrating long.1;
-    }
-
-pub read_enough : (from to : LoggedReaderState) (was is : LoggedWriterState) (m : MigrationState) (turns : ℕ) → READS_MAX ≤ turns → HasRead from to was is m turns → Migrates from to was is (Err faults.Read)
-read_enough from to was is m turns enough h = record {
-  input = h.input;
+pub read_no_more : (from to : LoggedReaderState) (was is : LoggedWriterState) (m : MigrationState) (input : List ℕ) → Consumes from.remaining to.remaining input → IsReadNoMore (more_calls READS_MAX from.log) to.log → HasWritten was m is input
+    → Migrates from to was is (Err faults.Read)
+read_no_more from to was is m input consumes why h = record {
+  input = input;
   written = h.written;
-  consumes = h.consumes;
+  consumes = consumes;
+  appends = h.writes.appends;
+  becomes = migrating_begun input h.written m h.migrating;
+  met = why;
+  writes = h.writes.well;
+}
+
+pub told_so : (from to : LoggedReaderState) (was is : LoggedWriterState) (input : List ℕ) (fault : MigrateFault) → Consumes from.remaining to.remaining input → to.log.failed ≡ from.log.failed → HasStopped was is input fault
+    → Migrates from to was is (Err fault)
+told_so from to was is input fault consumes sound h = record {
+  input = input;
+  written = h.written;
+  consumes = consumes;
   appends = h.appends;
-  becomes = (migrating_begun h.input h.written m h.migrating, inr (omega (arith, enough, h.reads)));
+  becomes = h.fails to;
+  met = met_own from to fault sound h.is_own;
+  writes = h.few;
 }
 
 -- there was no memory for a first read
 pub never_read : (reader : LoggedReaderState) (writer : LoggedWriterState) → Migrates reader reader writer writer (Err faults.NoMemory)
-never_read reader writer = record { input = []; written = []; consumes = Consumes-nil reader.remaining; appends = Appends-nil writer.contents; becomes = inl refl }
+never_read reader writer = record {
+  input = [];
+  written = [];
+  consumes = Consumes-nil reader.remaining;
+  appends = Appends-nil writer.contents;
+  becomes = inl refl;
+  met = refl;
+  writes = record { sound = refl; few = omega arith };
+}

@@ -1,12 +1,14 @@
 -- A trace of version 1, written as one of version 2 (own).
-use Rattle.std.specs.Prelude.{◌≡◌, ◌≢◌, ℕ, ◌+◌, ◌<◌, ◌≤◌, ◌⊎◌, List, [], ◌++◌, Result, Ok, Err, length, take}
+use Rattle.std.specs.Prelude.{◌≡◌, ◌≢◌, ℕ, ◌+◌, ◌*◌, ◌<◌, ◌≤◌, ◌⊎◌, List, [], ◌++◌, Result, Ok, Err, length, take}
 use Rattle.std.specs.Io.KnownBytes.{Appends, Consumes, IsAtEnd}
 use Rattle.call_types.specs.declared.act.Record.{Record}
 use Rattle.call_types.specs.declared.limits.TheConstants.{RECORD_LENGTH_MAX}
 use Rattle.frame_codec.specs.Frames.{AreFrames, IsMalformed, IsShort, IsTooLong}
 use Rattle.frame_codec.specs.Records.{SpellsRecord}
 use Rattle.frame_codec.specs.Trace.{header_1, header_2, version_1}
-use Rattle.logged_streams.specs.Streams.{IsBroken, IsReadNoMore, LoggedReaderState, LoggedWriterState}
+use Rattle.logged_streams.specs.Reading.{more_calls}
+use Rattle.logged_streams.specs.Streams.{IsBroken, IsReadNoMore, IsWell, LogState, LoggedReaderState, LoggedWriterState}
+use Rattle.logged_streams.specs.declared.stream_log.TheConstants.{INTERRUPTIONS_MAX}
 use Rattle.trace_writer.specs.declared.migrate.Migrated.{Migrated}
 use Rattle.trace_writer.specs.declared.migrate.MigrateFault.{MigrateFault}
 use Rattle.trace_writer.specs.declared.migrate.MigrateFault.TheVariants as faults
@@ -123,7 +125,7 @@ pub record WritesNoMore (reader : LoggedReaderState) (writer : LoggedWriterState
 -- why a trace was not migrated, and what was written
 abbrev pub Fails : LoggedReaderState → LoggedWriterState → List ℕ → List ℕ → MigrateFault → Type 0
 Fails reader writer input written (faults.Malformed at) = IsStopped input written at
-Fails reader writer input written faults.Read = IsBegun input written × IsReadNoMore READS_MAX reader.log
+Fails reader writer input written faults.Read = IsBegun input written
 Fails reader writer input written (faults.Write sent) = WritesNoMore reader writer input written sent
 Fails reader writer input written faults.NoMemory = IsBegun input written
 
@@ -132,6 +134,22 @@ abbrev pub Becomes : LoggedReaderState → LoggedWriterState → List ℕ → Li
 Becomes reader writer input written (Ok migrated) = IsMigrated input written migrated.records migrated.rest × IsAtEnd reader.remaining
 Becomes reader writer input written (Err fault) = Fails reader writer input written fault
 
+-- there is a read fault only where the reader is read no more; else no read failed
+abbrev pub MeetsItsFault : LoggedReaderState → LoggedReaderState → Result Migrated MigrateFault → Type 0
+MeetsItsFault from to (Ok migrated) = to.log.failed ≡ from.log.failed
+MeetsItsFault from to (Err (faults.Malformed at)) = to.log.failed ≡ from.log.failed
+MeetsItsFault from to (Err faults.Read) = IsReadNoMore (more_calls READS_MAX from.log) to.log
+MeetsItsFault from to (Err (faults.Write sent)) = to.log.failed ≡ from.log.failed
+MeetsItsFault from to (Err faults.NoMemory) = to.log.failed ≡ from.log.failed
+
+-- so many bytes were written, with no more than sixteen writes for each, and at a fault of the writer sixteen more; else no write failed
+abbrev pub WritesFew : {A : Type 0} → LogState → LogState → ℕ → Result A MigrateFault → Type 0
+WritesFew was is count (Ok done) = IsWell was is count
+WritesFew was is count (Err (faults.Malformed at)) = IsWell was is count
+WritesFew was is count (Err faults.Read) = IsWell was is count
+WritesFew was is count (Err (faults.Write sent)) = is.calls ≤ was.calls + INTERRUPTIONS_MAX * (count + 1)
+WritesFew was is count (Err faults.NoMemory) = IsWell was is count
+
 -- a migration: all that was read, all that was written, and what is told of it
 pub record Migrates (from to : LoggedReaderState) (was is : LoggedWriterState) (told : Result Migrated MigrateFault) : Type 0 where
   pub input : List ℕ
@@ -139,3 +157,5 @@ pub record Migrates (from to : LoggedReaderState) (was is : LoggedWriterState) (
   pub consumes : Consumes from.remaining to.remaining input
   pub appends : Appends was.contents is.contents written
   pub becomes : Becomes to is input written told
+  pub met : MeetsItsFault from to told
+  pub writes : WritesFew was.log is.log (length written) told

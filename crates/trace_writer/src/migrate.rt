@@ -1,13 +1,13 @@
 //! A trace of version 1, read to its end or to the first fault, and written as one of version 2.
 
 ghost use Rattle.std.specs.Prelude.{◌≡◌, ◌+◌, ◌<◌, ◌≤◌, ◌^◌, length};
-ghost use Rattle.logged_streams.specs.Streams.{fresh_log};
 ghost use Rattle.trace_writer.specs.Migrations.{Migrates};
-ghost use Rattle.trace_writer.specs.Proved.Migrating.{IsUnderWay, ReadsOn, WritesOut, WritesPiece, WritesRest, fresh_migration};
+ghost use Rattle.trace_writer.specs.Proved.Migrating.{IsUnderWay, WritesOut, WritesPiece, WritesRest};
 
 use crate::migration::Migration;
 use logged_streams::reader::LoggedReader;
-use logged_streams::stream_log::{Gave, INTERRUPTIONS_MAX};
+use logged_streams::reading::{ReadEnd, Takes, read_all};
+use logged_streams::stream_log::INTERRUPTIONS_MAX;
 use logged_streams::writer::LoggedWriter;
 use std::alloc::{AllocError, Global};
 use std::io::{Read, Write};
@@ -110,58 +110,28 @@ fn write_rest<W: Write>(
     })
 }
 
-/// Reads once more, and writes what that gives.
-fn read_on<R: Read, W: Write>(
-    reader: &mut LoggedReader<R>,
-    writer: &mut LoggedWriter<W>,
-    migration: &mut Migration,
-    buffer: &mut [u8],
-    out: &mut Vec<u8>,
-) -> Result<Option<Migrated>, MigrateFault>
-    requires room { length buffer.old ≡ READ_LENGTH }
-    requires few { reader.old.log.interruptions < INTERRUPTIONS_MAX }
-    requires under_way { IsUnderWay migration.old READ_LENGTH }
-    ensures reads { ReadsOn reader.old reader.new writer.old writer.new migration.old migration.new result }
-    ensures long { length buffer.new ≡ length buffer.old }
-{
-    match reader.read(buffer) {
-        Gave::Bytes(count) => {
-            let (piece, _) = buffer.split_at(count);
-            write_piece(writer, migration, out, piece)?;
-            Ok(None)
-        }
-        Gave::Nothing => Ok(Some(write_rest(writer, migration)?)),
-        Gave::Interrupted => {
-            if reader.log().interruptions() < INTERRUPTIONS_MAX {
-                Ok(None)
-            } else {
-                Err(MigrateFault::Read)
-            }
-        }
-        Gave::Failed => Err(MigrateFault::Read),
-    }
+/// A migration that is written while its trace is read, and what is to be written of a piece.
+#[derive(Drop)]
+struct Migrating {
+    migration: Migration,
+    out: Vec<u8>,
 }
 
-/// Reads as often as a migration may, and writes what that gives, until the end or a fault.
-fn read_often<R: Read, W: Write>(
-    reader: &mut LoggedReader<R>,
-    writer: &mut LoggedWriter<W>,
-    migration: &mut Migration,
-    buffer: &mut [u8],
-    out: &mut Vec<u8>,
-) -> Result<Migrated, MigrateFault>
-    requires room { length buffer.old ≡ READ_LENGTH }
-    requires unread { reader.old.log ≡ fresh_log }
-    requires fresh { migration.old ≡ fresh_migration }
-    ensures few { reader.new.log.calls ≤ READS_MAX }
-    ensures migrates { Migrates reader.old reader.new writer.old writer.new result }
-{
-    for _turn in 0..READS_MAX {
-        if let Some(migrated) = read_on(reader, writer, migration, buffer, out)? {
-            return Ok(migrated);
+impl<W: Write> Takes<LoggedWriter<W>> for Migrating {
+    ghost use Rattle.trace_writer.specs.Proved.Migrating.{HasStopped, HasWritten};
+
+    type Told = MigrateFault;
+
+    ghost has_taken = { λ _ was migrating is bytes. HasWritten was migrating.migration is bytes };
+
+    ghost has_told = { λ _ was _ is bytes fault. HasStopped was is bytes fault };
+
+    fn take(&mut self, writer: &mut LoggedWriter<W>, piece: &[u8]) -> Option<MigrateFault> {
+        match write_piece(writer, &mut self.migration, &mut self.out, piece) {
+            Ok(()) => None,
+            Err(fault) => Some(fault),
         }
     }
-    Err(MigrateFault::Read)
 }
 
 /// Writes the trace of version 1 that a reader gives as one of version 2: the new header, which tells the limits that all runs of version 1
@@ -173,18 +143,28 @@ pub fn migrate<R: Read, W: Write>(
     reader: &mut LoggedReader<R>,
     writer: &mut LoggedWriter<W>,
 ) -> Result<Migrated, MigrateFault>
-    requires { reader.old.log ≡ fresh_log }
-    ensures few { reader.new.log.calls ≤ READS_MAX }
+    ensures few { reader.new.log.calls ≤ reader.old.log.calls + READS_MAX }
+    ensures few_interrupted { reader.new.log.interruptions ≤ INTERRUPTIONS_MAX }
     ensures migrates { Migrates reader.old reader.new writer.old writer.new result }
 {
+    let _few = reader.log().interruptions();
     let mut buffer = vec![in alloc; 0u8; READ_LENGTH]?;
-    let mut out = Vec::new(alloc);
-    let mut migration = Migration::new(alloc);
-    read_often(
+    let mut migrating = Migrating {
+        migration: Migration::new(alloc),
+        out: Vec::new(alloc),
+    };
+    match read_all(
         reader,
+        &mut migrating,
         writer,
-        &mut migration,
         buffer.as_mut_slice(),
-        &mut out,
-    )
+        READS_MAX,
+    ) {
+        ReadEnd::AtEnd => {
+            let migrated = write_rest(writer, &migrating.migration)?;
+            Ok(migrated)
+        }
+        ReadEnd::CannotRead => Err(MigrateFault::Read),
+        ReadEnd::Told(fault) => Err(fault),
+    }
 }

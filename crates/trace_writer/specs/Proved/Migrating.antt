@@ -1,6 +1,6 @@
 -- How a migration gets on, piece by piece (own).
 use Rattle.std.specs.Prelude.{◌≡◌, ◌≢◌, ℕ, ◌+◌, ◌-◌, ◌*◌, ◌^◌, ◌≤◌, ◌<◌, nat_lt, List, [], ◌++◌, Option, None, Some, Result, Ok, Err, length, take, drop, if◌then◌else◌}
-use Rattle.std.specs.Io.KnownBytes.{Appends, Consumes, IsAtEnd}
+use Rattle.std.specs.Io.KnownBytes.{Appends, IsAtEnd}
 use Rattle.call_types.specs.declared.act.Record.{Record}
 use Rattle.call_types.specs.declared.limits.TheConstants.{RECORD_LENGTH_MAX}
 use Rattle.frame_codec.specs.Decoding.{DecoderState, fresh, told_place}
@@ -11,13 +11,12 @@ use Rattle.frame_codec.specs.Trace.{header_1, header_2, version_1}
 use Rattle.frame_codec.specs.declared.decoder.Progress.{Progress}
 use Rattle.frame_codec.specs.declared.decoder.Progress.TheVariants as progress
 use Rattle.frame_codec.specs.declared.trace.TheConstants.{HEADER_1_LENGTH, HEADER_2_LENGTH}
-use Rattle.logged_streams.specs.Streams.{IsBroken, LoggedReaderState, LoggedWriterState, one_more}
+use Rattle.logged_streams.specs.Streams.{IsBroken, LoggedReaderState, LoggedWriterState, Writes}
 use Rattle.logged_streams.specs.declared.stream_log.TheConstants.{INTERRUPTIONS_MAX}
-use Rattle.trace_writer.specs.Migrations.{Becomes, Fails, IsAtFault, IsFront, IsStopped}
+use Rattle.trace_writer.specs.Migrations.{Becomes, Fails, IsAtFault, IsFront, IsStopped, WritesFew}
 use Rattle.trace_writer.specs.declared.migrate.Migrated.{Migrated}
 use Rattle.trace_writer.specs.declared.migrate.MigrateFault.{MigrateFault}
 use Rattle.trace_writer.specs.declared.migrate.MigrateFault.TheVariants as faults
-use Rattle.trace_writer.specs.declared.migrate.TheConstants.{READ_LENGTH}
 
 -- ---- the old header
 
@@ -154,12 +153,25 @@ pub record BreaksIn (was is : LoggedWriterState) (bytes : List ℕ) (before sent
   pub first : IsFront front bytes
   pub sent_is : sent ≡ before + length front
   pub broken : IsBroken is.log
+  pub few : is.log.calls ≤ was.log.calls + INTERRUPTIONS_MAX * (length front + 1)
 
 -- what a write of these bytes gives, after so many others
 abbrev pub WritesOut : {A : Type 0} → LoggedWriterState → LoggedWriterState → List ℕ → ℕ → Result A MigrateFault → Type 0
-WritesOut was is bytes before (Ok done) = Appends was.contents is.contents bytes
+WritesOut was is bytes before (Ok done) = Writes was is bytes
 WritesOut was is bytes before (Err (faults.Write sent)) = BreaksIn was is bytes before sent
 WritesOut was is bytes before (Err other) = ⊥
+
+-- a fault that is not the reader's
+abbrev pub IsOwn : MigrateFault → Type 0
+IsOwn faults.Read = ⊥
+IsOwn (faults.Malformed at) = Unit {0}
+IsOwn (faults.Write sent) = Unit {0}
+IsOwn faults.NoMemory = Unit {0}
+
+-- what is told is not of the reader
+abbrev pub TellsOwn : {A : Type 0} → Result A MigrateFault → Type 0
+TellsOwn (Ok done) = Unit {0}
+TellsOwn (Err fault) = IsOwn fault
 
 -- what became of a piece: its whole frames were written, or there is a fault
 abbrev pub PieceGives : {A : Type 0} → LoggedReaderState → LoggedWriterState → List ℕ → List ℕ → MigrationState → Result A MigrateFault → Type 0
@@ -170,6 +182,8 @@ PieceGives reader writer input written m (Err fault) = Fails reader writer input
 pub record WritesPiece {A : Type 0} (piece : List ℕ) (was is : LoggedWriterState) (old new : MigrationState) (found : Result A MigrateFault) : Type 0 where
   pub front : List ℕ
   pub appends : Appends was.contents is.contents front
+  pub few : WritesFew was.log is.log (length front) found
+  pub own : TellsOwn found
   pub goes : (reader : LoggedReaderState) (input written : List ℕ) → IsMigrating input written old → length input + length piece + HEADER_2_LENGTH < 2 ^ 64
       → PieceGives reader is (input ++ piece) (written ++ front) new found
 
@@ -177,38 +191,21 @@ pub record WritesPiece {A : Type 0} (piece : List ℕ) (was is : LoggedWriterSta
 pub record WritesRest (was is : LoggedWriterState) (m : MigrationState) (found : Result Migrated MigrateFault) : Type 0 where
   pub front : List ℕ
   pub appends : Appends was.contents is.contents front
+  pub few : WritesFew was.log is.log (length front) found
+  pub own : TellsOwn found
   pub goes : (reader : LoggedReaderState) (input written : List ℕ) → IsMigrating input written m → length input + HEADER_2_LENGTH < 2 ^ 64 → IsAtEnd reader.remaining
       → Becomes reader is input (written ++ front) found
 
--- what became of these bytes: nothing is decided yet, or there is an answer
-abbrev pub ReadBy : LoggedReaderState → LoggedWriterState → List ℕ → List ℕ → MigrationState → Result (Option Migrated) MigrateFault → Type 0
-ReadBy reader writer input written m (Ok None) = IsMigrating input written m
-ReadBy reader writer input written m (Ok (Some migrated)) = Becomes reader writer input written (Ok migrated)
-ReadBy reader writer input written m (Err fault) = Becomes reader writer input written (Err fault)
-
--- a migration goes on while its reader may be read
-abbrev pub MayRead : LoggedReaderState → Result (Option Migrated) MigrateFault → Type 0
-MayRead reader (Ok None) = reader.log.interruptions < INTERRUPTIONS_MAX
-MayRead reader (Ok (Some migrated)) = Unit {0}
-MayRead reader (Err fault) = Unit {0}
-
--- one read, and what came of it
-pub record ReadsOn (from to : LoggedReaderState) (was is : LoggedWriterState) (old new : MigrationState) (found : Result (Option Migrated) MigrateFault) : Type 0 where
-  pub piece : List ℕ
-  pub front : List ℕ
-  pub short : length piece ≤ READ_LENGTH
-  pub consumes : Consumes from.remaining to.remaining piece
-  pub appends : Appends was.contents is.contents front
-  pub reads : to.log.calls ≡ one_more from.log.calls
-  pub may : MayRead to found
-  pub goes : (input written : List ℕ) → IsMigrating input written old → length input + length piece + HEADER_2_LENGTH < 2 ^ 64 → ReadBy to is (input ++ piece) (written ++ front) new found
-
--- so many reads so far
-pub record HasRead (from to : LoggedReaderState) (was is : LoggedWriterState) (m : MigrationState) (turns : ℕ) : Type 0 where
-  pub input : List ℕ
+-- since the writer was so, these bytes were taken, and what is whole of them was written
+pub record HasWritten (was : LoggedWriterState) (m : MigrationState) (is : LoggedWriterState) (input : List ℕ) : Type 0 where
   pub written : List ℕ
-  pub consumes : Consumes from.remaining to.remaining input
-  pub appends : Appends was.contents is.contents written
+  pub writes : Writes was is written
   pub migrating : IsMigrating input written m
-  pub long : length input ≤ turns * READ_LENGTH
-  pub reads : to.log.calls ≡ turns
+
+-- since the writer was so, these bytes were taken, and there is this fault, whatever the reader has left
+pub record HasStopped (was is : LoggedWriterState) (input : List ℕ) (fault : MigrateFault) : Type 0 where
+  pub written : List ℕ
+  pub appends : Appends was.contents is.contents written
+  pub few : WritesFew {A = Migrated} was.log is.log (length written) (Err fault)
+  pub fails : (reader : LoggedReaderState) → Fails reader is input written fault
+  pub is_own : IsOwn fault
