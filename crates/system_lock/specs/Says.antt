@@ -6,9 +6,11 @@ use Rattle.call_types.specs.declared.refusal.Refusal.{Refusal}
 use Rattle.call_types.specs.declared.refusal.Refusal.TheVariants as refusal
 use Rattle.call_types.specs.declared.request.Request.{Request}
 use Rattle.call_types.specs.declared.request.Request.TheVariants as request
+use Rattle.byte_ledger.specs.Counted.{IsPartOf}
 use Rattle.posix_model.specs.Reserve.{IsLegalRun}
 use Rattle.record_book.specs.Seat.{SeatState}
 use Rattle.record_book.specs.Book.{BookState}
+use Rattle.record_book.specs.Counting.{counted_in}
 use Rattle.record_book.specs.Refusals.{is_ready_in, IsDue, join_refusal, attach_refusal, start_refusal, exit_refusal, resume_refusal}
 use Rattle.system_lock.specs.declared.kernel.Why.{Why}
 use Rattle.system_lock.specs.declared.kernel.Why.TheVariants as why
@@ -18,6 +20,11 @@ pub record StandsUnder (limits : Option Limits) (b : BookState) : Type 0 where
   pub limits_are : limits ≡ Some b.limits
   pub is_legal : IsLegalRun b.limits.bounds (Some b.limits.records) b.history
   pub house_is : b.house ≡ Some []
+
+-- a book under such a lock that may have given this seat: what the seat counts is part of what the book counts
+pub record MayHaveGiven (limits : Option Limits) (s : SeatState) (b : BookState) : Type 0 where
+  pub stands : StandsUnder limits b
+  pub part : IsPartOf s.counted (counted_in b)
 
 -- a refusal of an opening that is due in this book
 abbrev pub IsNotOpenedIn : BookState → Request → Refusal → Type 0
@@ -38,10 +45,10 @@ IsEndIn b s why.Lost = (resume_refusal b s ≡ None) × (is_ready_in b s.pid ≡
 abbrev pub IsNotOpened : Option Limits → Request → Refusal → Type 0
 IsNotOpened limits request told = (b : BookState) × StandsUnder limits b × IsNotOpenedIn b request told
 
--- a call is refused: that is due in some such book
+-- a call is refused: that is due in some such book, which may have given the seat
 abbrev pub IsRefused : Option Limits → SeatState → Call → Refusal → Type 0
-IsRefused limits s call told = (b : BookState) × StandsUnder limits b × IsDue (start_refusal b s call) told
+IsRefused limits s call told = (b : BookState) × MayHaveGiven limits s b × IsDue (start_refusal b s call) told
 
 -- a process ends: for a reason that it may have in some such book
 abbrev pub IsEnded : Option Limits → SeatState → Why → Type 0
-IsEnded limits s reason = (b : BookState) × StandsUnder limits b × IsEndIn b s reason
+IsEnded limits s reason = (b : BookState) × MayHaveGiven limits s b × IsEndIn b s reason

@@ -1,5 +1,7 @@
 //! The acts of a kernel on a book that is at hand.
 
+ghost use Rattle.byte_ledger.specs.Counted.{IsPartOf};
+ghost use Rattle.record_book.specs.Counting.{counted_in};
 ghost use Rattle.system_lock.specs.Kernel.{AsksForASeat, CallsBy};
 ghost use Rattle.system_lock.specs.Proved.Reasons.{OpensBy, IsReason, EndsByReason};
 ghost use Rattle.system_lock.specs.Proved.Acts.{TriesBy};
@@ -43,6 +45,7 @@ pub(crate) fn call<L: Ledgers>(
 ) -> Result<Receipt, Refusal>
     ensures calls { CallsBy seat.old seat.new call result }
     ensures event { CallsIn book.old book.new seat.old seat.new call result }
+    ensures part { IsPartOf seat.old.counted (counted_in book.old) }
 {
     calls_end_or_wait();
     book.start(alloc, seat, call)
@@ -54,6 +57,7 @@ pub(crate) fn exit<L: Ledgers>(book: &mut Book<L>, seat: Seat<L>, reason: Why) -
     ensures ends { EndsByReason seat reason result }
     ensures event { ExitsIn book.old book.new seat result.seat result.why }
     ensures due { ExitIsDue book.old seat result.why }
+    ensures part { IsPartOf seat.counted (counted_in book.old) }
 {
     match book.exit(seat) {
         Ok(seat) => Ended { seat, why: reason },
@@ -83,6 +87,7 @@ pub(crate) fn resume<L: Ledgers>(book: &mut Book<L>, alloc: Global, seat: Seat<L
     ensures event { TriesIn book.old book.new seat result }
     ensures still { StillIsDue book.old seat result }
     ensures not_lost { GivesNoneUp result }
+    ensures part { IsPartOf seat.counted (counted_in book.old) }
 {
     calls_end_or_wait();
     let mut seat = seat;

@@ -2,6 +2,8 @@
 
 ghost use Rattle.std.specs.Prelude.{◌≡◌, [], None, Some, false, true, All, IfOk};
 ghost use Rattle.rtrb.specs.Ring.{received};
+ghost use Rattle.byte_ledger.specs.Counted.{IsPartOf};
+ghost use Rattle.record_book.specs.Counting.{counted_in};
 ghost use Rattle.record_book.specs.Refusals.{resume_refusal, is_ready_in};
 ghost use Rattle.system_lock.specs.Kernel.{AsksForASeat, CallsBy, HangsUpBy};
 ghost use Rattle.system_lock.specs.Proved.Reasons.{OpensBy, IsReason, EndsByReason};
@@ -150,6 +152,7 @@ impl<L: Ledgers> System<L> {
         ensures calls { CallsBy seat.old seat.new call result }
         ensures event { CallsIn self.old.book_is self.new.book_is seat.old seat.new call result }
         ensures stood { StandsUnder L.limits self.old.book_is }
+        ensures part { IsPartOf seat.old.counted (counted_in self.old.book_is) }
         ensures asleep { self.new.asleep_are ≡ still_asleep self.new.book_is self.old.asleep_are }
         ensures lost { self.new.lost_are ≡ still_lost self.new.book_is self.old.lost_are }
     {
@@ -187,6 +190,7 @@ impl<L: Ledgers> System<L> {
         ensures tries { TriesBy seat result }
         ensures event { TriesIn self.old.book_is self.new.book_is seat result }
         ensures stood { StandsUnder L.limits self.old.book_is }
+        ensures part { IsPartOf seat.counted (counted_in self.old.book_is) }
         ensures given_up { GivesUpTheLost self.old.lost_are seat result }
         ensures still { IsLeftWaiting self.old self.new seat result }
         ensures asleep { self.new.asleep_are ≡ still_asleep self.new.book_is (with_sleeper self.old.asleep_are result) }
@@ -217,6 +221,7 @@ impl<L: Ledgers> System<L> {
         ensures ends { EndsByReason seat reason result }
         ensures event { ExitsIn self.old.book_is self.new.book_is seat result.seat result.why }
         ensures due { ExitIsDue self.old.book_is seat result.why }
+        ensures part { IsPartOf seat.counted (counted_in self.old.book_is) }
         ensures asleep { self.new.asleep_are ≡ still_asleep self.new.book_is self.old.asleep_are }
         ensures lost { self.new.lost_are ≡ still_lost self.new.book_is self.old.lost_are }
     {
@@ -233,6 +238,7 @@ impl<L: Ledgers> System<L> {
         ensures hangs_up { HangsUpBy seat result }
         ensures event { ExitsIn self.old.book_is self.new.book_is seat result.seat result.why }
         ensures due { ExitIsDue self.old.book_is seat result.why }
+        ensures part { IsPartOf seat.counted (counted_in self.old.book_is) }
         ensures stood { StandsUnder L.limits self.old.book_is }
         ensures asleep { self.new.asleep_are ≡ still_asleep self.new.book_is self.old.asleep_are }
         ensures lost { self.new.lost_are ≡ still_lost self.new.book_is self.old.lost_are }

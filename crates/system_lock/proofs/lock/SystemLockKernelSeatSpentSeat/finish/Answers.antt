@@ -6,4 +6,4 @@ use Rattle.system_lock.proofs.lock.SystemLockKernelSeatSpentSeat.finish.Goals as
 
 pub returns-in-Ended-clause-ended : goal.returns-in-Ended-clause-ended
 returns-in-Ended-clause-ended g c =
-    subst (λ (s : SeatState). IsEnded g.L.Ledgers.limits s c.in-Ended.ended.why) c.loop.invariant.seat (ended_in _ _ _ c.loop.seat c.in-Ended.ended.seat c.in-Ended.ended.why c.in-Ended.ensures.stood c.in-Ended.ensures.event.0 c.in-Ended.ensures.event.1)
+    subst (λ (s : SeatState). IsEnded g.L.Ledgers.limits s c.in-Ended.ended.why) c.loop.invariant.seat (ended_in _ _ _ c.loop.seat c.in-Ended.ended.seat c.in-Ended.ended.why c.in-Ended.ensures.stood c.in-Ended.ensures.part c.in-Ended.ensures.event.0 c.in-Ended.ensures.event.1)
