@@ -17,6 +17,7 @@ use job_core::show::show;
 use job_core::shown::Form;
 use logged_streams::writer::LoggedWriter;
 use run_core::source::Source;
+use session_core::starter::SystemThreads;
 use std::alloc::Global;
 use std::io::{Read, Write};
 use std::sync::Wait;
@@ -155,6 +156,7 @@ fn serve_at<
             let served = serve_on(
                 rt,
                 alloc,
+                &mut SystemThreads::new(),
                 &mut source,
                 usize::from(sessions),
                 limits,

@@ -3,3 +3,4 @@ pub mod ClosingLemmas
 pub mod JoinLemmas
 pub mod JudgedLemmas
 pub mod LeftLemmas
+pub mod StarterLemmas

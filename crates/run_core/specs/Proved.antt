@@ -1,3 +1,4 @@
 pub mod Laws
 pub mod Joining
 pub mod Closing
+pub mod Starting

@@ -1,6 +1,6 @@
 //! The sessions of a run, each in a thread of its own.
 
-ghost use Rattle.std.specs.Prelude.{◌≡◌, ◌≤◌, ◌<◌, ◌+◌, ◌^◌, ◌++◌, ◌∷◌, [], true, None, Some, map, length, vec_len, vec_capacity, IfOk, IfErr, IfSome, OnOk};
+ghost use Rattle.std.specs.Prelude.{◌≡◌, ◌≤◌, ◌<◌, ◌+◌, ◌^◌, ◌++◌, ◌∷◌, [], ℕ, true, None, Some, map, length, vec_len, vec_capacity, IfOk, IfErr, OnErr, OnOk};
 ghost use Rattle.std.specs.Option.{option_map};
 ghost use Rattle.std.specs.Arc.{arc_value};
 ghost use Rattle.rtrb.specs.Ring.{received};
@@ -9,6 +9,10 @@ ghost use Rattle.run_core.specs.Proved.Laws.{FlagsDecideAll};
 ghost use Rattle.run_core.specs.Receipts.{held_by};
 ghost use Rattle.run_core.specs.Run.{IsRun, IsRunOf, IsBlank, IsProcessOf, FailsIfFewer, GivesConnections, ServesInRun, held_in, streams, with_seat};
 ghost use Rattle.run_core.specs.Proved.Joining.{HasEnded, IsJoined};
+ghost use Rattle.logged_streams.specs.Streams.{one_more};
+ghost use Rattle.session_core.specs.Served.{failures_after};
+ghost use Rattle.run_core.specs.Starters.{failures_by, failures_with, left_sessions};
+ghost use Rattle.run_core.specs.Proved.Starting.{failures_at, failures_for};
 ghost use Rattle.run_core.specs.Unreported.{IsNoWant, IsUnreported, UnreportedFor};
 ghost use Rattle.run_core.specs.declared.sessions.Want.{Want};
 ghost use Rattle.run_core.specs.declared.sessions.Want.TheVariants as wants;
@@ -25,11 +29,11 @@ use byte_ledger::tallies::Shares;
 use call_types::limits::Limits;
 use session_core::gate::Gate;
 use session_core::serve::{Served, serve};
+use session_core::starter::{StartFailed, Starter, start};
 use std::alloc::{AllocError, Global};
 use std::io::{Read, Write};
 use std::snapshot::Snapshot;
 use std::sync::{Arc, Wait};
-use std::thread;
 use std::thread::{Promise, PromisedHandle, Threads};
 use std::time::Clock;
 use system_lock::lock::SystemLock;
@@ -62,10 +66,20 @@ pub(crate) struct Serving<R: Read, W: Write, G: Gate> {
     ghost blank: { IsBlank (W.contents writer.value) },
 }
 
-impl<R: Read, W: Write, G: Gate, L: Ledgers> Promise<Served<R, W, L>> for Serving<R, W, G> {
+/// A session that is over, and the starter of its thread.
+#[derive(Drop)]
+pub(crate) struct Over<R: Read, W: Write, L: Ledgers, T: Starter> {
+    served: Served<R, W, L>,
+    starter: T,
+}
+
+impl<R: Read, W: Write, G: Gate, L: Ledgers, T: Starter> Promise<Over<R, W, L, T>>
+    for Serving<R, W, G> {
+    ghost use Rattle.std.specs.Prelude.{◌≡◌};
+    ghost use Rattle.session_core.specs.Served.{failures_after};
     ghost use Rattle.run_core.specs.Run.{ServesInRun};
 
-    ghost kept_by = { λ p served. ServesInRun G.is_open (R.remaining p.reader.value) (W.contents p.writer.value) served };
+    ghost kept_by = { λ p over. ServesInRun G.is_open (R.remaining p.reader.value) (W.contents p.writer.value) over.served × (T.failures over.starter ≡ failures_after over.served.end_is 0) };
 }
 
 impl<R: Read, W: Write, G: Gate> Serving<R, W, G> {
@@ -84,55 +98,73 @@ impl<R: Read, W: Write, G: Gate> Serving<R, W, G> {
 }
 
 /// A session that goes on in its thread.
-type Running<R, W, G, L> = PromisedHandle<Served<R, W, L>, Serving<R, W, G>>;
+type Running<R, W, G, L, T> = PromisedHandle<Over<R, W, L, T>, Serving<R, W, G>>;
 
-/// Serves a connection, and ends it.
+/// Serves a connection, and ends it. Its starter has failed at nothing yet.
 fn serve_connection<
     Rt: Threads + Wait + Copy + Drop + Send + Sync + 'static,
     S: Source + Send + 'static,
     G: Gate + Send + Sync + 'static,
     L: Ledgers + Send + Sync + 'static,
+    T: Starter + Drop,
 >(
     rt: Rt,
     alloc: Global,
+    starter: T,
     lock: Arc<SystemLock<L>>,
     gate: Arc<G>,
     reader: S::Reader,
     writer: S::Writer,
     session: u64,
-) -> Served<S::Reader, S::Writer, L>
-    ensures { ServesInRun G.is_open (S.Reader.Read.remaining reader) (S.Writer.Write.contents writer) result }
+) -> Over<S::Reader, S::Writer, L, T>
+    requires { T.failures starter ≡ 0 }
+    ensures serves { ServesInRun G.is_open (S.Reader.Read.remaining reader) (S.Writer.Write.contents writer) result.served }
+    ensures starts { T.failures result.starter ≡ failures_after result.served.end_is 0 }
 {
+    let mut starter = starter;
     let admission = lock.admit();
-    serve(rt, alloc, reader, writer, lock, admission, session, gate)
+    let served = serve(
+        rt,
+        alloc,
+        &mut starter,
+        reader,
+        writer,
+        lock,
+        admission,
+        session,
+        gate,
+    );
+    Over { served, starter }
 }
 
 /// Serves a connection in a thread of its own, if one can be started.
-fn start<
+fn start_session<
     Rt: Threads + Wait + Copy + Drop + Send + Sync + 'static,
     S: Source + Send + 'static,
     G: Gate + Send + Sync + 'static,
     L: Ledgers + Send + Sync + 'static,
+    T: Starter + Send + Drop + 'static,
 >(
     rt: Rt,
     alloc: Global,
+    starter: &mut T,
     shared: Shared<G, L>,
     reader: S::Reader,
     writer: S::Writer,
     session: u64,
-) -> Option<Running<S::Reader, S::Writer, G, L>>
+) -> Result<Running<S::Reader, S::Writer, G, L, T>, StartFailed>
     requires { IsBlank (S.Writer.Write.contents writer) }
-    ensures { IfSome result (λ thread. (S.Reader.Read.remaining thread.promise.reader.value ≡ S.Reader.Read.remaining reader) × (S.Writer.Write.contents thread.promise.writer.value ≡ S.Writer.Write.contents writer)) }
+    ensures promised { IfOk result (λ thread. (S.Reader.Read.remaining thread.promise.reader.value ≡ S.Reader.Read.remaining reader) × (S.Writer.Write.contents thread.promise.writer.value ≡ S.Writer.Write.contents writer)) }
+    ensures started { OnOk result (T.failures starter.new ≡ T.failures starter.old) }
+    ensures refused { OnErr result (T.failures starter.new ≡ one_more (T.failures starter.old)) }
 {
     let Shared { lock, gate } = shared;
     let promise = Serving::of(&reader, &writer, &gate);
+    let own = starter.another();
     let serving = move || {
-        serve_connection::<Rt, S, G, L>(rt, alloc, lock, gate, reader, writer, session)
+        serve_connection::<Rt, S, G, L, T>(rt, alloc, own, lock, gate, reader, writer, session)
     };
-    match thread::spawn_with(&rt, promise, serving) {
-        Ok(running) => Some(running),
-        Err(_) => None,
-    }
+    start(&rt, starter, promise, serving)
 }
 
 /// Why no session was started.
@@ -172,19 +204,23 @@ fn next_session<
     S: Source + Send + 'static,
     G: Gate + Send + Sync + 'static,
     L: Ledgers + Send + Sync + 'static,
+    T: Starter + Send + Drop + 'static,
 >(
     rt: Rt,
     alloc: Global,
+    starter: &mut T,
     shared: &Shared<G, L>,
     source: &mut S,
     session: u64,
-) -> Result<Running<S::Reader, S::Writer, G, L>, Shortage>
+) -> Result<Running<S::Reader, S::Writer, G, L, T>, Shortage>
     requires failures { S.failures source.old + 1 < 2 ^ 64 }
     requires accepted { S.accepted source.old + 1 < 2 ^ 64 }
     ensures failures { OnOk result (S.failures source.new ≡ S.failures source.old) }
     ensures accepted { OnOk result (S.accepted source.new ≡ S.accepted source.old + 1) }
     ensures next { IfOk result (λ thread. GivesConnections (S.coming source.old) (S.coming source.new) (streams (S.Reader.Read.remaining thread.promise.reader.value) (S.Writer.Write.contents thread.promise.writer.value) ∷ [])) }
     ensures no_connection { IfErr result (λ why. why ≡ shortage.NoConnection → (S.failures source.new ≡ S.failures source.old + 1) × (S.accepted source.new ≡ S.accepted source.old) × (S.coming source.new ≡ S.coming source.old)) }
+    ensures started { OnOk result (T.failures starter.new ≡ T.failures starter.old) }
+    ensures unstarted { IfErr result (λ why. T.failures starter.new ≡ failures_at why (T.failures starter.old)) }
     ensures lost { IfErr result (λ why. (want : Want) → why ≡ shortage.Lost want → S.failures source.new ≡ S.failures source.old) }
 {
     let (reader, writer) = match source.accept() {
@@ -192,17 +228,22 @@ fn next_session<
         Err(_) => return Err(Shortage::NoConnection),
     };
     match shared.share() {
-        Ok(shared) => start::<Rt, S, G, L>(rt, alloc, shared, reader, writer, session).ok_or(
-            Shortage::Lost(Want::Thread),
-        ),
+        Ok(shared) => {
+            match start_session::<Rt, S, G, L, T>(
+                rt, alloc, starter, shared, reader, writer, session,
+            ) {
+                Ok(running) => Ok(running),
+                Err(_) => Err(Shortage::Lost(Want::Thread)),
+            }
+        }
         Err(_) => Err(Shortage::Lost(Want::Memory)),
     }
 }
 
 /// The sessions that were started, and what was wanting for a connection that was accepted after them, if there was one.
 #[derive(Drop)]
-struct Started<R: Read, W: Write, G: Gate, L: Ledgers> {
-    running: Vec<Running<R, W, G, L>>,
+struct Started<R: Read, W: Write, G: Gate, L: Ledgers, T: Starter> {
+    running: Vec<Running<R, W, G, L, T>>,
     want: Option<Want>,
 }
 
@@ -212,14 +253,16 @@ fn start_all<
     S: Source + Send + 'static,
     G: Gate + Send + Sync + 'static,
     L: Ledgers + Send + Sync + 'static,
+    T: Starter + Send + Drop + 'static,
 >(
     rt: Rt,
     alloc: Global,
+    starter: &mut T,
     shared: &Shared<G, L>,
     source: &mut S,
     sessions: usize,
-    room: Vec<Running<S::Reader, S::Writer, G, L>>,
-) -> Started<S::Reader, S::Writer, G, L>
+    room: Vec<Running<S::Reader, S::Writer, G, L, T>>,
+) -> Started<S::Reader, S::Writer, G, L, T>
     requires failures { S.failures source.old + 1 < 2 ^ 64 }
     requires accepted { S.accepted source.old + sessions < 2 ^ 64 }
     requires room { sessions ≤ vec_capacity room }
@@ -228,11 +271,12 @@ fn start_all<
     ensures failures { result.want ≡ None → FailsIfFewer (vec_len result.running) sessions (S.failures source.old) (S.failures source.new) }
     ensures accepted { result.want ≡ None → S.accepted source.new ≡ S.accepted source.old + vec_len result.running }
     ensures lost { (want : Want) → result.want ≡ Some want → S.failures source.new ≡ S.failures source.old }
+    ensures starts { T.failures starter.new ≡ failures_for result.want (T.failures starter.old) }
     ensures gives { result.want ≡ None → GivesConnections (S.coming source.old) (S.coming source.new) (map (λ thread. streams (S.Reader.Read.remaining thread.promise.reader.value) (S.Writer.Write.contents thread.promise.writer.value)) result.running.items) }
 {
     let mut running = room;
     for session in 0..sessions {
-        match next_session(rt, alloc, shared, source, session as u64) {
+        match next_session(rt, alloc, starter, shared, source, session as u64) {
             Ok(session) => running.push_reserved(session),
             Err(Shortage::NoConnection) => {
                 return Started {
@@ -294,10 +338,11 @@ fn part<R: Read + Drop, W: Write + Drop, L: Ledgers>(
     (session, shares)
 }
 
-/// Waits until all sessions have ended, and parts each from its seat. There is room for them.
-fn join_all<Rt: Threads, R: Read + Drop, W: Write + Drop, G: Gate, L: Ledgers>(
+/// Waits until all sessions have ended, parts each from its seat, and counts what their starters could not start. There is room for them.
+fn join_all<Rt: Threads, R: Read + Drop, W: Write + Drop, G: Gate, L: Ledgers, T: Starter + Drop>(
     rt: &Rt,
-    running: Vec<Running<R, W, G, L>>,
+    starter: &mut T,
+    running: Vec<Running<R, W, G, L, T>>,
     room: Parted<R, W, L>,
 ) -> Parted<R, W, L>
     requires sessions { vec_len room.sessions + vec_len running ≤ vec_capacity room.sessions }
@@ -305,6 +350,7 @@ fn join_all<Rt: Threads, R: Read + Drop, W: Write + Drop, G: Gate, L: Ledgers>(
     requires empty { vec_len room.sessions ≡ 0 }
     requires no_shares { vec_len room.shares ≡ 0 }
     ensures joined { IsJoined G.is_open (map (λ thread. streams (R.remaining thread.promise.reader.value) (W.contents thread.promise.writer.value)) running.items) result.sessions.items result.shares.items }
+    ensures starts { T.failures starter.new ≡ failures_with result.sessions.items (T.failures starter.old) }
     ensures all { vec_len result.sessions ≡ vec_len running }
 {
     let Parted {
@@ -312,7 +358,12 @@ fn join_all<Rt: Threads, R: Read + Drop, W: Write + Drop, G: Gate, L: Ledgers>(
         mut shares,
     } = room;
     for thread in running {
-        let (session, counted) = part(thread.join(rt));
+        let Over {
+            served,
+            starter: own,
+        } = thread.join(rt);
+        starter.absorb(own);
+        let (session, counted) = part(served);
         sessions.push_reserved(session);
         match counted {
             Some(counted) => shares.push_reserved(counted),
@@ -324,16 +375,16 @@ fn join_all<Rt: Threads, R: Read + Drop, W: Write + Drop, G: Gate, L: Ledgers>(
 
 /// Room for all sessions of a run: while they go on, and when they are over.
 #[derive(Drop)]
-struct Rooms<R: Read, W: Write, G: Gate, L: Ledgers> {
-    running: Vec<Running<R, W, G, L>>,
+struct Rooms<R: Read, W: Write, G: Gate, L: Ledgers, T: Starter> {
+    running: Vec<Running<R, W, G, L, T>>,
     ends: Parted<R, W, L>,
 }
 
 /// Makes room for so many sessions.
-fn rooms_for<R: Read + Drop, W: Write + Drop, G: Gate, L: Ledgers>(
+fn rooms_for<R: Read + Drop, W: Write + Drop, G: Gate, L: Ledgers, T: Starter + Drop>(
     alloc: Global,
     sessions: usize,
-) -> Result<Rooms<R, W, G, L>, AllocError>
+) -> Result<Rooms<R, W, G, L, T>, AllocError>
     ensures running { IfOk result (λ rooms. (vec_len rooms.running ≡ 0) × (sessions ≤ vec_capacity rooms.running)) }
     ensures ends { IfOk result (λ rooms. (vec_len rooms.ends.sessions ≡ 0) × (sessions ≤ vec_capacity rooms.ends.sessions)) }
     ensures shares { IfOk result (λ rooms. (vec_len rooms.ends.shares ≡ 0) × (sessions ≤ vec_capacity rooms.ends.shares)) }
@@ -383,13 +434,15 @@ fn serve_all<
     S: Source + Send + 'static,
     G: Gate + Send + Sync + 'static,
     L: Ledgers + Send + Sync + 'static,
+    T: Starter + Send + Drop + 'static,
 >(
     rt: Rt,
     alloc: Global,
+    starter: &mut T,
     shared: Shared<G, L>,
     source: &mut S,
     sessions: usize,
-    rooms: Rooms<S::Reader, S::Writer, G, L>,
+    rooms: Rooms<S::Reader, S::Writer, G, L, T>,
 ) -> Ended<S::Reader, S::Writer, L>
     requires failures { S.failures source.old + 1 < 2 ^ 64 }
     requires accepted { S.accepted source.old + sessions < 2 ^ 64 }
@@ -400,12 +453,13 @@ fn serve_all<
     ensures accepted { result.want ≡ None → S.accepted source.new ≡ S.accepted source.old + vec_len result.parted.sessions }
     ensures few { vec_len result.parted.sessions ≤ sessions }
     ensures ended { HasEnded G.is_open L.limits result.want (S.coming source.old) (S.coming source.new) result.closed.book result.closed.house result.parted.sessions.items result.parted.shares.items }
+    ensures starts { T.failures starter.new ≡ failures_with result.parted.sessions.items (failures_for result.want (T.failures starter.old)) }
     ensures lost { (want : Want) → result.want ≡ Some want → S.failures source.new ≡ S.failures source.old }
 {
     let Rooms { running, ends } = rooms;
-    let started = start_all(rt, alloc, &shared, source, sessions, running);
+    let started = start_all(rt, alloc, starter, &shared, source, sessions, running);
     let Started { running, want } = started;
-    let parted = join_all(&rt, running, ends);
+    let parted = join_all(&rt, starter, running, ends);
     let closed = close(unshared(&rt, shared.lock).take().into_book());
     Ended {
         closed,
@@ -438,6 +492,7 @@ fn unreported<R: Read, W: Write, L: Ledgers, K: Sink>(
 }
 
 /// Compares and gathers what sessions and their trace left.
+#[tactic(auto, using(crate::proofs::StarterLemmas::failures_wanted, crate::proofs::StarterLemmas::no_more_by))]
 fn report_of<R: Read + Drop, W: Write + Drop, L: Ledgers, K: Sink + Drop>(
     alloc: Global,
     ended: Ended<R, W, L>,
@@ -451,6 +506,7 @@ fn report_of<R: Read + Drop, W: Write + Drop, L: Ledgers, K: Sink + Drop>(
     ensures fault { IfErr result (λ u. UnreportedFor ended.closed.book (vec_len ended.parted.shares + 1) (map (λ s. held_by s.process) ended.parted.sessions.items ++ held_in ended.closed.house ∷ []) done.traced.fault (map arc_value done.traced.received.items) u.fault) }
     ensures want { IfErr result (λ u. IsNoWant u.fault → ended.want ≡ None) }
     ensures no_thread { IfErr result (λ u. u.fault ≡ run_fault.NoThread → ended.want ≡ Some wants.Thread) }
+    ensures wanted { IfErr result (λ u. (n : ℕ) → failures_for ended.want n ≡ failures_by u.fault n) }
     ensures left { IfErr result (λ u. u.left ≡ Some (record { traced = done.traced; ends = ended.parted.sessions; sink = done.sink; book = ended.closed.book; house = ended.closed.house })) }
 {
     let Ended {
@@ -487,13 +543,15 @@ fn serve_traced<
     G: Gate + Send + Sync + 'static,
     L: Ledgers + Send + Sync + 'static,
     K: Sink + Send + Drop + 'static,
+    T: Starter + Send + Drop + 'static,
 >(
     rt: Rt,
     alloc: Global,
+    starter: &mut T,
     shared: Shared<G, L>,
     source: &mut S,
     sessions: usize,
-    rooms: Rooms<S::Reader, S::Writer, G, L>,
+    rooms: Rooms<S::Reader, S::Writer, G, L, T>,
     limits: Limits,
     traces: Traces<K>,
 ) -> Result<Report<S::Reader, S::Writer, K>, Unreported<S::Reader, S::Writer, K, L>>
@@ -511,10 +569,12 @@ fn serve_traced<
     ensures judged { IfOk result (λ report. IsJudged (K.contents traces.thread.promise.sink.value) (K.contents report.sink) report.traced.whole report.traced.bytes) }
     ensures unreported { IfErr result (λ u. IsUnreported (option_map (λ left. record { always = G.is_open; limits_are = limits; coming = S.coming source.old; later = S.coming source.new; ends = left.ends.items; received = map arc_value left.traced.received.items; trace = record { base = K.contents traces.thread.promise.sink.value; now = K.contents left.sink; before = K.failures traces.thread.promise.sink.value; after = K.failures left.sink; is_synced = K.is_synced left.sink; whole = left.traced.whole; bytes = left.traced.bytes; fault = left.traced.fault }; book = left.book; house = left.house }) u.left) u.fault) }
     ensures unbegun { IfErr result (λ u. u.left ≡ None → S.accepted source.new ≡ S.accepted source.old) }
+    ensures started { IfOk result (λ report. T.failures starter.new ≡ failures_with report.ends.items (T.failures starter.old)) }
+    ensures unstarted { IfErr result (λ u. T.failures starter.new ≡ failures_with (left_sessions (option_map (λ left. left.ends.items) u.left)) (failures_by u.fault (T.failures starter.old))) }
     ensures lost { IfErr result (λ u. u.fault ≡ run_fault.NoThread → S.failures source.new ≡ S.failures source.old) }
 {
     runs_are_judged(limits);
-    let ended = serve_all(rt, alloc, shared, source, sessions, rooms);
+    let ended = serve_all(rt, alloc, starter, shared, source, sessions, rooms);
     let done = traces.join(&rt);
     let report = report_of(alloc, ended, done)?;
     Ok(report)
@@ -526,16 +586,19 @@ fn serve_traced<
 /// report has fewer. Where a session's own thread cannot be started, or memory is wanting for it, they are too, but there is no report.
 /// Where the sink fails, the report tells it. The trace tells the limits of the run, and an audit finds what the sink took legal, with
 /// the whole records that are told. A run without a report hands out what its sessions left, its records and what the trace thread
-/// received, in which its fault can be seen. In any case no thread goes on then.
+/// received, in which its fault can be seen. All threads are started through the starter, which counts those that could not be: one for
+/// each session that has no thread to read, and one where that is why there is no report. In any case no thread goes on then.
 pub fn run_sessions<
     Rt: Threads + Wait + Clock + Copy + Drop + Send + Sync + 'static,
     S: Source + Send + 'static,
     G: Gate + Send + Sync + 'static,
     L: Ledgers + Send + Sync + 'static,
     K: Sink + Send + Drop + 'static,
+    T: Starter + Send + Drop + 'static,
 >(
     rt: Rt,
     alloc: Global,
+    starter: &mut T,
     source: &mut S,
     sessions: usize,
     limits: Limits,
@@ -556,13 +619,17 @@ pub fn run_sessions<
     ensures judged { IfOk result (λ report. IsJudged (K.contents sink) (K.contents report.sink) report.traced.whole report.traced.bytes) }
     ensures unreported { IfErr result (λ u. IsUnreported (option_map (λ left. record { always = G.is_open; limits_are = limits; coming = S.coming source.old; later = S.coming source.new; ends = left.ends.items; received = map arc_value left.traced.received.items; trace = record { base = K.contents sink; now = K.contents left.sink; before = K.failures sink; after = K.failures left.sink; is_synced = K.is_synced left.sink; whole = left.traced.whole; bytes = left.traced.bytes; fault = left.traced.fault }; book = left.book; house = left.house }) u.left) u.fault) }
     ensures unbegun { IfErr result (λ u. u.left ≡ None → S.accepted source.new ≡ S.accepted source.old) }
+    ensures started { IfOk result (λ report. T.failures starter.new ≡ failures_with report.ends.items (T.failures starter.old)) }
+    ensures unstarted { IfErr result (λ u. T.failures starter.new ≡ failures_with (left_sessions (option_map (λ left. left.ends.items) u.left)) (failures_by u.fault (T.failures starter.old))) }
     ensures lost { IfErr result (λ u. u.fault ≡ run_fault.NoThread → S.failures source.new ≡ S.failures source.old) }
 {
     let rooms = rooms_for(alloc, sessions)?;
     let (shared, end) = shared_by::<G, L>(alloc, limits, blanks, gate)?;
-    match start_trace(rt, alloc, end, limits, sink) {
-        Some(traces) => serve_traced(rt, alloc, shared, source, sessions, rooms, limits, traces),
-        None => Err(Unreported {
+    match start_trace(rt, alloc, starter, end, limits, sink) {
+        Ok(traces) => serve_traced(
+            rt, alloc, starter, shared, source, sessions, rooms, limits, traces,
+        ),
+        Err(_) => Err(Unreported {
             fault: RunFault::NoThread,
             left: None,
         }),

@@ -1,16 +1,17 @@
 //! The thread that writes the trace of a run.
 
-ghost use Rattle.std.specs.Prelude.{◌≡◌, ◌+◌, ◌<◌, ◌^◌, [], true, map, IfSome};
+ghost use Rattle.std.specs.Prelude.{◌≡◌, ◌+◌, ◌<◌, ◌^◌, [], true, map, IfOk, OnErr, OnOk};
 ghost use Rattle.std.specs.Arc.{arc_value};
 ghost use Rattle.rtrb.specs.Ring.{received};
 ghost use Rattle.frame_codec.specs.Trace.{told_of};
+ghost use Rattle.logged_streams.specs.Streams.{one_more};
 ghost use Rattle.run_core.specs.Traced.{IsTold};
 
 use call_types::limits::Limits;
+use session_core::starter::{StartFailed, Starter, start};
 use std::alloc::Global;
 use std::snapshot::Snapshot;
 use std::sync::Wait;
-use std::thread;
 use std::thread::{Promise, PromisedHandle, Threads};
 use std::time::Clock;
 use trace_ring::trace_ring::TraceEnd;
@@ -69,22 +70,30 @@ fn trace_into<Rt: Wait + Clock, K: Sink>(
 /// Starts the thread of a trace, if one can be started. It goes on until its end of the ring is the only one left and is empty.
 pub(crate) fn start_trace<
     Rt: Threads + Wait + Clock + Copy + Send + 'static,
+    T: Starter,
     K: Sink + Send + Drop + 'static,
->(rt: Rt, alloc: Global, end: TraceEnd, limits: Limits, sink: K) -> Option<Traces<K>>
+>(
+    rt: Rt,
+    alloc: Global,
+    starter: &mut T,
+    end: TraceEnd,
+    limits: Limits,
+    sink: K,
+) -> Result<Traces<K>, StartFailed>
     requires fresh { received end ≡ [] }
     requires sound { K.is_sound sink ≡ true }
     requires few { K.failures sink + 1 < 2 ^ 64 }
-    ensures { IfSome result (λ t. (K.contents t.thread.promise.sink.value ≡ K.contents sink) × (K.failures t.thread.promise.sink.value ≡ K.failures sink) × (t.thread.promise.limits ≡ limits)) }
+    ensures promised { IfOk result (λ t. (K.contents t.thread.promise.sink.value ≡ K.contents sink) × (K.failures t.thread.promise.sink.value ≡ K.failures sink) × (t.thread.promise.limits ≡ limits)) }
+    ensures started { OnOk result (T.failures starter.new ≡ T.failures starter.old) }
+    ensures refused { OnErr result (T.failures starter.new ≡ one_more (T.failures starter.old)) }
 {
     let promise = Tracing {
         limits,
         sink: Snapshot::of(&sink),
     };
     let tracing = move || trace_into(&rt, alloc, end, limits, sink);
-    match thread::spawn_with(&rt, promise, tracing) {
-        Ok(thread) => Some(Traces { thread }),
-        Err(_) => None,
-    }
+    let thread = start(&rt, starter, promise, tracing)?;
+    Ok(Traces { thread })
 }
 
 impl<K: Sink> Traces<K> {

@@ -10,6 +10,7 @@ use call_types::limits::Limits;
 use run_core::report::Report;
 use run_core::sessions::run_sessions;
 use session_core::memory::{MemoryReader, MemoryWriter};
+use session_core::starter::SystemThreads;
 use std::alloc::Global;
 use std::sync::Wait;
 use std::thread::Threads;
@@ -30,9 +31,10 @@ pub(crate) fn ran<
     requires limits { L.limits ≡ Some limits }
 {
     let mut source = Waiting::new(alloc)?;
-    let ran = run_sessions::<Rt, Waiting, OthersFirst<Rt>, L, MemorySink>(
+    let ran = run_sessions::<Rt, Waiting, OthersFirst<Rt>, L, MemorySink, SystemThreads>(
         rt,
         alloc,
+        &mut SystemThreads::new(),
         &mut source,
         SESSIONS,
         limits,

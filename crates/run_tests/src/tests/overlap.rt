@@ -12,6 +12,7 @@ use session_core::connection::Connection;
 use session_core::end::End;
 use session_core::gate::{Gate, OpenGate};
 use session_core::memory::{Manner as StreamManner, MemoryReader, MemoryWriter};
+use session_core::starter::SystemThreads;
 use std::alloc::{AllocError, Global};
 use std::io::{Error, ErrorKind, Read, Write};
 use std::marker::Brand;
@@ -121,9 +122,10 @@ fn report_of<
         accepted: 0,
         failures: 0,
     };
-    let ran = run_sessions::<Rt, Waiting<R, W>, G, L, MemorySink>(
+    let ran = run_sessions::<Rt, Waiting<R, W>, G, L, MemorySink, SystemThreads>(
         rt,
         alloc,
+        &mut SystemThreads::new(),
         &mut source,
         sessions,
         limits,

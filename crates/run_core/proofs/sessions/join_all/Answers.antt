@@ -4,6 +4,9 @@ use Rattle.std.proofs.lemmas.Iterator.Consumers.{YieldsList-end}
 use Rattle.std.proofs.lemmas.List.{append-nil}
 use Rattle.byte_ledger.specs.Counted.{Counted}
 use Rattle.run_core.specs.Run.{streams}
+use Rattle.session_core.specs.Served.{SessionState, failures_after}
+use Rattle.session_core.specs.declared.end.End.{End}
+use Rattle.run_core.proofs.StarterLemmas.{absorbed, none_counted}
 use Rattle.run_core.proofs.JoinLemmas.{joined_all, joined_next, joined_none, shares_some, shares_none}
 use Rattle.run_core.proofs.sessions.join_all.Goals as goal
 
@@ -14,6 +17,7 @@ loop-thread-init g c = record {
   room = search rules;
   shares_room = search rules;
   joined = joined_none g.G.Gate.is_open c.args.room.sessions.items c.args.room.shares.items (sym c.args.room.sessions.ok.0 ∙ c.requires.empty) (sym c.args.room.shares.ok.0 ∙ c.requires.no_shares);
+  starts = none_counted c.args.room.sessions.items (g.T.Starter.failures c.args.starter.now) (sym c.args.room.sessions.ok.0 ∙ c.requires.empty);
   goes = search rules;
   ends = search rules;
 }
@@ -31,9 +35,11 @@ loop-thread-preserved-in-Some-counted g c =
       count = let all = before.count in omega arith;
       room = let room = before.room in omega arith;
       shares_room = let room = before.shares_room in omega arith;
-      joined = joined_next g.G.Gate.is_open (λ thread. g.R.Read.remaining thread.promise.reader.value) (λ thread. g.W.Write.contents thread.promise.writer.value) c.loop-thread.yielded c.in-Some.thread c.loop-thread.sessions.items _ c.loop-thread.shares.items _ c.join.result.seat c.part-session.result.0 _
-          before.joined c.part-session.ensures.process c.in-Some.thread.promise.blank c.part-session.ensures.session c.join.ensures c.push_reserved.ensures.items
-          (c.push_reserved-in-Some-counted.ensures.items ∙ ap (λ (l : List Counted). c.loop-thread.shares.items ++ l) (sym (shares_some c.join.result.seat c.part-session.result.1 c.in-Some-counted.counted c.part-session.ensures.shares c.in-Some-counted.is)));
+      joined = joined_next g.G.Gate.is_open (λ thread. g.R.Read.remaining thread.promise.reader.value) (λ thread. g.W.Write.contents thread.promise.writer.value) c.loop-thread.yielded c.in-Some.thread c.loop-thread.sessions.items _ c.loop-thread.shares.items _ c.join.result.served.seat c.part-session.result.0 _
+          before.joined c.part-session.ensures.process c.in-Some.thread.promise.blank c.part-session.ensures.session c.join.ensures.0 c.push_reserved.ensures.items
+          (c.push_reserved-in-Some-counted.ensures.items ∙ ap (λ (l : List Counted). c.loop-thread.shares.items ++ l) (sym (shares_some c.join.result.served.seat c.part-session.result.1 c.in-Some-counted.counted c.part-session.ensures.shares c.in-Some-counted.is)));
+      starts = absorbed c.loop-thread.sessions.items _ c.part-session.result.0 (g.T.Starter.failures c.args.starter.now) (g.T.Starter.failures c.loop-thread.starter) (g.T.Starter.failures c.join.result.starter) (g.T.Starter.failures c.absorb.new.self)
+          before.starts c.absorb.ensures (c.join.ensures.1 ∙ ap (λ (e : End). failures_after e 0) (sym (ap (λ (s : SessionState). s.end_is) c.part-session.ensures.session))) c.push_reserved.ensures.items;
       goes = search rules;
       ends = search rules;
     }
@@ -48,9 +54,11 @@ loop-thread-preserved g c =
       count = let all = before.count in omega arith;
       room = let room = before.room in omega arith;
       shares_room = let room = before.shares_room in omega arith;
-      joined = joined_next g.G.Gate.is_open (λ thread. g.R.Read.remaining thread.promise.reader.value) (λ thread. g.W.Write.contents thread.promise.writer.value) c.loop-thread.yielded c.in-Some.thread c.loop-thread.sessions.items _ c.loop-thread.shares.items _ c.join.result.seat c.part-session.result.0 _
-          before.joined c.part-session.ensures.process c.in-Some.thread.promise.blank c.part-session.ensures.session c.join.ensures c.push_reserved.ensures.items
-          (sym (append-nil c.loop-thread.shares.items) ∙ ap (λ (l : List Counted). c.loop-thread.shares.items ++ l) (sym (shares_none c.join.result.seat c.part-session.result.1 c.part-session.ensures.shares c.in-None-counted.is)));
+      joined = joined_next g.G.Gate.is_open (λ thread. g.R.Read.remaining thread.promise.reader.value) (λ thread. g.W.Write.contents thread.promise.writer.value) c.loop-thread.yielded c.in-Some.thread c.loop-thread.sessions.items _ c.loop-thread.shares.items _ c.join.result.served.seat c.part-session.result.0 _
+          before.joined c.part-session.ensures.process c.in-Some.thread.promise.blank c.part-session.ensures.session c.join.ensures.0 c.push_reserved.ensures.items
+          (sym (append-nil c.loop-thread.shares.items) ∙ ap (λ (l : List Counted). c.loop-thread.shares.items ++ l) (sym (shares_none c.join.result.served.seat c.part-session.result.1 c.part-session.ensures.shares c.in-None-counted.is)));
+      starts = absorbed c.loop-thread.sessions.items _ c.part-session.result.0 (g.T.Starter.failures c.args.starter.now) (g.T.Starter.failures c.loop-thread.starter) (g.T.Starter.failures c.join.result.starter) (g.T.Starter.failures c.absorb.new.self)
+          before.starts c.absorb.ensures (c.join.ensures.1 ∙ ap (λ (e : End). failures_after e 0) (sym (ap (λ (s : SessionState). s.end_is) c.part-session.ensures.session))) c.push_reserved.ensures.items;
       goes = search rules;
       ends = search rules;
     }

@@ -1,5 +1,6 @@
 use Rattle.std.proofs.Common.{ℕ, ◌+◌, map, subst, sym, ap, ◌∙◌}
 use Rattle.run_core.specs.Run.{FailsIfFewer, streams}
+use Rattle.run_core.specs.Starters.{failures_with}
 use Rattle.run_core.proofs.sessions.serve_all.Goals as goal
 
 pub returns-clause-failures : goal.returns-clause-failures
@@ -17,3 +18,6 @@ returns-clause-ended g c = record {
   joined = c.join_all-parted.ensures.joined;
   gives = c.start_all-started.ensures.gives;
 }
+
+pub returns-clause-starts : goal.returns-clause-starts
+returns-clause-starts g c = c.join_all-parted.ensures.starts ∙ ap (λ (n : ℕ). failures_with c.join_all-parted.result.sessions.items n) c.start_all-started.ensures.starts

@@ -1,9 +1,12 @@
-use Rattle.std.proofs.Common.{ℕ, ◌+◌, map, subst, sym}
+use Rattle.std.proofs.Common.{◌≡◌, ℕ, ◌+◌, ◌∙◌, Option, ap, map, subst, sym}
 use Rattle.std.proofs.lemmas.Result.{err_from_is_err_and}
 use Rattle.std.specs.Arc.{arc_value}
 use Rattle.trace_writer.specs.declared.traced.Traced.{Traced}
 use Rattle.run_core.specs.Proved.Laws.{FlagsDecideAll}
 use Rattle.run_core.specs.Unreported.{LeftTold, UnreportedFor, held_of}
+use Rattle.run_core.specs.Starters.{failures_with}
+use Rattle.run_core.specs.Proved.Starting.{failures_for}
+use Rattle.run_core.specs.declared.sessions.Want.{Want}
 use Rattle.run_core.specs.declared.sessions.Want.TheVariants as want
 use Rattle.run_core.proofs.JoinLemmas.{run_of}
 use Rattle.run_core.proofs.LeftLemmas.{left_is}
@@ -90,3 +93,17 @@ pub returns-in_err-report-clause-lost : goal.returns-in_err-report-clause-lost
 returns-in_err-report-clause-lost g c =
     let p = err_from_is_err_and c.from_residual.result c.from_residual.ensures.1 in
     rw (p.1, p.2) (λ is. c.serve_all-ended.ensures.lost want.Thread (c.in_err-report.ensures.no_thread is))
+
+pub returns-clause-started : goal.returns-clause-started
+returns-clause-started g c =
+    let told = c.in_ok-report.ensures in
+    let before = g.T.Starter.failures c.args.starter.now in
+    let after = g.T.Starter.failures c.serve_all-ended.new.starter in
+    let starts = subst (λ (lacked : Option Want). after ≡ failures_with c.serve_all-ended.result.parted.sessions.items (failures_for lacked before)) told.whole c.serve_all-ended.ensures.starts in
+    rw told.ends.0 starts
+
+pub returns-in_err-report-clause-unstarted : goal.returns-in_err-report-clause-unstarted
+returns-in_err-report-clause-unstarted g c =
+    let before = g.T.Starter.failures c.args.starter.now in
+    let p = err_from_is_err_and c.from_residual.result c.from_residual.ensures.1 in
+    rw (p.1, p.2, c.in_err-report.ensures.left) (c.serve_all-ended.ensures.starts ∙ ap (λ (n : ℕ). failures_with c.serve_all-ended.result.parted.sessions.items n) (c.in_err-report.ensures.wanted before))
