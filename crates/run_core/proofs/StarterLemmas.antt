@@ -1,5 +1,5 @@
 -- What the starter of a run has counted.
-use Rattle.std.proofs.Common.{◌≡◌, ℕ, List, [], ◌∷◌, ◌++◌, Option, None, Some, length, refl, sym, ap, ◌∙◌}
+use Rattle.std.proofs.Common.{◌≡◌, ℕ, List, [], ◌∷◌, ◌++◌, Some, length, refl, sym, ap, ◌∙◌}
 use Rattle.session_core.specs.Served.{failures_after}
 use Rattle.session_core.specs.Starting.{added}
 use Rattle.run_core.specs.Run.{ReportedSession}

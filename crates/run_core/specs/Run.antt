@@ -12,7 +12,7 @@ use Rattle.call_types.specs.declared.limits.Limits.{Limits}
 use Rattle.run_core.specs.Receipts.{Held, Agrees, held_by}
 use Rattle.run_core.specs.Traced.{TraceTold, IsTold}
 use Rattle.record_book.specs.Book.{BookState, world_now}
-use Rattle.record_book.specs.Counting.{only_records, seats_given}
+use Rattle.record_book.specs.Counting.{only_records, seats_given, CountsOwn}
 use Rattle.record_book.specs.Exits.{closing_records, receipts_from}
 use Rattle.byte_ledger.specs.Counted.{Counted}
 use Rattle.trace_writer.specs.declared.traced.TraceFault.{TraceFault}
@@ -28,6 +28,7 @@ use Rattle.session_core.specs.Said.{CutSaid, EndSaid}
 use Rattle.session_core.specs.Served.{SessionState}
 use Rattle.system_lock.specs.Says.{IsEnded, IsNotOpened, IsRefused}
 use Rattle.logged_streams.specs.Streams.{LoggedReaderState, LoggedWriterState}
+use Rattle.request_pump.specs.Pushes.{PushState}
 
 -- what a seat holds beside its counts
 abbrev pub held_in : SeatState → Held
@@ -41,13 +42,14 @@ IsProcessOf seat process = process ≡ option_map held_in seat
 pub record ReportedSession : Type 0 where
   pub reader : Option LoggedReaderState
   pub writer : LoggedWriterState
+  pub pushes : PushState
   pub process : Option Held
   pub answers : List Told
   pub end_is : End
 
 -- the same session with this seat in place of its process
 abbrev pub with_seat : Option SeatState → ReportedSession → SessionState
-with_seat seat s = record { reader = s.reader; writer = s.writer; seat = seat; answers = s.answers; end_is = s.end_is }
+with_seat seat s = record { reader = s.reader; writer = s.writer; pushes = s.pushes; seat = seat; answers = s.answers; end_is = s.end_is }
 
 -- ---- connections
 
@@ -75,12 +77,12 @@ is_blank (Some (byte ∷ bytes)) = false
 abbrev pub IsBlank : Option (List ℕ) → Type 0
 IsBlank contents = is_blank contents ≡ true
 
--- a session was served under the lock of a run: it did what is promised of any session; it ends as full or foreign, refuses a request, and
--- leaves off in a call that waits only where that was due in some book
-pub record ServesInRun (always : Bool) (from base : Option (List ℕ)) (s : SessionState) : Type 0 where
-  pub serves : ServesUnder IsNotOpened IsRefused IsEnded always from base s
-  pub said : EndSaid IsNotOpened IsEnded s.seat s.end_is
-  pub given_up : CutSaid IsEnded s.seat s.answers s.end_is
+-- a session was served under the lock of a run with these limits: it did what is promised of any session; it ends as full or foreign,
+-- refuses a request, and leaves off in a call that waits only where that was due in some legal book with these limits
+pub record ServesInRun (limits : Option Limits) (always : Bool) (from base : Option (List ℕ)) (s : SessionState) : Type 0 where
+  pub serves : ServesUnder (IsNotOpened limits) (IsRefused limits) (IsEnded limits) always from base s
+  pub said : EndSaid (IsNotOpened limits) (IsEnded limits) s.seat s.end_is
+  pub given_up : CutSaid (IsEnded limits) s.seat s.answers s.end_is
 
 -- a connection that was served: what its reader had and its writer held at the start, and the seat of its process, if there is one
 pub record Connection : Type 0 where
@@ -92,16 +94,22 @@ pub record Connection : Type 0 where
 abbrev pub at_start : Connection → Streams
 at_start c = streams c.from c.base
 
--- a session of a report served this connection, from the first byte of its reader on and with a writer that held nothing, under a gate
--- that always says yes or under any other; its process is that of the connection's seat
-pub record ServesConnection (always : Bool) (c : Connection) (session : ReportedSession) : Type 0 where
+-- what a seat counts are its own receipts, if there is one
+abbrev pub CountsItsOwn : Option SeatState → Type 0
+CountsItsOwn None = Unit {0}
+CountsItsOwn (Some s) = CountsOwn s.counted s.receipts
+
+-- a session of a report served this connection in a run with these limits, from the first byte of its reader on and with a writer that held
+-- nothing, under a gate that always says yes or under any other; its process is that of the connection's seat, which counts its own receipts
+pub record ServesConnection (limits : Option Limits) (always : Bool) (c : Connection) (session : ReportedSession) : Type 0 where
   pub process_is : IsProcessOf c.seat session.process
   pub blank : IsBlank c.base
-  pub serves : ServesInRun always c.from c.base (with_seat c.seat session)
+  pub serves : ServesInRun limits always c.from c.base (with_seat c.seat session)
+  pub own : CountsItsOwn c.seat
 
 -- the sessions served the connections, one each and in order
-abbrev pub ServesEach : Bool → List Connection → List ReportedSession → Type 0
-ServesEach always connections sessions = AllZip (ServesConnection always) connections sessions
+abbrev pub ServesEach : Option Limits → Bool → List Connection → List ReportedSession → Type 0
+ServesEach limits always connections sessions = AllZip (ServesConnection limits always) connections sessions
 
 -- what the seats of connections count
 abbrev pub counted_by : List Connection → List Counted
@@ -174,7 +182,7 @@ pub record RunTold : Type 0 where
 pub record IsRun (told : RunTold) : Type 0 where
   pub connections : List Connection
   pub gives : GivesConnections told.coming told.later (map at_start connections)
-  pub each : ServesEach told.always connections told.ends
+  pub each : ServesEach (Some told.limits_are) told.always connections told.ends
   pub before : BookState
   pub book : BookState
   pub house : SeatState

@@ -9,6 +9,7 @@ use logged_streams::reader::LoggedReader;
 use logged_streams::writer::LoggedWriter;
 use record_book::closed::ClosedBook;
 use record_book::seat::{Receipt, SpentSeat};
+use request_pump::inlet::PushLog;
 use session_core::end::End;
 use session_core::told::Told;
 use std::alloc::AllocError;
@@ -62,6 +63,8 @@ pub struct Session<R: Read, W: Write> {
     pub reader: Option<LoggedReader<R>>,
     /// The writer, with what became of its writes.
     pub writer: LoggedWriter<W>,
+    /// What the ring of its requests gave back.
+    pub pushes: PushLog,
 }
 
 impl<R: Read, W: Write> Model for Session<R, W> {
@@ -69,7 +72,7 @@ impl<R: Read, W: Write> Model for Session<R, W> {
 
     ghost Value = { ReportedSession };
 
-    ghost view = { λ s. record { reader = s.reader; writer = s.writer; process = s.process; answers = s.answers.items; end_is = s.end } };
+    ghost view = { λ s. record { reader = s.reader; writer = s.writer; pushes = s.pushes; process = s.process; answers = s.answers.items; end_is = s.end } };
 }
 
 impl<R: Read, W: Write> HasReceipts for Session<R, W> {

@@ -7,7 +7,7 @@ ghost use Rattle.rtrb.specs.Ring.{received};
 ghost use Rattle.run_core.specs.Judged.{IsJudged};
 ghost use Rattle.run_core.specs.Proved.Laws.{FlagsDecideAll};
 ghost use Rattle.run_core.specs.Receipts.{held_by};
-ghost use Rattle.run_core.specs.Run.{IsRun, IsRunOf, IsBlank, IsProcessOf, FailsIfFewer, GivesConnections, ServesInRun, held_in, streams, with_seat};
+ghost use Rattle.run_core.specs.Run.{IsRun, IsRunOf, IsBlank, IsProcessOf, FailsIfFewer, GivesConnections, ServesInRun, CountsItsOwn, held_in, streams, with_seat};
 ghost use Rattle.run_core.specs.Proved.Joining.{HasEnded, IsJoined};
 ghost use Rattle.logged_streams.specs.Streams.{one_more};
 ghost use Rattle.session_core.specs.Served.{failures_after};
@@ -57,13 +57,16 @@ impl<G: Gate, L: Ledgers> Shared<G, L> {
     }
 }
 
-/// What the thread of a session promises: that the connection is served. Its writer holds nothing yet.
+/// What the thread of a session promises: that the connection is served. Its writer holds nothing yet, and its starter has failed at
+/// nothing.
 #[derive(Drop)]
-pub(crate) struct Serving<R: Read, W: Write, G: Gate> {
+pub(crate) struct Serving<R: Read, W: Write, G: Gate, T: Starter> {
     reader: Snapshot<R>,
     writer: Snapshot<W>,
     gate: Snapshot<Arc<G>>,
+    starter: Snapshot<T>,
     ghost blank: { IsBlank (W.contents writer.value) },
+    ghost fresh: { T.failures starter.value ≡ 0 },
 }
 
 /// A session that is over, and the starter of its thread.
@@ -74,33 +77,36 @@ pub(crate) struct Over<R: Read, W: Write, L: Ledgers, T: Starter> {
 }
 
 impl<R: Read, W: Write, G: Gate, L: Ledgers, T: Starter> Promise<Over<R, W, L, T>>
-    for Serving<R, W, G> {
+    for Serving<R, W, G, T> {
     ghost use Rattle.std.specs.Prelude.{◌≡◌};
     ghost use Rattle.session_core.specs.Served.{failures_after};
     ghost use Rattle.run_core.specs.Run.{ServesInRun};
 
-    ghost kept_by = { λ p over. ServesInRun G.is_open (R.remaining p.reader.value) (W.contents p.writer.value) over.served × (T.failures over.starter ≡ failures_after over.served.end_is 0) };
+    ghost kept_by = { λ p over. ServesInRun L.limits G.is_open (R.remaining p.reader.value) (W.contents p.writer.value) over.served × (T.failures over.starter ≡ failures_after over.served.end_is (T.failures p.starter.value)) };
 }
 
-impl<R: Read, W: Write, G: Gate> Serving<R, W, G> {
-    /// The promise to serve this reader and this writer under this gate.
-    fn of(reader: &R, writer: &W, gate: &Arc<G>) -> Self
-        requires { IsBlank (W.contents writer.now) }
+impl<R: Read, W: Write, G: Gate, T: Starter> Serving<R, W, G, T> {
+    /// The promise to serve this reader and this writer under this gate, with this starter.
+    fn of(reader: &R, writer: &W, gate: &Arc<G>, starter: &T) -> Self
+        requires blank { IsBlank (W.contents writer.now) }
+        requires fresh { T.failures starter.now ≡ 0 }
         ensures reader { R.remaining result.reader.value ≡ R.remaining reader.now }
         ensures writer { W.contents result.writer.value ≡ W.contents writer.now }
+        ensures starter { T.failures result.starter.value ≡ T.failures starter.now }
     {
         Serving {
             reader: Snapshot::of(reader),
             writer: Snapshot::of(writer),
             gate: Snapshot::of(gate),
+            starter: Snapshot::of(starter),
         }
     }
 }
 
 /// A session that goes on in its thread.
-type Running<R, W, G, L, T> = PromisedHandle<Over<R, W, L, T>, Serving<R, W, G>>;
+type Running<R, W, G, L, T> = PromisedHandle<Over<R, W, L, T>, Serving<R, W, G, T>>;
 
-/// Serves a connection, and ends it. Its starter has failed at nothing yet.
+/// Serves a connection, and ends it.
 fn serve_connection<
     Rt: Threads + Wait + Copy + Drop + Send + Sync + 'static,
     S: Source + Send + 'static,
@@ -117,9 +123,8 @@ fn serve_connection<
     writer: S::Writer,
     session: u64,
 ) -> Over<S::Reader, S::Writer, L, T>
-    requires { T.failures starter ≡ 0 }
-    ensures serves { ServesInRun G.is_open (S.Reader.Read.remaining reader) (S.Writer.Write.contents writer) result.served }
-    ensures starts { T.failures result.starter ≡ failures_after result.served.end_is 0 }
+    ensures serves { ServesInRun L.limits G.is_open (S.Reader.Read.remaining reader) (S.Writer.Write.contents writer) result.served }
+    ensures starts { T.failures result.starter ≡ failures_after result.served.end_is (T.failures starter) }
 {
     let mut starter = starter;
     let admission = lock.admit();
@@ -159,8 +164,8 @@ fn start_session<
     ensures refused { OnErr result (T.failures starter.new ≡ one_more (T.failures starter.old)) }
 {
     let Shared { lock, gate } = shared;
-    let promise = Serving::of(&reader, &writer, &gate);
     let own = starter.another();
+    let promise = Serving::of(&reader, &writer, &gate, &own);
     let serving = move || {
         serve_connection::<Rt, S, G, L, T>(rt, alloc, own, lock, gate, reader, writer, session)
     };
@@ -311,6 +316,7 @@ fn part<R: Read + Drop, W: Write + Drop, L: Ledgers>(
 ) -> (Session<R, W>, Option<Shares<L>>)
     ensures process { IsProcessOf served.seat result.0.process }
     ensures shares { result.1 ≡ option_map (λ s. s.counted) served.seat }
+    ensures own { CountsItsOwn served.seat }
     ensures session { with_seat served.seat result.0 ≡ served }
 {
     let Served {
@@ -319,6 +325,7 @@ fn part<R: Read + Drop, W: Write + Drop, L: Ledgers>(
         end,
         reader,
         writer,
+        pushes,
     } = served;
     let (process, shares) = match seat {
         Ok(seat) => {
@@ -334,6 +341,7 @@ fn part<R: Read + Drop, W: Write + Drop, L: Ledgers>(
         end,
         reader,
         writer,
+        pushes,
     };
     (session, shares)
 }
@@ -349,7 +357,7 @@ fn join_all<Rt: Threads, R: Read + Drop, W: Write + Drop, G: Gate, L: Ledgers, T
     requires shares { vec_len room.shares + vec_len running ≤ vec_capacity room.shares }
     requires empty { vec_len room.sessions ≡ 0 }
     requires no_shares { vec_len room.shares ≡ 0 }
-    ensures joined { IsJoined G.is_open (map (λ thread. streams (R.remaining thread.promise.reader.value) (W.contents thread.promise.writer.value)) running.items) result.sessions.items result.shares.items }
+    ensures joined { IsJoined L.limits G.is_open (map (λ thread. streams (R.remaining thread.promise.reader.value) (W.contents thread.promise.writer.value)) running.items) result.sessions.items result.shares.items }
     ensures starts { T.failures starter.new ≡ failures_with result.sessions.items (T.failures starter.old) }
     ensures all { vec_len result.sessions ≡ vec_len running }
 {

@@ -10,11 +10,11 @@ use Rattle.run_core.specs.declared.report.RunFault.TheVariants as fault
 use Rattle.run_core.specs.declared.sessions.Want.{Want}
 use Rattle.run_core.specs.declared.sessions.Want.TheVariants as want
 
--- the sessions that connections of these streams were served by, in order, and the shares of all their seats
-pub record IsJoined (always : Bool) (told : List Streams) (sessions : List ReportedSession) (shares : List Counted) : Type 0 where
+-- the sessions that connections of these streams were served by in a run with these limits, in order, and the shares of all their seats
+pub record IsJoined (limits : Option Limits) (always : Bool) (told : List Streams) (sessions : List ReportedSession) (shares : List Counted) : Type 0 where
   pub connections : List Connection
   pub told_are : map at_start connections ≡ told
-  pub each : ServesEach always connections sessions
+  pub each : ServesEach limits always connections sessions
   pub shares_are : shares ≡ counted_by connections
 
 -- the fault of a run in which this was wanting for a session
@@ -28,5 +28,5 @@ pub record HasEnded (always : Bool) (limits : Option Limits) (lacked : Option Wa
   pub limits_are : limits ≡ Some before.limits
   pub closing : IsClosing before book house
   pub told : List Streams
-  pub joined : IsJoined always told ends shares
+  pub joined : IsJoined limits always told ends shares
   pub gives : lacked ≡ None → GivesConnections coming later told

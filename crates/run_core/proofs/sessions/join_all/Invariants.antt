@@ -11,7 +11,7 @@ invariant-loop-thread g l = record {
   count : vec_len l.sessions + into_iter_len l.thread-iterator ≡ vec_len l.fn.running;
   room : vec_len l.sessions + into_iter_len l.thread-iterator ≤ vec_capacity l.sessions;
   shares_room : vec_len l.shares + into_iter_len l.thread-iterator ≤ vec_capacity l.shares;
-  joined : IsJoined g.G.Gate.is_open (map (λ thread. streams (g.R.Read.remaining thread.promise.reader.value) (g.W.Write.contents thread.promise.writer.value)) l.yielded) l.sessions.items l.shares.items;
+  joined : IsJoined g.L.Ledgers.limits g.G.Gate.is_open (map (λ thread. streams (g.R.Read.remaining thread.promise.reader.value) (g.W.Write.contents thread.promise.writer.value)) l.yielded) l.sessions.items l.shares.items;
   starts : g.T.Starter.failures l.starter ≡ failures_with l.sessions.items (g.T.Starter.failures l.fn.starter);
   goes : (goal.iterator-loop-thread g).can_next l.thread-iterator;
   ends : (goal.iterator-loop-thread g).is_finite l.thread-iterator;
