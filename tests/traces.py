@@ -37,7 +37,6 @@ import os
 import random
 import re
 import signal
-import subprocess
 import sys
 import tempfile
 import time
@@ -64,9 +63,9 @@ from support.auditing import Frames, audited, illegal, legal, shown
 from support.counting import FAULTS, Case, Count, require, same
 from support.frames import ERRORS, HEADER_LENGTH, MOST, OLD_MAGIC, header_bytes, trace_of, u32
 from support.options import ONLY, PROGRAM, SEED, asked, count_option
-from support.running import Ran, ran_all, run
+from support.running import Ran, ran_all, run, run_by_bytes
 from support.runs import line_of
-from support.serving import A_WHILE, SECONDS, Server, outcome_of, serve_words, started
+from support.serving import A_WHILE, Server, outcome_of, serve_words, started
 from support.sources import changed, numbered, source
 from support.texts import difference
 
@@ -341,15 +340,8 @@ def shows_help(program: str, word: str) -> None:
 
 def in_pieces(program: str, word: str, trace: bytes) -> None:
     """A trace that comes by a pipe, byte by byte."""
-    reading, writing = os.pipe()
-    words = [program, word, "/dev/stdin"]
-    with subprocess.Popen(words, stdin=reading, stdout=subprocess.PIPE, stderr=subprocess.PIPE) as process:
-        os.close(reading)
-        with os.fdopen(writing, "wb", buffering=0) as to:
-            for byte in trace:
-                to.write(bytes([byte]))
-        stdout, stderr = process.communicate(timeout=SECONDS)
-    same(audited(trace) if word == "audit" else shown(trace), Ran(process.returncode, stdout, stderr))
+    ran = run_by_bytes([program, word, "/dev/stdin"], trace)
+    same(audited(trace) if word == "audit" else shown(trace), ran)
 
 
 def output_is_full(program: str, words: Sequence[str]) -> None:

@@ -1,7 +1,6 @@
 """Traces of version 1 that `fdref migrate` makes traces of version 2 of: all bytes of it, whatever befalls it."""
 
 import os
-import subprocess
 import tempfile
 from collections.abc import Callable, Iterator, Sequence
 from functools import partial
@@ -14,7 +13,7 @@ from support.counting import Case, Count, require, same
 from support.frames import MIGRATED_HEADER, OLD_MAGIC, trace_of, u32
 from support.places import SCRATCH
 from support.refusing import build
-from support.running import SECONDS, Ran, ran_in, run, write_all
+from support.running import Ran, ran_in, run, run_by_bytes, write_all
 from support.serving import outcome_of, started
 from support.sources import changed, numbered, source
 
@@ -165,15 +164,7 @@ def goes_astray(program: str, old: str, astray: str, nowhere: str) -> None:
 def in_pieces(program: str, folder: str, trace: bytes) -> None:
     """An old trace that comes by a pipe, byte by byte."""
     new = os.path.join(folder, f"piped {len(trace)}")
-    reading, writing = os.pipe()
-    words = [program, "migrate", "/dev/stdin", new]
-    with subprocess.Popen(words, stdin=reading, stdout=subprocess.PIPE, stderr=subprocess.PIPE) as process:
-        os.close(reading)
-        with os.fdopen(writing, "wb", buffering=0) as to:
-            for byte in trace:
-                to.write(bytes([byte]))
-        stdout, stderr = process.communicate(timeout=SECONDS)
-    ran = Ran(process.returncode, stdout, stderr)
+    ran = run_by_bytes([program, "migrate", "/dev/stdin", new], trace)
     same(migrated(trace), Migrated(ran, Path(new).read_bytes()))
 
 

@@ -1,5 +1,6 @@
 """Running a program with a time limit."""
 
+import os
 import re
 import subprocess
 import tempfile
@@ -65,6 +66,18 @@ def run(
     except subprocess.TimeoutExpired:
         raise StillRunning(seconds) from None
     return Ran(done.returncode, done.stdout or b"", done.stderr)
+
+
+def run_by_bytes(words: Sequence[Word], stdin: bytes) -> Ran:
+    """Runs a program on an input that comes by a pipe, byte by byte. Nothing bounds how long the bytes take."""
+    reading, writing = os.pipe()
+    with subprocess.Popen(words, stdin=reading, stdout=subprocess.PIPE, stderr=subprocess.PIPE) as process:
+        os.close(reading)
+        with os.fdopen(writing, "wb", buffering=0) as to:
+            for byte in stdin:
+                to.write(bytes([byte]))
+        stdout, stderr = process.communicate(timeout=SECONDS)
+    return Ran(process.returncode, stdout, stderr)
 
 
 def ran_all(program: str, contents: Sequence[bytes], words: str = "audit") -> list[Ran]:
