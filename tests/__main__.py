@@ -31,7 +31,8 @@ def main(words: Sequence[str]) -> int:
         for name, path in known.items():
             print(f"{name:<13} {first_line(path)}")
         print("\npython3 tests/NAME.py runs one, on programs that are built, and its --help tells its options.")
-        print("Its last line is `N passed, M failed`. .ci/run proves and builds all, and runs all but `edits`.")
+        print("Its last line is `N passed, M failed`. .ci/run proves and builds all, and runs all of them but")
+        print("`edits` and `wrong_servers`, which take long.")
         return 0
     name = words[0]
     if name not in known:

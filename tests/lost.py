@@ -8,6 +8,7 @@ The program is crates/fdref/out/fdref where no PATH is given. It serves clients
   - that go away while their process waits: they vanish, stop sending, end within a frame, send what is no request, or
     run ahead. The exit must be recorded before anything else takes place, and who waits for it must go on,
   - that send many requests at once and read late, or stop sending and read on: all are answered, in order,
+  - that read nothing, while others are answered,
   - that send as many requests behind a call that waits as there is room for, or one more,
   - whose call is ready when they stop: it must go on before the exit,
   - whose opening is refused, that send what is out of place, or that read no more: they are hung up on at once,
@@ -404,6 +405,49 @@ def many(program: str, runs: int) -> Iterator[Case]:
     for number in range(runs):
         yield f"1000 requests at once, run {number}", partial(at_once, program, 1_000, "stops")
         yield f"4 clients with 200 requests at once, run {number}", partial(several_at_once, program, 4, 200)
+
+
+# ---- a client that reads nothing
+
+# So many answers of the greatest length are more than a socket holds.
+UNREAD = 60
+# How much is asked meanwhile.
+ASKED = 3
+
+
+def until_it_rests(server: Server) -> None:
+    """Waits until no more records are traced for a while."""
+    before, count = -1, len(traced(server))
+    while count > before:
+        time.sleep(A_WHILE)
+        before, count = count, len(traced(server))
+
+
+def holds_up_nobody(program: str) -> None:
+    """A client reads none of its answers, so the server waits in a write to it; meanwhile another one is answered."""
+    with Server(program, 2, 100) as server:
+        first, second = Player(server.client()), Player(server.client())
+        first.ask("join", "open a rw,creat", f"pwrite 0 0 61*{LARGEST}")
+        first.gets("0 0", "1 0", f"2 {LARGEST}")
+        second.ask("join")
+        second.gets("3 1")
+        first.ask(*[f"pread 0 0 {LARGEST}"] * UNREAD)
+        until_it_rests(server)
+        second.ask(*["fstat 0"] * ASKED)
+        for _ in range(ASKED):
+            same("error EBADF", second.hear().partition(" ")[2])
+        count = len(traced(server))
+        require(count < 4 + ASKED + UNREAD, f"{count} records: the server did not wait in a write")
+        for _ in range(UNREAD):
+            same(f"61*{LARGEST}", first.hear().split(" ")[1])
+        told: dict[int, str] = {}
+        all_leave(server, [first, second], told)
+        is_right(program, server, 2, told, (LARGEST, UNREAD * LARGEST))
+
+
+def unread_answers(program: str) -> Iterator[Case]:
+    """A client that reads nothing."""
+    yield "it holds up nobody", partial(holds_up_nobody, program)
 
 
 # ---- requests behind a call that waits
@@ -806,6 +850,7 @@ def main(words: Sequence[str]) -> int:
     parts = [
         ("clients that go while they wait", going(program)),
         ("many requests at once", many(program, args.runs)),
+        ("a client that reads nothing", unread_answers(program)),
         ("requests behind a call", behind_a_call(program, args.runs)),
         ("clients that stop", stopping(program, args.runs)),
         ("clients that are hung up on", hung_up(program)),

@@ -5,6 +5,8 @@ from pathlib import Path
 
 TOP = Path(__file__).resolve().parents[2]
 TESTS = TOP / "tests"
+EDITS = TESTS / "edits"
+WRONG_SERVERS = TESTS / "wrong_servers"
 ROWS = TESTS / "rows"
 STAND_INS = TESTS / "stand_ins"
 CRATES = TOP / "crates"
