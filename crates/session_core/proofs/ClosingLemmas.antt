@@ -376,7 +376,7 @@ Off old new found left = (base : Option (List ℕ)) (input : List ℕ) (source :
 all_read_so : (old new : OutputState) (found : Over) (left : LeftSession) → Here old new found left → Off old new found left → (base : Option (List ℕ)) (input : List ℕ) (source : LoggedReaderState) (pushes : PushState) → IsOver base input old found → IsMet source pushes found
     → ComesTo input base (session_of source pushes new left)
 all_read_so old new found left here off base input source pushes (inl k) met = here (Begins input) (EndsFor input (Some source) pushes) (of_bytes input (Some source) pushes) base k
-all_read_so old new found left here off base input source (inr k) met = off base input source pushes k met
+all_read_so old new found left here off base input source pushes (inr k) met = off base input source pushes k met
 
 both : (old new : OutputState) (found : Over) (left : LeftSession) → Here old new found left → Off old new found left → LeavesAll old new found left
 both old new found left here off = record {

@@ -11,7 +11,7 @@ invariant_of-self g c = (
   subst (StandsThere g.K.Kernel.not_opened g.K.Kernel.refused g.K.Kernel.ended g.D.Naming.base (received c.take_ready-standing.new.consumer) c.send_ready-standing.new.output) (sym c.put_back.ensures.place)
       (c.send_ready-standing.ensures.stands (received c.take_ready-standing.new.consumer) g.D.Naming.base
       (c.take_ready-standing.ensures.stands g.D.Naming.base
-      (subst (StandsThere g.K.Kernel.not_opened g.K.Kernel.refused g.K.Kernel.ended g.D.Naming.base (received c.self.inside.consumer) c.self.inside.output) (sym c.in-Some.ensures.value) c.self.invariant.1.0))),
+      (subst (StandsThere g.K.Kernel.not_opened g.K.Kernel.refused g.K.Kernel.ended g.D.Naming.base (received c.self.inside.consumer) c.self.inside.output) (sym c.in-Some.ensures.value) c.self.invariant.1))),
   subst (ShutThere g.W.Connection.was_shut c.send_ready-standing.new.output) (sym c.put_back.ensures.place)
-      (c.send_ready-standing.ensures.shut (c.take_ready-standing.ensures.shut (subst (ShutThere g.W.Connection.was_shut c.self.inside.output) (sym c.in-Some.ensures.value) c.self.invariant.1.1))),
+      (c.send_ready-standing.ensures.shut (c.take_ready-standing.ensures.shut (subst (ShutThere g.W.Connection.was_shut c.self.inside.output) (sym c.in-Some.ensures.value) c.self.invariant.2))),
 )

@@ -10,7 +10,7 @@ invariant_of-self g c = (
   laws.ring_kept g.D.Naming.ring c.self.inside.consumer c.take_ready-standing.new.consumer c.self.invariant.0 c.take_ready-standing.ensures.ring,
   subst (StandsThere g.K.Kernel.not_opened g.K.Kernel.refused g.K.Kernel.ended g.D.Naming.base (received c.take_ready-standing.new.consumer) c.take_ready-standing.new.output) (sym c.put_back.ensures.place)
       (c.take_ready-standing.ensures.stands g.D.Naming.base
-      (subst (StandsThere g.K.Kernel.not_opened g.K.Kernel.refused g.K.Kernel.ended g.D.Naming.base (received c.self.inside.consumer) c.self.inside.output) (sym c.in-Some.ensures.value) c.self.invariant.1.0)),
+      (subst (StandsThere g.K.Kernel.not_opened g.K.Kernel.refused g.K.Kernel.ended g.D.Naming.base (received c.self.inside.consumer) c.self.inside.output) (sym c.in-Some.ensures.value) c.self.invariant.1)),
   subst (ShutThere g.W.Connection.was_shut c.take_ready-standing.new.output) (sym c.put_back.ensures.place)
-      (c.take_ready-standing.ensures.shut (subst (ShutThere g.W.Connection.was_shut c.self.inside.output) (sym c.in-Some.ensures.value) c.self.invariant.1.1)),
+      (c.take_ready-standing.ensures.shut (subst (ShutThere g.W.Connection.was_shut c.self.inside.output) (sym c.in-Some.ensures.value) c.self.invariant.2)),
 )
