@@ -2,8 +2,8 @@
 use Rattle.std.proofs.Common.{◌≡◌, ◌∙◌, ℕ, List, ◌++◌, Option, None, Some, Ok, refl, sym, ap, subst}
 use Rattle.std.specs.Prelude.{IfSome}
 use Rattle.std.proofs.lemmas.List.{append-nil}
-use Rattle.std.specs.Io.KnownBytes.{Appends, Consumes, IsAtEnd}
-use Rattle.logged_streams.specs.Streams.{LoggedReaderState}
+use Rattle.std.specs.Io.KnownBytes.{Consumes, IsAtEnd}
+use Rattle.logged_streams.specs.Streams.{LoggedReaderState, LoggedWriterState, Writes}
 use Rattle.audit_core.specs.Audited.{Audits}
 use Rattle.audit_core.specs.Proved.Laws.{FaultStays}
 use Rattle.audit_core.specs.Verdict.{IsVerdict}
@@ -31,22 +31,35 @@ stays_judged (Some known) None bytes verdict consumes v stays = absurd consumes
 stays_judged (Some known) (Some left) bytes verdict consumes v stays = record { bytes = bytes ++ left; whole = sym consumes; is_verdict = stays left }
 
 pub judged : (from to : LoggedReaderState) (verdict : Verdict) → FaultStays → Audits from to (Ok verdict) → IsVerdictOn from.remaining verdict
-judged from to (Legal records rest) stays a = legal_judged from.remaining to.remaining a.input records rest a.consumes a.met a.answers
+judged from to (Legal records rest) stays a = legal_judged from.remaining to.remaining a.input records rest a.consumes a.met.0 a.answers
 judged from to (Illegal place expected) stays a =
     stays_judged from.remaining to.remaining a.input (Illegal place expected) a.consumes a.answers (λ more. stays a.input more (Illegal place expected) tt a.answers)
 judged from to (Malformed at) stays a =
     stays_judged from.remaining to.remaining a.input (Malformed at) a.consumes a.answers (λ more. stays a.input more (Malformed at) tt a.answers)
 
-pub verdict_written : (input old new : Option (List ℕ)) (verdict : Verdict) (line : List ℕ) → IsVerdictOn input verdict → line ≡ verdict_line verdict → Appends old new line
+pub verdict_written : (input : Option (List ℕ)) (old new : LoggedWriterState) (verdict : Verdict) (line : List ℕ) → IsVerdictOn input verdict → line ≡ verdict_line verdict → Writes old new line
     → AuditEnds input old new (verdict_end verdict)
-verdict_written input old new (Legal records rest) line j is appends =
-    record { verdict = Legal records rest; judged = j; appends = subst (Appends old new) is appends; end_is = refl }
-verdict_written input old new (Illegal place expected) line j is appends =
-    record { verdict = Illegal place expected; judged = j; appends = subst (Appends old new) is appends; end_is = refl }
-verdict_written input old new (Malformed at) line j is appends =
-    record { verdict = Malformed at; judged = j; appends = subst (Appends old new) is appends; end_is = refl }
+verdict_written input old new (Legal records rest) line j is writes =
+    record { verdict = Legal records rest; judged = j; writes = subst (Writes old new) is writes; end_is = refl }
+verdict_written input old new (Illegal place expected) line j is writes =
+    record { verdict = Illegal place expected; judged = j; writes = subst (Writes old new) is writes; end_is = refl }
+verdict_written input old new (Malformed at) line j is writes =
+    record { verdict = Malformed at; judged = j; writes = subst (Writes old new) is writes; end_is = refl }
 
-pub front_written : (input old new : Option (List ℕ)) (verdict : Verdict) (line : List ℕ) (end : JobEnd) → IsVerdictOn input verdict → line ≡ verdict_line verdict → AppendsFront old new line
+pub front_written : (input : Option (List ℕ)) (old new : LoggedWriterState) (verdict : Verdict) (line : List ℕ) (end : JobEnd) → IsVerdictOn input verdict → line ≡ verdict_line verdict → AppendsFront old new line
     → end ≡ ended.CannotWrite → AuditEnds input old new end
 front_written input old new verdict line end j is front e =
     subst (AuditEnds input old new) (sym e) (record { verdict = verdict; judged = j; front = subst (AppendsFront old new) is front })
+
+-- ---- the reads
+
+-- no read failed where there is a verdict
+pub read_well : (from to : LoggedReaderState) (verdict : Verdict) → Audits from to (Ok verdict) → to.log.failed ≡ from.log.failed
+read_well from to (Legal records rest) a = a.met.1
+read_well from to (Illegal place expected) a = a.met
+read_well from to (Malformed at) a = a.met
+
+pub verdict_of_none : (verdict : Verdict) → verdict_end verdict ≡ ended.CannotRead → ⊥
+verdict_of_none (Legal records rest) e = cc
+verdict_of_none (Illegal place expected) e = cc
+verdict_of_none (Malformed at) e = cc

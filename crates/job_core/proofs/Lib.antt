@@ -1,6 +1,7 @@
 pub mod Parses
 pub mod RequiredOptions
 pub mod OutputLemmas
+pub mod ReadsLemmas
 pub mod ReplayLemmas
 pub mod RunLemmas
 pub mod AuditLemmas

@@ -2,7 +2,7 @@
 use Rattle.std.proofs.Common.{◌≡◌, ◌∙◌, ℕ, ◌⊎◌, ◌↔◌, inl, inr, List, [], ◌∷◌, ◌++◌, Option, Ok, Err, drop, refl, sym, ap, subst, arith, append_assoc, length-append}
 use Rattle.std.proofs.lemmas.List.{take-append-le}
 use Rattle.std.proofs.Math.Seq.{drop-append_seam}
-use Rattle.std.specs.Io.KnownBytes.{Appends, Consumes}
+use Rattle.std.specs.Io.KnownBytes.{Consumes}
 use Rattle.call_types.specs.declared.act.Record.{Record}
 use Rattle.call_types.specs.declared.limits.TheConstants.{RECORD_LENGTH_MAX}
 use Rattle.frame_codec.specs.Frames.{AreFrames, IsMalformed, IsShort, IsTooLong, frame}
@@ -19,11 +19,11 @@ use Rattle.audit_core.specs.Verdict.{IsVerdict, IsVerdictAfter, IsVerdictBy}
 use Rattle.audit_core.specs.declared.verdict.Verdict.{Verdict}
 use Rattle.audit_core.specs.declared.verdict.Verdict.TheVariants.{Legal, Illegal, Malformed}
 use Rattle.audit_core.proofs.TraceLemmas.{has_frame}
-use Rattle.logged_streams.specs.Streams.{LoggedReaderState, LoggedWriterState}
+use Rattle.logged_streams.specs.Streams.{LoggedReaderState, LoggedWriterState, Writes}
 use Rattle.trace_writer.specs.Migrations.{HasNoHeader, IsBegun, IsCutOff, IsFrontWritten, IsRewritten, IsStopped, Migrates}
 use Rattle.trace_writer.specs.declared.migrate.MigrateFault.TheVariants as faults
 use Rattle.trace_writer.specs.declared.migrate.Migrated.{Migrated}
-use Rattle.job_core.specs.Migrate.{Adds, BreaksOff, ComesTo, EndsShort, MigrateEnds, MigrationsKeepVerdicts, Outputs, Tells, TellsFront, TellsNothing, migrated_line, stopped_line}
+use Rattle.job_core.specs.Migrate.{Adds, AddsFront, BreaksDown, BreaksOff, ComesTo, EndsShort, MigrateEnds, MigrationsKeepVerdicts, Outputs, Tells, TellsFront, TellsNothing, migrated_line, stopped_line}
 use Rattle.job_core.specs.Output.{WritesLine}
 use Rattle.job_core.specs.Show.{OfAll}
 use Rattle.job_core.specs.declared.job_end.JobEnd.{JobEnd}
@@ -63,11 +63,11 @@ told_so input out written line ended.Done all tells = tells
 told_so input out written line ended.MalformedTrace all tells = tells
 told_so input out written line other all tells = absurd all.holds
 
-line_told : (input : Option (List ℕ)) (out : Outputs) (written line : List ℕ) (so end : JobEnd) → OfAll input (λ bytes. ComesTo so bytes written line) → Appends out.was out.is written
+line_told : (input : Option (List ℕ)) (out : Outputs) (written line : List ℕ) (so end : JobEnd) → OfAll input (λ bytes. ComesTo so bytes written line) → Writes out.was out.is written
     → WritesLine line so out.old out.new end → MigrateEnds input out end
 line_told input out written line so end all adds (inl told) =
     subst (MigrateEnds input out) (sym told.0) (told_so input out written line so all
-    (all_so input (λ bytes. ComesTo so bytes written line) (Tells out so) all (λ bytes comes. record { written = written; line = line; comes = comes; adds = adds; appends = told.1 })))
+    (all_so input (λ bytes. ComesTo so bytes written line) (Tells out so) all (λ bytes comes. record { written = written; line = line; comes = comes; adds = adds; writes = told.1 })))
 line_told input out written line so end all adds (inr (inl cannot)) =
     subst (MigrateEnds input out) (sym cannot.0)
     (inr (all_so input (λ bytes. ComesTo so bytes written line) (TellsFront out) all
@@ -78,55 +78,57 @@ line_told input out written line so end all adds (inr (inr memory)) =
     (λ bytes comes. record { written = written; line = line; end = so; comes = comes; adds = adds; same = memory.1 })))
 
 -- all was written anew
-pub whole_told : (input : Option (List ℕ)) (from to : LoggedReaderState) (was is : LoggedWriterState) (old new : Option (List ℕ)) (migrated : Migrated) (end : JobEnd) → from.remaining ≡ input → Migrates from to was is (Ok migrated)
-    → WritesLine (migrated_line migrated.records migrated.rest) ended.Done old new end
-    → MigrateEnds input (record { was = was.contents; is = is.contents; old = old; new = new }) end
-whole_told input from to was is old new migrated end same m line =
-    subst (λ (i : Option (List ℕ)). MigrateEnds i (record { was = was.contents; is = is.contents; old = old; new = new }) end) same
-    (line_told from.remaining (record { was = was.contents; is = is.contents; old = old; new = new }) m.written (migrated_line migrated.records migrated.rest) ended.Done end
+pub whole_told : (from to : LoggedReaderState) (was is old new : LoggedWriterState) (migrated : Migrated) (end : JobEnd) → Migrates from to was is (Ok migrated)
+    → WritesLine (migrated_line migrated.records migrated.rest) ended.Done old new end → MigrateEnds from.remaining (record { was = was; is = is; old = old; new = new }) end
+whole_told from to was is old new migrated end m line =
+    line_told from.remaining (record { was = was; is = is; old = old; new = new }) m.written (migrated_line migrated.records migrated.rest) ended.Done end
     (of_all from.remaining to.remaining m.input (λ bytes. ComesTo ended.Done bytes m.written (migrated_line migrated.records migrated.rest)) m.consumes m.becomes.1
-    (record { records = migrated.records; rest = migrated.rest; migrated = m.becomes.0; line_is = refl })) m.appends line)
+    (record { records = migrated.records; rest = migrated.rest; migrated = m.becomes.0; line_is = refl })) (record { appends = m.appends; well = m.writes }) line
 
 -- a fault was met
-pub halt_told : (input : Option (List ℕ)) (from to : LoggedReaderState) (was is : LoggedWriterState) (old new : Option (List ℕ)) (at : ℕ) (end : JobEnd) → BrokenStays → from.remaining ≡ input → Migrates from to was is (Err (faults.Malformed at))
-    → WritesLine (stopped_line at) ended.MalformedTrace old new end → MigrateEnds input (record { was = was.contents; is = is.contents; old = old; new = new }) end
-halt_told input from to was is old new at end stays same m line =
-    subst (λ (i : Option (List ℕ)). MigrateEnds i (record { was = was.contents; is = is.contents; old = old; new = new }) end) same
-    (line_told from.remaining (record { was = was.contents; is = is.contents; old = old; new = new }) m.written (stopped_line at) ended.MalformedTrace end
+pub halt_told : (from to : LoggedReaderState) (was is old new : LoggedWriterState) (at : ℕ) (end : JobEnd) → BrokenStays → Migrates from to was is (Err (faults.Malformed at))
+    → WritesLine (stopped_line at) ended.MalformedTrace old new end → MigrateEnds from.remaining (record { was = was; is = is; old = old; new = new }) end
+halt_told from to was is old new at end stays m line =
+    line_told from.remaining (record { was = was; is = is; old = old; new = new }) m.written (stopped_line at) ended.MalformedTrace end
     (of_all_on from.remaining to.remaining m.input (λ bytes. ComesTo ended.MalformedTrace bytes m.written (stopped_line at)) m.consumes
     (record { at = at; stopped = m.becomes; line_is = refl })
-    (λ more. record { at = at; stopped = stopped_on m.input more m.written at stays m.becomes; line_is = refl })) m.appends line)
+    (λ more. record { at = at; stopped = stopped_on m.input more m.written at stays m.becomes; line_is = refl })) (record { appends = m.appends; well = m.writes }) line
 
 -- ---- a migration that was cut off
 
-broken_off : (from to : LoggedReaderState) (out : Outputs) (input written : List ℕ) → Consumes from.remaining to.remaining input → Appends out.was out.is written → out.new ≡ out.old
+broken_off : (from to : LoggedReaderState) (out : Outputs) (input written : List ℕ) → Consumes from.remaining to.remaining input → Writes out.was out.is written → out.new ≡ out.old
     → IsBegun input written → BreaksOff from.remaining out
 broken_off from to out input written consumes adds same begun =
     of_front from.remaining to.remaining input (λ bytes. Adds out (λ written. IsBegun bytes written)) consumes (record { written = written; holds = begun; adds = adds; same = same })
 
-pub read_failed : (input : Option (List ℕ)) (from to : LoggedReaderState) (was is : LoggedWriterState) (old : Option (List ℕ)) → from.remaining ≡ input → Migrates from to was is (Err faults.Read)
-    → MigrateEnds input (record { was = was.contents; is = is.contents; old = old; new = old }) ended.CannotRead
-read_failed input from to was is old same m =
-    subst (λ (i : Option (List ℕ)). MigrateEnds i (record { was = was.contents; is = is.contents; old = old; new = old }) ended.CannotRead) same
-    (broken_off from to (record { was = was.contents; is = is.contents; old = old; new = old }) m.input m.written m.consumes m.appends refl m.becomes.0)
+pub read_failed : (from to : LoggedReaderState) (was is old : LoggedWriterState) → Migrates from to was is (Err faults.Read) → MigrateEnds from.remaining (record { was = was; is = is; old = old; new = old }) ended.CannotRead
+read_failed from to was is old m =
+    broken_off from to (record { was = was; is = is; old = old; new = old }) m.input m.written m.consumes (record { appends = m.appends; well = m.writes }) refl m.becomes
 
-pub memory_failed : (input : Option (List ℕ)) (from to : LoggedReaderState) (was is : LoggedWriterState) (old : Option (List ℕ)) → from.remaining ≡ input → Migrates from to was is (Err faults.NoMemory)
-    → MigrateEnds input (record { was = was.contents; is = is.contents; old = old; new = old }) ended.NoMemory
-memory_failed input from to was is old same m =
-    subst (λ (i : Option (List ℕ)). MigrateEnds i (record { was = was.contents; is = is.contents; old = old; new = old }) ended.NoMemory) same
-    (inl (broken_off from to (record { was = was.contents; is = is.contents; old = old; new = old }) m.input m.written m.consumes m.appends refl m.becomes))
+pub memory_failed : (from to : LoggedReaderState) (was is old : LoggedWriterState) → Migrates from to was is (Err faults.NoMemory) → MigrateEnds from.remaining (record { was = was; is = is; old = old; new = old }) ended.NoMemory
+memory_failed from to was is old m =
+    inl (broken_off from to (record { was = was; is = is; old = old; new = old }) m.input m.written m.consumes (record { appends = m.appends; well = m.writes }) refl m.becomes)
 
-write_failed_so : (from to : LoggedReaderState) (out : Outputs) (input written : List ℕ) → Consumes from.remaining to.remaining input → Appends out.was out.is written → out.new ≡ out.old
-    → IsFrontWritten to input written → BreaksOff from.remaining out ⊎ EndsShort from.remaining out
-write_failed_so from to out input written consumes adds same (inl begun) = inl (broken_off from to out input written consumes adds same begun)
-write_failed_so from to out input written consumes adds same (inr cut) =
-    inr (of_all from.remaining to.remaining input (λ bytes. Adds out (λ written. IsCutOff bytes written)) consumes cut.0 (record { written = written; holds = cut.1; adds = adds; same = same }))
+write_failed_so : (from to : LoggedReaderState) (was is old : LoggedWriterState) (sent : ℕ) (m : Migrates from to was is (Err (faults.Write sent))) → IsFrontWritten to m.input m.written
+    → BreaksDown from.remaining (record { was = was; is = is; old = old; new = old }) ⊎ EndsShort from.remaining (record { was = was; is = is; old = old; new = old })
+write_failed_so from to was is old sent m (inl begun) =
+    inl (of_front from.remaining to.remaining m.input (λ bytes. AddsFront (record { was = was; is = is; old = old; new = old }) (λ written. IsBegun bytes written)) m.consumes
+    (record { written = m.written; holds = begun; adds = m.appends; broken = m.becomes.broken; few = m.writes; same = refl }))
+write_failed_so from to was is old sent m (inr cut) =
+    inr (of_all from.remaining to.remaining m.input (λ bytes. AddsFront (record { was = was; is = is; old = old; new = old }) (λ written. IsCutOff bytes written)) m.consumes cut.0
+    (record { written = m.written; holds = cut.1; adds = m.appends; broken = m.becomes.broken; few = m.writes; same = refl }))
 
-pub write_failed : (input : Option (List ℕ)) (from to : LoggedReaderState) (was is : LoggedWriterState) (old : Option (List ℕ)) (sent : ℕ) → from.remaining ≡ input → Migrates from to was is (Err (faults.Write sent))
-    → MigrateEnds input (record { was = was.contents; is = is.contents; old = old; new = old }) ended.CannotWrite
-write_failed input from to was is old sent same m =
-    subst (λ (i : Option (List ℕ)). MigrateEnds i (record { was = was.contents; is = is.contents; old = old; new = old }) ended.CannotWrite) same
-    (inl (write_failed_so from to (record { was = was.contents; is = is.contents; old = old; new = old }) m.input m.written m.consumes m.appends refl m.becomes.front))
+pub write_failed : (from to : LoggedReaderState) (was is old : LoggedWriterState) (sent : ℕ) → Migrates from to was is (Err (faults.Write sent)) → MigrateEnds from.remaining (record { was = was; is = is; old = old; new = old }) ended.CannotWrite
+write_failed from to was is old sent m = inl (write_failed_so from to was is old sent m m.becomes.front)
+
+-- a line is told of no read
+pub line_of_none : (line : List ℕ) (so : JobEnd) (old new : LoggedWriterState) (end : JobEnd) → WritesLine line so old new end → (so ≡ ended.CannotRead → ⊥) → end ≡ ended.CannotRead → ⊥
+line_of_none line so old new end (inl told) other is = other (sym told.0 ∙ is)
+line_of_none line so old new end (inr (inl cannot)) other is = let bad : ended.CannotWrite ≡ ended.CannotRead = sym cannot.0 ∙ is in cc
+line_of_none line so old new end (inr (inr memory)) other is = let bad : ended.NoMemory ≡ ended.CannotRead = sym memory.0 ∙ is in cc
+
+pub malformed_of_none : ended.MalformedTrace ≡ ended.CannotRead → ⊥
+malformed_of_none e = cc
 
 -- ---- what a migration keeps
 

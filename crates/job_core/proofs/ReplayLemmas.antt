@@ -1,39 +1,64 @@
 -- From the bytes that were read to the script, and from a book's run to what a replay says of it.
-use Rattle.std.proofs.Common.{◌≡◌, ℕ, ◌<◌, ◌≤◌, List, [], ◌++◌, Option, None, Some, length, take, refl, ◌∙◌, ap, arith, length-take-le, inl, inr}
-use Rattle.std.proofs.lemmas.List.{take_all}
+use Rattle.std.proofs.Common.{◌≡◌, ℕ, ◌+◌, ◌<◌, ◌≤◌, inl, inr, List, ◌++◌, Option, None, Some, length, refl, sym, ◌∙◌, ap, subst, arith, length-append}
+use Rattle.std.proofs.lemmas.List.{append-nil}
 use Rattle.std.specs.Prelude.{IfSome}
-use Rattle.std.specs.Option.{option_map}
-use Rattle.std.proofs.lemmas.Bool.{lt-ltb, cases_lt}
+use Rattle.std.specs.Io.KnownBytes.{Consumes, IsAtEnd}
+use Rattle.std.proofs.lemmas.Bool.{lt-ltb}
 use Rattle.script_text.specs.ReadingScripts.{script}
-use Rattle.job_core.specs.Replay.{OfInput}
+use Rattle.script_text.specs.declared.script.TheConstants.{SCRIPT_MAX}
+use Rattle.call_types.specs.declared.limits.Limits.{Limits}
+use Rattle.logged_streams.specs.Streams.{LogState, LoggedWriterState}
+use Rattle.job_core.specs.Reads.{ReadsFew}
+use Rattle.job_core.specs.Replay.{OfInput, ReplayEnds}
+use Rattle.job_core.specs.Proved.Reading.{FailsToRead}
+use Rattle.job_core.specs.declared.job_end.JobEnd.{JobEnd}
+use Rattle.job_core.specs.declared.job_end.JobEnd.TheVariants as ended
 
--- a text that is cut after the limit is too long, as the whole is
-pub script_cut : (most : ℕ) (text input : List ℕ) → most ≡ 16777217 → text ≡ take most input → script text ≡ script input
-script_cut most text input limit cut =
-    elim (cases_lt 16777216 (length input)) [
-      | inr short ↦ let whole : take most input ≡ input = take_all most input (omega (arith, limit)) in rw (cut, whole) refl
-      | inl long ↦
-          let cut_len : 16777216 < length text = rw cut (omega (arith, limit, length-take-le most input (omega (arith, limit)))) in
-          rw (lt-ltb 16777216 (length text) cut_len, lt-ltb 16777216 (length input) long) refl
-    ]
+-- two texts that are too long are read as one
+script_cut : (text input : List ℕ) → SCRIPT_MAX < length text → SCRIPT_MAX < length input → script text ≡ script input
+script_cut text input long also = rw (lt-ltb 16777216 (length text) long, lt-ltb 16777216 (length input) also) refl
 
--- what was read of a known input, at most one byte more than a script has, is the script that the input is
-pub read_cut : (known : Option (List ℕ)) (most : ℕ) (old text : List ℕ) → most ≡ 16777217 → old ≡ [] → IfSome (option_map (take most) known) (λ xs. text ≡ old ++ xs) → IfSome known (λ input. script text ≡ script input)
-read_cut None most old text limit empty is = tt
-read_cut (Some input) most old text limit empty is = script_cut most text input limit (is ∙ ap (λ l. l ++ take most input) empty)
+-- all of an input that is known was read
+all_read : (from to : Option (List ℕ)) (bytes : List ℕ) → Consumes from to bytes → IsAtEnd to → IfSome from (λ input. bytes ≡ input)
+all_read None to bytes consumes end = tt
+all_read (Some known) None bytes consumes end = absurd consumes
+all_read (Some known) (Some left) bytes consumes end = sym (consumes ∙ ap (λ (x : List ℕ). bytes ++ x) end ∙ append-nil bytes)
 
--- a text within the limit was not cut
-pub read_whole : (known : Option (List ℕ)) (most : ℕ) (old text : List ℕ) → most ≡ 16777217 → old ≡ [] → IfSome (option_map (take most) known) (λ xs. text ≡ old ++ xs) → IfSome known (λ input. length text ≤ 16777216 → text ≡ input)
-read_whole None most old text limit empty is = tt
-read_whole (Some input) most old text limit empty is = λ short.
-    let cut : text ≡ take most input = is ∙ ap (λ l. l ++ take most input) empty in
-    elim (cases_lt 16777216 (length input)) [
-      | inl long ↦ absurd (omega (arith, ap length cut, limit, short, length-take-le most input (omega (arith, limit))))
-      | inr whole ↦ cut ∙ take_all most input (omega (arith, limit))
-    ]
+pub script_of : (known : Option (List ℕ)) (text : List ℕ) → IfSome known (λ input. text ≡ input) → IfSome known (λ input. script text ≡ script input)
+script_of None text is = tt
+script_of (Some input) text is = ap script is
+
+pub whole_of : (known : Option (List ℕ)) (text : List ℕ) → IfSome known (λ input. text ≡ input) → IfSome known (λ input. length text ≤ SCRIPT_MAX → text ≡ input)
+whole_of None text is = tt
+whole_of (Some input) text is = λ short. is
+
+pub text_read : (from to : Option (List ℕ)) (text bytes : List ℕ) → Consumes from to bytes → IsAtEnd to → text ≡ bytes → IfSome from (λ input. text ≡ input)
+text_read from to text bytes consumes end is = subst (λ (x : List ℕ). IfSome from (λ input. x ≡ input)) (sym is) (all_read from to bytes consumes end)
+
+-- more was read than a script has
+pub script_of_front : (from to : Option (List ℕ)) (text bytes : List ℕ) → Consumes from to bytes → text ≡ bytes → SCRIPT_MAX < length text → IfSome from (λ input. script text ≡ script input)
+script_of_front None to text bytes consumes is long = tt
+script_of_front (Some known) None text bytes consumes is long = absurd consumes
+script_of_front (Some known) (Some left) text bytes consumes is long =
+    script_cut text known long (omega (arith, long, ap length is, ap length consumes, length-append bytes left))
+
+pub too_long : (known : Option (List ℕ)) (text : List ℕ) → SCRIPT_MAX < length text → IfSome known (λ input. length text ≤ SCRIPT_MAX → text ≡ input)
+too_long None text long = tt
+too_long (Some input) text long = λ short. absurd (omega (arith, long, short))
 
 -- a text that was not cut is the input
 pub of_input : (known : Option (List ℕ)) (P : List ℕ → Type 0) (text : List ℕ) → length text ≤ 16777216 → IfSome known (λ input. length text ≤ 16777216 → text ≡ input) → P text
     → OfInput known P
 of_input None P text short same holds = (text, tt, holds)
 of_input (Some input) P text short same holds = (text, same short, holds)
+
+-- ---- what was not read
+
+pub unread_ends : (limits : Limits) (input : Option (List ℕ)) (old : LoggedWriterState) (most : ℕ) (from to : LogState) (end : JobEnd) → FailsToRead most from to end → ReplayEnds limits input old old end
+unread_ends limits input old most from to end (inl cannot) = subst (ReplayEnds limits input old old) (sym cannot.0) refl
+unread_ends limits input old most from to end (inr memory) = subst (ReplayEnds limits input old old) (sym memory.0) refl
+
+pub unread_reads : (most : ℕ) (from to : LogState) (end : JobEnd) → to.calls ≤ from.calls + most → to.interruptions ≤ 16 → FailsToRead most from to end → ReadsFew most from to end
+unread_reads most from to end few row (inl cannot) = record { few = few; few_interrupted = row; met = inl cannot }
+unread_reads most from to end few row (inr memory) =
+    record { few = few; few_interrupted = row; met = inr (λ e. (let bad : ended.NoMemory ≡ ended.CannotRead = sym memory.0 ∙ e in cc), memory.1) }

@@ -14,10 +14,12 @@ use Rattle.record_book.specs.declared.run.ScriptAnswer.{ScriptAnswer}
 use Rattle.script_text.specs.Spellings.{SpellsScript}
 use Rattle.script_text.specs.declared.fault.ScriptFault.TheVariants as faults
 use Rattle.posix_model.specs.History.{legal}
+use Rattle.logged_streams.specs.Streams.{LoggedWriterState}
 use Rattle.job_core.specs.Output.{last_line, told_line, told_lines}
 use Rattle.job_core.specs.Replay.{Refuses, ReplayEnds}
 use Rattle.job_core.specs.Proved.Running.{RunsNext, RunsOn, Gathers, RunsScript, FailsAs}
 use Rattle.job_core.specs.declared.job_end.JobEnd.{JobEnd}
+use Rattle.job_core.specs.declared.job_end.JobEnd.TheVariants as ended
 
 -- nothing goes before
 followed_none : (read : Result (List ScriptAct) ScriptFault) → followed [] read ≡ read
@@ -110,9 +112,15 @@ refused (Some known) fault text spelled same fails =
     record { unspelled = λ acts spells. let e : script known ≡ Ok acts = spelled acts known spells in cc; fault_is = is }
 
 -- a run that was not made has written nothing
-pub fails_ends : (limits : Limits) (input old : Option (List ℕ)) (text : List ℕ) (end : JobEnd)
+pub fails_ends : (limits : Limits) (input : Option (List ℕ)) (old : LoggedWriterState) (text : List ℕ) (end : JobEnd)
     → ((acts : List ScriptAct) (other : List ℕ) → SpellsScript acts other → script other ≡ Ok acts) → IfSome input (λ known. script text ≡ script known)
     → FailsAs text end → ReplayEnds limits input old old end
 fails_ends limits input old text end spelled same (faults.NoMemory, is, fails) = subst (ReplayEnds limits input old old) (sym is) refl
 fails_ends limits input old text end spelled same (faults.TooLong, is, fails) = subst (ReplayEnds limits input old old) (sym is) (refused input faults.TooLong text spelled same fails, refl)
 fails_ends limits input old text end spelled same (faults.BadLine line column expected, is, fails) = subst (ReplayEnds limits input old old) (sym is) (refused input (faults.BadLine line column expected) text spelled same fails, refl)
+
+-- a fault of a script is not one of its reader
+pub fault_of_none : (text : List ℕ) (end : JobEnd) → FailsAs text end → end ≡ ended.CannotRead → ⊥
+fault_of_none text end (faults.NoMemory, is, fails) e = let bad : ended.NoMemory ≡ ended.CannotRead = sym is ∙ e in cc
+fault_of_none text end (faults.TooLong, is, fails) e = let bad : ended.TooLong ≡ ended.CannotRead = sym is ∙ e in cc
+fault_of_none text end (faults.BadLine line column expected, is, fails) e = let bad : ended.BadLine line column expected ≡ ended.CannotRead = sym is ∙ e in cc

@@ -1,10 +1,10 @@
 -- A piece more of a trace that is shown, and what is left over at its end.
-use Rattle.std.proofs.Common.{◌≡◌, ◌∙◌, ℕ, ◌+◌, ◌*◌, ◌^◌, ◌<◌, ◌≤◌, inl, inr, List, [], ◌∷◌, ◌++◌, Option, None, Some, Result, Ok, Err, length, take, drop, refl, sym, ap, subst, arith, append_assoc, length-append}
-use Rattle.std.specs.Prelude.{IfOk}
+use Rattle.std.proofs.Common.{◌≡◌, ◌∙◌, ℕ, ◌+◌, ◌^◌, ◌<◌, ◌≤◌, inl, inr, Bool, true, false, cond, List, [], ◌∷◌, ◌++◌, Option, None, Some, Result, Ok, Err, length, drop, refl, sym, ap, subst, arith, append_assoc, length-append}
+use Rattle.std.specs.Prelude.{IfOk, nat_lt}
 use Rattle.std.proofs.lemmas.Bool.{cases_lt, lt-ltb, le-ltb}
 use Rattle.std.proofs.lemmas.List.{append-nil, drop-append-le, length-drop}
-use Rattle.std.proofs.KnownBytes.{Appends-nil, Appends-trans, Consumes-nil, Consumes-trans}
-use Rattle.std.specs.Io.KnownBytes.{Appends, Consumes, IsAtEnd}
+use Rattle.std.proofs.KnownBytes.{Appends-trans}
+use Rattle.std.specs.Io.KnownBytes.{Consumes, IsAtEnd}
 use Rattle.call_types.specs.declared.act.Record.{Record}
 use Rattle.call_types.specs.declared.limits.TheConstants.{RECORD_LENGTH_MAX}
 use Rattle.frame_codec.specs.Decoding.{DecoderState, Feeds, FeedsFrom, told_place, fresh as fresh_decoder}
@@ -20,10 +20,12 @@ use Rattle.frame_codec.specs.declared.trace.ToldLimits.{ToldLimits}
 use Rattle.frame_codec.specs.declared.decoder.Progress.{Progress}
 use Rattle.frame_codec.specs.declared.decoder.Progress.TheVariants as progress
 use Rattle.audit_core.specs.Proved.Laws.{BrokenStays}
-use Rattle.audit_core.specs.declared.audit.TheConstants.{READ_LENGTH, READS_MAX}
+use Rattle.logged_streams.specs.Reading.{taken_max}
+use Rattle.logged_streams.specs.Streams.{LoggedWriterState, Writes}
+use Rattle.logged_streams.proofs.WriteLemmas.{wrote_nothing, wrote_on}
 use Rattle.job_core.specs.Output.{AppendsFront}
 use Rattle.job_core.specs.Show.{BeginsWith, HasFaultyFrame, BreaksAt, IsLeft, IsRead, OfAll, OfFront, ShowEnds, WritesAll, WritesSome}
-use Rattle.job_core.specs.Proved.Showing.{BodyGives, GivesPiece, HasShown, IsBegun, IsFound, IsTaken, IsTakenBy, IsUnderWay, ShownState, ShowsPiece, TakesBody, TakesPiece, WritesPiece, WritesPieceFront, end_with, fault_at, fresh_shown, left_over, left_over_by, lines_after}
+use Rattle.job_core.specs.Proved.Showing.{BodyGives, HasShown, HasStopped, IsBegun, IsFound, IsTaken, IsTakenBy, IsUnderWay, ShownState, ShowsPiece, TakesBody, TakesPiece, WritesPiece, WritesPieceFront, end_with, fault_at, fresh_shown, left_over, left_over_by, lines_after}
 use Rattle.job_core.specs.Shown.{LinesState, line_from, lines_from, next_lines, shown_lines}
 use Rattle.job_core.specs.declared.job_end.JobEnd.{JobEnd}
 use Rattle.job_core.specs.declared.job_end.JobEnd.TheVariants as ended
@@ -211,27 +213,35 @@ found_begins bytes records t None taken = taken_begins bytes records t taken
 found_begins bytes records t (Some at) (inl wrong) = inl wrong.none
 found_begins bytes records t (Some at) (inr fault) = inr (fault.rest, fault.read)
 
+-- what begins with a header and these frames does so however it goes on
+read_on : (bytes more : List ℕ) (records : List Record) (rest : List ℕ) → HeaderGoesOn → (read : IsRead bytes records rest) → IsRead (bytes ++ more) records (rest ++ more)
+read_on bytes more records rest law read =
+    let on = headed_on bytes more read.told read.headed law read.begins in
+    record {
+      told = read.told;
+      headed = read.headed;
+      text = read.text;
+      begins = on.0;
+      is = on.1 ∙ ap (λ (x : List ℕ). x ++ more) read.is ∙ append_assoc read.text rest more;
+      frames = read.frames;
+    }
+
+begins_on : (bytes more : List ℕ) (records : List Record) → HeaderGoesOn → BeginsWith bytes records → BeginsWith (bytes ++ more) records
+begins_on bytes more records law (inl none) = inl none
+begins_on bytes more records law (inr begins) = inr (begins.0 ++ more, read_on bytes more records begins.0 law begins.1)
+
 -- what is at fault stays so, whatever comes after it
 broken_on : (bytes more : List ℕ) (records : List Record) (at : ℕ) → BrokenStays → HeaderGoesOn → BreaksAt bytes records at → BreaksAt (bytes ++ more) records at
+unfolding read_on
 broken_on bytes more records at stays law (inl wrong) = inl (record { lacks = unheaded_on bytes more law wrong.lacks; none = wrong.none; at_is = wrong.at_is })
-broken_on bytes more records at stays law (inr broken) =
-    let read = broken.read in
-    let on = headed_on bytes more read.told read.headed law read.begins in
-    inr (record {
-      rest = broken.rest ++ more;
-      read = record {
-        told = read.told;
-        headed = read.headed;
-        text = read.text;
-        begins = on.0;
-        is = on.1 ∙ ap (λ (x : List ℕ). x ++ more) read.is ∙ append_assoc read.text broken.rest more;
-        frames = read.frames;
-      };
-      fault = stays broken.rest more broken.fault;
-      at_is = broken.at_is;
-    })
+broken_on bytes more records at stays law (inr broken) = inr (record {
+  rest = broken.rest ++ more;
+  read = read_on bytes more records broken.rest law broken.read;
+  fault = stays broken.rest more broken.fault;
+  at_is = broken.at_is;
+})
 
-front_of_piece : (piece text more : List ℕ) (old new : ShownState) (was is : Option (List ℕ)) (found : Option ℕ) → TakesPiece piece old new text more found → text ≡ []
+front_of_piece : (piece text more : List ℕ) (old new : ShownState) (was is : LoggedWriterState) (found : Option ℕ) → TakesPiece piece old new text more found → text ≡ []
     → AppendsFront was is more → WritesPieceFront piece old was is
 front_of_piece piece text more old new was is found takes empty front = record {
   added = takes.added;
@@ -239,16 +249,16 @@ front_of_piece piece text more old new was is found takes empty front = record {
   begins = λ bytes records taken. found_begins (bytes ++ piece) (records ++ takes.added) new found (takes.finds bytes records taken);
 }
 
-pub piece_written : (piece text more : List ℕ) (old new : ShownState) (was is : Option (List ℕ)) (found : Option ℕ) → TakesPiece piece old new text more found → text ≡ []
-    → Appends was is more → WritesPiece piece old new was is found
-piece_written piece text more old new was is found takes empty appends = record {
+pub piece_written : (piece text more : List ℕ) (old new : ShownState) (was is : LoggedWriterState) (found : Option ℕ) → TakesPiece piece old new text more found → text ≡ []
+    → Writes was is more → WritesPiece piece old new was is found
+piece_written piece text more old new was is found takes empty writes = record {
   added = takes.added;
-  appends = subst (Appends was is) (takes.text_is ∙ ap (λ (x : List ℕ). x ++ lines_from old.lines takes.added) empty) appends;
+  writes = subst (Writes was is) (takes.text_is ∙ ap (λ (x : List ℕ). x ++ lines_from old.lines takes.added) empty) writes;
   lines_are = takes.lines_are;
   finds = takes.finds;
 }
 
-pub front_shown : (piece text more : List ℕ) (old new : ShownState) (was is : Option (List ℕ)) (found : Option ℕ) (end : JobEnd) → TakesPiece piece old new text more found → text ≡ []
+pub front_shown : (piece text more : List ℕ) (old new : ShownState) (was is : LoggedWriterState) (found : Option ℕ) (end : JobEnd) → TakesPiece piece old new text more found → text ≡ []
     → AppendsFront was is more → end ≡ ended.CannotWrite → ShowsPiece piece old new was is (Some end)
 front_shown piece text more old new was is found end takes empty front fault =
     subst (λ (e : JobEnd). ShowsPiece piece old new was is (Some e)) (sym fault) (front_of_piece piece text more old new was is found takes empty front)
@@ -283,11 +293,11 @@ of_all_on (Some known) None bytes P consumes holds on = absurd consumes
 of_all_on (Some known) (Some left) bytes P consumes holds on = record { bytes = bytes ++ left; is = consumes; holds = on left }
 
 -- nothing was read or written
-pub nothing_shown : (form : Form) (input old : Option (List ℕ)) → OfFront input (λ bytes. WritesAll form old old (λ records. BeginsWith bytes records))
+pub nothing_shown : (form : Form) (input : Option (List ℕ)) (old : LoggedWriterState) → OfFront input (λ bytes. WritesAll form old old (λ records. BeginsWith bytes records))
 nothing_shown form input old = go input
   where
     none : WritesAll form old old (λ records. BeginsWith [] records)
-    none = record { records = []; holds = inl refl; appends = Appends-nil old }
+    none = record { records = []; holds = inl refl; writes = wrote_nothing old }
 
     go : (o : Option (List ℕ)) → OfFront o (λ bytes. WritesAll form old old (λ records. BeginsWith bytes records))
     go None = record { bytes = []; more = []; is = tt; holds = none }
@@ -298,15 +308,16 @@ nothing_shown form input old = go input
 taken_none : (form : Form) → IsTaken [] [] (fresh_shown form)
 taken_none form = record { ends = refl; front_is = refl; none = refl; fresh_is = refl }
 
-pub none_shown : (form : Form) (input old : Option (List ℕ)) (first : ShownState) → first ≡ fresh_shown form → HasShown input input old old first first 0
-none_shown form input old first fresh = record {
-  bytes = [];
+form_of_fresh : (form : Form) (t : ShownState) → t ≡ fresh_shown form → t.lines.form ≡ form
+form_of_fresh form t fresh = ap (λ (s : ShownState). s.lines.form) fresh
+
+pub none_shown : (form : Form) (first : ShownState) (old : LoggedWriterState) → first ≡ fresh_shown form → HasShown first old first old []
+none_shown form first old fresh = record {
   records = [];
-  consumes = Consumes-nil input;
+  fresh_first = fresh ∙ ap fresh_shown (sym (form_of_fresh form first fresh));
   taken = subst (λ (t : ShownState). IsTaken [] [] t) (sym fresh) (taken_none form);
   lines_are = refl;
-  appends = Appends-nil old;
-  long = omega arith;
+  writes = wrote_nothing old;
 }
 
 taken_few : (bytes : List ℕ) (records : List Record) (t : ShownState) → IsTaken bytes records t → (length records ≤ length bytes) × (length t.decoder.held ≤ length bytes)
@@ -319,91 +330,107 @@ taken_few bytes records t taken = go t.headed taken
         let long : length (drop headed bytes) ≡ length way.given.text + length t.decoder.held = ap length way.given.is ∙ length-append way.given.text t.decoder.held in
         (omega (arith, few, long, length-drop headed bytes), omega (arith, long, length-drop headed bytes))
 
-few_shown_so : (turns all place count held piece : ℕ) → turns < READS_MAX → all ≤ turns * READ_LENGTH → place ≡ 0 + count → count ≤ all → held ≤ all → piece ≤ READ_LENGTH
-    → place + held + piece < 2 ^ 64
-few_shown_so turns all place count held piece few long is records held_few short = omega (arith, few, long, is, records, held_few, short)
+few_shown_so : (all place count held piece : ℕ) → all + piece ≤ taken_max → place ≡ 0 + count → count ≤ all → held ≤ all → place + held + piece < 2 ^ 64
+few_shown_so all place count held piece few is records held_few = omega (arith, few, is, records, held_few)
 
 -- there is room for the places of the records that a piece completes
-pub few_shown : (form : Form) (from mid was now : Option (List ℕ)) (first t : ShownState) (turns piece : ℕ) → first ≡ fresh_shown form → turns < READS_MAX → HasShown from mid was now first t turns
-    → piece ≤ READ_LENGTH → t.lines.place + length t.decoder.held + piece < 2 ^ 64
-few_shown form from mid was now first t turns piece fresh few h short =
-    let within = taken_few h.bytes h.records t h.taken in
-    let begun : first.lines.place ≡ 0 = ap (λ (s : ShownState). s.lines.place) fresh in
+pub few_shown : (first : ShownState) (was : LoggedWriterState) (t : ShownState) (now : LoggedWriterState) (bytes : List ℕ) (piece : ℕ) → HasShown first was t now bytes → length bytes + piece ≤ taken_max
+    → t.lines.place + length t.decoder.held + piece < 2 ^ 64
+few_shown first was t now bytes piece h few =
+    let within = taken_few bytes h.records t h.taken in
+    let begun : first.lines.place ≡ 0 = ap (λ (s : ShownState). s.lines.place) h.fresh_first in
     let place : t.lines.place ≡ 0 + length h.records =
     ap (λ (s : LinesState). s.place) h.lines_are ∙ place_after first.lines h.records ∙ ap (λ (n : ℕ). n + length h.records) begun in
-    few_shown_so turns (length h.bytes) t.lines.place (length h.records) (length t.decoder.held) piece few h.long place within.0 within.1 short
+    few_shown_so (length bytes) t.lines.place (length h.records) (length t.decoder.held) piece few place within.0 within.1
 
-lines_so : (was now : Option (List ℕ)) (form : Form) (first : ShownState) (records : List Record) → first ≡ fresh_shown form → Appends was now (lines_from first.lines records)
-    → Appends was now (shown_lines form records)
-lines_so was now form first records fresh appends = subst (λ (t : ShownState). Appends was now (lines_from t.lines records)) fresh appends
+lines_so : (was now : LoggedWriterState) (first : ShownState) (records : List Record) → first ≡ fresh_shown first.lines.form → Writes was now (lines_from first.lines records)
+    → Writes was now (shown_lines first.lines.form records)
+lines_so was now first records fresh writes = subst (λ (t : LinesState). Writes was now (lines_from t records)) (ap (λ (s : ShownState). s.lines) fresh) writes
 
 -- the lines so far, and those of a piece
-on_appends : (was mid now : Option (List ℕ)) (first t : ShownState) (records added : List Record) → t.lines ≡ lines_after first.lines records → Appends was mid (lines_from first.lines records)
-    → Appends mid now (lines_from t.lines added) → Appends was now (lines_from first.lines (records ++ added))
-on_appends was mid now first t records added is so_far more =
-    subst (Appends was now) (ap (λ (s : LinesState). lines_from first.lines records ++ lines_from s added) is ∙ sym (lines_on first.lines records added))
-    (Appends-trans was mid now (lines_from first.lines records) (lines_from t.lines added) so_far more)
+on_writes : (was mid now : LoggedWriterState) (first t : ShownState) (records added : List Record) → t.lines ≡ lines_after first.lines records → Writes was mid (lines_from first.lines records)
+    → Writes mid now (lines_from t.lines added) → Writes was now (lines_from first.lines (records ++ added))
+on_writes was mid now first t records added is so_far more =
+    subst (Writes was now) (ap (λ (s : LinesState). lines_from first.lines records ++ lines_from s added) is ∙ sym (lines_on first.lines records added))
+    (wrote_on was mid now (lines_from first.lines records) (lines_from t.lines added) so_far more)
 
-on_front : (was mid now : Option (List ℕ)) (first t : ShownState) (records added : List Record) → t.lines ≡ lines_after first.lines records → Appends was mid (lines_from first.lines records)
+on_front : (was mid now : LoggedWriterState) (first t : ShownState) (records added : List Record) → t.lines ≡ lines_after first.lines records → Writes was mid (lines_from first.lines records)
     → AppendsFront mid now (lines_from t.lines added) → AppendsFront was now (lines_from first.lines (records ++ added))
 on_front was mid now first t records added is so_far more = record {
   front = lines_from first.lines records ++ more.front;
   rest = more.rest;
   is = lines_on first.lines records added ∙ ap (λ (s : LinesState). lines_from first.lines records ++ lines_from s added) (sym is)
       ∙ ap (λ (x : List ℕ). lines_from first.lines records ++ x) more.is ∙ sym (append_assoc (lines_from first.lines records) more.front more.rest);
-  appends = Appends-trans was mid now (lines_from first.lines records) more.front so_far more.appends;
+  appends = Appends-trans was.contents mid.contents now.contents (lines_from first.lines records) more.front so_far.appends more.appends;
+  broken = more.broken;
+  few = omega (arith, so_far.well.few, more.few, length-append (lines_from first.lines records) more.front);
 }
 
-piece_long : (turns all piece : ℕ) → all ≤ turns * READ_LENGTH → piece ≤ READ_LENGTH → all + piece ≤ (turns + 1) * READ_LENGTH
-piece_long turns all piece long short = omega (arith, long, short)
-
-pub shown_more : (from mid to was wrote now : Option (List ℕ)) (first old new : ShownState) (turns : ℕ) (piece : List ℕ) → HasShown from mid was wrote first old turns → Consumes mid to piece
-    → length piece ≤ READ_LENGTH → WritesPiece piece old new wrote now None → HasShown from to was now first new (turns + 1)
-shown_more from mid to was wrote now first old new turns piece h consumes short w = record {
-  bytes = h.bytes ++ piece;
+pub shown_more : (first old new : ShownState) (was mid now : LoggedWriterState) (bytes piece : List ℕ) → HasShown first was old mid bytes → WritesPiece piece old new mid now None → HasShown first was new now (bytes ++ piece)
+shown_more first old new was mid now bytes piece h w = record {
   records = h.records ++ w.added;
-  consumes = Consumes-trans from mid to h.bytes piece h.consumes consumes;
-  taken = w.finds h.bytes h.records h.taken;
+  fresh_first = h.fresh_first;
+  taken = w.finds bytes h.records h.taken;
   lines_are = w.lines_are ∙ ap (λ (s : LinesState). lines_after s w.added) h.lines_are ∙ sym (after_on first.lines h.records w.added);
-  appends = on_appends was wrote now first old h.records w.added h.lines_are h.appends w.appends;
-  long = omega (arith, piece_long turns (length h.bytes) (length piece) h.long short, length-append h.bytes piece);
+  writes = on_writes was mid now first old h.records w.added h.lines_are h.writes w.writes;
 }
 
--- where the reader failed, or was read as often as an audit may, and where memory ran out, the pieces before were shown
-so_far_shown : (form : Form) (from mid was now : Option (List ℕ)) (first t : ShownState) (turns : ℕ) → first ≡ fresh_shown form → HasShown from mid was now first t turns
-    → OfFront from (λ bytes. WritesAll form was now (λ records. BeginsWith bytes records))
-so_far_shown form from mid was now first t turns fresh h =
-    of_front from mid h.bytes (λ bytes. WritesAll form was now (λ records. BeginsWith bytes records)) h.consumes (record {
-      records = h.records;
-      holds = taken_begins h.bytes h.records t h.taken;
-      appends = lines_so was now form first h.records fresh h.appends;
-    })
+so_far_shown : (first t : ShownState) (was now : LoggedWriterState) (bytes : List ℕ) → HasShown first was t now bytes → WritesAll first.lines.form was now (λ records. BeginsWith bytes records)
+so_far_shown first t was now bytes h = record { records = h.records; holds = taken_begins bytes h.records t h.taken; writes = lines_so was now first h.records h.fresh_first h.writes }
 
-pub cannot_read : (form : Form) (from mid was now : Option (List ℕ)) (first t : ShownState) (turns : ℕ) (end : JobEnd) → first ≡ fresh_shown form → HasShown from mid was now first t turns
-    → end ≡ ended.CannotRead → ShowEnds form from was now end
-cannot_read form from mid was now first t turns end fresh h is = subst (ShowEnds form from was now) (sym is) (so_far_shown form from mid was now first t turns fresh h)
+-- what came of a piece after which no more are shown
+pub shown_no_more : (first old new : ShownState) (was mid now : LoggedWriterState) (bytes piece : List ℕ) (end : JobEnd) → HeaderGoesOn → HasShown first was old mid bytes → ShowsPiece piece old new mid now (Some end)
+    → HasStopped first was now (bytes ++ piece) end
+shown_no_more first old new was mid now bytes piece (ended.Malformed at) law h w = record {
+  records = h.records ++ w.added;
+  holds = w.finds bytes h.records h.taken;
+  writes = lines_so was now first (h.records ++ w.added) h.fresh_first (on_writes was mid now first old h.records w.added h.lines_are h.writes w.writes);
+}
+shown_no_more first old new was mid now bytes piece ended.CannotWrite law h w = record {
+  records = h.records ++ w.added;
+  holds = w.begins bytes h.records h.taken;
+  front =
+      subst (λ (s : LinesState). AppendsFront was now (lines_from s (h.records ++ w.added))) (ap (λ (t : ShownState). t.lines) h.fresh_first)
+      (on_front was mid now first old h.records w.added h.lines_are h.writes w.front);
+}
+shown_no_more first old new was mid now bytes piece ended.NoMemory law h w =
+    let all = so_far_shown first old was mid bytes h in
+    subst (λ (s : LoggedWriterState). WritesAll first.lines.form was s (λ records. BeginsWith (bytes ++ piece) records)) (sym w)
+    (record { records = all.records; holds = begins_on bytes piece all.records law all.holds; writes = all.writes })
+shown_no_more first old new was mid now bytes piece other law h w = absurd w
 
--- what came of a piece that was not shown, or after which no more are
-pub piece_ends : (form : Form) (from mid to was wrote now : Option (List ℕ)) (first old new : ShownState) (turns : ℕ) (piece : List ℕ) (end : JobEnd) → BrokenStays → HeaderGoesOn → first ≡ fresh_shown form
-    → HasShown from mid was wrote first old turns → Consumes mid to piece → ShowsPiece piece old new wrote now (Some end) → ShowEnds form from was now end
-piece_ends form from mid to was wrote now first old new turns piece (ended.Malformed at) stays law fresh h consumes w =
-    let records = h.records ++ w.added in
-    let appends = lines_so was now form first records fresh (on_appends was wrote now first old h.records w.added h.lines_are h.appends w.appends) in
-    let broken = w.finds h.bytes h.records h.taken in
-    of_all_on from to (h.bytes ++ piece) (λ bytes. WritesAll form was now (λ rs. BreaksAt bytes rs at)) (Consumes-trans from mid to h.bytes piece h.consumes consumes)
-    (record { records = records; holds = broken; appends = appends })
-    (λ more. record { records = records; holds = broken_on (h.bytes ++ piece) more records at stays law broken; appends = appends })
-piece_ends form from mid to was wrote now first old new turns piece ended.CannotWrite stays law fresh h consumes w =
-    of_front from to (h.bytes ++ piece) (λ bytes. WritesSome form was now (λ records. BeginsWith bytes records)) (Consumes-trans from mid to h.bytes piece h.consumes consumes) (record {
-      records = h.records ++ w.added;
-      holds = w.begins h.bytes h.records h.taken;
-      front = subst (λ (t : ShownState). AppendsFront was now (lines_from t.lines (h.records ++ w.added))) fresh (on_front was wrote now first old h.records w.added h.lines_are h.appends w.front);
-    })
-piece_ends form from mid to was wrote now first old new turns piece ended.NoMemory stays law fresh h consumes w =
-    subst (λ (o : Option (List ℕ)). OfFront from (λ bytes. WritesAll form was o (λ records. BeginsWith bytes records))) (sym w) (so_far_shown form from mid was wrote first old turns fresh h)
-piece_ends form from mid to was wrote now first old new turns piece other stays law fresh h consumes w = absurd w
+-- ---- the whole job
 
-end_so : (form : Form) (from was now : Option (List ℕ)) (left : ℕ) → OfAll from (λ bytes. WritesAll form was now (λ records. IsLeft bytes records left)) → ShowEnds form from was now (end_with left)
+-- no more was read, and the pieces before were shown
+pub cannot_read : (form : Form) (first t : ShownState) (from to : Option (List ℕ)) (was now : LoggedWriterState) (bytes : List ℕ) → first ≡ fresh_shown form → Consumes from to bytes → HasShown first was t now bytes
+    → ShowEnds form from was now ended.CannotRead
+cannot_read form first t from to was now bytes fresh consumes h =
+    subst (λ (f : Form). ShowEnds f from was now ended.CannotRead) (form_of_fresh form first fresh)
+    (of_front from to bytes (λ bytes. WritesAll first.lines.form was now (λ records. BeginsWith bytes records)) consumes (so_far_shown first t was now bytes h))
+
+told_by : (form : Form) (first : ShownState) (from to : Option (List ℕ)) (was now : LoggedWriterState) (bytes : List ℕ) (end : JobEnd) → BrokenStays → HeaderGoesOn → first.lines.form ≡ form → Consumes from to bytes
+    → HasStopped first was now bytes end → ShowEnds form from was now end
+told_by form first from to was now bytes (ended.Malformed at) stays law same consumes h =
+    subst (λ (f : Form). ShowEnds f from was now (ended.Malformed at)) same
+    (of_all_on from to bytes (λ bytes. WritesAll first.lines.form was now (λ rs. BreaksAt bytes rs at)) consumes h
+    (λ more. record { records = h.records; holds = broken_on bytes more h.records at stays law h.holds; writes = h.writes }))
+told_by form first from to was now bytes ended.CannotWrite stays law same consumes h =
+    subst (λ (f : Form). ShowEnds f from was now ended.CannotWrite) same
+    (of_front from to bytes (λ bytes. WritesSome first.lines.form was now (λ records. BeginsWith bytes records)) consumes h)
+told_by form first from to was now bytes ended.NoMemory stays law same consumes h =
+    subst (λ (f : Form). ShowEnds f from was now ended.NoMemory) same
+    (of_front from to bytes (λ bytes. WritesAll first.lines.form was now (λ records. BeginsWith bytes records)) consumes h)
+told_by form first from to was now bytes other stays law same consumes h = absurd h
+
+pub told_so : (form : Form) (first : ShownState) (from to : Option (List ℕ)) (was now : LoggedWriterState) (bytes : List ℕ) (end : JobEnd) → BrokenStays → HeaderGoesOn → first ≡ fresh_shown form → Consumes from to bytes
+    → HasStopped first was now bytes end → ShowEnds form from was now end
+told_so form first from to was now bytes end stays law fresh consumes h = told_by form first from to was now bytes end stays law (form_of_fresh form first fresh) consumes h
+
+-- what is told of a piece is not of the reader
+pub told_of_none : (first : ShownState) (was now : LoggedWriterState) (bytes : List ℕ) (end : JobEnd) → HasStopped first was now bytes end → end ≡ ended.CannotRead → ⊥
+told_of_none first was now bytes end h is = subst (HasStopped first was now bytes) is h
+
+end_so : (form : Form) (from : Option (List ℕ)) (was now : LoggedWriterState) (left : ℕ) → OfAll from (λ bytes. WritesAll form was now (λ records. IsLeft bytes records left)) → ShowEnds form from was now (end_with left)
 end_so form from was now left all = elim (cases_lt 0 left) [
   | inl some ↦ rw (lt-ltb 0 left some) (some, all)
   | inr none ↦
@@ -411,22 +438,21 @@ end_so form from was now left all = elim (cases_lt 0 left) [
       rw (le-ltb 0 left none) (subst (λ (n : ℕ). OfAll from (λ bytes. WritesAll form was now (λ records. IsLeft bytes records n))) zero all)
 ]
 
+pub end_of_none : (left : ℕ) → end_with left ≡ ended.CannotRead → ⊥
+end_of_none left is = go (nat_lt 0 left) is
+  where
+    go : (some : Bool) → cond some (ended.Rest left) ended.Done ≡ ended.CannotRead → ⊥
+    go true e = cc
+    go false e = cc
+
 -- all bytes were shown, and what is left over is told
-pub all_shown : (form : Form) (from mid to was now : Option (List ℕ)) (first t : ShownState) (turns count left : ℕ) (buffer : List ℕ) (end : JobEnd) → first ≡ fresh_shown form → HasShown from mid was now first t turns
-    → GivesPiece mid to buffer count → count ≡ 0 → left ≡ left_over t → end ≡ end_with left → ShowEnds form from was now end
-all_shown form from mid to was now first t turns count left buffer end fresh h gives none left_is is =
-    let consumes : Consumes mid to [] = subst (λ (n : ℕ). Consumes mid to (take n buffer)) none gives.consumes in
-    let consumed : Consumes from to h.bytes = subst (Consumes from to) (append-nil h.bytes) (Consumes-trans from mid to h.bytes [] h.consumes consumes) in
+pub all_shown : (form : Form) (first t : ShownState) (from to : Option (List ℕ)) (was now : LoggedWriterState) (bytes : List ℕ) (left : ℕ) (end : JobEnd) → first ≡ fresh_shown form → Consumes from to bytes → IsAtEnd to
+    → HasShown first was t now bytes → left ≡ left_over t → end ≡ end_with left → ShowEnds form from was now end
+all_shown form first t from to was now bytes left end fresh consumes at_end h left_is is =
     subst (ShowEnds form from was now) (sym (is ∙ ap end_with left_is))
-    (end_so form from was now (left_over t) (of_all from to h.bytes (λ bytes. WritesAll form was now (λ records. IsLeft bytes records (left_over t))) consumed (gives.end none) (record {
+    (subst (λ (f : Form). ShowEnds f from was now (end_with (left_over t))) (form_of_fresh form first fresh)
+    (end_so first.lines.form from was now (left_over t) (of_all from to bytes (λ bytes. WritesAll first.lines.form was now (λ records. IsLeft bytes records (left_over t))) consumes at_end (record {
       records = h.records;
-      holds = taken_left h.bytes h.records t h.taken;
-      appends = lines_so was now form first h.records fresh h.appends;
-    })))
-
--- a piece is no longer than the buffer that it is read into
-pub piece_short : (buffer old count piece : ℕ) → buffer ≡ old → old ≡ READ_LENGTH → count ≤ buffer → piece ≡ count → piece ≤ READ_LENGTH
-piece_short buffer old count piece same room within is = omega (arith, same, room, within, is)
-
-pub form_of_fresh : (form : Form) (t : ShownState) → t ≡ fresh_shown form → t.lines.form ≡ form
-form_of_fresh form t fresh = ap (λ (s : ShownState). s.lines.form) fresh
+      holds = taken_left bytes h.records t h.taken;
+      writes = lines_so was now first h.records h.fresh_first h.writes;
+    }))))

@@ -1,7 +1,7 @@
 -- What an audit writes, and what its end says (own).
 use Rattle.std.specs.Prelude.{◌≡◌, ℕ, List, ◌++◌, Option, None, Some, IfSome, codes, decimal}
-use Rattle.std.specs.Io.KnownBytes.{Appends}
 use Rattle.call_types.specs.declared.outcome.Outcome.{Outcome}
+use Rattle.logged_streams.specs.Streams.{LoggedWriterState, Writes}
 use Rattle.script_text.specs.Lines.{outcome_text}
 use Rattle.audit_core.specs.Verdict.{IsVerdict}
 use Rattle.audit_core.specs.declared.verdict.Verdict.{Verdict}
@@ -34,20 +34,20 @@ pub record IsVerdictOn (input : Option (List ℕ)) (verdict : Verdict) : Type 0 
   pub is_verdict : IsVerdict bytes verdict
 
 -- its line was written, and nothing else, and the end is that of this verdict
-pub record WritesVerdict (input old new : Option (List ℕ)) (end : JobEnd) : Type 0 where
+pub record WritesVerdict (input : Option (List ℕ)) (old new : LoggedWriterState) (end : JobEnd) : Type 0 where
   pub verdict : Verdict
   pub judged : IsVerdictOn input verdict
-  pub appends : Appends old new (verdict_line verdict)
+  pub writes : Writes old new (verdict_line verdict)
   pub end_is : end ≡ verdict_end verdict
 
 -- a front of its line was written, and nothing else
-pub record WritesVerdictFront (input old new : Option (List ℕ)) : Type 0 where
+pub record WritesVerdictFront (input : Option (List ℕ)) (old new : LoggedWriterState) : Type 0 where
   pub verdict : Verdict
   pub judged : IsVerdictOn input verdict
   pub front : AppendsFront old new (verdict_line verdict)
 
 -- what the end of an audit says of what was written
-abbrev pub AuditEnds : Option (List ℕ) → Option (List ℕ) → Option (List ℕ) → JobEnd → Type 0
+abbrev pub AuditEnds : Option (List ℕ) → LoggedWriterState → LoggedWriterState → JobEnd → Type 0
 AuditEnds input old new ended.Done = WritesVerdict input old new ended.Done
 AuditEnds input old new ended.IllegalTrace = WritesVerdict input old new ended.IllegalTrace
 AuditEnds input old new ended.MalformedTrace = WritesVerdict input old new ended.MalformedTrace

@@ -1,6 +1,7 @@
 pub mod CommandLine
 pub mod JobEnds
 pub mod Output
+pub mod Reads
 pub mod Replay
 pub mod Audit
 pub mod Migrate

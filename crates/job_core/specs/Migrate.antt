@@ -1,6 +1,8 @@
 -- What a migration writes, and what its end says (own).
-use Rattle.std.specs.Prelude.{◌≡◌, ℕ, ◌⊎◌, ◌↔◌, List, ◌++◌, Option, codes, decimal}
+use Rattle.std.specs.Prelude.{◌≡◌, ℕ, ◌+◌, ◌*◌, ◌≤◌, ◌⊎◌, ◌↔◌, List, ◌++◌, Option, length, codes, decimal}
 use Rattle.std.specs.Io.KnownBytes.{Appends}
+use Rattle.logged_streams.specs.Streams.{IsBroken, LoggedWriterState, Writes}
+use Rattle.logged_streams.specs.declared.stream_log.TheConstants.{INTERRUPTIONS_MAX}
 use Rattle.audit_core.specs.Verdict.{IsVerdict}
 use Rattle.audit_core.specs.declared.verdict.Verdict.{Verdict}
 use Rattle.trace_writer.specs.Migrations.{IsBegun, IsCutOff, IsMigrated, IsStopped}
@@ -36,20 +38,20 @@ ComesTo ended.Done bytes written line = IsWhole bytes written line
 ComesTo ended.MalformedTrace bytes written line = IsHalted bytes written line
 ComesTo other bytes written line = ⊥
 
--- what a new trace held before and holds now, and what the output had before and has now, where that is known
+-- the writer of a new trace before and now, and that of the output before and now
 pub record Outputs : Type 0 where
-  pub was : Option (List ℕ)
-  pub is : Option (List ℕ)
-  pub old : Option (List ℕ)
-  pub new : Option (List ℕ)
+  pub was : LoggedWriterState
+  pub is : LoggedWriterState
+  pub old : LoggedWriterState
+  pub new : LoggedWriterState
 
 -- the new trace of these bytes was written, and the line that tells it
 pub record Tells (out : Outputs) (end : JobEnd) (bytes : List ℕ) : Type 0 where
   pub written : List ℕ
   pub line : List ℕ
   pub comes : ComesTo end bytes written line
-  pub adds : Appends out.was out.is written
-  pub appends : Appends out.old out.new line
+  pub adds : Writes out.was out.is written
+  pub writes : Writes out.old out.new line
 
 -- the same, but only a front of the line
 pub record TellsFront (out : Outputs) (bytes : List ℕ) : Type 0 where
@@ -57,7 +59,7 @@ pub record TellsFront (out : Outputs) (bytes : List ℕ) : Type 0 where
   pub line : List ℕ
   pub end : JobEnd
   pub comes : ComesTo end bytes written line
-  pub adds : Appends out.was out.is written
+  pub adds : Writes out.was out.is written
   pub front : AppendsFront out.old out.new line
 
 -- the new trace of these bytes was written, and no line
@@ -66,30 +68,43 @@ pub record TellsNothing (out : Outputs) (bytes : List ℕ) : Type 0 where
   pub line : List ℕ
   pub end : JobEnd
   pub comes : ComesTo end bytes written line
-  pub adds : Appends out.was out.is written
+  pub adds : Writes out.was out.is written
   pub same : out.new ≡ out.old
 
 -- no more of a new trace was written than this says, and no line
 pub record Adds (out : Outputs) (P : List ℕ → Type 0) : Type 0 where
   pub written : List ℕ
   pub holds : P written
-  pub adds : Appends out.was out.is written
+  pub adds : Writes out.was out.is written
+  pub same : out.new ≡ out.old
+
+-- the same, since the writer is broken; there were no more than sixteen writes for each byte, and sixteen more
+pub record AddsFront (out : Outputs) (P : List ℕ → Type 0) : Type 0 where
+  pub written : List ℕ
+  pub holds : P written
+  pub adds : Appends out.was.contents out.is.contents written
+  pub broken : IsBroken out.is.log
+  pub few : out.is.log.calls ≤ out.was.log.calls + INTERRUPTIONS_MAX * (length written + 1)
   pub same : out.new ≡ out.old
 
 -- a front of the new trace was written of the bytes that were read, and no line
 abbrev pub BreaksOff : Option (List ℕ) → Outputs → Type 0
 BreaksOff input out = OfFront input (λ bytes. Adds out (λ written. IsBegun bytes written))
 
--- a front of the new trace was written of all bytes, and no line
+-- the same, since the writer of the new trace is broken
+abbrev pub BreaksDown : Option (List ℕ) → Outputs → Type 0
+BreaksDown input out = OfFront input (λ bytes. AddsFront out (λ written. IsBegun bytes written))
+
+-- a front of the new trace was written of all bytes, since its writer is broken, and no line
 abbrev pub EndsShort : Option (List ℕ) → Outputs → Type 0
-EndsShort input out = OfAll input (λ bytes. Adds out (λ written. IsCutOff bytes written))
+EndsShort input out = OfAll input (λ bytes. AddsFront out (λ written. IsCutOff bytes written))
 
 -- what the end says of the input, of the new trace and of the output
 abbrev pub MigrateEnds : Option (List ℕ) → Outputs → JobEnd → Type 0
 MigrateEnds input out ended.Done = OfAll input (λ bytes. Tells out ended.Done bytes)
 MigrateEnds input out ended.MalformedTrace = OfAll input (λ bytes. Tells out ended.MalformedTrace bytes)
 MigrateEnds input out ended.CannotRead = BreaksOff input out
-MigrateEnds input out ended.CannotWrite = (BreaksOff input out ⊎ EndsShort input out) ⊎ OfAll input (λ bytes. TellsFront out bytes)
+MigrateEnds input out ended.CannotWrite = (BreaksDown input out ⊎ EndsShort input out) ⊎ OfAll input (λ bytes. TellsFront out bytes)
 MigrateEnds input out ended.NoMemory = BreaksOff input out ⊎ OfAll input (λ bytes. TellsNothing out bytes)
 MigrateEnds input out other = ⊥
 

@@ -1,8 +1,8 @@
 -- What a replay writes, and what its end says (own).
 use Rattle.std.specs.Prelude.{◌≡◌, ℕ, List, [], ◌++◌, Option, Err, IfSome}
-use Rattle.std.specs.Io.KnownBytes.{Appends}
 use Rattle.call_types.specs.declared.act.ScriptAct.{ScriptAct}
 use Rattle.call_types.specs.declared.limits.Limits.{Limits}
+use Rattle.logged_streams.specs.Streams.{LoggedWriterState, Writes}
 use Rattle.posix_model.specs.History.{legal}
 use Rattle.script_text.specs.Spellings.{SpellsScript}
 use Rattle.script_text.specs.ReadingScripts.{script}
@@ -26,11 +26,11 @@ pub record IsOutput (limits : Limits) (acts : List ScriptAct) (output : List ℕ
   pub output_is : output ≡ told_lines told ++ last_line book
 
 -- such an output was written, and nothing else
-abbrev pub RunsActs : Limits → List ScriptAct → Option (List ℕ) → Option (List ℕ) → Type 0
-RunsActs limits acts old new = (output : List ℕ) × IsOutput limits acts output × Appends old new output
+abbrev pub RunsActs : Limits → List ScriptAct → LoggedWriterState → LoggedWriterState → Type 0
+RunsActs limits acts old new = (output : List ℕ) × IsOutput limits acts output × Writes old new output
 
 -- a front of such an output was written, and nothing else
-abbrev pub WritesPartly : Limits → List ScriptAct → Option (List ℕ) → Option (List ℕ) → Type 0
+abbrev pub WritesPartly : Limits → List ScriptAct → LoggedWriterState → LoggedWriterState → Type 0
 WritesPartly limits acts old new = (output : List ℕ) × IsOutput limits acts output × AppendsFront old new output
 
 -- the end that a fault of a script is
@@ -40,11 +40,11 @@ end_of_fault faults.TooLong = ended.TooLong
 end_of_fault faults.NoMemory = ended.NoMemory
 
 -- the text is a script, and the output of its acts was written, and nothing else
-abbrev pub WritesReplay : Limits → Option (List ℕ) → Option (List ℕ) → List ℕ → Type 0
+abbrev pub WritesReplay : Limits → LoggedWriterState → LoggedWriterState → List ℕ → Type 0
 WritesReplay limits old new text = (acts : List ScriptAct) × SpellsScript acts text × RunsActs limits acts old new
 
 -- the text is a script, and a front of the output of its acts was written, and nothing else
-abbrev pub WritesReplayFront : Limits → Option (List ℕ) → Option (List ℕ) → List ℕ → Type 0
+abbrev pub WritesReplayFront : Limits → LoggedWriterState → LoggedWriterState → List ℕ → Type 0
 WritesReplayFront limits old new text = (acts : List ScriptAct) × SpellsScript acts text × WritesPartly limits acts old new
 
 -- the text is no script
@@ -61,7 +61,7 @@ abbrev pub OfInput : Option (List ℕ) → (List ℕ → Type 0) → Type 0
 OfInput input P = (text : List ℕ) × IfSome input (λ known. text ≡ known) × P text
 
 -- what the end says of the input, where that is known, and of what was written
-abbrev pub ReplayEnds : Limits → Option (List ℕ) → Option (List ℕ) → Option (List ℕ) → JobEnd → Type 0
+abbrev pub ReplayEnds : Limits → Option (List ℕ) → LoggedWriterState → LoggedWriterState → JobEnd → Type 0
 ReplayEnds limits input old new ended.Done = OfInput input (WritesReplay limits old new)
 ReplayEnds limits input old new (ended.BadLine line column expected) = IfSome input (Refuses (faults.BadLine line column expected)) × (new ≡ old)
 ReplayEnds limits input old new ended.TooLong = IfSome input (Refuses faults.TooLong) × (new ≡ old)

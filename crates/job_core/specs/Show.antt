@@ -1,6 +1,5 @@
 -- What is written of a trace that is shown, and what its end says (own).
 use Rattle.std.specs.Prelude.{◌≡◌, ℕ, ◌+◌, ◌<◌, ◌⊎◌, List, [], ◌++◌, Option, length, drop, IfSome}
-use Rattle.std.specs.Io.KnownBytes.{Appends}
 use Rattle.call_types.specs.declared.act.Record.{Record}
 use Rattle.call_types.specs.declared.limits.TheConstants.{RECORD_LENGTH_MAX}
 use Rattle.frame_codec.specs.Decoding.{told_place}
@@ -9,6 +8,7 @@ use Rattle.frame_codec.specs.Records.{SpellsRecord}
 use Rattle.frame_codec.specs.Trace.{header}
 use Rattle.frame_codec.specs.declared.trace.Header.TheVariants.{Unheaded, Short, Headed}
 use Rattle.frame_codec.specs.declared.trace.ToldLimits.{ToldLimits}
+use Rattle.logged_streams.specs.Streams.{LoggedWriterState, Writes}
 use Rattle.audit_core.specs.Trace.{IsAtFault, IsUnfinished}
 use Rattle.job_core.specs.Output.{AppendsFront}
 use Rattle.job_core.specs.Shown.{shown_lines}
@@ -81,19 +81,19 @@ pub record OfAll (input : Option (List ℕ)) (P : List ℕ → Type 0) : Type 0 
   pub holds : P bytes
 
 -- of the records of which this holds the lines were written, and nothing else
-pub record WritesAll (form : Form) (old new : Option (List ℕ)) (P : List Record → Type 0) : Type 0 where
+pub record WritesAll (form : Form) (old new : LoggedWriterState) (P : List Record → Type 0) : Type 0 where
   pub records : List Record
   pub holds : P records
-  pub appends : Appends old new (shown_lines form records)
+  pub writes : Writes old new (shown_lines form records)
 
 -- a front of their lines was written, and nothing else
-pub record WritesSome (form : Form) (old new : Option (List ℕ)) (P : List Record → Type 0) : Type 0 where
+pub record WritesSome (form : Form) (old new : LoggedWriterState) (P : List Record → Type 0) : Type 0 where
   pub records : List Record
   pub holds : P records
   pub front : AppendsFront old new (shown_lines form records)
 
 -- what the end says of the input and of what was written
-abbrev pub ShowEnds : Form → Option (List ℕ) → Option (List ℕ) → Option (List ℕ) → JobEnd → Type 0
+abbrev pub ShowEnds : Form → Option (List ℕ) → LoggedWriterState → LoggedWriterState → JobEnd → Type 0
 ShowEnds form input old new ended.Done = OfAll input (λ bytes. WritesAll form old new (λ records. IsLeft bytes records 0))
 ShowEnds form input old new (ended.Rest left) = (0 < left) × OfAll input (λ bytes. WritesAll form old new (λ records. IsLeft bytes records left))
 ShowEnds form input old new (ended.Malformed at) = OfAll input (λ bytes. WritesAll form old new (λ records. BreaksAt bytes records at))

@@ -2,14 +2,16 @@
 
 ghost use Rattle.std.specs.Prelude.{◌≡◌, ◌++◌, IfOk, OnOk};
 ghost use Rattle.job_core.specs.Audit.{AuditEnds, expected_word, verdict_end, verdict_line};
+ghost use Rattle.job_core.specs.Reads.{ReadsFew};
 
 use crate::job_end::JobEnd;
 use crate::output::write_lines;
-use audit_core::audit::{AuditFault, audit};
+use audit_core::audit::{AuditFault, READS_MAX, audit};
 use audit_core::laws::faults_stay;
 use audit_core::verdict::Verdict;
 use call_types::outcome::Outcome;
 use logged_streams::reader::LoggedReader;
+use logged_streams::writer::LoggedWriter;
 use script_text::lines::write_outcome;
 use std::alloc::{AllocError, Global};
 use std::io::{Read, Write};
@@ -63,12 +65,16 @@ fn end_of(verdict: &Verdict) -> JobEnd
 }
 
 /// Audits the trace that a reader gives, and writes the line of the verdict. What comes after the first fault need not be read.
-pub fn audit_file<R: Read + Drop, W: Write>(alloc: Global, reader: R, writer: &mut W) -> JobEnd
-    ensures { AuditEnds (R.remaining reader) (W.contents writer.old) (W.contents writer.new) result }
+pub fn audit_file<R: Read, W: Write>(
+    alloc: Global,
+    reader: &mut LoggedReader<R>,
+    writer: &mut LoggedWriter<W>,
+) -> JobEnd
+    ensures ends { AuditEnds reader.old.remaining writer.old writer.new result }
+    ensures reads { ReadsFew READS_MAX reader.old.log reader.new.log result }
 {
     faults_stay();
-    let mut reader = LoggedReader::new(reader);
-    let verdict = match audit(alloc, &mut reader) {
+    let verdict = match audit(alloc, reader) {
         Ok(verdict) => verdict,
         Err(AuditFault::Read) => return JobEnd::CannotRead,
         Err(AuditFault::NoMemory) => return JobEnd::NoMemory,

@@ -3,6 +3,7 @@
 ghost use Rattle.std.specs.Prelude.{◌≡◌, ℕ, List, IfOk};
 ghost use Rattle.job_core.specs.Migrate.{MigrateEnds, MigrationsKeepVerdicts, migrated_line, stopped_line};
 ghost use Rattle.job_core.specs.Output.{WritesLine};
+ghost use Rattle.job_core.specs.Reads.{ReadsFew};
 
 use crate::job_end::JobEnd;
 use crate::output::write_lines;
@@ -13,7 +14,7 @@ use logged_streams::reader::LoggedReader;
 use logged_streams::writer::LoggedWriter;
 use std::alloc::{AllocError, Global};
 use std::io::{Read, Write};
-use trace_writer::migrate::{MigrateFault, Migrated, migrate};
+use trace_writer::migrate::{MigrateFault, Migrated, READS_MAX, migrate};
 
 /// Where all of a trace was written anew, the verdicts on it are those on what was written. It does nothing.
 pub fn migrations_keep_verdicts()
@@ -40,8 +41,12 @@ fn stopped_line(alloc: Global, at: u64) -> Result<Vec<u8>, AllocError>
 }
 
 /// Writes a line that was made, if memory did not run out for it: how a job ends that ends so once the line is written.
-fn tell<O: Write>(out: &mut O, made: Result<Vec<u8>, AllocError>, end: JobEnd) -> JobEnd
-    ensures { (line : List ℕ) → IfOk made (λ l. l.items ≡ line) → WritesLine line end (O.contents out.old) (O.contents out.new) result }
+fn tell<O: Write>(
+    out: &mut LoggedWriter<O>,
+    made: Result<Vec<u8>, AllocError>,
+    end: JobEnd,
+) -> JobEnd
+    ensures { (line : List ℕ) → IfOk made (λ l. l.items ≡ line) → WritesLine line end out.old out.new result }
 {
     let line = match made {
         Ok(line) => line,
@@ -55,17 +60,17 @@ fn tell<O: Write>(out: &mut O, made: Result<Vec<u8>, AllocError>, end: JobEnd) -
 
 /// Writes the trace of version 1 that a reader gives as one of version 2 to a writer, and the line that tells of it to another. After
 /// a fault in the trace the frames before it are written, and the line tells where it is.
-pub fn migrate_file<R: Read + Drop, W: Write, O: Write>(
+pub fn migrate_file<R: Read, W: Write, O: Write>(
     alloc: Global,
-    reader: R,
+    reader: &mut LoggedReader<R>,
     writer: &mut LoggedWriter<W>,
-    out: &mut O,
+    out: &mut LoggedWriter<O>,
 ) -> JobEnd
-    ensures { MigrateEnds (R.remaining reader) (record { was = writer.old.contents; is = writer.new.contents; old = O.contents out.old; new = O.contents out.new }) result }
+    ensures ends { MigrateEnds reader.old.remaining (record { was = writer.old; is = writer.new; old = out.old; new = out.new }) result }
+    ensures reads { ReadsFew READS_MAX reader.old.log reader.new.log result }
 {
     broken_stays();
-    let mut reader = LoggedReader::new(reader);
-    match migrate(alloc, &mut reader, writer) {
+    match migrate(alloc, reader, writer) {
         Ok(migrated) => tell(out, line_of(alloc, migrated), JobEnd::Done),
         Err(MigrateFault::Malformed { at }) => {
             tell(out, stopped_line(alloc, at), JobEnd::MalformedTrace)

@@ -1,11 +1,11 @@
 //! One run of a script: its bytes in, its lines out.
-ghost use Rattle.std.specs.Prelude.{◌≡◌, ◌<◌, ◌≤◌, ◌⊎◌, [], ◌++◌, Ok, length, IfOk, IfErr, IfSome, OnOk};
+ghost use Rattle.std.specs.Prelude.{◌≡◌, ◌+◌, ◌≤◌, [], ◌++◌, Ok, length, IfOk, IfErr, IfSome, OnOk};
 ghost use Rattle.script_text.specs.ReadingScripts.{script};
 ghost use Rattle.script_text.specs.ReadingResults.{ScriptFails};
 ghost use Rattle.script_text.specs.declared.script.TheConstants.{SCRIPT_MAX};
-ghost use Rattle.logged_streams.specs.Streams.{IsBroken, IsReadNoMore, fresh_log, one_more};
+ghost use Rattle.job_core.specs.Reads.{ReadsFew};
 ghost use Rattle.job_core.specs.Replay.{ReplayEnds};
-ghost use Rattle.job_core.specs.Proved.Reading.{IsMet, ReadsInto};
+ghost use Rattle.job_core.specs.Proved.Reading.{FailsToRead};
 ghost use Rattle.job_core.specs.Proved.Running.{Gathers, RunsNext, RunsOn, RunsScript, FailsAs, FailsReading};
 
 use crate::job_end::JobEnd;
@@ -14,7 +14,9 @@ use byte_ledger::ledgers::{Blanks, Ledgers};
 use call_types::act::ScriptAct;
 use call_types::limits::Limits;
 use logged_streams::reader::LoggedReader;
-use logged_streams::stream_log::{Gave, INTERRUPTIONS_MAX};
+use logged_streams::reading::{ReadEnd, Takes, read_all};
+use logged_streams::stream_log::INTERRUPTIONS_MAX;
+use logged_streams::writer::LoggedWriter;
 use record_book::book::Book;
 use record_book::run::ScriptAnswer;
 use record_book::seats::Seats;
@@ -38,77 +40,64 @@ pub fn reads_of_a_script()
 /// How many bytes a read asks for.
 const READ_LENGTH: usize = 65_536;
 
-/// Reads once more, and appends what that gives: whether the reader is at its end. If not, it may be read again: the sixteenth
-/// interruption in a row is an error.
-fn read_on<R: Read>(
-    reader: &mut LoggedReader<R>,
-    text: &mut Vec<u8>,
-    buffer: &mut [u8],
-) -> Result<bool, JobEnd>
-    requires room { 0 < length buffer.old }
-    requires few { reader.old.log.interruptions < INTERRUPTIONS_MAX }
-    ensures reads { IfOk result (λ _. ReadsInto reader.old.remaining reader.new.remaining text.old.items text.new.items) }
-    ensures met { IfOk result (λ is_end. IsMet reader.new is_end) }
-    ensures fault { IfErr result (λ ended. ((ended ≡ JobEnd.CannotRead) × IsBroken reader.new.log) ⊎ (ended ≡ JobEnd.NoMemory)) }
-    ensures calls { reader.new.log.calls ≡ one_more reader.old.log.calls }
-    ensures row { reader.new.log.interruptions ≤ INTERRUPTIONS_MAX }
-    ensures long { length buffer.new ≡ length buffer.old }
-{
-    match reader.read(buffer) {
-        Gave::Bytes(count) => {
-            let (piece, _) = buffer.split_at(count);
-            text.extend_from_slice(piece)?;
-            Ok(false)
+/// Why the text of a script is read no further.
+#[derive(Clone, Copy, Debug, PartialEq, Eq)]
+enum Stopped {
+    /// It has more bytes than a script has.
+    TooLong,
+    /// Memory ran out.
+    NoMemory,
+}
+
+/// The text of a script, as it is read.
+#[derive(Drop)]
+struct ScriptText {
+    bytes: Vec<u8>,
+}
+
+impl Takes<()> for ScriptText {
+    ghost use Rattle.std.specs.Prelude.{◌≡◌};
+    ghost use Rattle.job_core.specs.Proved.Reading.{HasStopped};
+
+    type Told = Stopped;
+
+    ghost has_taken = { λ _ _ text _ bytes. text.bytes.items ≡ bytes };
+
+    ghost has_told = { λ _ _ text _ bytes stopped. HasStopped text.bytes.items bytes stopped };
+
+    fn take(&mut self, _out: &mut (), piece: &[u8]) -> Option<Stopped> {
+        if self.bytes.extend_from_slice(piece).is_err() {
+            return Some(Stopped::NoMemory);
         }
-        Gave::Nothing => Ok(true),
-        Gave::Interrupted => {
-            if reader.log().interruptions() < INTERRUPTIONS_MAX {
-                Ok(false)
-            } else {
-                Err(JobEnd::CannotRead)
-            }
+        if self.bytes.len() > SCRIPT_MAX {
+            return Some(Stopped::TooLong);
         }
-        Gave::Failed => Err(JobEnd::CannotRead),
+        None
     }
 }
 
-/// Appends all that a reader gives. It can't be read where a read fails, sixteen in a row were interrupted, or 1,048,576 found no
-/// end.
-fn read_often<R: Read>(
-    reader: &mut LoggedReader<R>,
-    text: &mut Vec<u8>,
-    buffer: &mut [u8],
-) -> Result<(), JobEnd>
-    requires room { 0 < length buffer.old }
-    requires unread { reader.old.log ≡ fresh_log }
-    ensures few { reader.new.log.calls ≤ READS_MAX }
-    ensures row { reader.new.log.interruptions ≤ INTERRUPTIONS_MAX }
-    ensures whole { OnOk result (IfSome reader.old.remaining (λ input. text.new.items ≡ text.old.items ++ input)) }
-    ensures fault { IfErr result (λ ended. ((ended ≡ JobEnd.CannotRead) × IsReadNoMore READS_MAX reader.new.log) ⊎ (ended ≡ JobEnd.NoMemory)) }
+/// Reads the whole script, or a piece more than a script has. It can't be read where a read fails, sixteen in a row were interrupted, or
+/// 1,048,576 found no end.
+fn read_text<R: Read>(alloc: Global, reader: &mut LoggedReader<R>) -> Result<Vec<u8>, JobEnd>
+    ensures few { reader.new.log.calls ≤ reader.old.log.calls + READS_MAX }
+    ensures few_interrupted { reader.new.log.interruptions ≤ INTERRUPTIONS_MAX }
+    ensures text { IfOk result (λ text. IfSome reader.old.remaining (λ input. script text.items ≡ script input)) }
+    ensures whole { IfOk result (λ text. IfSome reader.old.remaining (λ input. length text.items ≤ SCRIPT_MAX → text.items ≡ input)) }
+    ensures sound { OnOk result (reader.new.log.failed ≡ reader.old.log.failed) }
+    ensures fault { IfErr result (λ ended. FailsToRead READS_MAX reader.old.log reader.new.log ended) }
 {
-    for _turn in 0..READS_MAX {
-        if read_on(reader, text, buffer)? {
-            return Ok(());
-        }
-    }
-    Err(JobEnd::CannotRead)
-}
-
-/// Reads the whole script, or one byte more than a script has. It can't be read where a read fails, sixteen in a row were
-/// interrupted, or 1,048,576 found no end.
-fn read_text<R: Read + Drop>(alloc: Global, reader: R) -> Result<Vec<u8>, JobEnd>
-    ensures text { IfOk result (λ text. IfSome (R.remaining reader) (λ input. script text.items ≡ script input)) }
-    ensures whole { IfOk result (λ text. IfSome (R.remaining reader) (λ input. length text.items ≤ SCRIPT_MAX → text.items ≡ input)) }
-    ensures fault { IfErr result (λ ended. (ended ≡ JobEnd.CannotRead) ⊎ (ended ≡ JobEnd.NoMemory)) }
-{
+    let _few = reader.log().interruptions();
     let mut buffer = vec![in alloc; 0u8; READ_LENGTH]?;
-    let mut text = Vec::new(alloc);
-    let reader = reader.take(SCRIPT_MAX as u64 + 1);
-    let mut logged = LoggedReader::new(reader);
-    match read_often(&mut logged, &mut text, buffer.as_mut_slice()) {
-        Ok(()) => Ok(text),
-        Err(JobEnd::NoMemory) => Err(JobEnd::NoMemory),
-        Err(_) => Err(JobEnd::CannotRead),
+    let mut text = ScriptText {
+        bytes: Vec::new(alloc),
+    };
+    match read_all(reader, &mut text, &mut (), buffer.as_mut_slice(), READS_MAX) {
+        ReadEnd::AtEnd => Ok(text.bytes),
+        ReadEnd::CannotRead => Err(JobEnd::CannotRead),
+        ReadEnd::Told(stopped) => match stopped {
+            Stopped::TooLong => Ok(text.bytes),
+            Stopped::NoMemory => Err(JobEnd::NoMemory),
+        },
     }
 }
 
@@ -207,13 +196,14 @@ fn run_script<L: Ledgers>(
 /// Reads a script, runs its acts in their order in a new book, and writes a line for each record and each act that is
 /// not recorded, and a line of totals. Nothing is written before the whole script is read and run. The book and the seats of
 /// the run are leaked: it is meant for a program that ends then, and is to be called once in a process.
-pub fn replay<R: Read + Drop, W: Write>(
+pub fn replay<R: Read, W: Write>(
     alloc: Global,
-    reader: R,
-    writer: &mut W,
+    reader: &mut LoggedReader<R>,
+    writer: &mut LoggedWriter<W>,
     limits: Limits,
 ) -> JobEnd
-    ensures { ReplayEnds limits (R.remaining reader) (W.contents writer.old) (W.contents writer.new) result }
+    ensures ends { ReplayEnds limits reader.old.remaining writer.old writer.new result }
+    ensures reads { ReadsFew READS_MAX reader.old.log reader.new.log result }
 {
     spelled_scripts_are_read();
     read_scripts_are_spelled();

@@ -1,11 +1,9 @@
 //! A trace, shown as its bytes come: the lines of its whole records, and what is left over.
 
-ghost use Rattle.std.specs.Prelude.{◌≡◌, ◌+◌, ◌<◌, ◌^◌, None, length, IfOk, IfErr, OnErr};
-ghost use Rattle.std.specs.Io.KnownBytes.{Keeps};
-ghost use Rattle.audit_core.specs.declared.audit.TheConstants.{READ_LENGTH};
+ghost use Rattle.std.specs.Prelude.{◌≡◌, ◌+◌, ◌<◌, ◌^◌, None, length, IfOk};
+ghost use Rattle.job_core.specs.Reads.{ReadsFew};
 ghost use Rattle.job_core.specs.Show.{ShowEnds};
-ghost use Rattle.job_core.specs.Proved.Showing.{GivesPiece, ShowsPiece, TakesBody, TakesPiece, end_with, fault_at, fresh_shown, left_over};
-ghost use Rattle.job_core.specs.declared.job_end.JobEnd.TheVariants as ended;
+ghost use Rattle.job_core.specs.Proved.Showing.{ShowsPiece, TakesBody, TakesPiece, end_with, fault_at, fresh_shown, left_over};
 
 use crate::job_end::JobEnd;
 use crate::output::write_lines;
@@ -16,28 +14,12 @@ use frame_codec::decoder::{Decoder, Progress};
 use frame_codec::frame_kind::Records;
 use frame_codec::laws::pieces_go_on;
 use frame_codec::trace::{HeaderFront, Heading, headers_go_on};
-use logged_streams::stream_log::INTERRUPTIONS_MAX;
+use logged_streams::reader::LoggedReader;
+use logged_streams::reading::{ReadEnd, Takes, read_all};
+use logged_streams::writer::LoggedWriter;
 use std::alloc::{AllocError, Global};
-use std::io::{ErrorKind, Read, Write};
+use std::io::{Read, Write};
 use std::marker::Model;
-
-/// Reads a piece of a trace: how many bytes it has, none at the end.
-fn read_piece<R: Read>(reader: &mut R, buffer: &mut [u8]) -> Result<usize, JobEnd>
-    requires room { 0 < length buffer.old }
-    ensures ok { IfOk result (λ count. GivesPiece (R.remaining reader.old) (R.remaining reader.new) buffer.new count) }
-    ensures err { OnErr result (Keeps (R.remaining reader.old) (R.remaining reader.new)) }
-    ensures fault { IfErr result (λ ended. ended ≡ JobEnd.CannotRead) }
-    ensures long { length buffer.new ≡ length buffer.old }
-{
-    for _tried in 0..INTERRUPTIONS_MAX {
-        match reader.read(buffer) {
-            Ok(count) => return Ok(count),
-            Err(error) if error.kind() == ErrorKind::Interrupted => {}
-            Err(_) => return Err(JobEnd::CannotRead),
-        }
-    }
-    Err(JobEnd::CannotRead)
-}
 
 /// A trace that is being shown. It holds less than its header or one frame, and keeps no record.
 #[derive(Drop)]
@@ -158,10 +140,10 @@ fn show_piece<W: Write>(
     trace: &mut ShownTrace,
     out: &mut Vec<u8>,
     piece: &[u8],
-    writer: &mut W,
+    writer: &mut LoggedWriter<W>,
 ) -> Option<JobEnd>
     requires few { trace.old.lines.place + length trace.old.decoder.held + length piece.now < 2 ^ 64 }
-    ensures { ShowsPiece piece.now trace.old trace.new (W.contents writer.old) (W.contents writer.new) result }
+    ensures { ShowsPiece piece.now trace.old trace.new writer.old writer.new result }
 {
     out.clear();
     let found = match trace.take(out, piece) {
@@ -177,58 +159,63 @@ fn show_piece<W: Write>(
     }
 }
 
-/// Reads as often as an audit may, and shows what that gives.
-fn show_often<R: Read, W: Write>(
-    trace: &mut ShownTrace,
-    reader: &mut R,
-    buffer: &mut [u8],
-    out: &mut Vec<u8>,
-    writer: &mut W,
+/// A trace that is shown while it is read, and the lines of a piece.
+#[derive(Drop)]
+struct Showing {
+    trace: ShownTrace,
+    out: Vec<u8>,
+}
+
+impl<W: Write> Takes<LoggedWriter<W>> for Showing {
+    ghost use Rattle.job_core.specs.Proved.Showing.{HasShown, HasStopped};
+
+    type Told = JobEnd;
+
+    ghost has_taken = { λ first was showing is bytes. HasShown first.trace was showing.trace is bytes };
+
+    ghost has_told = { λ first was _ is bytes ended. HasStopped first.trace was is bytes ended };
+
+    fn take(&mut self, writer: &mut LoggedWriter<W>, piece: &[u8]) -> Option<JobEnd> {
+        broken_stays();
+        headers_go_on();
+        match show_piece(&mut self.trace, &mut self.out, piece, writer) {
+            Some(ended) => Some(ended),
+            None => None,
+        }
+    }
+}
+
+/// Writes the lines of the whole records of the trace that a reader gives, unjudged, while its bytes come. It is read as often as an audit
+/// may. Of the trace it holds one piece, one frame and the children that are not attached, however long the trace is.
+pub fn show<R: Read, W: Write>(
+    alloc: Global,
+    reader: &mut LoggedReader<R>,
+    writer: &mut LoggedWriter<W>,
+    form: Form,
 ) -> JobEnd
-    requires room { length buffer.old ≡ READ_LENGTH }
-    requires fresh { trace.old ≡ fresh_shown trace.old.lines.form }
-    ensures { ShowEnds trace.old.lines.form (R.remaining reader.old) (W.contents writer.old) (W.contents writer.new) result }
+    ensures ends { ShowEnds form reader.old.remaining writer.old writer.new result }
+    ensures reads { ReadsFew READS_MAX reader.old.log reader.new.log result }
 {
     broken_stays();
     headers_go_on();
-    for _turn in 0..READS_MAX {
-        let count = match read_piece(reader, buffer) {
-            Ok(count) => count,
-            Err(ended) => return ended,
-        };
-        if count == 0 {
-            return end_with(trace.left_over());
-        }
-        let (piece, _) = buffer.split_at(count);
-        if let Some(ended) = show_piece(trace, out, piece, writer) {
-            return ended;
-        }
-    }
-    JobEnd::CannotRead
-}
-
-/// Writes the lines of the whole records of the trace that a reader gives, unjudged, while its bytes come. Of the trace it holds one
-/// piece, one frame and the children that are not attached, however long the trace is.
-pub fn show<R: Read + Drop, W: Write>(
-    alloc: Global,
-    reader: R,
-    writer: &mut W,
-    form: Form,
-) -> JobEnd
-    ensures { ShowEnds form (R.remaining reader) (W.contents writer.old) (W.contents writer.new) result }
-{
-    let mut reader = reader;
+    let _few = reader.log().interruptions();
     let mut buffer = match vec![in alloc; 0u8; READ_LENGTH] {
         Ok(buffer) => buffer,
         Err(_) => return JobEnd::NoMemory,
     };
-    let mut out = Vec::new(alloc);
-    let mut trace = ShownTrace::new(alloc, form);
-    show_often(
-        &mut trace,
-        &mut reader,
-        buffer.as_mut_slice(),
-        &mut out,
+    let mut showing = Showing {
+        trace: ShownTrace::new(alloc, form),
+        out: Vec::new(alloc),
+    };
+    match read_all(
+        reader,
+        &mut showing,
         writer,
-    )
+        buffer.as_mut_slice(),
+        READS_MAX,
+    ) {
+        ReadEnd::AtEnd => end_with(showing.trace.left_over()),
+        ReadEnd::CannotRead => JobEnd::CannotRead,
+        ReadEnd::Told(ended) => ended,
+    }
 }

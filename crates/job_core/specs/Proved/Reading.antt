@@ -1,16 +1,18 @@
 -- How the input of a replay is read (own).
-use Rattle.std.specs.Prelude.{◌≡◌, ℕ, ◌<◌, Bool, true, false, List, ◌++◌, Option}
-use Rattle.std.specs.Io.KnownBytes.{Consumes, IsAtEnd}
-use Rattle.logged_streams.specs.Streams.{LoggedReaderState}
-use Rattle.logged_streams.specs.declared.stream_log.TheConstants.{INTERRUPTIONS_MAX}
+use Rattle.std.specs.Prelude.{◌≡◌, ℕ, ◌<◌, ◌⊎◌, List, length}
+use Rattle.logged_streams.specs.Reading.{more_calls}
+use Rattle.logged_streams.specs.Streams.{IsReadNoMore, LogState}
+use Rattle.script_text.specs.declared.script.TheConstants.{SCRIPT_MAX}
+use Rattle.job_core.specs.declared.job_end.JobEnd.{JobEnd}
+use Rattle.job_core.specs.declared.job_end.JobEnd.TheVariants as ended
+use Rattle.job_core.specs.declared.replay.Stopped.{Stopped}
+use Rattle.job_core.specs.declared.replay.Stopped.TheVariants as stopped
 
--- some bytes were read, and stand after the others
-pub record ReadsInto (old new : Option (List ℕ)) (text more : List ℕ) : Type 0 where
-  pub piece : List ℕ
-  pub consumes : Consumes old new piece
-  pub text_is : more ≡ text ++ piece
+-- why no more of these bytes is gathered: they are too many
+abbrev pub HasStopped : List ℕ → List ℕ → Stopped → Type 0
+HasStopped text bytes stopped.TooLong = (text ≡ bytes) × (SCRIPT_MAX < length text)
+HasStopped text bytes stopped.NoMemory = Unit {0}
 
--- a reader is at its end, or may be read once more
-abbrev pub IsMet : LoggedReaderState → Bool → Type 0
-IsMet reader true = IsAtEnd reader.remaining
-IsMet reader false = reader.log.interruptions < INTERRUPTIONS_MAX
+-- the reader is read no more, or memory ran out
+abbrev pub FailsToRead : ℕ → LogState → LogState → JobEnd → Type 0
+FailsToRead most from to end = ((end ≡ ended.CannotRead) × IsReadNoMore (more_calls most from) to) ⊎ ((end ≡ ended.NoMemory) × (to.failed ≡ from.failed))

@@ -1,6 +1,5 @@
 -- How a trace is shown, piece by piece (own).
-use Rattle.std.specs.Prelude.{◌≡◌, ℕ, ◌+◌, ◌*◌, ◌≤◌, nat_lt, List, ◌++◌, Option, None, Some, length, take, drop, if◌then◌else◌, [], ◌∷◌}
-use Rattle.std.specs.Io.KnownBytes.{Appends, Consumes, IsAtEnd}
+use Rattle.std.specs.Prelude.{◌≡◌, ℕ, ◌+◌, nat_lt, List, ◌++◌, Option, None, Some, length, drop, if◌then◌else◌, [], ◌∷◌}
 use Rattle.call_types.specs.declared.act.Record.{Record}
 use Rattle.call_types.specs.declared.limits.TheConstants.{RECORD_LENGTH_MAX}
 use Rattle.frame_codec.specs.Decoding.{DecoderState, fresh, told_place}
@@ -11,19 +10,13 @@ use Rattle.frame_codec.specs.declared.trace.Header.TheVariants.{Short, Headed}
 use Rattle.frame_codec.specs.declared.trace.ToldLimits.{ToldLimits}
 use Rattle.frame_codec.specs.declared.decoder.Progress.{Progress}
 use Rattle.frame_codec.specs.declared.decoder.Progress.TheVariants as progress
-use Rattle.audit_core.specs.declared.audit.TheConstants.{READ_LENGTH}
+use Rattle.logged_streams.specs.Streams.{LoggedWriterState, Writes}
 use Rattle.job_core.specs.Output.{AppendsFront}
 use Rattle.job_core.specs.Shown.{LinesState, first_lines, lines_from, next_lines}
 use Rattle.job_core.specs.declared.job_end.JobEnd.{JobEnd}
 use Rattle.job_core.specs.declared.job_end.JobEnd.TheVariants as ended
 use Rattle.job_core.specs.declared.shown.Form.{Form}
-use Rattle.job_core.specs.Show.{BreaksAt, BeginsWith}
-
--- a piece of so many bytes was read, none only at the end
-pub record GivesPiece (old new : Option (List ℕ)) (buffer : List ℕ) (count : ℕ) : Type 0 where
-  pub within : count ≤ length buffer
-  pub consumes : Consumes old new (take count buffer)
-  pub end : count ≡ 0 → IsAtEnd new
+use Rattle.job_core.specs.Show.{BeginsWith, BreaksAt, WritesAll, WritesSome}
 
 -- the bytes of the header so far, while it is not whole; then how long it is, and what is held of the bytes after it; and how the lines
 -- go on
@@ -108,32 +101,37 @@ pub record TakesPiece (piece : List ℕ) (old new : ShownState) (text more : Lis
   pub finds : (bytes : List ℕ) (records : List Record) → IsTaken bytes records old → IsFound (bytes ++ piece) (records ++ added) new found
 
 -- a piece more, and the lines of its records are written
-pub record WritesPiece (piece : List ℕ) (old new : ShownState) (was is : Option (List ℕ)) (found : Option ℕ) : Type 0 where
+pub record WritesPiece (piece : List ℕ) (old new : ShownState) (was is : LoggedWriterState) (found : Option ℕ) : Type 0 where
   pub added : List Record
-  pub appends : Appends was is (lines_from old.lines added)
+  pub writes : Writes was is (lines_from old.lines added)
   pub lines_are : new.lines ≡ lines_after old.lines added
   pub finds : (bytes : List ℕ) (records : List Record) → IsTaken bytes records old → IsFound (bytes ++ piece) (records ++ added) new found
 
 -- a piece more, and a front of the lines of its records is written
-pub record WritesPieceFront (piece : List ℕ) (old : ShownState) (was is : Option (List ℕ)) : Type 0 where
+pub record WritesPieceFront (piece : List ℕ) (old : ShownState) (was is : LoggedWriterState) : Type 0 where
   pub added : List Record
   pub front : AppendsFront was is (lines_from old.lines added)
   pub begins : (bytes : List ℕ) (records : List Record) → IsTaken bytes records old → BeginsWith (bytes ++ piece) (records ++ added)
 
 -- what came of a piece
-abbrev pub ShowsPiece : List ℕ → ShownState → ShownState → Option (List ℕ) → Option (List ℕ) → Option JobEnd → Type 0
+abbrev pub ShowsPiece : List ℕ → ShownState → ShownState → LoggedWriterState → LoggedWriterState → Option JobEnd → Type 0
 ShowsPiece piece old new was is None = WritesPiece piece old new was is None
 ShowsPiece piece old new was is (Some (ended.Malformed at)) = WritesPiece piece old new was is (Some at)
 ShowsPiece piece old new was is (Some ended.CannotWrite) = WritesPieceFront piece old was is
 ShowsPiece piece old new was is (Some ended.NoMemory) = is ≡ was
 ShowsPiece piece old new was is (Some other) = ⊥
 
--- the pieces so far
-pub record HasShown (from to was is : Option (List ℕ)) (first t : ShownState) (turns : ℕ) : Type 0 where
-  pub bytes : List ℕ
+-- these bytes were taken since the trace was fresh, and the lines of their records were written
+pub record HasShown (first : ShownState) (was : LoggedWriterState) (t : ShownState) (is : LoggedWriterState) (bytes : List ℕ) : Type 0 where
   pub records : List Record
-  pub consumes : Consumes from to bytes
+  pub fresh_first : first ≡ fresh_shown first.lines.form
   pub taken : IsTaken bytes records t
   pub lines_are : t.lines ≡ lines_after first.lines records
-  pub appends : Appends was is (lines_from first.lines records)
-  pub long : length bytes ≤ turns * READ_LENGTH
+  pub writes : Writes was is (lines_from first.lines records)
+
+-- no more is shown of these bytes, since the job has ended so
+abbrev pub HasStopped : ShownState → LoggedWriterState → LoggedWriterState → List ℕ → JobEnd → Type 0
+HasStopped first was is bytes (ended.Malformed at) = WritesAll first.lines.form was is (λ records. BreaksAt bytes records at)
+HasStopped first was is bytes ended.CannotWrite = WritesSome first.lines.form was is (λ records. BeginsWith bytes records)
+HasStopped first was is bytes ended.NoMemory = WritesAll first.lines.form was is (λ records. BeginsWith bytes records)
+HasStopped first was is bytes other = ⊥

@@ -1,14 +1,37 @@
-use Rattle.std.proofs.Common.{subst}
-use Rattle.job_core.specs.Show.{ShowEnds}
-use Rattle.job_core.specs.declared.shown.Form.{Form}
-use Rattle.job_core.proofs.ShowLemmas.{form_of_fresh, nothing_shown}
+use Rattle.job_core.proofs.ShowLemmas as laws
+use Rattle.job_core.proofs.ReadsLemmas as reads
 use Rattle.job_core.proofs.show.show.Goals as goal
 
-pub returns-in-Err : goal.returns-in-Err
-returns-in-Err g c = nothing_shown c.args.form (g.R.Read.remaining c.args.reader) (g.W.Write.contents c.args.writer.now)
+pub read_all-requires-clause-begun : goal.read_all-requires-clause-begun
+read_all-requires-clause-begun g c = laws.none_shown c.args.form c.new.result c.args.writer.now c.new.ensures
+
+pub returns-in-Err-clause-ends : goal.returns-in-Err-clause-ends
+returns-in-Err-clause-ends g c = laws.nothing_shown c.args.form c.args.reader.now.remaining c.args.writer.now
+
+pub returns-in-AtEnd : goal.returns-in-AtEnd
+returns-in-AtEnd g c =
+    let r = c.in-AtEnd.ensures.reads in
+    record {
+      ends = laws.all_shown c.args.form c.new.result c.read_all.new.taker.trace c.args.reader.now.remaining c.read_all.new.reader.remaining c.args.writer.now c.read_all.new.out r.input c.left_over.result c.end_with.result
+          c.new.ensures r.consumes r.ends.0 r.ends.2 c.left_over.ensures c.end_with.ensures;
+      reads = rw c.end_with.ensures (reads.read_well _ c.args.reader.now.log c.read_all.new.reader.log _ c.read_all.ensures.few c.read_all.ensures.few_interrupted r.ends.1 (laws.end_of_none c.left_over.result));
+    }
+
+pub returns-in-CannotRead : goal.returns-in-CannotRead
+returns-in-CannotRead g c =
+    let r = c.in-CannotRead.ensures.reads in
+    record {
+      ends = laws.cannot_read c.args.form c.new.result c.read_all.new.taker.trace c.args.reader.now.remaining c.read_all.new.reader.remaining c.args.writer.now c.read_all.new.out r.input
+          c.new.ensures r.consumes r.ends.1;
+      reads = reads.read_no_more _ c.args.reader.now.log c.read_all.new.reader.log c.read_all.ensures.few c.read_all.ensures.few_interrupted r.ends.0;
+    }
 
 pub returns : goal.returns
 returns g c =
-    subst
-    (λ (form : Form). ShowEnds form (g.R.Read.remaining c.args.reader) (g.W.Write.contents c.args.writer.now) (g.W.Write.contents c.show_often.new.writer) c.show_often.result)
-    (form_of_fresh c.args.form c.new-trace.result c.new-trace.ensures) c.show_often.ensures
+    let r = c.in-Told.ensures.reads in
+    record {
+      ends = laws.told_so c.args.form c.new.result c.args.reader.now.remaining c.read_all.new.reader.remaining c.args.writer.now c.read_all.new.out r.input c.in-Told.ended
+          c.broken_stays.ensures c.headers_go_on.ensures c.new.ensures r.consumes r.ends.1;
+      reads = reads.read_well _ c.args.reader.now.log c.read_all.new.reader.log c.in-Told.ended c.read_all.ensures.few c.read_all.ensures.few_interrupted r.ends.0
+          (laws.told_of_none c.new.result c.args.writer.now c.read_all.new.out r.input c.in-Told.ended r.ends.1);
+    }
