@@ -1,6 +1,7 @@
 -- A file whose bytes may be known to nobody, and the ends of what reads it.
 use Rattle.std.proofs.Common.{ℕ, inl, inr, List, Option, None, Some, subst}
 use Rattle.audit_core.specs.declared.verdict.Verdict.{Verdict}
+use Rattle.logged_streams.specs.Streams.{LoggedWriterState}
 use Rattle.job_core.specs.Audit.{AuditEnds, IsVerdictOn, WritesVerdict}
 use Rattle.fdref.specs.Perform.{Has}
 use Rattle.job_core.specs.Migrate.{BreaksOff, MigrateEnds, Outputs}
@@ -14,10 +15,10 @@ use Rattle.job_core.specs.declared.shown.Form.{Form}
 unknown_judged : (input : Option (List ℕ)) (verdict : Verdict) → IsVerdictOn input verdict → IsVerdictOn None verdict
 unknown_judged input verdict j = record { bytes = j.bytes; whole = tt; is_verdict = j.is_verdict }
 
-unknown_verdict : (input old new : Option (List ℕ)) (end : JobEnd) → WritesVerdict input old new end → WritesVerdict None old new end
-unknown_verdict input old new end w = record { verdict = w.verdict; judged = unknown_judged input w.verdict w.judged; appends = w.appends; end_is = w.end_is }
+unknown_verdict : (input : Option (List ℕ)) (old new : LoggedWriterState) (end : JobEnd) → WritesVerdict input old new end → WritesVerdict None old new end
+unknown_verdict input old new end w = record { verdict = w.verdict; judged = unknown_judged input w.verdict w.judged; writes = w.writes; end_is = w.end_is }
 
-unknown_audit : (input old new : Option (List ℕ)) (end : JobEnd) → AuditEnds input old new end → AuditEnds None old new end
+unknown_audit : (input : Option (List ℕ)) (old new : LoggedWriterState) (end : JobEnd) → AuditEnds input old new end → AuditEnds None old new end
 unknown_audit input old new ended.Done a = unknown_verdict input old new ended.Done a
 unknown_audit input old new ended.IllegalTrace a = unknown_verdict input old new ended.IllegalTrace a
 unknown_audit input old new ended.MalformedTrace a = unknown_verdict input old new ended.MalformedTrace a
@@ -26,7 +27,7 @@ unknown_audit input old new ended.CannotRead a = a
 unknown_audit input old new ended.NoMemory a = a
 unknown_audit input old new other a = absurd a
 
-pub audit_of : (known input old new : Option (List ℕ)) (end : JobEnd) → Has known input → AuditEnds input old new end → AuditEnds known old new end
+pub audit_of : (known input : Option (List ℕ)) (old new : LoggedWriterState) (end : JobEnd) → Has known input → AuditEnds input old new end → AuditEnds known old new end
 audit_of None input old new end has a = unknown_audit input old new end a
 audit_of (Some bytes) input old new end has a = subst (λ (i : Option (List ℕ)). AuditEnds i old new end) has a
 
@@ -38,7 +39,7 @@ unknown_all input P a = record { bytes = a.bytes; is = tt; holds = a.holds }
 unknown_front : (input : Option (List ℕ)) (P : List ℕ → Type 0) → OfFront input P → OfFront None P
 unknown_front input P a = record { bytes = a.bytes; more = a.more; is = tt; holds = a.holds }
 
-unknown_show : (form : Form) (input old new : Option (List ℕ)) (end : JobEnd) → ShowEnds form input old new end → ShowEnds form None old new end
+unknown_show : (form : Form) (input : Option (List ℕ)) (old new : LoggedWriterState) (end : JobEnd) → ShowEnds form input old new end → ShowEnds form None old new end
 unknown_show form input old new ended.Done a = unknown_all input _ a
 unknown_show form input old new (ended.Rest left) a = (a.0, unknown_all input _ a.1)
 unknown_show form input old new (ended.Malformed at) a = unknown_all input _ a
@@ -47,7 +48,7 @@ unknown_show form input old new ended.NoMemory a = unknown_front input _ a
 unknown_show form input old new ended.CannotWrite a = unknown_front input _ a
 unknown_show form input old new other a = absurd a
 
-pub show_of : (form : Form) (known input old new : Option (List ℕ)) (end : JobEnd) → Has known input → ShowEnds form input old new end → ShowEnds form known old new end
+pub show_of : (form : Form) (known input : Option (List ℕ)) (old new : LoggedWriterState) (end : JobEnd) → Has known input → ShowEnds form input old new end → ShowEnds form known old new end
 show_of form None input old new end has a = unknown_show form input old new end a
 show_of form (Some bytes) input old new end has a = subst (λ (i : Option (List ℕ)). ShowEnds form i old new end) has a
 
@@ -60,7 +61,7 @@ unknown_migrate : (input : Option (List ℕ)) (out : Outputs) (end : JobEnd) →
 unknown_migrate input out ended.Done a = unknown_all input _ a
 unknown_migrate input out ended.MalformedTrace a = unknown_all input _ a
 unknown_migrate input out ended.CannotRead a = unknown_broken input out a
-unknown_migrate input out ended.CannotWrite (inl (inl a)) = inl (inl (unknown_broken input out a))
+unknown_migrate input out ended.CannotWrite (inl (inl a)) = inl (inl (unknown_front input _ a))
 unknown_migrate input out ended.CannotWrite (inl (inr a)) = inl (inr (unknown_all input _ a))
 unknown_migrate input out ended.CannotWrite (inr a) = inr (unknown_all input _ a)
 unknown_migrate input out ended.NoMemory (inl a) = inl (unknown_broken input out a)

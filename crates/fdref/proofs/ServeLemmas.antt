@@ -2,8 +2,7 @@
 use Rattle.std.proofs.Common.{◌≡◌, ◌∙◌, ◌≤◌, ◌+◌, ◌-◌, ◌^◌, ◌⊎◌, inl, inr, ℕ, Bool, true, false, cond, List, [], ◌∷◌, Option, None, Some, length, refl, sym, ap, subst, arith}
 use Rattle.std.specs.Prelude.{nat_lt}
 use Rattle.std.proofs.lemmas.Bool.{cases_lt, ltb-true}
-use Rattle.std.specs.Io.KnownBytes.{Appends}
-use Rattle.logged_streams.specs.Streams.{one_more}
+use Rattle.logged_streams.specs.Streams.{LoggedWriterState, Writes, one_more}
 use Rattle.session_core.specs.Served.{failures_after}
 use Rattle.session_core.specs.Starting.{added}
 use Rattle.session_core.specs.declared.end.End.{End}
@@ -22,13 +21,13 @@ use Rattle.job_core.specs.declared.job_end.JobEnd.TheVariants as ended
 -- ---- a run with a report
 
 -- a report's line that is written whole, by how the run ended
-written_by : (asked : RunAsked) (sink : SinkState) (old new : Option (List ℕ)) (told : RunTold) (line : List ℕ) → IsToldOf asked sink told → IsRun told → length told.ends ≤ asked.sessions
-    → line ≡ report_line (length told.ends) told.records told.taken told.given told.trace.whole → Appends old new line
+written_by : (asked : RunAsked) (sink : SinkState) (old new : LoggedWriterState) (told : RunTold) (line : List ℕ) → IsToldOf asked sink told → IsRun told → length told.ends ≤ asked.sessions
+    → line ≡ report_line (length told.ends) told.records told.taken told.given told.trace.whole → Writes old new line
     → Reported asked sink old new (end_of_run (length told.ends) asked.sessions told.trace.fault (lacks_a_thread told.ends))
-written_by asked sink old new told line is_of run few is appends = go (nat_lt (length told.ends) asked.sessions) told.trace.fault (lacks_a_thread told.ends) refl
+written_by asked sink old new told line is_of run few is writes_line = go (nat_lt (length told.ends) asked.sessions) told.trace.fault (lacks_a_thread told.ends) refl
   where
     writes : (end : JobEnd) → end ≡ end_of_run (length told.ends) asked.sessions told.trace.fault (lacks_a_thread told.ends) → WritesReport asked sink old new end
-    writes end so = record { line = line; report = record { told = told; is_of = is_of; run = run; few = few; line_is = is; end_is = so }; appends = appends }
+    writes end so = record { line = line; report = record { told = told; is_of = is_of; run = run; few = few; line_is = is; end_is = so }; writes = writes_line }
 
     go : (fewer : Bool) (fault : Option TraceFault) (lacks : Bool) → cond fewer ended.CannotListen (traced_end fault lacks) ≡ end_of_run (length told.ends) asked.sessions told.trace.fault (lacks_a_thread told.ends)
         → Reported asked sink old new (end_of_run (length told.ends) asked.sessions told.trace.fault (lacks_a_thread told.ends))
@@ -38,7 +37,7 @@ written_by asked sink old new told line is_of run few is appends = go (nat_lt (l
     go false (Some fault) lacks e = subst (Reported asked sink old new) e (writes ended.TraceFault e)
 
 -- what became of the line of a report
-pub reported : (asked : RunAsked) (sink : SinkState) (old new : Option (List ℕ)) (told : RunTold) (sessions : ℕ) (end : JobEnd) → IsToldOf asked sink told → IsRun told
+pub reported : (asked : RunAsked) (sink : SinkState) (old new : LoggedWriterState) (told : RunTold) (sessions : ℕ) (end : JobEnd) → IsToldOf asked sink told → IsRun told
     → sessions ≡ length told.ends → sessions ≤ asked.sessions
     → WritesLine (report_line sessions told.records told.taken told.given told.trace.whole) (end_of_run sessions asked.sessions told.trace.fault (lacks_a_thread told.ends)) old new end
     → Reported asked sink old new end
@@ -63,7 +62,7 @@ reported asked sink old new told sessions end is_of run all few (inr (inl (canno
 reported asked sink old new told sessions end is_of run all few (inr (inr (memory, same))) = subst (Reported asked sink old new) (sym memory) same
 
 -- it says that the source cannot listen only where a connection was wanting
-pub lost_connection : (line : List ℕ) (old new : Option (List ℕ)) (sessions wanted before after : ℕ) (fault : Option TraceFault) (lacks : Bool) (end : JobEnd) → FailsIfFewer sessions wanted before after
+pub lost_connection : (line : List ℕ) (old new : LoggedWriterState) (sessions wanted before after : ℕ) (fault : Option TraceFault) (lacks : Bool) (end : JobEnd) → FailsIfFewer sessions wanted before after
     → WritesLine line (end_of_run sessions wanted fault lacks) old new end → end ≡ ended.CannotListen → after ≡ before + 1
 lost_connection line old new sessions wanted before after fault lacks end (inr fewer) w is = fewer.1
 lost_connection line old new sessions wanted before after fault lacks end (inl full) (inl (so, appends)) is = absurd (not_short sessions wanted fault lacks full.0 (sym so ∙ is))
@@ -81,7 +80,7 @@ lost_connection line old new sessions wanted before after fault lacks end (inl f
 
 -- ---- a run without one
 
-pub unreported : (old : Option (List ℕ)) (told : RunFault) → Unreported old old (end_without_report told)
+pub unreported : (old : LoggedWriterState) (told : RunFault) → Unreported old old (end_without_report told)
 unreported old fault.NoMemory = refl
 unreported old fault.NoThread = refl
 unreported old fault.Missing = refl
@@ -140,7 +139,7 @@ lack_counts (s ∷ sessions) before now h lacks = go (is_unstarted s.end_is) ref
     go false is = lack_counts sessions before (added now (failures_after s.end_is 0)) (still_not_less before now (failures_after s.end_is 0) h) (rw is at lacks)
 
 -- it says that a thread was wanting only where that was counted
-pub lacked_a_thread : (line : List ℕ) (old new : Option (List ℕ)) (sessions wanted : ℕ) (fault : Option TraceFault) (ends : List ReportedSession) (end : JobEnd) (before after : ℕ)
+pub lacked_a_thread : (line : List ℕ) (old new : LoggedWriterState) (sessions wanted : ℕ) (fault : Option TraceFault) (ends : List ReportedSession) (end : JobEnd) (before after : ℕ)
     → after ≡ failures_with ends before → WritesLine line (end_of_run sessions wanted fault (lacks_a_thread ends)) old new end → end ≡ ended.NoThread → HasMore before after
 lacked_a_thread line old new sessions wanted fault ends end before after counted (inl (so, appends)) is =
     rw counted (lack_counts ends before before (inl (omega arith)) (lacks (nat_lt sessions wanted) fault (lacks_a_thread ends) (sym so ∙ is)))

@@ -1,8 +1,8 @@
 -- What a run of sessions writes, what its end says, and what its sink has (own).
 use Rattle.std.specs.Prelude.{◌≡◌, ◌≤◌, ◌<◌, ◌-◌, ◌^◌, ◌⊎◌, ℕ, nat_lt, Bool, true, false, List, ◌++◌, Option, None, Some, if◌then◌else◌, codes, decimal, length}
-use Rattle.std.specs.Io.KnownBytes.{Appends}
 use Rattle.std.specs.List.{list_any}
 use Rattle.call_types.specs.declared.limits.Limits.{Limits}
+use Rattle.logged_streams.specs.Streams.{LoggedWriterState, Writes}
 use Rattle.run_core.specs.Run.{IsRun, ReportedSession, RunTold, Streams}
 use Rattle.run_core.specs.declared.report.RunFault.TheVariants as fault
 use Rattle.session_core.specs.declared.end.End.{End}
@@ -84,20 +84,20 @@ pub record IsReport (asked : RunAsked) (sink : SinkState) (line : List ℕ) (end
   pub end_is : end ≡ end_of_run (length told.ends) asked.sessions told.trace.fault (lacks_a_thread told.ends)
 
 -- such a line was written, and nothing else
-pub record WritesReport (asked : RunAsked) (sink : SinkState) (old new : Option (List ℕ)) (end : JobEnd) : Type 0 where
+pub record WritesReport (asked : RunAsked) (sink : SinkState) (old new : LoggedWriterState) (end : JobEnd) : Type 0 where
   pub line : List ℕ
   pub report : IsReport asked sink line end
-  pub appends : Appends old new line
+  pub writes : Writes old new line
 
 -- a front of such a line was written, and nothing else, of a run that ended so or so
-pub record WritesReportFront (asked : RunAsked) (sink : SinkState) (old new : Option (List ℕ)) : Type 0 where
+pub record WritesReportFront (asked : RunAsked) (sink : SinkState) (old new : LoggedWriterState) : Type 0 where
   pub line : List ℕ
   pub end : JobEnd
   pub report : IsReport asked sink line end
   pub front : AppendsFront old new line
 
 -- what the end says of what was written, where the sink is given back
-abbrev pub Reported : RunAsked → SinkState → Option (List ℕ) → Option (List ℕ) → JobEnd → Type 0
+abbrev pub Reported : RunAsked → SinkState → LoggedWriterState → LoggedWriterState → JobEnd → Type 0
 Reported asked sink old new ended.Done = WritesReport asked sink old new ended.Done
 Reported asked sink old new ended.CannotListen = WritesReport asked sink old new ended.CannotListen
 Reported asked sink old new ended.TraceFault = WritesReport asked sink old new ended.TraceFault
@@ -107,7 +107,7 @@ Reported asked sink old new ended.NoMemory = new ≡ old
 Reported asked sink old new other = ⊥
 
 -- the same, of a run without a report, which gives no sink back
-abbrev pub Unreported : Option (List ℕ) → Option (List ℕ) → JobEnd → Type 0
+abbrev pub Unreported : LoggedWriterState → LoggedWriterState → JobEnd → Type 0
 Unreported old new ended.NoMemory = new ≡ old
 Unreported old new ended.NoThread = new ≡ old
 Unreported old new ended.MissingShare = new ≡ old
@@ -115,6 +115,6 @@ Unreported old new (ended.Disagree place) = new ≡ old
 Unreported old new other = ⊥
 
 -- what the end says of what was written and of the sink
-abbrev pub Reports : RunAsked → Option (List ℕ) → Option (List ℕ) → Option SinkState → JobEnd → Type 0
+abbrev pub Reports : RunAsked → LoggedWriterState → LoggedWriterState → Option SinkState → JobEnd → Type 0
 Reports asked old new (Some sink) end = Reported asked sink old new end
 Reports asked old new None end = Unreported old new end

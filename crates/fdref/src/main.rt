@@ -15,6 +15,7 @@ use files::SystemFiles;
 use job_core::job::{Job, JobFault, job_of, not_text};
 use job_core::job_end::JobEnd;
 use listener::Sockets;
+use logged_streams::writer::LoggedWriter;
 use perform::perform;
 use std::io;
 use std::process::ExitCode;
@@ -73,7 +74,7 @@ fn main(rt: HostRuntime) -> ExitCode {
                 &Sockets { rt: &rt },
                 &SystemFiles { rt: &rt },
                 rt.reader(),
-                &mut io::writer(&rt),
+                &mut LoggedWriter::new(io::writer(&rt)),
                 job,
             );
             return end(&rt, ended);

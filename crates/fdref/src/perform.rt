@@ -15,6 +15,7 @@ use job_core::migrate_file::migrate_file;
 use job_core::replay::replay;
 use job_core::show::show;
 use job_core::shown::Form;
+use logged_streams::reader::LoggedReader;
 use logged_streams::writer::LoggedWriter;
 use run_core::source::Source;
 use session_core::starter::SystemThreads;
@@ -83,11 +84,19 @@ pub trait Opens {
 }
 
 /// Audits the trace at a path.
-fn audit_at<F: Opens, W: Write>(alloc: Global, files: &F, path: &str, writer: &mut W) -> JobEnd
-    ensures { AuditEnds (F.bytes_at files.now path.now) (W.contents writer.old) (W.contents writer.new) result }
+fn audit_at<F: Opens, W: Write>(
+    alloc: Global,
+    files: &F,
+    path: &str,
+    writer: &mut LoggedWriter<W>,
+) -> JobEnd
+    ensures { AuditEnds (F.bytes_at files.now path.now) writer.old writer.new result }
 {
     match files.open(path) {
-        Some(file) => audit_file(alloc, file, writer),
+        Some(file) => {
+            let mut reader = LoggedReader::new(file);
+            audit_file(alloc, &mut reader, writer)
+        }
         None => JobEnd::CannotRead,
     }
 }
@@ -97,13 +106,16 @@ fn show_at<F: Opens, W: Write>(
     alloc: Global,
     files: &F,
     path: &str,
-    writer: &mut W,
+    writer: &mut LoggedWriter<W>,
     form: Form,
 ) -> JobEnd
-    ensures { ShowEnds form (F.bytes_at files.now path.now) (W.contents writer.old) (W.contents writer.new) result }
+    ensures { ShowEnds form (F.bytes_at files.now path.now) writer.old writer.new result }
 {
     match files.open(path) {
-        Some(file) => show(alloc, file, writer, form),
+        Some(file) => {
+            let mut reader = LoggedReader::new(file);
+            show(alloc, &mut reader, writer, form)
+        }
         None => JobEnd::CannotRead,
     }
 }
@@ -114,19 +126,19 @@ fn migrate_at<F: Opens, W: Write>(
     files: &F,
     from: &str,
     to: &str,
-    writer: &mut W,
+    writer: &mut LoggedWriter<W>,
 ) -> JobEnd
-    ensures { MovesTo (F.bytes_at files.now from.now) (F.is_taken files.now to.now) (W.contents writer.old) (W.contents writer.new) result }
+    ensures { MovesTo (F.bytes_at files.now from.now) (F.is_taken files.now to.now) writer.old writer.new result }
 {
-    let file = match files.open(from) {
-        Some(file) => file,
+    let mut reader = match files.open(from) {
+        Some(file) => LoggedReader::new(file),
         None => return JobEnd::CannotRead,
     };
     let mut made = match files.create_new(to) {
         Some(made) => LoggedWriter::new(made),
         None => return JobEnd::CannotWrite,
     };
-    migrate_file(alloc, file, &mut made, writer)
+    migrate_file(alloc, &mut reader, &mut made, writer)
 }
 
 /// Serves the connections to a path, and writes their trace to a sink.
@@ -143,12 +155,12 @@ fn serve_at<
     sessions: u8,
     limits: Limits,
     sink: K,
-    writer: &mut W,
+    writer: &mut LoggedWriter<W>,
 ) -> JobEnd
     requires blank { IsBlank (K.contents sink) }
     requires sound { K.is_sound sink ≡ true }
     requires few { K.failures sink + 1 < 2 ^ 64 }
-    ensures { ListenEnds (L.coming_at listens.now path.now) (L.is_unheard listens.now path.now) limits sessions (W.contents writer.old) (W.contents writer.new) result }
+    ensures { ListenEnds (L.coming_at listens.now path.now) (L.is_unheard listens.now path.now) limits sessions writer.old writer.new result }
 {
     match listens.listen(path) {
         Some(source) => {
@@ -184,9 +196,9 @@ fn serve_to<
     sessions: u8,
     limits: Limits,
     trace: &str,
-    writer: &mut W,
+    writer: &mut LoggedWriter<W>,
 ) -> JobEnd
-    ensures { ServeEnds (L.coming_at listens.now path.now) (L.is_unheard listens.now path.now) (F.is_unmade files.now trace.now) limits sessions (W.contents writer.old) (W.contents writer.new) result }
+    ensures { ServeEnds (L.coming_at listens.now path.now) (L.is_unheard listens.now path.now) (F.is_unmade files.now trace.now) limits sessions writer.old writer.new result }
 {
     match files.create(trace) {
         Some(sink) => serve_at(rt, alloc, listens, path, sessions, limits, sink, writer),
@@ -202,11 +214,22 @@ pub fn perform<
     F: Opens,
     R: Read + Drop,
     W: Write,
->(rt: Rt, alloc: Global, listens: &L, files: &F, reader: R, writer: &mut W, job: Job) -> JobEnd
-    ensures { Performs (record { bytes_at = F.bytes_at files.now; is_unmade = F.is_unmade files.now; is_taken = F.is_taken files.now; coming_at = L.coming_at listens.now; is_unheard = L.is_unheard listens.now }) job (R.remaining reader) (W.contents writer.old) (W.contents writer.new) result }
+>(
+    rt: Rt,
+    alloc: Global,
+    listens: &L,
+    files: &F,
+    reader: R,
+    writer: &mut LoggedWriter<W>,
+    job: Job,
+) -> JobEnd
+    ensures { Performs (record { bytes_at = F.bytes_at files.now; is_unmade = F.is_unmade files.now; is_taken = F.is_taken files.now; coming_at = L.coming_at listens.now; is_unheard = L.is_unheard listens.now }) job (R.remaining reader) writer.old writer.new result }
 {
     match job {
-        Job::Replay { limits } => replay(alloc, reader, writer, limits),
+        Job::Replay { limits } => {
+            let mut reader = LoggedReader::new(reader);
+            replay(alloc, &mut reader, writer, limits)
+        }
         Job::Serve {
             socket,
             sessions,

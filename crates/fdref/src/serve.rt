@@ -10,6 +10,7 @@ use byte_ledger::ledgers::{Blanks, Ledgers};
 use call_types::limits::Limits;
 use job_core::job_end::JobEnd;
 use job_core::output::write_lines;
+use logged_streams::writer::LoggedWriter;
 use run_core::report::{Report, RunFault, Session};
 use run_core::sessions::run_sessions;
 use run_core::source::Source;
@@ -111,9 +112,9 @@ fn write_report<R: Read, V: Write, K: Sink, W: Write>(
     alloc: Global,
     report: &Report<R, V, K>,
     wanted: usize,
-    writer: &mut W,
+    writer: &mut LoggedWriter<W>,
 ) -> JobEnd
-    ensures { WritesLine (report_line report.now.sessions report.now.records report.now.bytes_in report.now.bytes_out report.now.traced.whole) (end_of_run report.now.sessions wanted report.now.traced.fault (lacks_a_thread report.now.ends.items)) (W.contents writer.old) (W.contents writer.new) result }
+    ensures { WritesLine (report_line report.now.sessions report.now.records report.now.bytes_in report.now.bytes_out report.now.traced.whole) (end_of_run report.now.sessions wanted report.now.traced.fault (lacks_a_thread report.now.ends.items)) writer.old writer.new result }
 {
     let line = match line_of(alloc, report) {
         Ok(line) => line,
@@ -147,7 +148,7 @@ fn serve_with<
     limits: Limits,
     blanks: Blanks,
     sink: K,
-    writer: &mut W,
+    writer: &mut LoggedWriter<W>,
 ) -> Served<K>
     requires failures { S.failures source.old + 1 < 2 ^ 64 }
     requires accepted { S.accepted source.old + sessions < 2 ^ 64 }
@@ -155,7 +156,7 @@ fn serve_with<
     requires limits { L.limits ≡ Some limits }
     requires sound { K.is_sound sink ≡ true }
     requires few { K.failures sink + 1 < 2 ^ 64 }
-    ensures reports { Reports (record { limits = limits; sessions = sessions; coming = S.coming source.old; later = S.coming source.new; sink = record { contents = K.contents sink; failures = K.failures sink; is_synced = K.is_synced sink } }) (W.contents writer.old) (W.contents writer.new) (option_map (λ s. record { contents = K.contents s; failures = K.failures s; is_synced = K.is_synced s }) result.sink) result.end }
+    ensures reports { Reports (record { limits = limits; sessions = sessions; coming = S.coming source.old; later = S.coming source.new; sink = record { contents = K.contents sink; failures = K.failures sink; is_synced = K.is_synced sink } }) writer.old writer.new (option_map (λ s. record { contents = K.contents s; failures = K.failures s; is_synced = K.is_synced s }) result.sink) result.end }
     ensures failed { result.end ≡ ended.CannotListen → S.failures source.new ≡ S.failures source.old + 1 }
     ensures no_thread { result.end ≡ ended.NoThread → HasMore (T.failures starter.old) (T.failures starter.new) }
 {
@@ -194,13 +195,13 @@ pub fn serve_on<
     sessions: usize,
     limits: Limits,
     sink: K,
-    writer: &mut W,
+    writer: &mut LoggedWriter<W>,
 ) -> Served<K>
     requires failures { S.failures source.old + 1 < 2 ^ 64 }
     requires accepted { S.accepted source.old + sessions < 2 ^ 64 }
     requires sound { K.is_sound sink ≡ true }
     requires few { K.failures sink + 1 < 2 ^ 64 }
-    ensures reports { Reports (record { limits = limits; sessions = sessions; coming = S.coming source.old; later = S.coming source.new; sink = record { contents = K.contents sink; failures = K.failures sink; is_synced = K.is_synced sink } }) (W.contents writer.old) (W.contents writer.new) (option_map (λ s. record { contents = K.contents s; failures = K.failures s; is_synced = K.is_synced s }) result.sink) result.end }
+    ensures reports { Reports (record { limits = limits; sessions = sessions; coming = S.coming source.old; later = S.coming source.new; sink = record { contents = K.contents sink; failures = K.failures sink; is_synced = K.is_synced sink } }) writer.old writer.new (option_map (λ s. record { contents = K.contents s; failures = K.failures s; is_synced = K.is_synced s }) result.sink) result.end }
     ensures failed { result.end ≡ ended.CannotListen → S.failures source.new ≡ S.failures source.old + 1 }
     ensures no_thread { result.end ≡ ended.NoThread → HasMore (T.failures starter.old) (T.failures starter.new) }
 {

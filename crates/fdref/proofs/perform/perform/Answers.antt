@@ -1,0 +1,8 @@
+use Rattle.std.proofs.Common.{subst}
+use Rattle.logged_streams.specs.Streams.{LoggedReaderState}
+use Rattle.job_core.specs.Replay.{ReplayEnds}
+use Rattle.fdref.proofs.perform.perform.Goals as goal
+
+pub returns-in-Replay : goal.returns-in-Replay
+returns-in-Replay g c =
+    subst (λ (r : LoggedReaderState). ReplayEnds c.in-Replay.limits r.remaining c.args.writer.now c.replay.new.writer c.replay.result) c.new-reader.ensures c.replay.ensures.ends
