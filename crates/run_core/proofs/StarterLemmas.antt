@@ -1,9 +1,10 @@
 -- What the starter of a run has counted.
-use Rattle.std.proofs.Common.{◌≡◌, ℕ, List, [], ◌∷◌, ◌++◌, Some, length, refl, sym, ap, ◌∙◌}
+use Rattle.std.proofs.Common.{◌≡◌, ℕ, List, [], ◌∷◌, ◌++◌, Some, length, refl, sym, ap, subst, ◌∙◌}
 use Rattle.session_core.specs.Served.{failures_after}
 use Rattle.session_core.specs.Starting.{added}
 use Rattle.run_core.specs.Run.{ReportedSession}
 use Rattle.run_core.specs.Starters.{failures_by, failures_with}
+use Rattle.run_core.specs.Unreported.{IsNoWant}
 use Rattle.run_core.specs.Proved.Joining.{fault_of_want}
 use Rattle.run_core.specs.Proved.Starting.{failures_for}
 use Rattle.run_core.specs.declared.report.RunFault.{RunFault}
@@ -39,3 +40,8 @@ no_more_by fault.NoMemory n other = refl
 no_more_by fault.NoThread n other = absurd (other refl)
 no_more_by fault.Missing n other = refl
 no_more_by (fault.Disagree place) n other = refl
+
+-- the fault of what was wanting for a session is a want
+pub is_a_want : (lacked : Want) (why : RunFault) → why ≡ fault_of_want lacked → IsNoWant why → ⊥
+is_a_want want.Memory why is none = subst IsNoWant is none
+is_a_want want.Thread why is none = subst IsNoWant is none

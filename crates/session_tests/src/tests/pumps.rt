@@ -1,5 +1,7 @@
 //! How far a pump goes ahead of whoever takes its requests.
 
+ghost use Rattle.std.specs.Prelude.{◌≡◌};
+
 use call_types::call::Call;
 use call_types::request::Request;
 use frame_codec::encode::encode_request;
@@ -70,7 +72,9 @@ struct Listener {
 
 impl Listener {
     /// Takes what is there, if it is awake.
-    fn hear(&mut self) {
+    fn hear(&mut self)
+        ensures { self.new.rings ≡ self.old.rings }
+    {
         if self.is_awake {
             self.taken.take();
         }

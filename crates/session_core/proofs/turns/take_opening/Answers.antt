@@ -8,7 +8,7 @@ use Rattle.session_core.proofs.turns.take_opening.Goals as goal
 
 pub returns-in-Ok-clause-takes : goal.returns-in-Ok-clause-takes
 returns-in-Ok-clause-takes g c =
-    laws.seated c.args.admission c.args.request c.in-Ok-Seated.seat _ _ _ c.receipts.ensures (subst (λ o. IsOpenedAs itself itself c.args.request o) c.in-Ok-Seated.field-0-is c.in-Ok-Seated.ensures.opens) c.in-Ok.ensures.ok
+    laws.seated c.args.admission c.args.request c.in-Ok-Seated.seat _ _ _ c.receipts.ensures.receipts (subst (λ o. IsOpenedAs itself itself c.args.request o) c.in-Ok-Seated.field-0-is c.in-Ok-Seated.ensures.opens) c.in-Ok.ensures.ok
 
 pub returns-in-Err-put_first-clause-takes : goal.returns-in-Err-put_first-clause-takes
 returns-in-Err-put_first-clause-takes g c =
@@ -17,7 +17,7 @@ returns-in-Err-put_first-clause-takes g c =
 
 pub returns-in-Ok-put_first-clause-takes : goal.returns-in-Ok-put_first-clause-takes
 returns-in-Ok-put_first-clause-takes g c =
-    laws.unseated c.args.admission c.args.request c.in-Ok-Refused.seat _ _ _ c.receipts-in-Ok-Refused.ensures (subst (λ o. IsOpenedAs itself itself c.args.request o) c.in-Ok-Refused.field-0-is c.in-Ok-Refused.ensures.opens) c.in-Ok-put_first.ensures.ok
+    laws.unseated c.args.admission c.args.request c.in-Ok-Refused.seat _ _ _ c.receipts-in-Ok-Refused.ensures.receipts (subst (λ o. IsOpenedAs itself itself c.args.request o) c.in-Ok-Refused.field-0-is c.in-Ok-Refused.ensures.opens) c.in-Ok-put_first.ensures.ok
 
 pub returns-in-Err-put_first-2-clause-takes : goal.returns-in-Err-put_first-2-clause-takes
 returns-in-Err-put_first-2-clause-takes g c =
