@@ -38,6 +38,8 @@ UNCOUNTED = re.compile(r"\s*(--|(pub )?use |$)")
 
 # What is seen through definitions of folders `Proved`: each ghost, and those that it names.
 SEEN_THROUGH_PROVED = """
+audit_core Auditing.has_taken: IsTaking
+audit_core Auditing.has_told: IsTold
 audit_core Body.Value: BodyState
 audit_core Judge.Value: JudgeState
 audit_core Judge.view: state_of
@@ -55,13 +57,17 @@ file_extents Shelf.Value: ChunkState
 file_extents Shelf.is_clone: shelved
 file_extents Table.Value: TableState
 file_extents Table.is_clone: chunk_at
+job_core ScriptText.has_told: HasStopped
 job_core ShownTrace.Value: ShownState
+job_core Showing.has_taken: HasShown
+job_core Showing.has_told: HasStopped
 machine_state Machine.Value: Held
 machine_state Machine.view: held_by
 pipe_ring PipeRing.Value: Ring
 posix_model Runs.view: all_bytes
 record_book History.Value: RingState
 record_book Journal.view: state_of
+run_core RunFault.from_gives: fault_of_want
 session_core Desk.Value: DeskState
 session_core MemoryReader.Value: ReaderState
 session_core MemoryWriter.Value: WriterState
@@ -71,6 +77,8 @@ slots Numbered.view: slots_of room_of
 trace_ring TraceRing.Value: RingState
 trace_ring TraceRing.view: ring_state
 trace_writer MemorySink.Value: MemoryState
+trace_writer Migrating.has_taken: HasWritten
+trace_writer Migrating.has_told: HasStopped
 trace_writer Migration.Value: MigrationState
 trace_writer Tracer.Value: TracerState
 """
@@ -78,7 +86,7 @@ trace_writer Tracer.Value: TracerState
 # The crates whose implementations touch the system or are asked by many threads, the traits of others that say nothing
 # of that, and what the implementations say.
 OUTER_CRATES = {"fdref", "system_lock", "trace_writer"}
-OTHER_TRAITS = {"Model", "From"}
+OTHER_TRAITS = {"Model", "From", "Takes"}
 SAID = """
 fdref Listener.accepted: λ listener. listener.accepted
 fdref Listener.coming: λ _. None
@@ -91,9 +99,9 @@ fdref SystemFiles.is_unmade: λ _ _. ⊤
 system_lock OneBook.ended: λ _ _. ⊤
 system_lock OneBook.not_opened: λ _ _. ⊤
 system_lock OneBook.refused: λ _ _ _. ⊤
-system_lock SystemLock.ended: IsEnded
-system_lock SystemLock.not_opened: IsNotOpened
-system_lock SystemLock.refused: IsRefused
+system_lock SystemLock.ended: IsEnded L.limits
+system_lock SystemLock.not_opened: IsNotOpened L.limits
+system_lock SystemLock.refused: IsRefused L.limits
 trace_writer FileSink.contents: λ s. s.file.contents
 trace_writer FileSink.failures: λ s. s.failures
 trace_writer FileSink.is_sound: λ s. true

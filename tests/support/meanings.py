@@ -163,7 +163,7 @@ def owner_of(kind: str, head: str) -> tuple[str, str]:
     """The trait and the type of a block, by what stands before its brace. One that implements no trait has neither."""
     if kind == "trait":
         return re.findall(NAME, head)[0], ""
-    of_type = re.search(rf"(?P<trait>{NAME})(?:<(?:[^<>]|<[^<>]*>)*>)?\s+for\s+(?P<name>{NAME})", head)
+    of_type = re.search(rf"(?P<trait>{NAME})(?:<(?:[^<>]|<[^<>]*>)*>)?\s+for\s+(?P<name>{NAME}|\([^()]*\))", head)
     require(of_type or not re.search(r"\sfor\s", head), f"nobody knows what this implements: impl{head}")
     return (of_type["trait"], of_type["name"]) if of_type else ("", "")
 
