@@ -1,18 +1,13 @@
 -- From a run and the line of its report to what its end says.
-use Rattle.std.proofs.Common.{◌≡◌, ◌∙◌, ◌≤◌, ◌+◌, ◌-◌, ◌^◌, ◌⊎◌, inl, inr, ℕ, Bool, true, false, cond, List, [], ◌∷◌, Option, None, Some, length, refl, sym, ap, subst, arith}
+use Rattle.std.proofs.Common.{◌≡◌, ◌∙◌, ◌≤◌, ◌+◌, inl, inr, ℕ, Bool, true, false, cond, List, Option, None, Some, length, refl, sym, ap, subst, arith}
 use Rattle.std.specs.Prelude.{nat_lt}
-use Rattle.std.proofs.lemmas.Bool.{cases_lt, ltb-true}
-use Rattle.logged_streams.specs.Streams.{LoggedWriterState, Writes, one_more}
-use Rattle.session_core.specs.Served.{failures_after}
-use Rattle.session_core.specs.Starting.{added}
-use Rattle.session_core.specs.declared.end.End.{End}
-use Rattle.session_core.specs.declared.end.End.TheVariants as end
-use Rattle.run_core.specs.Run.{FailsIfFewer, IsRun, ReportedSession, RunTold}
-use Rattle.run_core.specs.Starters.{failures_by, failures_with}
+use Rattle.std.proofs.lemmas.Bool.{ltb-true}
+use Rattle.logged_streams.specs.Streams.{LoggedWriterState, Writes}
+use Rattle.run_core.specs.Run.{FailsIfFewer, IsRun, RunTold}
 use Rattle.run_core.specs.declared.report.RunFault.{RunFault}
 use Rattle.run_core.specs.declared.report.RunFault.TheVariants as fault
 use Rattle.trace_writer.specs.declared.traced.TraceFault.{TraceFault}
-use Rattle.fdref.specs.Serve.{HasMore, IsToldOf, Reported, RunAsked, SinkState, Unreported, WritesReport, end_of_run, is_unstarted, lacks_a_thread, report_line, traced_end}
+use Rattle.fdref.specs.Serve.{IsToldOf, Reported, RunAsked, SinkState, Unreported, WritesReport, end_of_run, lacks_a_thread, report_line, traced_end}
 use Rattle.fdref.specs.Proved.Serving.{end_without_report}
 use Rattle.job_core.specs.Output.{WritesLine}
 use Rattle.job_core.specs.declared.job_end.JobEnd.{JobEnd}
@@ -91,70 +86,3 @@ never_lost fault.NoMemory e = cc
 never_lost fault.NoThread e = cc
 never_lost fault.Missing e = cc
 never_lost (fault.Disagree place) e = cc
-
--- ---- threads that could not be started
-
--- a count is no less than another, or the greatest
-abbrev NotLess : ℕ → ℕ → Type 0
-NotLess before now = (before ≤ now) ⊎ (2 ^ 64 - 1 ≤ now)
-
--- more are counted
-still_not_less : (before now more : ℕ) → NotLess before now → NotLess before (added now more)
-still_not_less before now more (inl grown) = elim (cases_lt (now + more) (2 ^ 64 - 1)) [
-  | inl below ↦ inl (omega (arith, grown, below))
-  | inr past ↦ inr (omega (arith, past))
-]
-still_not_less before now more (inr most) = inr (omega (arith, most))
-
-still_more : (before now more : ℕ) → HasMore before now → HasMore before (added now more)
-still_more before now more (inl grown) = elim (cases_lt (now + more) (2 ^ 64 - 1)) [
-  | inl below ↦ inl (omega (arith, grown, below))
-  | inr past ↦ inr (omega (arith, past))
-]
-still_more before now more (inr most) = inr (omega (arith, most))
-
--- one more is counted
-one_was_more : (before now : ℕ) → NotLess before now → HasMore before (added now 1)
-one_was_more before now (inl grown) = elim (cases_lt (now + 1) (2 ^ 64 - 1)) [
-  | inl below ↦ inl (omega (arith, grown, below))
-  | inr past ↦ inr (omega (arith, past))
-]
-one_was_more before now (inr most) = inr (omega (arith, most))
-
-still_more_with : (sessions : List ReportedSession) (before now : ℕ) → HasMore before now → HasMore before (failures_with sessions now)
-still_more_with [] before now more = more
-still_more_with (s ∷ sessions) before now more = still_more_with sessions before (added now (failures_after s.end_is 0)) (still_more before now (failures_after s.end_is 0) more)
-
-counted_one : (end_is : End) → is_unstarted end_is ≡ true → failures_after end_is 0 ≡ 1
-counted_one end.NoThread is = refl
-counted_one other is = absurd cc
-
--- a session of a report lacks a thread
-lack_counts : (sessions : List ReportedSession) (before now : ℕ) → NotLess before now → lacks_a_thread sessions ≡ true → HasMore before (failures_with sessions now)
-lack_counts [] before now h lacks = absurd cc
-lack_counts (s ∷ sessions) before now h lacks = go (is_unstarted s.end_is) refl
-  where
-    go : (b : Bool) → is_unstarted s.end_is ≡ b → HasMore before (failures_with (s ∷ sessions) now)
-    go true is = still_more_with sessions before (added now (failures_after s.end_is 0)) (subst (λ (n : ℕ). HasMore before (added now n)) (sym (counted_one s.end_is is)) (one_was_more before now h))
-    go false is = lack_counts sessions before (added now (failures_after s.end_is 0)) (still_not_less before now (failures_after s.end_is 0) h) (rw is at lacks)
-
--- it says that a thread was wanting only where that was counted
-pub lacked_a_thread : (line : List ℕ) (old new : LoggedWriterState) (sessions wanted : ℕ) (fault : Option TraceFault) (ends : List ReportedSession) (end : JobEnd) (before after : ℕ)
-    → after ≡ failures_with ends before → WritesLine line (end_of_run sessions wanted fault (lacks_a_thread ends)) old new end → end ≡ ended.NoThread → HasMore before after
-lacked_a_thread line old new sessions wanted fault ends end before after counted (inl (so, appends)) is =
-    rw counted (lack_counts ends before before (inl (omega arith)) (lacks (nat_lt sessions wanted) fault (lacks_a_thread ends) (sym so ∙ is)))
-  where
-    lacks : (b : Bool) (f : Option TraceFault) (l : Bool) → cond b ended.CannotListen (traced_end f l) ≡ ended.NoThread → l ≡ true
-    lacks true f l e = absurd cc
-    lacks false (Some f) l e = absurd cc
-    lacks false None true e = refl
-    lacks false None false e = absurd cc
-lacked_a_thread line old new sessions wanted fault ends end before after counted (inr (inl (cannot, front))) is = let bad : ended.CannotWrite ≡ ended.NoThread = sym cannot ∙ is in absurd cc
-lacked_a_thread line old new sessions wanted fault ends end before after counted (inr (inr (memory, same))) is = let bad : ended.NoMemory ≡ ended.NoThread = sym memory ∙ is in absurd cc
-
--- the same of a run without a report
-pub unstarted_run : (why : RunFault) (ends : List ReportedSession) (before after : ℕ) → after ≡ failures_with ends (failures_by why before) → end_without_report why ≡ ended.NoThread → HasMore before after
-unstarted_run fault.NoMemory ends before after counted e = absurd cc
-unstarted_run fault.NoThread ends before after counted e = rw counted (still_more_with ends before (one_more before) (one_was_more before before (inl (omega arith))))
-unstarted_run fault.Missing ends before after counted e = absurd cc
-unstarted_run (fault.Disagree place) ends before after counted e = absurd cc

@@ -1,5 +1,5 @@
 -- What a run of sessions writes, what its end says, and what its sink has (own).
-use Rattle.std.specs.Prelude.{◌≡◌, ◌≤◌, ◌<◌, ◌-◌, ◌^◌, ◌⊎◌, ℕ, nat_lt, Bool, true, false, List, ◌++◌, Option, None, Some, if◌then◌else◌, codes, decimal, length}
+use Rattle.std.specs.Prelude.{◌≡◌, ◌≤◌, ℕ, nat_lt, Bool, true, false, List, ◌++◌, Option, None, Some, if◌then◌else◌, codes, decimal, length}
 use Rattle.std.specs.List.{list_any}
 use Rattle.call_types.specs.declared.limits.Limits.{Limits}
 use Rattle.logged_streams.specs.Streams.{LoggedWriterState, Writes}
@@ -69,10 +69,6 @@ traced_end None lacks = if lacks then ended.NoThread else ended.Done
 -- thread
 abbrev pub end_of_run : ℕ → ℕ → Option TraceFault → Bool → JobEnd
 end_of_run started wanted fault lacks = if nat_lt started wanted then ended.CannotListen else traced_end fault lacks
-
--- a count has grown, or is the greatest that can be told
-abbrev pub HasMore : ℕ → ℕ → Type 0
-HasMore before after = (before < after) ⊎ (2 ^ 64 - 1 ≤ after)
 
 -- the line reports a run that was asked for, and its trace, which went into the sink and left it so; the run ends so
 pub record IsReport (asked : RunAsked) (sink : SinkState) (line : List ℕ) (end : JobEnd) : Type 0 where

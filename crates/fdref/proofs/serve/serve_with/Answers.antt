@@ -1,9 +1,9 @@
 use Rattle.std.proofs.Common.{◌∙◌, sym, refl}
-use Rattle.fdref.proofs.ServeLemmas.{lacked_a_thread, lost_connection, never_lost, reported, unreported, unstarted_run}
+use Rattle.fdref.proofs.ServeLemmas.{lost_connection, never_lost, reported, unreported}
 use Rattle.fdref.proofs.serve.serve_with.Goals as goal
 
 pub returns-in-Err : goal.returns-in-Err
-returns-in-Err g c = record { reports = rw c.end_without_report.ensures (unreported _ c.in-Err.unreported.fault); failed = λ is. absurd (never_lost c.in-Err.unreported.fault (sym c.end_without_report.ensures ∙ is)); no_thread = λ is. unstarted_run c.in-Err.unreported.fault _ _ _ c.in-Err.ensures.unstarted (sym c.end_without_report.ensures ∙ is) }
+returns-in-Err g c = record { reports = rw c.end_without_report.ensures (unreported _ c.in-Err.unreported.fault); failed = λ is. absurd (never_lost c.in-Err.unreported.fault (sym c.end_without_report.ensures ∙ is)) }
 
 pub returns : goal.returns
 returns g c =
@@ -13,5 +13,4 @@ returns g c =
           (record { always = refl; limits_are = refl; coming_is = refl; later_is = refl; base = refl; before = refl; now = refl; after = refl; is_synced = refl }) ran.run
           (ran.few.0 ∙ c.in-Ok.report.ends.ok.0) ran.few.1 c.write_report-end.ensures;
       failed = λ is. lost_connection _ _ _ c.in-Ok.report.sessions c.args.sessions _ _ _ _ c.write_report-end.result ran.failures c.write_report-end.ensures is;
-      no_thread = λ is. lacked_a_thread _ _ _ c.in-Ok.report.sessions c.args.sessions _ c.in-Ok.report.ends.items c.write_report-end.result _ _ ran.started c.write_report-end.ensures is;
     }
