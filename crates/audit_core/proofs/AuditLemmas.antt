@@ -3,8 +3,9 @@ use Rattle.std.proofs.Common.{◌≡◌, ℕ, List, Result, Ok, Err}
 use Rattle.std.specs.Io.KnownBytes.{Consumes, IsAtEnd}
 use Rattle.logged_streams.specs.Streams.{LoggedReaderState}
 use Rattle.audit_core.specs.Audited.{Audits, MeetsItsEnd}
-use Rattle.audit_core.specs.Proved.Auditing.{IsTold}
-use Rattle.audit_core.specs.Proved.Taking.{TraceState, IsTaking, Ends}
+use Rattle.audit_core.specs.Auditing.{IsTold}
+use Rattle.audit_core.specs.TraceState.{TraceState, IsTaking}
+use Rattle.audit_core.specs.Proved.Taking.{Ends}
 use Rattle.audit_core.specs.declared.audit.AuditFault.{AuditFault}
 use Rattle.audit_core.specs.declared.audit.AuditFault.TheVariants as faults
 use Rattle.audit_core.specs.declared.verdict.Verdict.{Verdict}

@@ -16,7 +16,8 @@ use Rattle.posix_model.specs.Proved.Sound.{ActsAreSound}
 use Rattle.posix_model.specs.Proved.Laws.{StepKeepsWhole}
 use Rattle.posix_model.specs.History.{after, world_from, legal_from, empty_world}
 use Rattle.posix_model.specs.Reserve.{has_reserve, can_end, CanEndFrom}
-use Rattle.audit_core.specs.Proved.Judging.{JudgeState, CanMake, GoesOn, HasJudged, fresh_judge, IsAt}
+use Rattle.audit_core.specs.JudgeState.{JudgeState, HasJudged}
+use Rattle.audit_core.specs.Proved.Judging.{CanMake, GoesOn, fresh_judge, IsAt}
 
 -- what an act comes to can be made
 pub can_make : ActsAreSound → StepKeepsWhole → (j : JudgeState) (actor : ℕ) (act : Act) (d : Decided) → IsWhole j.world → j.told.bounds.file_size ≤ OFFSET_MAX →

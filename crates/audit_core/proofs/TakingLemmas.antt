@@ -7,7 +7,8 @@ use Rattle.frame_codec.specs.Trace.{header}
 use Rattle.frame_codec.specs.declared.trace.Header.{Header}
 use Rattle.frame_codec.specs.declared.trace.Header.TheVariants.{Headed}
 use Rattle.frame_codec.specs.declared.trace.ToldLimits.{ToldLimits}
-use Rattle.audit_core.specs.Proved.Taking.{BodyState, fresh_body, fresh_trace, IsJudging, IsTaking, IsFound, BodyGoesOn, TakesBody, TakesAfter}
+use Rattle.audit_core.specs.TraceState.{BodyState, IsJudging, IsTaking}
+use Rattle.audit_core.specs.Proved.Taking.{fresh_body, fresh_trace, IsFound, BodyGoesOn, TakesBody, TakesAfter}
 use Rattle.audit_core.specs.Verdict.{IsLegal, IsVerdict, IsVerdictAfter, IsVerdictBy}
 use Rattle.audit_core.specs.declared.verdict.Verdict.{Verdict}
 use Rattle.audit_core.specs.declared.verdict.Verdict.TheVariants.{Legal, Illegal, Malformed}

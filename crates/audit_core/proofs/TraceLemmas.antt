@@ -12,8 +12,10 @@ use Rattle.frame_codec.specs.Trace.{frames_of}
 use Rattle.frame_codec.specs.declared.decoder.Progress.{Progress}
 use Rattle.frame_codec.specs.declared.decoder.Progress.TheVariants as steps
 use Rattle.frame_codec.specs.declared.trace.ToldLimits.{ToldLimits}
-use Rattle.audit_core.specs.Proved.Judging.{JudgeState, HasJudged, JudgesAll}
-use Rattle.audit_core.specs.Proved.Taking.{BodyState, IsJudging, BodyGoesOn, fault_at}
+use Rattle.audit_core.specs.JudgeState.{JudgeState, HasJudged}
+use Rattle.audit_core.specs.Proved.Judging.{JudgesAll}
+use Rattle.audit_core.specs.TraceState.{BodyState, IsJudging}
+use Rattle.audit_core.specs.Proved.Taking.{BodyGoesOn, fault_at}
 use Rattle.audit_core.specs.Trace.{HasFrame, HaveFrames, Begins, IsAtFault}
 use Rattle.audit_core.specs.Verdict.{BreaksAt, IsIllegal, IsMalformedAt}
 use Rattle.audit_core.specs.declared.judge.Judged.TheVariants as judged

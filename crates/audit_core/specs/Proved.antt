@@ -2,4 +2,3 @@ pub mod Judging
 pub mod Inside
 pub mod Taking
 pub mod Laws
-pub mod Auditing

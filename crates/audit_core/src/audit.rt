@@ -46,8 +46,8 @@ struct Auditing {
 }
 
 impl Takes<()> for Auditing {
-    ghost use Rattle.audit_core.specs.Proved.Taking.{IsTaking};
-    ghost use Rattle.audit_core.specs.Proved.Auditing.{IsTold};
+    ghost use Rattle.audit_core.specs.TraceState.{IsTaking};
+    ghost use Rattle.audit_core.specs.Auditing.{IsTold};
 
     type Told = Result<Verdict, AuditFault>;
 

@@ -23,7 +23,7 @@ pub(crate) struct Body {
 }
 
 impl Model for Body {
-    ghost use Rattle.audit_core.specs.Proved.Taking.{BodyState};
+    ghost use Rattle.audit_core.specs.TraceState.{BodyState};
 
     ghost Value = { BodyState };
 

@@ -29,11 +29,12 @@ pub struct Judge {
 }
 
 impl Model for Judge {
-    ghost use Rattle.audit_core.specs.Proved.Judging.{JudgeState};
+    ghost use Rattle.audit_core.specs.JudgeState.{JudgeState};
 
     ghost Value = { JudgeState };
 
-    ghost use Rattle.audit_core.specs.Proved.Inside.{state_of, IsJudge};
+    ghost use Rattle.audit_core.specs.JudgeSeen.{state_of};
+    ghost use Rattle.audit_core.specs.Proved.Inside.{IsJudge};
 
     ghost view = { state_of };
 

@@ -19,7 +19,7 @@ pub struct TraceAudit {
 }
 
 impl Model for TraceAudit {
-    ghost use Rattle.audit_core.specs.Proved.Taking.{TraceState};
+    ghost use Rattle.audit_core.specs.TraceState.{TraceState};
 
     ghost Value = { TraceState };
 

@@ -1,3 +1,3 @@
 pub mod Counted
 pub mod Tally
-pub mod Proved
+pub mod Merged

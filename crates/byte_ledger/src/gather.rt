@@ -2,7 +2,7 @@
 
 ghost use Rattle.std.specs.Prelude.{◌≡◌, ◌+◌, ◌<◌, IfOk, IfErr, OnOk};
 ghost use Rattle.byte_ledger.specs.Tally.{Misses};
-ghost use Rattle.byte_ledger.specs.Proved.Merged.{MergedState};
+ghost use Rattle.byte_ledger.specs.Merged.{MergedState};
 
 use crate::tally::{Share, Tally};
 use std::marker::Model;
@@ -31,7 +31,7 @@ pub(crate) struct Merged<L: Ledger> {
 
 impl<L: Ledger> Model for Merged<L> {
     ghost use Rattle.std.specs.Prelude.{◌≡◌, ◌+◌, ◌≤◌};
-    ghost use Rattle.byte_ledger.specs.Proved.Merged.{MergedState};
+    ghost use Rattle.byte_ledger.specs.Merged.{MergedState};
 
     ghost Value = { MergedState };
 

@@ -5,4 +5,5 @@ pub mod Descriptions
 pub mod CallTable
 pub mod Ranges
 pub mod Writing
+pub mod Stored
 pub mod Proved

@@ -1,6 +1,6 @@
 ghost use Rattle.std.specs.Prelude.{◌≡◌, ◌≤◌, ◌==◌, ◌++◌, [], List, ℕ, length, replicate, IfOk, IfSome};
 ghost use Rattle.call_types.specs.declared.limits.TheConstants.{GIVEN_NAME_MAX};
-ghost use Rattle.call_types.specs.Proved.Stored.{stored_name, stored_bytes, span_bytes};
+ghost use Rattle.call_types.specs.Stored.{stored_name, stored_bytes, span_bytes};
 
 use crate::few::{FEW, FewBytes};
 use crate::gathered::{Gathered, Gathering};

@@ -22,7 +22,7 @@ pub struct Gathered {
 
 impl Model for Gathered {
     ghost use Rattle.std.specs.Prelude.{List, ℕ};
-    ghost use Rattle.call_types.specs.Proved.Stored.{gathered_bytes, gathered_room};
+    ghost use Rattle.call_types.specs.Stored.{gathered_bytes, gathered_room};
 
     ghost Value = { List ℕ × ℕ };
 

@@ -2,7 +2,7 @@
 //! kept.
 
 ghost use Rattle.std.specs.Prelude.{◌≡◌, ◌↔◌, true, replicate};
-ghost use Rattle.call_types.specs.Proved.Stored.{span_bytes};
+ghost use Rattle.call_types.specs.Stored.{span_bytes};
 
 use crate::act::{Act, Record};
 use crate::bounded::{Data, Name};

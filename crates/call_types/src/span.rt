@@ -1,5 +1,5 @@
 ghost use Rattle.std.specs.Prelude.{◌≡◌, length, take, drop};
-ghost use Rattle.call_types.specs.Proved.Stored.{span_bytes};
+ghost use Rattle.call_types.specs.Stored.{span_bytes};
 
 /// Bytes, read where they are: a slice of them, or one byte that stands so many times.
 #[derive(Clone, Copy, Debug)]

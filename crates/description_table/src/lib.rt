@@ -4,7 +4,8 @@
 ghost use Rattle.std.specs.Prelude.{◌≡◌, ◌+◌, ◌<◌, ◌≤◌, ◌^◌, ◌∷◌, ◌++◌, [], Some, true, is_some, length, option_copied, OnOk, IsOk};
 ghost use Rattle.std.specs.Option.{option_map};
 ghost use Rattle.slots.specs.Slots.{slot, live, edited};
-ghost use Rattle.slots.specs.Proved.Uses.{uses_at, value_at, last_value, used_once, use_added, use_dropped, with_value};
+ghost use Rattle.slots.specs.UsedSlots.{value_at};
+ghost use Rattle.slots.specs.Proved.Uses.{uses_at, last_value, used_once, use_added, use_dropped, with_value};
 ghost use Rattle.call_types.specs.Descriptions.{described, flags_of};
 ghost use Rattle.description_table.specs.Proved.Drops.{dropped};
 

@@ -5,8 +5,10 @@ use Rattle.std.proofs.lemmas.List.{get_or-take, get_or-drop, get_or_past, get_or
 use Rattle.std.proofs.Math.Seq.{take-nil}
 use Rattle.std.proofs.lemmas.List.FromFn.{length-map-range_with_len, get_or-map-range_with_len}
 use Rattle.posix_model.specs.Bytes.{padded_to, splice, bytes_at}
-use Rattle.file_extents.specs.Proved.Chunks.{ChunkState, KeepsPlaces, Keeps, Edits, Cuts, window}
-use Rattle.file_extents.specs.Proved.Contents.{byte_of, bytes_from, contents, over, ZeroFrom, IsOver}
+use Rattle.file_extents.specs.ChunkTable.{ChunkState}
+use Rattle.file_extents.specs.Proved.Chunks.{KeepsPlaces, Keeps, Edits, Cuts, window}
+use Rattle.file_extents.specs.ExtentsState.{byte_of, bytes_from, contents}
+use Rattle.file_extents.specs.Proved.Contents.{over, ZeroFrom, IsOver}
 use Rattle.file_extents.proofs.Over.{over_below, over_from, over_past, over_same, over_over, padded_place, length_splice, splice_place}
 
 -- an edit of one chunk puts bytes over those of the file

@@ -1,7 +1,8 @@
 -- Room of a file, and of the chunks that it is in.
 use Rattle.std.proofs.Common.{◌≡◌, ℕ, ◌+◌, ◌-◌, ◌≤◌, ◌<◌, ◌/◌, ◌%◌, arith, inl, inr}
 use Rattle.std.proofs.lemmas.Bool.{cases_lt}
-use Rattle.file_extents.specs.Proved.Chunks.{TableState, HasPlaces, KeepsPlaces, chunk_at}
+use Rattle.file_extents.specs.ChunkTable.{TableState, chunk_at}
+use Rattle.file_extents.specs.Proved.Chunks.{HasPlaces, KeepsPlaces}
 use Rattle.file_extents.specs.Proved.Contents.{HasRoom}
 
 pub room_there : (t : TableState) (s n : ℕ) → HasRoom t s n → 0 < n → s % 65536 + n ≤ 65536 → HasPlaces (chunk_at t (s / 65536)) (s % 65536) (s % 65536 + n)

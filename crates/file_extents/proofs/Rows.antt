@@ -6,7 +6,8 @@ use Rattle.std.proofs.lemmas.Bool.Decides.{nat_tests}
 use Rattle.std.proofs.lemmas.List.{get_or_past, get_or_append_left, get_or-append_right, get_or-set_same, get_or-set_other}
 use Rattle.std.proofs.lemmas.List.Elements.{AllZip-get_or, length_all_zip}
 use Rattle.posix_model.specs.Bytes.{splice}
-use Rattle.file_extents.specs.Proved.Chunks.{ChunkState, TableState, HasPlaces, KeepsPlaces, Keeps, Edits, no_chunk, chunk_in, placed, chunk_at, byte_in}
+use Rattle.file_extents.specs.ChunkTable.{ChunkState, TableState, no_chunk, chunk_in, placed, chunk_at, byte_in}
+use Rattle.file_extents.specs.Proved.Chunks.{HasPlaces, KeepsPlaces, Keeps, Edits}
 
 no_byte : (c : ChunkState) (j i : ℕ) → c.bytes ≡ [] → byte_in (get_or (c ∷ []) j no_chunk) i ≡ 0
 no_byte c zero i none = rw none refl

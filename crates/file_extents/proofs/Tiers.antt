@@ -5,7 +5,8 @@ use Rattle.std.proofs.lemmas.Bool.{cases_lt, cases_eq}
 use Rattle.std.proofs.lemmas.List.{get_or_past, get_or-set_same, get_or-set_other}
 use Rattle.std.proofs.lemmas.List.Elements.{AllZip-get_or, length_all_zip}
 use Rattle.posix_model.specs.Bytes.{splice}
-use Rattle.file_extents.specs.Proved.Chunks.{ChunkState, HasPlaces, KeepsPlaces, Edits, chunk_in, row_in, shelved, shelf_in, placed}
+use Rattle.file_extents.specs.ChunkTable.{ChunkState, chunk_in, row_in, shelved, shelf_in, placed}
+use Rattle.file_extents.specs.Proved.Chunks.{HasPlaces, KeepsPlaces, Edits}
 use Rattle.file_extents.proofs.Rows.{kept_if_same}
 
 -- with the node that is not there, the chunk of a node at a place, and the two ways from a number

@@ -1,1 +1,3 @@
+pub mod ChunkTable
+pub mod ExtentsState
 pub mod Proved

@@ -1,7 +1,8 @@
 ghost use Rattle.std.specs.Prelude.{◌≡◌, ℕ, ◌+◌, ◌≤◌, ◌<◌, [], ◌++◌, length, take, slice_index_or, vec_len, vec_capacity, OnOk, IsOk, IfSome};
-ghost use Rattle.call_types.specs.Proved.Stored.{span_bytes};
+ghost use Rattle.call_types.specs.Stored.{span_bytes};
 ghost use Rattle.posix_model.specs.Bytes.{splice};
-ghost use Rattle.file_extents.specs.Proved.Chunks.{window, byte_in, HasPlaces, SameBytes, KeepsPlaces};
+ghost use Rattle.file_extents.specs.ChunkTable.{byte_in};
+ghost use Rattle.file_extents.specs.Proved.Chunks.{window, HasPlaces, SameBytes, KeepsPlaces};
 
 use crate::room::{append_zeros, grow};
 use call_types::span::Span;
@@ -25,7 +26,7 @@ pub(crate) struct Chunk {
 
 impl Model for Chunk {
     ghost use Rattle.std.specs.Prelude.{◌+◌, ◌≤◌, ◌++◌, replicate, vec_capacity};
-    ghost use Rattle.file_extents.specs.Proved.Chunks.{ChunkState};
+    ghost use Rattle.file_extents.specs.ChunkTable.{ChunkState};
 
     ghost Value = { ChunkState };
 

@@ -1,5 +1,5 @@
 ghost use Rattle.std.specs.Prelude.{◌≡◌, ◌+◌, ◌≤◌, ◌<◌, ◌^◌, [], ◌++◌, length, take, vec_len, vec_capacity, IfOk, IfSome, OnOk, IsOk};
-ghost use Rattle.call_types.specs.Proved.Stored.{span_bytes};
+ghost use Rattle.call_types.specs.Stored.{span_bytes};
 ghost use Rattle.posix_model.specs.Bytes.{splice, bytes_at, padded_to};
 ghost use Rattle.file_extents.specs.Proved.Contents.{HasRoom, KeepsRoom};
 
@@ -21,8 +21,9 @@ pub struct Extents {
 
 impl Model for Extents {
     ghost use Rattle.std.specs.Prelude.{◌<◌, ◌^◌};
-    ghost use Rattle.file_extents.specs.Proved.Chunks.{chunk_at};
-    ghost use Rattle.file_extents.specs.Proved.Contents.{ExtentsState, contents, ZeroFrom};
+    ghost use Rattle.file_extents.specs.ChunkTable.{chunk_at};
+    ghost use Rattle.file_extents.specs.ExtentsState.{ExtentsState, contents};
+    ghost use Rattle.file_extents.specs.Proved.Contents.{ZeroFrom};
 
     ghost Value = { ExtentsState };
 

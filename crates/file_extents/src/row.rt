@@ -1,6 +1,7 @@
 ghost use Rattle.std.specs.Prelude.{◌≡◌, ℕ, ◌+◌, ◌≤◌, ◌<◌, [], ◌++◌, length, vec_len, vec_capacity, OnOk, IsOk, IfSome, List};
-ghost use Rattle.call_types.specs.Proved.Stored.{span_bytes};
-ghost use Rattle.file_extents.specs.Proved.Chunks.{ChunkState, chunk_in, window, HasPlaces, Keeps, Edits, Cuts};
+ghost use Rattle.call_types.specs.Stored.{span_bytes};
+ghost use Rattle.file_extents.specs.ChunkTable.{ChunkState, chunk_in};
+ghost use Rattle.file_extents.specs.Proved.Chunks.{window, HasPlaces, Keeps, Edits, Cuts};
 
 use crate::chunk::Chunk;
 use crate::room::{append_zeros, grow};
@@ -114,7 +115,7 @@ impl Row {
 
 impl Clone for Row {
     ghost use Rattle.std.specs.Prelude.{◌≡◌, ℕ};
-    ghost use Rattle.file_extents.specs.Proved.Chunks.{chunk_in};
+    ghost use Rattle.file_extents.specs.ChunkTable.{chunk_in};
 
     ghost is_clone = { λ old new. ((k : ℕ) → (chunk_in new k).bytes ≡ (chunk_in old k).bytes) };
 

@@ -1,6 +1,7 @@
 ghost use Rattle.std.specs.Prelude.{◌≡◌, ℕ, ◌+◌, ◌≤◌, ◌<◌, [], ◌++◌, length, vec_len, vec_capacity, OnOk, IsOk, IfSome, List};
-ghost use Rattle.call_types.specs.Proved.Stored.{span_bytes};
-ghost use Rattle.file_extents.specs.Proved.Chunks.{ChunkState, row_in, shelved, window, HasPlaces, Keeps, Edits, Cuts};
+ghost use Rattle.call_types.specs.Stored.{span_bytes};
+ghost use Rattle.file_extents.specs.ChunkTable.{ChunkState, row_in, shelved};
+ghost use Rattle.file_extents.specs.Proved.Chunks.{window, HasPlaces, Keeps, Edits, Cuts};
 
 use crate::room::{append_zeros, grow};
 use crate::row::{COLUMNS, Row};
@@ -117,7 +118,7 @@ impl Shelf {
 
 impl Clone for Shelf {
     ghost use Rattle.std.specs.Prelude.{◌≡◌, ℕ};
-    ghost use Rattle.file_extents.specs.Proved.Chunks.{shelved};
+    ghost use Rattle.file_extents.specs.ChunkTable.{shelved};
 
     ghost is_clone = { λ old new. ((k : ℕ) → (shelved new k).bytes ≡ (shelved old k).bytes) };
 

@@ -1,8 +1,10 @@
 //! Bytes that stand in one chunk or in two. As at most 65,536 are asked for at once, there is no third.
 ghost use Rattle.std.specs.Prelude.{◌≡◌, ◌+◌, ◌≤◌, ◌<◌, ◌%◌, ◌^◌, ◌++◌, length, vec_len, vec_capacity, OnOk, IsOk, IfSome};
-ghost use Rattle.call_types.specs.Proved.Stored.{span_bytes};
-ghost use Rattle.file_extents.specs.Proved.Chunks.{chunk_at, Keeps};
-ghost use Rattle.file_extents.specs.Proved.Contents.{bytes_from, IsOver, HasRoom};
+ghost use Rattle.call_types.specs.Stored.{span_bytes};
+ghost use Rattle.file_extents.specs.ChunkTable.{chunk_at};
+ghost use Rattle.file_extents.specs.Proved.Chunks.{Keeps};
+ghost use Rattle.file_extents.specs.ExtentsState.{bytes_from};
+ghost use Rattle.file_extents.specs.Proved.Contents.{IsOver, HasRoom};
 
 use crate::chunk::CHUNK;
 use crate::table::Table;

@@ -1,6 +1,7 @@
 ghost use Rattle.std.specs.Prelude.{◌≡◌, ℕ, ◌+◌, ◌≤◌, ◌<◌, [], ◌++◌, length, vec_len, vec_capacity, OnOk, IsOk, IfSome};
-ghost use Rattle.call_types.specs.Proved.Stored.{span_bytes};
-ghost use Rattle.file_extents.specs.Proved.Chunks.{TableState, chunk_at, shelf_in, placed, window, HasPlaces, Keeps, Edits, Cuts};
+ghost use Rattle.call_types.specs.Stored.{span_bytes};
+ghost use Rattle.file_extents.specs.ChunkTable.{TableState, chunk_at, shelf_in, placed};
+ghost use Rattle.file_extents.specs.Proved.Chunks.{window, HasPlaces, Keeps, Edits, Cuts};
 
 use crate::chunk::Chunk;
 use crate::room::append_zeros;
@@ -193,7 +194,7 @@ impl Table {
 
 impl Clone for Table {
     ghost use Rattle.std.specs.Prelude.{◌≡◌, ℕ};
-    ghost use Rattle.file_extents.specs.Proved.Chunks.{chunk_at};
+    ghost use Rattle.file_extents.specs.ChunkTable.{chunk_at};
 
     ghost is_clone = { λ old new. ((k : ℕ) → (chunk_at new k).bytes ≡ (chunk_at old k).bytes) };
 

@@ -4,16 +4,19 @@ use Rattle.std.specs.Prelude.{is_some}
 use Rattle.std.proofs.Math.ListN.{get_or-map}
 use Rattle.slots.specs.declared.used.Used.{Used}
 use Rattle.slots.specs.Slots.{slot, edited}
-use Rattle.slots.specs.Proved.Uses.{value_at, values_in, with_value}
+use Rattle.slots.specs.UsedSlots.{value_at, values_in}
+use Rattle.slots.specs.Proved.Uses.{with_value}
 use Rattle.posix_model.specs.Bytes.{bytes_at}
 use Rattle.posix_model.specs.declared.world.Fifo.{Fifo}
 use Rattle.posix_model.specs.Proved.Whole.{is_regular_file}
-use Rattle.file_extents.specs.Proved.Chunks.{TableState}
-use Rattle.file_extents.specs.Proved.Contents.{ExtentsState, KeepsRoom}
+use Rattle.file_extents.specs.ChunkTable.{TableState}
+use Rattle.file_extents.specs.ExtentsState.{ExtentsState}
+use Rattle.file_extents.specs.Proved.Contents.{KeepsRoom}
 use Rattle.file_table.specs.declared.stored_file.FileBody.{FileBody}
 use Rattle.file_table.specs.declared.stored_file.StoredFile.{StoredFile}
 use Rattle.file_table.specs.declared.stored_file.FileBody.TheVariants as body
-use Rattle.file_table.specs.Proved.Files.{file_in, room_in, edited_body, edited_bytes, file_slot, file_slots, room_slot, room_slots, room_at}
+use Rattle.file_table.specs.StoredFiles.{file_in, room_in, file_slot, file_slots, room_slot, room_slots}
+use Rattle.file_table.specs.Proved.Files.{edited_body, edited_bytes, room_at}
 
 abbrev pub Files : Type 0
 Files = List (Option (Used StoredFile))

@@ -1,1 +1,2 @@
+pub mod StoredFiles
 pub mod Proved

@@ -1,14 +1,15 @@
 ghost use Rattle.std.specs.Prelude.{◌≡◌, ◌+◌, ◌≤◌, ◌<◌, ◌^◌, true, [], length, IfOk, OnOk};
 ghost use Rattle.call_types.specs.declared.limits.TheConstants.{TRANSFER_MAX};
-ghost use Rattle.call_types.specs.Proved.Stored.{span_bytes};
+ghost use Rattle.call_types.specs.Stored.{span_bytes};
 ghost use Rattle.posix_model.specs.Bytes.{bytes_at, splice, resized};
 ghost use Rattle.posix_model.specs.Descriptors.{file_bytes};
 ghost use Rattle.posix_model.specs.Pipes.{fifo_at, unopened};
 ghost use Rattle.posix_model.specs.Proved.Whole.{is_regular_file};
 ghost use Rattle.posix_model.specs.declared.world.File.TheVariants as file;
-ghost use Rattle.file_extents.specs.Proved.Chunks.{TableState};
+ghost use Rattle.file_extents.specs.ChunkTable.{TableState};
 ghost use Rattle.file_extents.specs.Proved.Contents.{HasRoom, KeepsRoom};
-ghost use Rattle.file_table.specs.Proved.Files.{file_in, room_in, edited_bytes, opened_stored, forgetful, other_pipe, openings};
+ghost use Rattle.file_table.specs.StoredFiles.{file_in, room_in};
+ghost use Rattle.file_table.specs.Proved.Files.{edited_bytes, opened_stored, forgetful, other_pipe, openings};
 
 use call_types::bounded::Content;
 use call_types::description::Mode;

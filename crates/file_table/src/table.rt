@@ -1,15 +1,17 @@
 ghost use Rattle.std.specs.Prelude.{◌≡◌, ℕ, ◌+◌, ◌≤◌, ◌<◌, ◌^◌, ◌∷◌, [], ◌++◌, true, is_some, length, IfOk, OnOk, IsOk};
 ghost use Rattle.call_types.specs.declared.limits.TheConstants.{TRANSFER_MAX};
-ghost use Rattle.call_types.specs.Proved.Stored.{span_bytes};
+ghost use Rattle.call_types.specs.Stored.{span_bytes};
 ghost use Rattle.slots.specs.Slots.{slot, edited};
-ghost use Rattle.slots.specs.Proved.Uses.{uses_at, value_at, values_in, used_once, use_added, use_dropped, with_value};
+ghost use Rattle.slots.specs.UsedSlots.{value_at, values_in};
+ghost use Rattle.slots.specs.Proved.Uses.{uses_at, used_once, use_added, use_dropped, with_value};
 ghost use Rattle.posix_model.specs.Bytes.{bytes_at, splice, resized};
 ghost use Rattle.posix_model.specs.Descriptors.{file_bytes};
 ghost use Rattle.posix_model.specs.Pipes.{fifo_at};
 ghost use Rattle.posix_model.specs.Proved.Whole.{is_regular_file};
-ghost use Rattle.file_extents.specs.Proved.Chunks.{TableState};
+ghost use Rattle.file_extents.specs.ChunkTable.{TableState};
 ghost use Rattle.file_extents.specs.Proved.Contents.{HasRoom, KeepsRoom};
-ghost use Rattle.file_table.specs.Proved.Files.{edited_bytes, opened_stored, forgetful, openings, named, unnamed, file_slots, room_slots, room_at, links_at};
+ghost use Rattle.file_table.specs.StoredFiles.{file_slots, room_slots};
+ghost use Rattle.file_table.specs.Proved.Files.{edited_bytes, opened_stored, forgetful, openings, named, unnamed, room_at, links_at};
 
 use crate::stored_file::{FileBody, StoredFile};
 use call_types::bounded::Content;

@@ -11,7 +11,8 @@ use Rattle.frame_codec.specs.Fields.{number_bytes}
 use Rattle.frame_codec.specs.Frames.{frame, told_length, told_payload, IsFrame, IsShort, IsTooLong, AreFrames, StopsWith}
 use Rattle.frame_codec.specs.Decoding.{DecoderState, fresh, told_place, told_progress, AreValues, GoesFrom, GoesOn, StaysSo, FeedsFrom}
 use Rattle.frame_codec.specs.Proved.Filling.{FeedsAll}
-use Rattle.frame_codec.specs.Proved.Laws.{OneForm, CutsDoNotMatter, OneReading, LongestReading, FrontReads, NoFrameThere, HasGiven, Gave, PiecesGoOn}
+use Rattle.frame_codec.specs.Given.{HasGiven}
+use Rattle.frame_codec.specs.Proved.Laws.{OneForm, CutsDoNotMatter, OneReading, LongestReading, FrontReads, NoFrameThere, Gave, PiecesGoOn}
 use Rattle.frame_codec.proofs.ReadingOn.{stays_malformed, stays_too_long}
 
 -- ---- a frame tells its payload, whatever follows it

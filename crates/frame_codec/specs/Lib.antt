@@ -6,4 +6,5 @@ pub mod Frames
 pub mod Encoding
 pub mod Decoding
 pub mod Trace
+pub mod Given
 pub mod Proved

@@ -10,7 +10,8 @@ use Rattle.call_types.specs.declared.limits.TheConstants.{RECORD_LENGTH_MAX}
 use Rattle.frame_codec.specs.Decoding.{DecoderState, Feeds, FeedsFrom, told_place, fresh as fresh_decoder}
 use Rattle.frame_codec.specs.Fields.{number_bytes}
 use Rattle.frame_codec.specs.Frames.{AreFrames, frame}
-use Rattle.frame_codec.specs.Proved.Laws.{Gave, HasEnded, HasGiven, PiecesGoOn}
+use Rattle.frame_codec.specs.Given.{HasGiven}
+use Rattle.frame_codec.specs.Proved.Laws.{Gave, HasEnded, PiecesGoOn}
 use Rattle.frame_codec.specs.Records.{SpellsRecord}
 use Rattle.frame_codec.specs.Trace.{header}
 use Rattle.frame_codec.specs.Proved.Headers.{GoesOn, HeaderGoesOn}
@@ -25,7 +26,8 @@ use Rattle.logged_streams.specs.Streams.{LoggedWriterState, Writes}
 use Rattle.logged_streams.proofs.WriteLemmas.{wrote_nothing, wrote_on}
 use Rattle.job_core.specs.Output.{AppendsFront}
 use Rattle.job_core.specs.Show.{BeginsWith, HasFaultyFrame, BreaksAt, IsLeft, IsRead, OfAll, OfFront, ShowEnds, WritesAll, WritesSome}
-use Rattle.job_core.specs.Proved.Showing.{BodyGives, HasShown, HasStopped, IsBegun, IsFound, IsTaken, IsTakenBy, IsUnderWay, ShownState, ShowsPiece, TakesBody, TakesPiece, WritesPiece, WritesPieceFront, end_with, fault_at, fresh_shown, left_over, left_over_by, lines_after}
+use Rattle.job_core.specs.ShownState.{HasShown, HasStopped, IsBegun, IsTaken, IsTakenBy, IsUnderWay, ShownState, fresh_shown, lines_after}
+use Rattle.job_core.specs.Proved.Showing.{BodyGives, IsFound, ShowsPiece, TakesBody, TakesPiece, WritesPiece, WritesPieceFront, end_with, fault_at, left_over, left_over_by}
 use Rattle.job_core.specs.Shown.{LinesState, line_from, lines_from, next_lines, shown_lines}
 use Rattle.job_core.specs.declared.job_end.JobEnd.{JobEnd}
 use Rattle.job_core.specs.declared.job_end.JobEnd.TheVariants as ended

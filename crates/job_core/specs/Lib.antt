@@ -7,4 +7,6 @@ pub mod Audit
 pub mod Migrate
 pub mod Shown
 pub mod Show
+pub mod ScriptText
+pub mod ShownState
 pub mod Proved

@@ -57,7 +57,7 @@ struct ScriptText {
 
 impl Takes<()> for ScriptText {
     ghost use Rattle.std.specs.Prelude.{◌≡◌};
-    ghost use Rattle.job_core.specs.Proved.Reading.{HasStopped};
+    ghost use Rattle.job_core.specs.ScriptText.{HasStopped};
 
     type Told = Stopped;
 

@@ -3,7 +3,8 @@
 ghost use Rattle.std.specs.Prelude.{◌≡◌, ◌+◌, ◌<◌, ◌^◌, None, length, IfOk};
 ghost use Rattle.job_core.specs.Reads.{ReadsFew};
 ghost use Rattle.job_core.specs.Show.{ShowEnds};
-ghost use Rattle.job_core.specs.Proved.Showing.{ShowsPiece, TakesBody, TakesPiece, end_with, fault_at, fresh_shown, left_over};
+ghost use Rattle.job_core.specs.ShownState.{fresh_shown};
+ghost use Rattle.job_core.specs.Proved.Showing.{ShowsPiece, TakesBody, TakesPiece, end_with, fault_at, left_over};
 
 use crate::job_end::JobEnd;
 use crate::output::write_lines;
@@ -32,7 +33,7 @@ struct ShownTrace {
 }
 
 impl Model for ShownTrace {
-    ghost use Rattle.job_core.specs.Proved.Showing.{ShownState};
+    ghost use Rattle.job_core.specs.ShownState.{ShownState};
 
     ghost Value = { ShownState };
 
@@ -167,7 +168,7 @@ struct Showing {
 }
 
 impl<W: Write> Takes<LoggedWriter<W>> for Showing {
-    ghost use Rattle.job_core.specs.Proved.Showing.{HasShown, HasStopped};
+    ghost use Rattle.job_core.specs.ShownState.{HasShown, HasStopped};
 
     type Told = JobEnd;
 

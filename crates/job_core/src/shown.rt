@@ -2,7 +2,7 @@
 
 ghost use Rattle.std.specs.Prelude.{◌≡◌, ◌+◌, ◌<◌, ◌^◌, ◌++◌, length, OnOk};
 ghost use Rattle.job_core.specs.Shown.{asked_line, children_after, first_lines, forked, is_done, is_exit, is_left, is_other, line_from, lines_from, next_lines, number_of, with_child, without};
-ghost use Rattle.job_core.specs.Proved.Showing.{lines_after};
+ghost use Rattle.job_core.specs.ShownState.{lines_after};
 
 use call_types::act::{Act, Record};
 use call_types::call::Call;

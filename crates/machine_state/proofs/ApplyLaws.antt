@@ -14,7 +14,7 @@ use Rattle.posix_model.specs.declared.change.ProcessEdit.TheVariants as on_proce
 use Rattle.posix_model.specs.declared.change.TableEdit.TheVariants as on_table
 use Rattle.file_table.specs.Proved.Files.{openings}
 use Rattle.machine_state.specs.Proved.Targets.{EndsAreTheirs}
-use Rattle.machine_state.specs.Proved.Held.{Held}
+use Rattle.machine_state.specs.Held.{Held}
 use Rattle.machine_state.specs.Proved.Room.{HasTableRoom}
 use Rattle.slots.proofs.SlotLaws.{same_or_not}
 use Rattle.machine_state.proofs.SlotLaws.{slot_set, slot_added}

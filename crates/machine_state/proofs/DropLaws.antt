@@ -18,16 +18,19 @@ use Rattle.posix_model.specs.Proved.Laws.{Swept, SweepLeaves}
 use Rattle.machine_state.specs.Proved.Types.{World, Process, Description, Target, Mode, File, Used, FileBody, StoredFile, StoredPipe}
 use Rattle.posix_model.specs.declared.world.File.TheVariants as file
 use Rattle.call_types.specs.declared.description.Target.TheVariants as target
-use Rattle.slots.specs.Proved.Uses.{value_at, values_in, use_dropped, with_value}
+use Rattle.slots.specs.UsedSlots.{value_at, values_in}
+use Rattle.slots.specs.Proved.Uses.{use_dropped, with_value}
 use Rattle.description_table.specs.Proved.Drops.{dropped}
 use Rattle.description_table.specs.declared.Dropped.TheVariants.{Gone}
 use Rattle.std.proofs.lemmas.List.{set-get_or}
 use Rattle.machine_state.specs.Proved.Uses.{with_use, without_use, lost}
 use Rattle.file_table.specs.declared.stored_file.FileBody.TheVariants as body
 use Rattle.machine_state.specs.Proved.Targets.{file_of_target, pipes_left, pipe_gone, files_left, forgot, CanLeave, EndsAreTheirs}
-use Rattle.machine_state.specs.Proved.Pipes.{open_ends, pipe_slots}
-use Rattle.file_table.specs.Proved.Files.{unnamed, file_in, file_slot, file_slots, forgetful, forgetful_body, other_pipe, links_at}
-use Rattle.machine_state.specs.Proved.Held.{Stored, world_in}
+use Rattle.machine_state.specs.StoredPipes.{pipe_slots}
+use Rattle.machine_state.specs.Proved.Pipes.{open_ends}
+use Rattle.file_table.specs.StoredFiles.{file_in, file_slot, file_slots}
+use Rattle.file_table.specs.Proved.Files.{unnamed, forgetful, forgetful_body, other_pipe, links_at}
+use Rattle.machine_state.specs.Held.{Stored, world_in}
 use Rattle.machine_state.specs.Proved.Consistent.{IsConsistent}
 use Rattle.slots.proofs.SlotLaws.{same_or_not, other_number, is_itself}
 use Rattle.machine_state.proofs.SlotLaws.{one}

@@ -4,7 +4,8 @@ use Rattle.std.specs.Prelude.{is_some}
 use Rattle.std.proofs.lemmas.List.Sums.{sum_by-cons}
 use Rattle.std.proofs.lemmas.Bool.{lt-ltb, ltb-true}
 use Rattle.slots.specs.Slots.{slot, edited}
-use Rattle.slots.specs.Proved.Uses.{value_at, values_in, used_once, with_value}
+use Rattle.slots.specs.UsedSlots.{value_at, values_in}
+use Rattle.slots.specs.Proved.Uses.{used_once, with_value}
 use Rattle.call_types.specs.Descriptions.{can_read, can_write}
 use Rattle.posix_model.specs.Counts.{refers, is_pipe, reads, writes, readers, writers}
 use Rattle.posix_model.specs.Pipes.{pipe_at}
@@ -17,7 +18,8 @@ use Rattle.call_types.specs.declared.description.Mode.TheVariants as mode
 use Rattle.description_table.specs.declared.Dropped.TheVariants.{Gone}
 use Rattle.machine_state.specs.Proved.Uses.{with_use, without_use}
 use Rattle.pipe_table.specs.Proved.Pipes.{readers_at, writers_at, endless, with_end, without_end, HasEnd, HasEndAt}
-use Rattle.machine_state.specs.Proved.Pipes.{is_end, open_ends, pipe_slots, with_end_at, counted_less}
+use Rattle.machine_state.specs.StoredPipes.{pipe_slots}
+use Rattle.machine_state.specs.Proved.Pipes.{is_end, open_ends, with_end_at, counted_less}
 use Rattle.machine_state.specs.Proved.Targets.{pipes_left}
 use Rattle.slots.proofs.SlotLaws.{is_itself}
 use Rattle.machine_state.proofs.SlotLaws.{one, each_set, each_added, each_edited}

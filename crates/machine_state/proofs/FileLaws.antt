@@ -11,9 +11,11 @@ use Rattle.posix_model.specs.Pipes.{fifo_at, pipe_of_fifo}
 use Rattle.posix_model.specs.Proved.Whole.{is_regular_file}
 use Rattle.machine_state.specs.Proved.Types.{Description, File, Used, TableState, FileBody, StoredFile}
 use Rattle.posix_model.specs.declared.world.File.TheVariants as file
-use Rattle.slots.specs.Proved.Uses.{values_in, with_value}
+use Rattle.slots.specs.UsedSlots.{values_in}
+use Rattle.slots.specs.Proved.Uses.{with_value}
 use Rattle.file_table.specs.declared.stored_file.FileBody.TheVariants as body
-use Rattle.file_table.specs.Proved.Files.{file_in, edited_body, edited_bytes, file_slot, file_slots}
+use Rattle.file_table.specs.StoredFiles.{file_in, file_slot, file_slots}
+use Rattle.file_table.specs.Proved.Files.{edited_body, edited_bytes}
 use Rattle.machine_state.proofs.UseLaws.{there_values, values_edited}
 
 abbrev pub Files : Type 0

@@ -3,7 +3,7 @@ use Rattle.std.proofs.Common.{◌≡◌, ◌≢◌, ℕ, ◌+◌, ◌-◌, ◌�
 use Rattle.std.specs.Prelude.{is_some}
 use Rattle.std.proofs.Math.ListN.{get_or-eq_default}
 use Rattle.slots.specs.Slots.{slot, edited}
-use Rattle.slots.specs.Proved.Uses.{values_in}
+use Rattle.slots.specs.UsedSlots.{values_in}
 use Rattle.machine_state.specs.Proved.Types.{Used}
 use Rattle.machine_state.specs.Proved.Uses.{without_use}
 use Rattle.slots.proofs.SlotLaws.{same_or_not, is_itself}

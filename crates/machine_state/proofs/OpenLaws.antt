@@ -16,14 +16,17 @@ use Rattle.posix_model.specs.Proved.Fits.{IsFree, CanOpen, CanOpenPair, CanOpenE
 use Rattle.machine_state.specs.Proved.Types.{World, Description, Target, Mode, File, Ring, FileBody, StoredPipe}
 use Rattle.call_types.specs.declared.description.Target.TheVariants as target
 use Rattle.call_types.specs.declared.description.Mode.TheVariants as mode
-use Rattle.slots.specs.Proved.Uses.{value_at, values_in, used_once, with_value}
+use Rattle.slots.specs.UsedSlots.{value_at, values_in}
+use Rattle.slots.specs.Proved.Uses.{used_once, with_value}
 use Rattle.machine_state.specs.Proved.Uses.{with_use}
 use Rattle.file_table.specs.declared.stored_file.FileBody.TheVariants as body
 use Rattle.machine_state.specs.Proved.Targets.{file_of_target}
 use Rattle.pipe_table.specs.Proved.Pipes.{endless, with_end}
-use Rattle.machine_state.specs.Proved.Pipes.{open_ends, with_end_at, pipe_slot, pipe_slots}
-use Rattle.file_table.specs.Proved.Files.{file_in, opened_stored, opened_body}
-use Rattle.machine_state.specs.Proved.Held.{Stored, world_in}
+use Rattle.machine_state.specs.StoredPipes.{pipe_slot, pipe_slots}
+use Rattle.machine_state.specs.Proved.Pipes.{open_ends, with_end_at}
+use Rattle.file_table.specs.StoredFiles.{file_in}
+use Rattle.file_table.specs.Proved.Files.{opened_stored, opened_body}
+use Rattle.machine_state.specs.Held.{Stored, world_in}
 use Rattle.machine_state.specs.Proved.Consistent.{IsConsistent}
 use Rattle.slots.proofs.SlotLaws.{is_itself}
 use Rattle.machine_state.proofs.SlotLaws.{one, slot_set, slot_added}

@@ -9,9 +9,11 @@ use Rattle.slots.specs.Slots.{slot, edited}
 use Rattle.posix_model.specs.Descriptors.{pipe_bytes}
 use Rattle.machine_state.specs.Proved.Types.{Mode, Used, StoredPipe}
 use Rattle.call_types.specs.declared.description.Mode.TheVariants as mode
-use Rattle.slots.specs.Proved.Uses.{value_at, values_in, with_value}
-use Rattle.pipe_table.specs.Proved.Pipes.{held_at, block_in, block_slots, block_at, with_end, without_end}
-use Rattle.machine_state.specs.Proved.Pipes.{pipe_slot, pipe_slots}
+use Rattle.slots.specs.UsedSlots.{value_at, values_in}
+use Rattle.slots.specs.Proved.Uses.{with_value}
+use Rattle.pipe_table.specs.Blocks.{block_in, block_slots}
+use Rattle.pipe_table.specs.Proved.Pipes.{held_at, block_at, with_end, without_end}
+use Rattle.machine_state.specs.StoredPipes.{pipe_slot, pipe_slots}
 use Rattle.machine_state.proofs.UseLaws.{slot_values, there_values, values_edited}
 
 abbrev pub Pipes : Type 0

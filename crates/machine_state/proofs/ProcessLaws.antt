@@ -14,9 +14,9 @@ use Rattle.posix_model.specs.Descriptors.{with_descriptor}
 use Rattle.posix_model.specs.Proved.Drops.{closed_below}
 use Rattle.machine_state.specs.Proved.Types.{World, Process, Description}
 use Rattle.posix_model.specs.declared.change.ProcessEdit.TheVariants as on_process
-use Rattle.slots.specs.Proved.Uses.{values_in}
+use Rattle.slots.specs.UsedSlots.{values_in}
 use Rattle.machine_state.specs.Proved.Uses.{with_uses}
-use Rattle.machine_state.specs.Proved.Held.{Stored, world_in}
+use Rattle.machine_state.specs.Held.{Stored, world_in}
 use Rattle.machine_state.specs.Proved.Consistent.{IsConsistent}
 use Rattle.machine_state.proofs.SlotLaws.{each_set, each_added, each_edited}
 use Rattle.machine_state.proofs.UseLaws.{there_values, counted_as, counted_uses, values_uses}

@@ -12,12 +12,15 @@ use Rattle.posix_model.specs.Descriptors.{held_in}
 use Rattle.posix_model.specs.Proved.Whole.{EachThere, StaysOpen}
 use Rattle.posix_model.specs.Kept.{IsThere, IsSettled}
 use Rattle.machine_state.specs.Proved.Types.{Process, Description, Ring, TableState, FileBody, StoredFile, StoredPipe}
-use Rattle.slots.specs.Proved.Uses.{uses_at, value_at, values_in, used_once, use_added, with_value}
+use Rattle.slots.specs.UsedSlots.{value_at, values_in}
+use Rattle.slots.specs.Proved.Uses.{uses_at, used_once, use_added, with_value}
 use Rattle.file_table.specs.declared.stored_file.FileBody.TheVariants as body
-use Rattle.pipe_table.specs.Proved.Pipes.{held_at, readers_at, writers_at, block_slots, block_at, places_left, edited_ring, with_block, HasPlacesAt}
+use Rattle.pipe_table.specs.Blocks.{block_slots}
+use Rattle.pipe_table.specs.Proved.Pipes.{held_at, readers_at, writers_at, block_at, places_left, edited_ring, with_block, HasPlacesAt}
 use Rattle.machine_state.specs.Proved.Pipes.{is_end, open_ends}
-use Rattle.file_table.specs.Proved.Files.{named, file_in, edited_body, edited_bytes, links_at}
-use Rattle.machine_state.specs.Proved.Held.{Stored, world_in}
+use Rattle.file_table.specs.StoredFiles.{file_in}
+use Rattle.file_table.specs.Proved.Files.{named, edited_body, edited_bytes, links_at}
+use Rattle.machine_state.specs.Held.{Stored, world_in}
 use Rattle.machine_state.specs.Proved.Consistent.{IsConsistent}
 use Rattle.posix_model.proofs.NameLemmas.{still_none, one_fewer}
 use Rattle.slots.proofs.SlotLaws.{same_or_not}

@@ -10,7 +10,8 @@ use Rattle.std.proofs.lemmas.Bool.{lt-ltb, ltb-true}
 use Rattle.slots.specs.Slots.{slot, edited}
 use Rattle.posix_model.specs.Counts.{refers}
 use Rattle.machine_state.specs.Proved.Types.{Used}
-use Rattle.slots.specs.Proved.Uses.{uses_at, value_at, values_in, used_once, one_more, one_less, with_value}
+use Rattle.slots.specs.UsedSlots.{value_at, values_in}
+use Rattle.slots.specs.Proved.Uses.{uses_at, used_once, one_more, one_less, with_value}
 use Rattle.machine_state.specs.Proved.Uses.{with_use, with_uses, without_use, lost}
 use Rattle.slots.proofs.SlotLaws.{same_or_not, is_itself}
 use Rattle.machine_state.proofs.SlotLaws.{one, slot_set, slot_added, set_none}

@@ -2,6 +2,5 @@ pub mod Types
 pub mod Uses
 pub mod Pipes
 pub mod Targets
-pub mod Held
 pub mod Consistent
 pub mod Room

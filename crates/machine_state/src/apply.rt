@@ -1,5 +1,5 @@
 ghost use Rattle.std.specs.Prelude.{◌≡◌, ℕ, List, false, true};
-ghost use Rattle.call_types.specs.Proved.Stored.{span_bytes};
+ghost use Rattle.call_types.specs.Stored.{span_bytes};
 ghost use Rattle.posix_model.specs.Change.{with_files, with_processes, with_table, changed};
 ghost use Rattle.posix_model.specs.Proved.Fits.{FilesFit, ProcessFits, TableFits, is_of_names, ends, Fits, FilesProper, ProcessProper, TableProper, IsProper, PutsWithin};
 ghost use Rattle.posix_model.specs.Proved.Whole.{EachThere, IsItsFifo};

@@ -1,6 +1,6 @@
 ghost use Rattle.std.specs.Prelude.{◌≡◌, ℕ, ◌+◌, ◌<◌, ◌≤◌, ◌^◌, ◌≢◌, None, true, is_some, unwrap_or, length, OnOk};
 ghost use Rattle.call_types.specs.declared.limits.TheConstants.{NAMES_MAX, TRANSFER_MAX};
-ghost use Rattle.call_types.specs.Proved.Stored.{span_bytes};
+ghost use Rattle.call_types.specs.Stored.{span_bytes};
 ghost use Rattle.slots.specs.Slots.{slot};
 ghost use Rattle.posix_model.specs.Bytes.{splice, resized};
 ghost use Rattle.call_types.specs.Names.{file_of, with_name, without_name, with_moved_name};
@@ -13,7 +13,8 @@ ghost use Rattle.posix_model.specs.Change.{with_bytes, created, renamed};
 ghost use Rattle.posix_model.specs.Proved.Fits.{NamesFit, NamesProper};
 ghost use Rattle.posix_model.specs.Pipes.{fifo_at, pipe_of_fifo};
 ghost use Rattle.file_extents.specs.Proved.Contents.{HasRoom};
-ghost use Rattle.file_table.specs.Proved.Files.{file_in, room_at};
+ghost use Rattle.file_table.specs.StoredFiles.{file_in};
+ghost use Rattle.file_table.specs.Proved.Files.{room_at};
 ghost use Rattle.machine_state.specs.Proved.Room.{HasNameRoom, KeepsRoom, KeepsTableRoom};
 
 use crate::machine::Machine;

@@ -26,7 +26,7 @@ pub struct Machine {
 }
 
 impl Model for Machine {
-    ghost use Rattle.machine_state.specs.Proved.Held.{Held, held_by, stored_in};
+    ghost use Rattle.machine_state.specs.Held.{Held, held_by, stored_in};
     ghost use Rattle.machine_state.specs.Proved.Consistent.{IsConsistent};
 
     ghost Value = { Held };

@@ -1,6 +1,6 @@
 ghost use Rattle.std.specs.Prelude.{◌≡◌, ◌-◌, ◌≤◌, [], length, take, drop, unwrap_or, OnOk};
 ghost use Rattle.call_types.specs.CallTable.{payload_of};
-ghost use Rattle.call_types.specs.Proved.Stored.{span_bytes};
+ghost use Rattle.call_types.specs.Stored.{span_bytes};
 ghost use Rattle.slots.specs.Slots.{slot, edited};
 ghost use Rattle.process_table.specs.Processes.{parked_of};
 ghost use Rattle.posix_model.specs.Kept.{IsThere};

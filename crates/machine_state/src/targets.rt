@@ -2,7 +2,8 @@
 
 ghost use Rattle.std.specs.Prelude.{◌≡◌, ◌<◌, ◌^◌, true, is_some, Some, ℕ};
 ghost use Rattle.slots.specs.Slots.{slot};
-ghost use Rattle.slots.specs.Proved.Uses.{uses_at, value_at};
+ghost use Rattle.slots.specs.UsedSlots.{value_at};
+ghost use Rattle.slots.specs.Proved.Uses.{uses_at};
 ghost use Rattle.posix_model.specs.Pipes.{pipe_at};
 ghost use Rattle.pipe_table.specs.Proved.Pipes.{readers_at, writers_at, HasEndAt};
 ghost use Rattle.machine_state.specs.Proved.Uses.{with_use, without_use, lost};

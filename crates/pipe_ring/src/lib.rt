@@ -6,7 +6,7 @@
 #![tactic(auto)]
 
 ghost use Rattle.std.specs.Prelude.{◌≡◌, ◌-◌, ◌≤◌, [], ◌++◌, length, min, take, drop, replicate, IfOk, OnOk, IsOk};
-ghost use Rattle.pipe_ring.specs.Proved.Ring.{HasPlaces};
+ghost use Rattle.pipe_ring.specs.Proved.Places.{HasPlaces};
 
 use circular_buffer::HeapCircularBuffer;
 use std::alloc::{AllocError, Global};
@@ -28,7 +28,7 @@ pub struct PipeRing {
 
 impl Model for PipeRing {
     ghost use Rattle.std.specs.Prelude.{length, ◌≤◌};
-    ghost use Rattle.pipe_ring.specs.Proved.Ring.{Ring};
+    ghost use Rattle.pipe_ring.specs.Ring.{Ring};
 
     ghost Value = { Ring };
 

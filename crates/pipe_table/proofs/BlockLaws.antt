@@ -2,10 +2,12 @@
 use Rattle.std.proofs.Common.{◌≡◌, ℕ, zero, suc, ◌≤◌, ◌∙◌, List, [], ◌∷◌, Option, None, Some, set, refl, ap, arith}
 use Rattle.slots.specs.Slots.{slot, edited}
 use Rattle.slots.specs.declared.used.Used.{Used}
-use Rattle.slots.specs.Proved.Uses.{value_at, values_in, with_value}
-use Rattle.pipe_ring.specs.Proved.Ring.{Ring}
+use Rattle.slots.specs.UsedSlots.{value_at, values_in}
+use Rattle.slots.specs.Proved.Uses.{with_value}
+use Rattle.pipe_ring.specs.Ring.{Ring}
 use Rattle.pipe_table.specs.declared.StoredPipe.{StoredPipe}
-use Rattle.pipe_table.specs.Proved.Pipes.{block_in, block_slots, block_at, with_block}
+use Rattle.pipe_table.specs.Blocks.{block_in, block_slots}
+use Rattle.pipe_table.specs.Proved.Pipes.{block_at, with_block}
 
 abbrev pub Pipes : Type 0
 Pipes = List (Option (Used StoredPipe))

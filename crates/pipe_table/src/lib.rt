@@ -10,10 +10,12 @@
 
 ghost use Rattle.std.specs.Prelude.{◌≡◌, ℕ, ◌+◌, ◌-◌, ◌<◌, ◌≤◌, ◌^◌, ◌∷◌, [], ◌++◌, Some, true, is_some, length, take, drop, IfOk, OnOk, IsOk};
 ghost use Rattle.call_types.specs.declared.limits.TheConstants.{TRANSFER_MAX};
-ghost use Rattle.call_types.specs.Proved.Stored.{span_bytes};
+ghost use Rattle.call_types.specs.Stored.{span_bytes};
 ghost use Rattle.slots.specs.Slots.{slot, edited};
-ghost use Rattle.slots.specs.Proved.Uses.{uses_at, value_at, values_in, last_value, used_once, use_added, use_dropped, with_value};
-ghost use Rattle.pipe_table.specs.Proved.Pipes.{held_at, readers_at, writers_at, block_slots, block_at, places_left, edited_ring, with_block, endless, with_end, without_end, HasEnd, HasEndAt, HasPlacesAt};
+ghost use Rattle.slots.specs.UsedSlots.{value_at, values_in};
+ghost use Rattle.slots.specs.Proved.Uses.{uses_at, last_value, used_once, use_added, use_dropped, with_value};
+ghost use Rattle.pipe_table.specs.Blocks.{block_slots};
+ghost use Rattle.pipe_table.specs.Proved.Pipes.{held_at, readers_at, writers_at, block_at, places_left, edited_ring, with_block, endless, with_end, without_end, HasEnd, HasEndAt, HasPlacesAt};
 
 use call_types::bounded::Content;
 use call_types::description::Mode;

@@ -6,7 +6,7 @@ ghost use Rattle.std.specs.Prelude.{◌≡◌, ◌+◌, ◌<◌, ◌≤◌, ◌^
 ghost use Rattle.posix_model.specs.Bytes.{splice, resized};
 ghost use Rattle.slots.specs.Slots.{slot, edited};
 ghost use Rattle.call_types.specs.Names.{file_of};
-ghost use Rattle.call_types.specs.Proved.Stored.{span_bytes};
+ghost use Rattle.call_types.specs.Stored.{span_bytes};
 ghost use Rattle.call_types.specs.Descriptions.{described};
 ghost use Rattle.process_table.specs.Processes.{with_connection, with_parked, with_total, with_entry};
 ghost use Rattle.posix_model.specs.Descriptors.{file_bytes};

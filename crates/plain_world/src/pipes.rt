@@ -4,7 +4,7 @@
 
 ghost use Rattle.std.specs.Prelude.{[], ◌≡◌, ◌+◌, drop, unwrap_or, length, IfOk, OnOk};
 ghost use Rattle.call_types.specs.CallTable.{payload_of};
-ghost use Rattle.call_types.specs.Proved.Stored.{span_bytes};
+ghost use Rattle.call_types.specs.Stored.{span_bytes};
 ghost use Rattle.slots.specs.Slots.{slot, edited};
 ghost use Rattle.process_table.specs.Processes.{parked_of};
 ghost use Rattle.posix_model.specs.Change.{rest_of, after_those, end_of};

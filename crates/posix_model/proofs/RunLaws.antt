@@ -6,7 +6,7 @@ use Rattle.std.proofs.lemmas.List.{take_all, drop_all, take-append-le, drop-appe
 use Rattle.std.proofs.Math.Seq.{take-append-add, drop-append-add, take-nil}
 use Rattle.posix_model.specs.Bytes.{padded_to, splice, bytes_at, resized}
 use Rattle.posix_model.specs.declared.runs.Run.{Run}
-use Rattle.posix_model.specs.Proved.Runs.{run_bytes, all_bytes}
+use Rattle.posix_model.specs.Runs.{run_bytes, all_bytes}
 
 -- one run more
 pub one_run_more : (runs : List Run) (r : Run) → all_bytes (runs ++ r ∷ []) ≡ all_bytes runs ++ run_bytes r

@@ -37,5 +37,6 @@ pub mod History
 pub mod Reserve
 pub mod Turns
 pub mod PipeRecord
+pub mod Runs
 pub mod Proved
 pub mod Kept

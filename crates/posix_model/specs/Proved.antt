@@ -1,4 +1,3 @@
-pub mod Runs
 pub mod Whole
 pub mod Numbers
 pub mod Fits

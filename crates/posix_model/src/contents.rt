@@ -1,5 +1,5 @@
 ghost use Rattle.std.specs.Prelude.{◌≡◌, ◌+◌, ◌≤◌, ◌<◌, ◌^◌, [], ◌++◌, List, ℕ, length, replicate, vec_len, vec_capacity, IfOk, OnOk, OnErr};
-ghost use Rattle.call_types.specs.Proved.Stored.{span_bytes};
+ghost use Rattle.call_types.specs.Stored.{span_bytes};
 ghost use Rattle.posix_model.specs.Bytes.{padded_to, overwritten, splice, bytes_at, resized};
 
 use call_types::span::Span;

@@ -3,9 +3,9 @@
 
 ghost use Rattle.std.specs.Prelude.{◌≡◌, ◌+◌, ◌≤◌, ◌<◌, ◌^◌, [], ◌++◌, length, IfOk, OnOk, OnErr};
 ghost use Rattle.call_types.specs.declared.limits.TheConstants.{TRANSFER_MAX};
-ghost use Rattle.call_types.specs.Proved.Stored.{span_bytes};
+ghost use Rattle.call_types.specs.Stored.{span_bytes};
 ghost use Rattle.posix_model.specs.Bytes.{splice, bytes_at, resized};
-ghost use Rattle.posix_model.specs.Proved.Runs.{run_bytes, all_bytes};
+ghost use Rattle.posix_model.specs.Runs.{run_bytes, all_bytes};
 
 use crate::contents::Contents;
 use call_types::bounded::Content;
@@ -32,7 +32,7 @@ pub struct Runs {
 
 impl Model for Runs {
     ghost use Rattle.std.specs.Prelude.{◌≡◌, ◌<◌, ◌^◌, List, ℕ, length};
-    ghost use Rattle.posix_model.specs.Proved.Runs.{all_bytes};
+    ghost use Rattle.posix_model.specs.Runs.{all_bytes};
 
     ghost Value = { List ℕ };
 

@@ -22,7 +22,8 @@ use Rattle.record_book.specs.Proved.Prepared.{exits_from}
 use Rattle.record_book.proofs.ExitLemmas.{exits_emptied}
 use Rattle.record_book.specs.Proved.House.{closing_of, HasRoom, SameHouse}
 use Rattle.record_book.specs.Proved.Planned.{IsPlanned}
-use Rattle.record_book.specs.Proved.Inside.{records_in, state_of, prepared_closing, IsJournal}
+use Rattle.record_book.specs.JournalSeen.{records_in, state_of}
+use Rattle.record_book.specs.Proved.Inside.{prepared_closing, IsJournal}
 use Rattle.record_book.specs.declared.journal.Journal.TheInside.{Inside}
 use Rattle.record_book.proofs.HistoryLemmas.{world_from-push, legal_from-push}
 

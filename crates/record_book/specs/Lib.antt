@@ -7,4 +7,6 @@ pub mod Openings
 pub mod Ends
 pub mod Runs
 pub mod Resumes
+pub mod HouseReceipts
+pub mod JournalSeen
 pub mod Proved

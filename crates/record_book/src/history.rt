@@ -21,7 +21,7 @@ pub(crate) struct History {
 }
 
 impl Model for History {
-    ghost use Rattle.trace_ring.specs.Proved.RingState.{RingState};
+    ghost use Rattle.trace_ring.specs.RingState.{RingState};
 
     ghost Value = { RingState };
 

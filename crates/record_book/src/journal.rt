@@ -34,7 +34,8 @@ impl Model for Journal {
 
     ghost Value = { BookState };
 
-    ghost use Rattle.record_book.specs.Proved.Inside.{state_of, IsJournal};
+    ghost use Rattle.record_book.specs.JournalSeen.{state_of};
+    ghost use Rattle.record_book.specs.Proved.Inside.{IsJournal};
 
     ghost view = { state_of };
 

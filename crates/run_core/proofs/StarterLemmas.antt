@@ -5,7 +5,7 @@ use Rattle.session_core.specs.Starting.{added}
 use Rattle.run_core.specs.Run.{ReportedSession}
 use Rattle.run_core.specs.Starters.{failures_by, failures_with}
 use Rattle.run_core.specs.Unreported.{IsNoWant}
-use Rattle.run_core.specs.Proved.Joining.{fault_of_want}
+use Rattle.run_core.specs.Wants.{fault_of_want}
 use Rattle.run_core.specs.Proved.Starting.{failures_for}
 use Rattle.run_core.specs.declared.report.RunFault.{RunFault}
 use Rattle.run_core.specs.declared.report.RunFault.TheVariants as fault

@@ -191,7 +191,7 @@ enum Want {
 }
 
 impl From<Want> for RunFault {
-    ghost use Rattle.run_core.specs.Proved.Joining.{fault_of_want};
+    ghost use Rattle.run_core.specs.Wants.{fault_of_want};
 
     ghost from_gives = { λ want fault. fault ≡ fault_of_want want };
 

@@ -4,7 +4,7 @@ ghost use Rattle.std.specs.Prelude.{◌≡◌, ◌≤◌, ◌+◌, ◌*◌, ◌+
 ghost use Rattle.std.specs.Option.{option_map};
 ghost use Rattle.std.specs.List.{flat_map, list_all};
 ghost use Rattle.call_types.specs.declared.limits.TheConstants.{GIVEN_BYTES_MAX};
-ghost use Rattle.call_types.specs.Proved.Stored.{span_bytes};
+ghost use Rattle.call_types.specs.Stored.{span_bytes};
 ghost use Rattle.script_text.specs.Lines.{hex_pair, one_byte, data_word};
 ghost use Rattle.script_text.specs.ReadingData.{hex_bytes, hex_data, repeated_data, data_of};
 ghost use Rattle.script_text.specs.Proved.Decoded.{first_paired};

@@ -18,12 +18,12 @@ use Rattle.session_core.specs.Answering.{AnswersRing, ComesToEnd, IsShutAtItsEnd
 use Rattle.session_core.specs.Proved.Leaving.{answered_of, end_at, seat_of}
 use Rattle.session_core.specs.Proved.Closing.{with_last}
 use Rattle.session_core.specs.Proved.Desk.{HasLeft, IsAtRest, Stands}
-use Rattle.session_core.specs.Proved.Output.{OutputState}
+use Rattle.session_core.specs.OutputState.{OutputState}
 use Rattle.session_core.specs.Proved.Shutting.{ShutIfLeft}
 use Rattle.session_core.specs.Refusals.{RefusalSaid}
 use Rattle.session_core.specs.Said.{EndSaid}
 use Rattle.session_core.specs.Served.{AreTaken, ComesBy, EndsAt}
-use Rattle.session_core.specs.Proved.Stages.{LeftSession, Standing}
+use Rattle.session_core.specs.Stages.{LeftSession, Standing}
 use Rattle.session_core.proofs.ClosingLemmas.{all_written, first_none}
 use Rattle.session_core.proofs.RefusalLemmas.{empty_said, kept_said, with_last_said}
 use Rattle.session_core.proofs.ServeLemmas.{over_here}

@@ -13,13 +13,14 @@ use Rattle.record_book.specs.Seat.{Receipted, SeatState}
 use Rattle.system_lock.specs.Kernel.{Adds}
 use Rattle.session_core.specs.declared.told.Told.{Told}
 use Rattle.session_core.specs.declared.told.Told.TheVariants as told
-use Rattle.session_core.specs.Proved.Stages.{Stage, Turn}
+use Rattle.session_core.specs.Stages.{Stage, Turn}
 use Rattle.session_core.specs.declared.stage.Stage.TheVariants as stage
 use Rattle.session_core.specs.declared.stage.Over.TheVariants as over
 use Rattle.session_core.specs.declared.stage.LeaveCause.TheVariants as why
 use Rattle.session_core.specs.declared.stage.Turn.TheVariants as turn
 use Rattle.session_core.specs.Answers.{receipts_of}
-use Rattle.session_core.specs.Proved.Output.{OutputState, Holds, Puts, Flushes, FailsToSend}
+use Rattle.session_core.specs.OutputState.{OutputState}
+use Rattle.session_core.specs.Proved.Output.{Holds, Puts, Flushes, FailsToSend}
 use Rattle.session_core.specs.Talk.{IsReply, IsParked, Talked, Converses}
 use Rattle.session_core.specs.Served.{IsGranted}
 use Rattle.session_core.specs.Proved.Turns.{goes_on, IsTalking, HasReceipts, IsWaitingAt, OverBy, TakesUp}

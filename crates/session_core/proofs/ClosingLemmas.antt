@@ -16,13 +16,14 @@ use Rattle.session_core.specs.declared.end.End.{End}
 use Rattle.session_core.specs.declared.end.End.TheVariants as end
 use Rattle.session_core.specs.declared.told.Told.{Told}
 use Rattle.session_core.specs.declared.told.Told.TheVariants as told
-use Rattle.session_core.specs.Proved.Stages.{Stage, Over, LeftSession}
+use Rattle.session_core.specs.Stages.{Stage, Over, LeftSession}
 use Rattle.session_core.specs.declared.stage.Stage.TheVariants as stage
 use Rattle.session_core.specs.declared.stage.LeaveCause.{LeaveCause}
 use Rattle.session_core.specs.declared.stage.LeaveCause.TheVariants as why
 use Rattle.session_core.specs.declared.stage.Over.TheVariants as over
 use Rattle.session_core.specs.Answers.{answers_text, told_bytes, receipts_of, IsFrontWritten}
-use Rattle.session_core.specs.Proved.Output.{OutputState, Holds, Broke, SendsAll, FailsToSend}
+use Rattle.session_core.specs.OutputState.{OutputState}
+use Rattle.session_core.specs.Proved.Output.{Holds, Broke, SendsAll, FailsToSend}
 use Rattle.logged_streams.specs.Streams.{LoggedReaderState, LoggedWriterState}
 use Rattle.session_core.specs.Talk.{IsCut, IsUnopened, AreAnswered, Converses}
 use Rattle.session_core.specs.Served.{AreTaken, IsMisplaced, AnswersFirst, AnswersAll, AnswersToCut, HasExited, IsGranted, HasUntold, IsRefusedOpening, IsSeatOf, IsSeated, IsWritten, EndsAt, EndsAfter, EndsFor, ComesBy, ComesTo}

@@ -18,12 +18,12 @@ use Rattle.session_core.specs.declared.end.End.{End}
 use Rattle.session_core.specs.declared.end.End.TheVariants as end
 use Rattle.session_core.specs.declared.told.Told.{Told}
 use Rattle.session_core.specs.declared.told.Told.TheVariants as told
-use Rattle.session_core.specs.Proved.Stages.{Stage, Over, LeftSession}
+use Rattle.session_core.specs.Stages.{Stage, Over, LeftSession}
 use Rattle.session_core.specs.declared.stage.Stage.TheVariants as stage
 use Rattle.session_core.specs.declared.stage.LeaveCause.{LeaveCause}
 use Rattle.session_core.specs.declared.stage.LeaveCause.TheVariants as why
 use Rattle.session_core.specs.declared.stage.Over.TheVariants as over
-use Rattle.session_core.specs.Proved.Output.{OutputState}
+use Rattle.session_core.specs.OutputState.{OutputState}
 use Rattle.session_core.specs.Talk.{Group, AnswersCall, AreCalls, AreParts, IsCut, IsParked, IsPart, IsReply, IsRecordOf, Talked, told_of_all}
 use Rattle.session_core.specs.Proved.Turns.{IsTalking, LeavesBy}
 use Rattle.session_core.specs.Proved.Ends.{IsOver, LeavesOff}

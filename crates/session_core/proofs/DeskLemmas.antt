@@ -11,13 +11,14 @@ use Rattle.record_book.specs.Seat.{SeatState}
 use Rattle.system_lock.specs.declared.kernel.Why.{Why}
 use Rattle.system_lock.specs.declared.kernel.Why.TheVariants as ended_why
 use Rattle.session_core.specs.declared.told.Told.{Told}
-use Rattle.session_core.specs.Proved.Stages.{Stage, Over, Turn, LeftSession}
+use Rattle.session_core.specs.Stages.{Stage, Over, Turn, LeftSession}
 use Rattle.session_core.specs.declared.stage.LeaveCause.{LeaveCause}
 use Rattle.session_core.specs.declared.stage.LeaveCause.TheVariants as why
 use Rattle.session_core.specs.declared.stage.Over.TheVariants as over
 use Rattle.session_core.specs.declared.stage.Stage.TheVariants as stage
 use Rattle.session_core.specs.declared.stage.Turn.TheVariants as turn
-use Rattle.session_core.specs.Proved.Output.{OutputState, FailsToSend, SendsAll, fresh_output}
+use Rattle.session_core.specs.OutputState.{OutputState}
+use Rattle.session_core.specs.Proved.Output.{FailsToSend, SendsAll, fresh_output}
 use Rattle.session_core.specs.Proved.Turns.{IsGivenUp, IsTalking, HasReceipts, TakesUp, TurnBy, WaitsOnce, TurnSays, WaitSays}
 use Rattle.session_core.specs.Talk.{Converses}
 use Rattle.session_core.specs.Refusals.{AreSaid, RefusalSaid}

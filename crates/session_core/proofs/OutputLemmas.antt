@@ -6,7 +6,8 @@ use Rattle.std.proofs.KnownBytes.{Appends-nil, Appends-trans}
 use Rattle.std.specs.Io.KnownBytes.{Appends}
 use Rattle.frame_codec.specs.Decoding.{told_place}
 use Rattle.session_core.specs.Answers.{answers_text, IsFrontWritten}
-use Rattle.session_core.specs.Proved.Output.{OutputState, Holds, Passes, SendsAll, FailsToSend, fresh_output}
+use Rattle.session_core.specs.OutputState.{OutputState}
+use Rattle.session_core.specs.Proved.Output.{Holds, Passes, SendsAll, FailsToSend, fresh_output}
 use Rattle.logged_streams.specs.Streams.{IsBroken, WritesFront}
 
 given_ok : {T E : Type 0} (r : Result T E) {P Q : Type 0} → (P → Q) → OnOk r P → OnOk r Q

@@ -10,12 +10,12 @@ use Rattle.session_core.specs.declared.end.End.{End}
 use Rattle.session_core.specs.declared.end.End.TheVariants as end
 use Rattle.session_core.specs.Proved.Closing.{HangsUpSeat, KeepsSeat, LeavesWith, SendsLast, end_of}
 use Rattle.session_core.specs.declared.stage.Stage.TheVariants as stage
-use Rattle.session_core.specs.Proved.Stages.{LeftSession, Over, Stage, Turn}
+use Rattle.session_core.specs.Stages.{LeftSession, Over, Stage, Turn}
 use Rattle.session_core.specs.declared.stage.Over.TheVariants as over
 use Rattle.session_core.specs.declared.stage.Turn.TheVariants as turn
 use Rattle.session_core.specs.declared.stage.LeaveCause.{LeaveCause}
 use Rattle.session_core.specs.declared.stage.LeaveCause.TheVariants as why
-use Rattle.session_core.specs.Proved.Output.{OutputState}
+use Rattle.session_core.specs.OutputState.{OutputState}
 use Rattle.session_core.specs.Proved.Turns.{PutsGivenUp, TellsWhy, WhyRefused}
 use Rattle.session_core.specs.Said.{EndSaid, SaidEnded}
 use Rattle.session_core.specs.Proved.Saying.{CauseSaid, CauseEndedSaid, IsReadingEnd, OverSaid, TurnSaid}

@@ -24,8 +24,9 @@ use Rattle.session_core.specs.declared.serve.TheConstants.{REQUESTS_AHEAD}
 use Rattle.session_core.specs.declared.stage.LeaveCause.TheVariants as why
 use Rattle.session_core.specs.declared.stage.Over.TheVariants as over
 use Rattle.session_core.specs.declared.told.Told.{Told}
-use Rattle.session_core.specs.Proved.Stages.{Stage, Over}
-use Rattle.session_core.specs.Proved.Output.{OutputState, Holds}
+use Rattle.session_core.specs.Stages.{Stage, Over}
+use Rattle.session_core.specs.OutputState.{OutputState}
+use Rattle.session_core.specs.Proved.Output.{Holds}
 use Rattle.session_core.specs.Proved.Turns.{IsGivenUp, IsTalking, OverBy}
 use Rattle.session_core.specs.Proved.Ends.{IsCutOff, IsMet, IsOver, IsOverHere}
 use Rattle.session_core.specs.Proved.Closing.{ClosesAs, with_last}

@@ -16,7 +16,8 @@ use Rattle.session_core.specs.declared.stage.LeaveCause.{LeaveCause}
 use Rattle.session_core.specs.declared.stage.Over.TheVariants as over
 use Rattle.session_core.specs.declared.stage.Turn.TheVariants as turn
 use Rattle.session_core.specs.Answers.{answers_text, receipts_of}
-use Rattle.session_core.specs.Proved.Output.{OutputState, Holds, Puts}
+use Rattle.session_core.specs.OutputState.{OutputState}
+use Rattle.session_core.specs.Proved.Output.{Holds, Puts}
 use Rattle.session_core.specs.Talk.{IsRecordOf, Talked, IsUnopened, Converses}
 use Rattle.session_core.specs.Served.{IsGranted}
 use Rattle.session_core.specs.Proved.Turns.{IsUntoldOpening, PutsFirst, WhyRefused, PutsGivenUp, TakesUp, LeavesBy}

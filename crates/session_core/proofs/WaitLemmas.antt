@@ -20,7 +20,8 @@ use Rattle.session_core.specs.declared.stage.LeaveCause.{LeaveCause}
 use Rattle.session_core.specs.declared.stage.Over.TheVariants as over
 use Rattle.session_core.specs.declared.stage.Turn.TheVariants as turn
 use Rattle.session_core.specs.Answers.{receipt_of, receipts_of}
-use Rattle.session_core.specs.Proved.Output.{OutputState, Holds, Puts, SendsAll, FailsToSend}
+use Rattle.session_core.specs.OutputState.{OutputState}
+use Rattle.session_core.specs.Proved.Output.{Holds, Puts, SendsAll, FailsToSend}
 use Rattle.session_core.specs.Served.{HasExited, IsGranted}
 use Rattle.session_core.specs.Talk.{Group, told_of_all, told_last, IsReply, IsPart, IsPartTold, AreParts, IsCallGroup, AreCalls, IsWaiting, Talked, Waits, IsWantingLast, IsCut, Converses}
 use Rattle.session_core.specs.Proved.Turns.{goes_on, WhyRefused, PutsGivenUp, EndedBy, IsGivenUp, OverBy, TurnBy, IsWaitingAt}

@@ -5,4 +5,8 @@ pub mod Starting
 pub mod Served
 pub mod Said
 pub mod Refusals
+pub mod DeskState
+pub mod MemoryStreams
+pub mod OutputState
+pub mod Stages
 pub mod Proved

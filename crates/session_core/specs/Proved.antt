@@ -1,5 +1,4 @@
 pub mod Output
-pub mod Stages
 pub mod Turns
 pub mod Ends
 pub mod Closing

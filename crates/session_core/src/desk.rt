@@ -66,7 +66,8 @@ pub(crate) struct Desk<
 impl<D: Naming, W: Write + Connection, G: Gate, L: Ledgers, K: Kernel<Seat<L>, SpentSeat<L>>> Model
     for Desk<D, W, G, L, K> {
     ghost use Rattle.rtrb.specs.Ring.{received};
-    ghost use Rattle.session_core.specs.Proved.Desk.{DeskState, IsRingOf, StandsThere};
+    ghost use Rattle.session_core.specs.DeskState.{DeskState};
+    ghost use Rattle.session_core.specs.Proved.Desk.{IsRingOf, StandsThere};
     ghost use Rattle.session_core.specs.Proved.Shutting.{ShutThere};
 
     ghost Value = { DeskState };

@@ -53,7 +53,7 @@ pub struct MemoryReader {
 
 impl Model for MemoryReader {
     ghost use Rattle.std.specs.Prelude.{◌≤◌, drop, vec_len};
-    ghost use Rattle.session_core.specs.Proved.Memory.{ReaderState};
+    ghost use Rattle.session_core.specs.MemoryStreams.{ReaderState};
 
     ghost Value = { ReaderState };
 
@@ -120,7 +120,7 @@ pub struct MemoryWriter {
 }
 
 impl Model for MemoryWriter {
-    ghost use Rattle.session_core.specs.Proved.Memory.{WriterState};
+    ghost use Rattle.session_core.specs.MemoryStreams.{WriterState};
 
     ghost Value = { WriterState };
 

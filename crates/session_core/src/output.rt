@@ -36,7 +36,7 @@ pub(crate) struct Output<W: Write, G: Gate> {
 
 impl<W: Write, G: Gate> Model for Output<W, G> {
     ghost use Rattle.std.specs.Prelude.{◌≡◌, ◌<◌, ◌≤◌, true, vec_len, vec_capacity};
-    ghost use Rattle.session_core.specs.Proved.Output.{OutputState};
+    ghost use Rattle.session_core.specs.OutputState.{OutputState};
 
     ghost Value = { OutputState };
 

@@ -10,7 +10,8 @@ use Rattle.std.proofs.lemmas.List.Sums.{sum_by-set, sum_by-cons}
 use Rattle.std.proofs.lemmas.Bool.Decides.{nat_tests}
 use Rattle.std.proofs.lemmas.Grind.{common_steps}
 use Rattle.slots.specs.Slots.{slot, live}
-use Rattle.slots.specs.Proved.Entries.{found, slots_of, EntriesRise, IsAt, room_of}
+use Rattle.slots.specs.NumberedSlots.{found, slots_of, room_of}
+use Rattle.slots.specs.Proved.Entries.{EntriesRise, IsAt}
 use Rattle.slots.proofs.SlotLaws.{same_or_not, other_number, is_itself, order, slot_past, slot_added}
 
 module _ {T : Type 0} where

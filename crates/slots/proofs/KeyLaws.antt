@@ -5,11 +5,12 @@ use Rattle.std.proofs.lemmas.List.{get_or-set_same, get_or-set_other}
 use Rattle.std.proofs.lemmas.List.FromFn.{length-map-range_with_len, get_or-map-range_with_len}
 use Rattle.std.proofs.lemmas.List.Sums.{sum_by-set, sum_by-cons}
 use Rattle.slots.specs.Slots.{slot, live}
-use Rattle.slots.specs.Proved.Entries.{room_of}
+use Rattle.slots.specs.NumberedSlots.{room_of}
 use Rattle.slots.proofs.SlotLaws.{one, same_or_not, other_number, is_itself, order, slot_past, slot_added}
 use Rattle.slots.proofs.EntryLaws.{same_slots}
 use Rattle.slots.specs.declared.keyed.Entry.{Entry}
-use Rattle.slots.specs.Proved.Keys.{found, slots_of, AreNumbered, HasNumber}
+use Rattle.slots.specs.KeyedSlots.{found, slots_of}
+use Rattle.slots.specs.Proved.Keys.{AreNumbered, HasNumber}
 
 pub told_same : (m n : ℕ) → (m == n) ≡ true → m ≡ n
 told_same m n told = elim (same_or_not m n) [

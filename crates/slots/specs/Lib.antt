@@ -1,2 +1,5 @@
 pub mod Slots
+pub mod NumberedSlots
+pub mod KeyedSlots
+pub mod UsedSlots
 pub mod Proved

@@ -1,6 +1,7 @@
 ghost use Rattle.std.specs.Prelude.{◌≡◌, ℕ, ◌+◌, ◌<◌, ◌≤◌, ◌∷◌, [], ◌++◌, None, Some, true, is_some, length, slice_set, option_copied, IfSome, IfNone, OnOk, IsOk};
 ghost use Rattle.slots.specs.Slots.{slot, live};
-ghost use Rattle.slots.specs.Proved.Keys.{found, HasNumber};
+ghost use Rattle.slots.specs.KeyedSlots.{found};
+ghost use Rattle.slots.specs.Proved.Keys.{HasNumber};
 
 use crate::ticket::Ticket;
 use slab::Slab;
@@ -64,8 +65,9 @@ pub struct Keyed<T> {
 impl<T> Model for Keyed<T> {
     ghost use Rattle.std.specs.Prelude.{List, Option, ℕ};
     ghost use Rattle.slab.specs.Slab.{slab_len};
-    ghost use Rattle.slots.specs.Proved.Entries.{room_of};
-    ghost use Rattle.slots.specs.Proved.Keys.{slots_of, AreNumbered};
+    ghost use Rattle.slots.specs.NumberedSlots.{room_of};
+    ghost use Rattle.slots.specs.KeyedSlots.{slots_of};
+    ghost use Rattle.slots.specs.Proved.Keys.{AreNumbered};
 
     ghost Value = { List (Option T) × ℕ };
 

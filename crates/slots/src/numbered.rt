@@ -1,6 +1,7 @@
 ghost use Rattle.std.specs.Prelude.{◌≡◌, ℕ, ◌+◌, ◌<◌, ◌≤◌, ◌∷◌, [], ◌++◌, None, Some, true, is_some, length, slice_set, option_copied, IfOk, IfErr, OnOk, IsOk};
 ghost use Rattle.slots.specs.Slots.{slot};
-ghost use Rattle.slots.specs.Proved.Entries.{found, EntriesRise, IsAt};
+ghost use Rattle.slots.specs.NumberedSlots.{found};
+ghost use Rattle.slots.specs.Proved.Entries.{EntriesRise, IsAt};
 
 use std::alloc::{AllocError, Global};
 use std::marker::Model;
@@ -31,7 +32,8 @@ pub struct Numbered<T> {
 
 impl<T> Model for Numbered<T> {
     ghost use Rattle.std.specs.Prelude.{List, Option, ℕ, vec_len, vec_capacity};
-    ghost use Rattle.slots.specs.Proved.Entries.{slots_of, room_of, EntriesRise};
+    ghost use Rattle.slots.specs.NumberedSlots.{slots_of, room_of};
+    ghost use Rattle.slots.specs.Proved.Entries.{EntriesRise};
 
     ghost Value = { List (Option T) × ℕ };
 

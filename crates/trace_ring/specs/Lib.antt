@@ -1,1 +1,3 @@
+pub mod RingSeen
+pub mod RingState
 pub mod Proved

@@ -1,3 +1,2 @@
-pub mod RingState
 pub mod RingInside
 pub mod Trace

@@ -33,11 +33,12 @@ pub struct TraceRing {
 }
 
 impl Model for TraceRing {
-    ghost use Rattle.trace_ring.specs.Proved.RingState.{RingState};
+    ghost use Rattle.trace_ring.specs.RingState.{RingState};
 
     ghost Value = { RingState };
 
-    ghost use Rattle.trace_ring.specs.Proved.RingInside.{ring_state, IsRing};
+    ghost use Rattle.trace_ring.specs.RingSeen.{ring_state};
+    ghost use Rattle.trace_ring.specs.Proved.RingInside.{IsRing};
 
     ghost view = { ring_state };
 

@@ -10,7 +10,8 @@ use Rattle.logged_streams.specs.Reading.{more_calls, taken_max}
 use Rattle.logged_streams.specs.Streams.{IsBroken, IsReadNoMore, IsWell, LogState, LoggedReaderState, LoggedWriterState, Writes, WritesFront, fresh_log}
 use Rattle.logged_streams.proofs.WriteLemmas.{well_on, wrote_nothing, wrote_on}
 use Rattle.trace_writer.specs.Migrations.{IsBegun, IsFront, IsMigrated, IsStopped, MeetsItsFault, Migrates, WritesFew, new_trace}
-use Rattle.trace_writer.specs.Proved.Migrating.{BreaksIn, HasStopped, HasWritten, IsFound, IsMigrating, IsOwn, IsUnderWay, MigrationState, TakesPiece, WritesOut, WritesPiece, WritesRest, fresh_migration, left_over, sent_of}
+use Rattle.trace_writer.specs.MigrationState.{HasStopped, HasWritten, IsMigrating, IsOwn, MigrationState}
+use Rattle.trace_writer.specs.Proved.Migrating.{BreaksIn, IsFound, IsUnderWay, TakesPiece, WritesOut, WritesPiece, WritesRest, fresh_migration, left_over, sent_of}
 use Rattle.trace_writer.specs.declared.migrate.Migrated.{Migrated}
 use Rattle.trace_writer.specs.declared.migrate.MigrateFault.{MigrateFault}
 use Rattle.trace_writer.specs.declared.migrate.MigrateFault.TheVariants as faults

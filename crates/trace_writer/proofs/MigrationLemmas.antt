@@ -8,14 +8,16 @@ use Rattle.call_types.specs.declared.limits.TheConstants.{RECORD_LENGTH_MAX}
 use Rattle.frame_codec.specs.Decoding.{DecoderState, Feeds, told_place}
 use Rattle.frame_codec.specs.Fields.{number_bytes}
 use Rattle.frame_codec.specs.Frames.{AreFrames, frame}
-use Rattle.frame_codec.specs.Proved.Laws.{Gave, HasGiven, PiecesGoOn}
+use Rattle.frame_codec.specs.Given.{HasGiven}
+use Rattle.frame_codec.specs.Proved.Laws.{Gave, PiecesGoOn}
 use Rattle.frame_codec.specs.Records.{SpellsRecord, record_bytes}
 use Rattle.frame_codec.specs.Trace.{frames_of, header_1, header_2, version_1}
 use Rattle.frame_codec.specs.declared.decoder.Progress.{Progress}
 use Rattle.frame_codec.specs.declared.decoder.Progress.TheVariants as progress
 use Rattle.frame_codec.specs.declared.trace.TheConstants.{HEADER_1_LENGTH, HEADER_2_LENGTH}
 use Rattle.trace_writer.specs.Migrations.{HasNoHeader, IsAtFault, IsStopped}
-use Rattle.trace_writer.specs.Proved.Migrating.{BodyGives, HasPassed, IsFound, IsHeaded, IsMigrating, IsUnderWay, LacksHeader, MayPass, MigrationState, PassesOn, Stops, TakesHeader, TakesPiece, fault_at, frames_length, fresh_migration, header_between, new_header}
+use Rattle.trace_writer.specs.MigrationState.{HasPassed, IsHeaded, IsMigrating, MigrationState, new_header}
+use Rattle.trace_writer.specs.Proved.Migrating.{BodyGives, IsFound, IsUnderWay, LacksHeader, MayPass, PassesOn, Stops, TakesHeader, TakesPiece, fault_at, frames_length, fresh_migration, header_between}
 
 pub not_false : (b : Bool) → not b ≡ false → b ≡ true
 not_false true e = refl

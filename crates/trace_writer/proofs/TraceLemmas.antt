@@ -15,7 +15,7 @@ use Rattle.frame_codec.specs.Trace.{header_2, frames_of, text, whole_in}
 use Rattle.frame_codec.specs.declared.trace.ToldLimits.{ToldLimits}
 use Rattle.frame_codec.specs.declared.trace.TheConstants.{HEADER_2_LENGTH}
 use Rattle.logged_streams.specs.Streams.{WritesFront}
-use Rattle.trace_writer.specs.Proved.TracerState.{Writes}
+use Rattle.trace_writer.specs.Proved.TracerInside.{Writes}
 use Rattle.trace_writer.specs.Traces.{BeginsUnspelled, CountsFailures, HasFrame, IsSpelled}
 use Rattle.trace_writer.specs.Proved.Tracing.{MakesFrame}
 use Rattle.trace_writer.specs.declared.traced.TraceFault.{TraceFault}

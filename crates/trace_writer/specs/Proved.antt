@@ -1,4 +1,3 @@
-pub mod TracerState
+pub mod TracerInside
 pub mod Tracing
-pub mod Memory
 pub mod Migrating

@@ -1,7 +1,7 @@
 //! A sink over memory, which fails as it is told to.
 
 ghost use Rattle.std.specs.Prelude.{◌≡◌, ◌+◌, ◌<◌, ◌^◌};
-ghost use Rattle.trace_writer.specs.Proved.Memory.{fresh_sink};
+ghost use Rattle.trace_writer.specs.Memory.{fresh_sink};
 
 use crate::sink::{Sink, SinkFailed};
 use std::alloc::Global;
@@ -65,7 +65,7 @@ pub struct MemorySink {
 }
 
 impl Model for MemorySink {
-    ghost use Rattle.trace_writer.specs.Proved.Memory.{MemoryState};
+    ghost use Rattle.trace_writer.specs.Memory.{MemoryState};
 
     ghost Value = { MemoryState };
 

@@ -118,7 +118,7 @@ struct Migrating {
 }
 
 impl<W: Write> Takes<LoggedWriter<W>> for Migrating {
-    ghost use Rattle.trace_writer.specs.Proved.Migrating.{HasStopped, HasWritten};
+    ghost use Rattle.trace_writer.specs.MigrationState.{HasStopped, HasWritten};
 
     type Told = MigrateFault;
 

@@ -32,7 +32,7 @@ pub(crate) struct Migration {
 impl Model for Migration {
     ghost use Rattle.std.specs.Prelude.{◌≤◌, length};
     ghost use Rattle.frame_codec.specs.Trace.{header_1};
-    ghost use Rattle.trace_writer.specs.Proved.Migrating.{MigrationState};
+    ghost use Rattle.trace_writer.specs.MigrationState.{MigrationState};
 
     ghost Value = { MigrationState };
 

@@ -44,7 +44,8 @@ pub(crate) struct Tracer<S: Sink> {
 impl<S: Sink> Model for Tracer<S> {
     ghost use Rattle.std.specs.Prelude.{map};
     ghost use Rattle.std.specs.Arc.{arc_value};
-    ghost use Rattle.trace_writer.specs.Proved.TracerState.{TracerState, Writes};
+    ghost use Rattle.trace_writer.specs.TracerState.{TracerState};
+    ghost use Rattle.trace_writer.specs.Proved.TracerInside.{Writes};
 
     ghost Value = { TracerState };
 

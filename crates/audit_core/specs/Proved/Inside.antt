@@ -2,12 +2,7 @@
 use Rattle.std.specs.Prelude.{◌≡◌, ◌≤◌}
 use Rattle.call_types.specs.declared.limits.TheConstants.{OFFSET_MAX}
 use Rattle.posix_model.specs.Proved.Whole.{IsWhole}
-use Rattle.audit_core.specs.Proved.Judging.{JudgeState}
 use Rattle.audit_core.specs.declared.judge.Judge.TheInside.{Inside}
-
--- what contracts see of a judge
-abbrev pub state_of : Inside → JudgeState
-state_of j = record { told = j.told; world = j.state.machine.world; place = j.place }
 
 -- in its world nothing refers to what is gone, its pipes hold what the limits say, and no file is longer than an offset can tell
 pub record IsJudge (j : Inside) : Type 0 where

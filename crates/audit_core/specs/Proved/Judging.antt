@@ -1,4 +1,4 @@
--- What the records so far led to, and what is said of the next one (own).
+-- What is said of the next record, and of all (own).
 use Rattle.std.specs.Prelude.{◌≡◌, ◌≢◌, ℕ, ◌+◌, ◌<◌, ◌^◌, ◌⊎◌, true, false, List, Option, None, Some, length, ◌++◌}
 use Rattle.call_types.specs.declared.act.Act.{Act}
 use Rattle.call_types.specs.declared.act.Record.{Record}
@@ -10,17 +10,12 @@ use Rattle.posix_model.specs.declared.change.Decided.{Decided}
 use Rattle.posix_model.specs.Proved.Fits.{Fits, IsProper, PutsWithin}
 use Rattle.posix_model.specs.Proved.Whole.{IsWhole}
 use Rattle.posix_model.specs.Step.{given, stepped, outcome_of}
-use Rattle.posix_model.specs.History.{empty_world, after, world_of}
-use Rattle.posix_model.specs.Reserve.{can_end, IsLegalRun}
+use Rattle.posix_model.specs.History.{empty_world, after}
+use Rattle.posix_model.specs.Reserve.{can_end}
 use Rattle.audit_core.specs.declared.judge.Judged.{Judged}
 use Rattle.audit_core.specs.declared.judge.Judged.TheVariants as judged
 use Rattle.audit_core.specs.Verdict.{BreaksAt}
-
--- what is told of the run, the world after the records so far, and how many they were
-pub record JudgeState : Type 0 where
-  pub told : ToldLimits
-  pub world : World
-  pub place : ℕ
+use Rattle.audit_core.specs.JudgeState.{JudgeState, HasJudged}
 
 -- before the first record
 abbrev pub fresh_judge : ToldLimits → JudgeState
@@ -65,13 +60,6 @@ pub record CanMake (j : JudgeState) (act : Act) (d : Decided) : Type 0 where
   pub puts : PutsWithin j.told.bounds.pipe_capacity j.world d.change.files
   pub whole : IsWhole j.world
   pub whole_after : IsWhole (stepped j.world (given act) d).world
-
--- these records were judged: they are those of a legal run, and led to this world
-pub record HasJudged (told : ToldLimits) (h : List Record) (j : JudgeState) : Type 0 where
-  pub is_legal : IsLegalRun told.bounds told.records h
-  pub told_is : j.told ≡ told
-  pub world : j.world ≡ world_of told.bounds h
-  pub place : j.place ≡ told_place (length h)
 
 -- the first record that breaks stands where the judge stands, up to the greatest number that can be told
 pub record StandsAt (told : ToldLimits) (h : List Record) (place_told : ℕ) (expected : Option Outcome) : Type 0 where

@@ -1,34 +1,18 @@
 -- A trace that is judged as its bytes come, in any pieces (own).
-use Rattle.std.specs.Prelude.{◌≡◌, ℕ, ◌+◌, ◌^◌, ◌<◌, List, [], ◌++◌, Option, None, Some, length, drop}
-use Rattle.call_types.specs.declared.act.Record.{Record}
-use Rattle.call_types.specs.declared.limits.TheConstants.{RECORD_LENGTH_MAX}
-use Rattle.frame_codec.specs.Decoding.{DecoderState, fresh, told_place}
-use Rattle.frame_codec.specs.Proved.Laws.{HasGiven}
-use Rattle.frame_codec.specs.Records.{SpellsRecord}
-use Rattle.frame_codec.specs.Trace.{header}
+use Rattle.std.specs.Prelude.{◌≡◌, ℕ, ◌+◌, ◌^◌, ◌<◌, List, [], ◌++◌, Option, None, Some, length}
+use Rattle.frame_codec.specs.Decoding.{fresh, told_place}
 use Rattle.frame_codec.specs.declared.decoder.Progress.{Progress}
 use Rattle.frame_codec.specs.declared.decoder.Progress.TheVariants as progress
-use Rattle.frame_codec.specs.declared.trace.Header.TheVariants.{Short, Headed}
 use Rattle.frame_codec.specs.declared.trace.ToldLimits.{ToldLimits}
-use Rattle.audit_core.specs.Proved.Judging.{JudgeState, fresh_judge, HasJudged}
+use Rattle.audit_core.specs.Proved.Judging.{fresh_judge}
 use Rattle.audit_core.specs.Verdict.{IsIllegal, IsMalformedAt, IsVerdict}
 use Rattle.audit_core.specs.declared.verdict.Verdict.{Verdict}
 use Rattle.audit_core.specs.declared.verdict.Verdict.TheVariants.{Legal, Illegal, Malformed}
-
--- after a header: how many bytes it has, what is held of the bytes after it, and what their records led to
-pub record BodyState : Type 0 where
-  pub headed : ℕ
-  pub decoder : DecoderState
-  pub judge : JudgeState
+use Rattle.audit_core.specs.TraceState.{BodyState, TraceState, IsJudging, IsTaking}
 
 -- after a header of this length that tells this
 abbrev pub fresh_body : ToldLimits → ℕ → BodyState
 fresh_body told headed = record { headed = headed; decoder = fresh; judge = fresh_judge told }
-
--- the bytes of a header that is not whole, or what comes after one that is
-pub record TraceState : Type 0 where
-  pub front : List ℕ
-  pub body : Option BodyState
 
 -- before the first byte
 abbrev pub fresh_trace : TraceState
@@ -41,12 +25,6 @@ abbrev pub fault_at : Progress → ℕ → Option Verdict
 fault_at progress.More headed = None
 fault_at (progress.Malformed at) headed = Some (Malformed (told_place (at + headed)))
 fault_at (progress.TooLong at) headed = Some (Malformed (told_place (at + headed)))
-
--- these bytes were taken: legal records and what is held
-pub record IsJudging (told : ToldLimits) (body : List ℕ) (b : BodyState) : Type 0 where
-  pub records : List Record
-  pub given : HasGiven SpellsRecord RECORD_LENGTH_MAX body records b.decoder
-  pub judged : HasJudged told records b.judge
 
 -- what is found in these bytes: no fault so far, or their verdict, whatever comes after them
 abbrev pub BodyGoesOn : ToldLimits → List ℕ → BodyState → Option Verdict → Type 0
@@ -69,15 +47,6 @@ pub record TakesAfter (piece : List ℕ) (old new : Option BodyState) (found : O
   pub takes : TakesBody piece before after found
 
 -- ---- all bytes
-
--- these bytes were taken: they end within a header, or have one and after it what a body has taken
-abbrev pub IsTakingBy : List ℕ → List ℕ → Option BodyState → Type 0
-IsTakingBy input front None = (header input ≡ Short) × (front ≡ input)
-IsTakingBy input front (Some b) = (told : ToldLimits) × (header input ≡ Headed told b.headed) × IsJudging told (drop b.headed input) b
-
-pub record IsTaking (input : List ℕ) (t : TraceState) : Type 0 where
-  pub by : IsTakingBy input t.front t.body
-  pub few : length input < 2 ^ 64
 
 -- what is found in these bytes: no fault so far, or their verdict
 abbrev pub IsFound : List ℕ → TraceState → Option Verdict → Type 0

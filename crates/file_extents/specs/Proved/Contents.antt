@@ -1,19 +1,8 @@
--- What chunks are as the bytes of a file.
-use Rattle.std.specs.Prelude.{◌≡◌, ℕ, ◌+◌, ◌-◌, ◌≤◌, ◌<◌, ◌/◌, ◌%◌, nat_lt, List, map, if◌then◌else◌, slice_index_or}
-use Rattle.std.specs.List.{range_with_len}
-use Rattle.file_extents.specs.Proved.Chunks.{ChunkState, TableState, KeepsPlaces, byte_in, chunk_at}
-
--- the byte at a position: zero where none is kept (page of write: a gap reads as zeros)
-abbrev pub byte_of : (ℕ → ChunkState) → ℕ → ℕ
-byte_of chunks position = byte_in (chunks (position / 65536)) (position % 65536)
-
--- so many bytes from a position on (own)
-abbrev pub bytes_from : (ℕ → ChunkState) → ℕ → ℕ → List ℕ
-bytes_from chunks start count = map (byte_of chunks) (range_with_len start count)
-
--- the bytes up to a length (own)
-abbrev pub contents : ℕ → (ℕ → ChunkState) → List ℕ
-contents len chunks = bytes_from chunks 0 len
+-- Bytes written over those of a file, and room for them.
+use Rattle.std.specs.Prelude.{◌≡◌, ℕ, ◌+◌, ◌-◌, ◌≤◌, ◌<◌, ◌/◌, ◌%◌, nat_lt, List, if◌then◌else◌, slice_index_or}
+use Rattle.file_extents.specs.ChunkTable.{ChunkState, TableState, chunk_at}
+use Rattle.file_extents.specs.Proved.Chunks.{KeepsPlaces}
+use Rattle.file_extents.specs.ExtentsState.{byte_of}
 
 -- new bytes over those of a function, from a position on (page of write)
 abbrev pub over : (ℕ → ℕ) → ℕ → List ℕ → ℕ → ℕ
@@ -36,8 +25,3 @@ pub record KeepsRoom (old new : TableState) : Type 0 where
 pub record IsOver (start : ℕ) (new : List ℕ) (old after : ℕ → ChunkState) : Type 0 where
   pub bytes : (p : ℕ) → byte_of after p ≡ over (byte_of old) start new p
   pub room : (k : ℕ) → KeepsPlaces (old k) (after k)
-
--- the bytes of a file, and its chunks, which only HasRoom and KeepsRoom read (own)
-pub record ExtentsState : Type 0 where
-  pub bytes : List ℕ
-  pub table : TableState

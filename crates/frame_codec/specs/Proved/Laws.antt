@@ -12,6 +12,7 @@ use Rattle.call_types.specs.declared.call.Call.TheVariants as calls
 use Rattle.call_types.specs.declared.outcome.Reply.TheVariants as replies
 use Rattle.call_types.specs.declared.outcome.Outcome.{Outcome}
 use Rattle.call_types.specs.declared.outcome.Outcome.TheVariants as outcomes
+use Rattle.frame_codec.specs.Given.{HasGiven}
 
 -- no value's frame begins that of another, so what was written is read again, whatever follows it
 abbrev pub OneForm : {A : Type 0} → (A → List ℕ → Type 0) → ℕ → Type 0
@@ -42,15 +43,6 @@ FrontReads {A} Spells most =
 abbrev pub NoFrameThere : {A : Type 0} → (A → List ℕ → Type 0) → ℕ → Type 0
 NoFrameThere {A} Spells most =
     (value : A) (first more : List ℕ) → IsFrame Spells most value first → IsShort most (first ++ more) ⊎ (IsMalformed Spells most (first ++ more) ⊎ IsTooLong most (first ++ more)) → ⊥
-
--- a decoder without a fault gave these values of a stream, and holds the bytes after their frames
-pub record HasGiven {A : Type 0} (Spells : A → List ℕ → Type 0) (most : ℕ) (stream : List ℕ) (values : List A) (decoder : DecoderState) : Type 0 where
-  pub text : List ℕ
-  pub is : stream ≡ text ++ decoder.held
-  pub frames : AreFrames Spells most values text
-  pub short : IsShort most decoder.held
-  pub before : decoder.before ≡ told_place (length text)
-  pub goes_on : decoder.progress ≡ progress.More
 
 -- the fault with which bytes begin, before which there were so many
 abbrev pub IsFault : {A : Type 0} → (A → List ℕ → Type 0) → ℕ → List ℕ → ℕ → Progress → Type 0

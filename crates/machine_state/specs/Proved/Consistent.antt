@@ -5,13 +5,13 @@ use Rattle.slots.specs.Slots.{slot, live}
 use Rattle.posix_model.specs.Counts.{links, refs, holders, readers, writers}
 use Rattle.posix_model.specs.Proved.Whole.{EachThere}
 use Rattle.posix_model.specs.Kept.{IsSettled}
-use Rattle.slots.specs.Proved.Uses.{values_in}
+use Rattle.slots.specs.UsedSlots.{values_in}
 use Rattle.machine_state.specs.Proved.Types.{Ring}
 use Rattle.machine_state.specs.Proved.Uses.{Counts}
 use Rattle.file_table.specs.Proved.Files.{links_at}
 use Rattle.pipe_table.specs.Proved.Pipes.{readers_at, writers_at}
 use Rattle.machine_state.specs.Proved.Pipes.{open_ends}
-use Rattle.machine_state.specs.Proved.Held.{Stored, world_in}
+use Rattle.machine_state.specs.Held.{Stored, world_in}
 
 -- each count is that of the world, nothing waits for a sweep, each pipe and the spare ring, which is empty, have the one capacity, and there are no
 -- more descriptors, processes, live descriptions and names than the profile allows

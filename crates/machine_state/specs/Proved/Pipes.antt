@@ -1,9 +1,9 @@
 -- The pipes of a machine, and the descriptions that are their ends.
-use Rattle.std.specs.Prelude.{ℕ, Bool, false, List, Option, None, Some, map, min, count_by}
+use Rattle.std.specs.Prelude.{ℕ, Bool, false, List, Option, None, Some, count_by}
 use Rattle.slots.specs.Slots.{edited}
 use Rattle.slots.specs.Proved.Uses.{use_added, with_value}
 use Rattle.posix_model.specs.Counts.{is_pipe}
-use Rattle.machine_state.specs.Proved.Types.{Description, Mode, Used, Ring, StoredPipe}
+use Rattle.machine_state.specs.Proved.Types.{Description, Mode, Used, StoredPipe}
 use Rattle.pipe_table.specs.Proved.Pipes.{with_end, without_end}
 
 -- whether a description is live and an end of this pipe
@@ -15,15 +15,6 @@ is_end number (Some description) = is_pipe number description.target
 abbrev pub open_ends : List (Option Description) → ℕ → ℕ
 open_ends descriptions pipe = count_by (is_end pipe) descriptions
 
--- a slot, as one of the pipes of a world
-abbrev pub pipe_slot : Option StoredPipe → Option (List ℕ)
-pipe_slot None = None
-pipe_slot (Some pipe) = Some pipe.ring.bytes
-
--- the same for each slot
-abbrev pub pipe_slots : List (Option StoredPipe) → List (Option (List ℕ))
-pipe_slots slots = map pipe_slot slots
-
 -- the pipes after one has one end more, if one is named
 abbrev pub with_end_at : Option ℕ → Mode → List (Option (Used StoredPipe)) → List (Option (Used StoredPipe))
 with_end_at None mode pipes = pipes
@@ -33,8 +24,3 @@ with_end_at (Some pipe) mode pipes = use_added pipe (edited pipe (with_value (wi
 abbrev pub counted_less : Option ℕ → Mode → List (Option (Used StoredPipe)) → List (Option (Used StoredPipe))
 counted_less None mode pipes = pipes
 counted_less (Some pipe) mode pipes = edited pipe (with_value (without_end mode)) pipes
-
--- for how many more pipes there is room, where there are so many numbers and places, and this ring is spare
-abbrev pub pipe_room : ℕ → Option Ring → ℕ
-pipe_room places None = 0
-pipe_room places (Some ring) = min places 1

@@ -11,7 +11,7 @@ use Rattle.posix_model.specs.declared.change.TableEdit.TheVariants as on_table
 use Rattle.file_extents.specs.Proved.Contents.{HasRoom as HasBytes, KeepsRoom as KeepsBytes}
 use Rattle.file_table.specs.Proved.Files.{room_at, openings}
 use Rattle.pipe_table.specs.Proved.Pipes.{block_at}
-use Rattle.machine_state.specs.Proved.Held.{Room, Held}
+use Rattle.machine_state.specs.Held.{Room, Held}
 
 -- the room of an edit of names stands reserved
 abbrev pub HasNameRoom : Room → NameEdit → Type 0

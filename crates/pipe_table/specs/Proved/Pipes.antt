@@ -1,11 +1,13 @@
 -- Pipes, each with the counts of its open ends.
-use Rattle.std.specs.Prelude.{◌≡◌, ℕ, ◌+◌, ◌-◌, ◌<◌, List, [], Option, None, Some, map, length, slice_index_or}
+use Rattle.std.specs.Prelude.{◌≡◌, ℕ, ◌+◌, ◌-◌, ◌<◌, List, [], Option, None, Some, length, slice_index_or}
 use Rattle.slots.specs.Slots.{slot}
 use Rattle.slots.specs.declared.used.Used.{Used}
 use Rattle.call_types.specs.declared.description.Mode.{Mode}
 use Rattle.call_types.specs.declared.description.Mode.TheVariants as mode
-use Rattle.pipe_ring.specs.Proved.Ring.{Ring, HasPlaces}
+use Rattle.pipe_ring.specs.Ring.{Ring}
+use Rattle.pipe_ring.specs.Proved.Places.{HasPlaces}
 use Rattle.pipe_table.specs.declared.StoredPipe.{StoredPipe}
+use Rattle.pipe_table.specs.Blocks.{block_in}
 
 -- the bytes of the pipe at a slot; none where it is gone
 abbrev pub held_at : Option StoredPipe → List ℕ
@@ -21,15 +23,6 @@ readers_at (Some pipe) = pipe.readers
 abbrev pub writers_at : Option StoredPipe → ℕ
 writers_at None = 0
 writers_at (Some pipe) = pipe.writers
-
--- how many bytes the pipe at a slot has places for
-abbrev pub block_in : Option StoredPipe → ℕ
-block_in None = 0
-block_in (Some pipe) = pipe.ring.block
-
--- the same for each slot
-abbrev pub block_slots : List (Option StoredPipe) → List ℕ
-block_slots slots = map block_in slots
 
 -- how many bytes the pipe of a number has places for
 abbrev pub block_at : List ℕ → ℕ → ℕ

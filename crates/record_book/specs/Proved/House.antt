@@ -1,13 +1,9 @@
 -- What the house holds until the run is closed.
-use Rattle.std.specs.Prelude.{◌≡◌, ℕ, ◌+◌, ◌≤◌, List, Option, None, Some, vec_len, vec_capacity}
+use Rattle.std.specs.Prelude.{◌≡◌, ℕ, ◌+◌, ◌≤◌, Option, None, Some, vec_len, vec_capacity}
 use Rattle.std.specs.Option.{option_map}
 use Rattle.call_types.specs.declared.act.Record.{Record}
-use Rattle.record_book.specs.Seat.{Receipted}
 use Rattle.record_book.specs.declared.house.House.{House}
-
--- the receipts of the house
-abbrev pub receipts_of : Option House → Option (List Receipted)
-receipts_of house = option_map (λ h. h.receipts.items) house
+use Rattle.record_book.specs.HouseReceipts.{receipts_of}
 
 -- the record of the closing, which is prepared
 abbrev pub closing_of : Option House → Option Record

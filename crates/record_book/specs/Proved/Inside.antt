@@ -1,23 +1,15 @@
 -- What holds of each journal.
-use Rattle.std.specs.Prelude.{◌≡◌, ◌+◌, ◌≤◌, List, Option, None, Some, length, if◌then◌else◌}
+use Rattle.std.specs.Prelude.{◌≡◌, ◌+◌, ◌≤◌, Option, None, Some, length, if◌then◌else◌}
 use Rattle.call_types.specs.declared.act.Record.{Record}
 use Rattle.slots.specs.Slots.{live}
 use Rattle.posix_model.specs.History.{legal, world_of}
 use Rattle.posix_model.specs.declared.world.World.{World}
-use Rattle.record_book.specs.Book.{BookState}
 use Rattle.posix_model.specs.Reserve.{exits_left}
 use Rattle.record_book.specs.Exits.{closing_record}
 use Rattle.record_book.specs.Proved.Prepared.{exits_from}
-use Rattle.record_book.specs.Proved.House.{receipts_of, closing_of, HasRoom}
+use Rattle.record_book.specs.Proved.House.{closing_of, HasRoom}
 use Rattle.record_book.specs.declared.journal.Journal.TheInside.{Inside}
-
--- the records of a journal, in the order of their places
-abbrev pub records_in : Inside → List Record
-records_in b = b.history.sent
-
--- what contracts see of a journal, and of the book that holds it
-abbrev pub state_of : Inside → BookState
-state_of b = record { limits = b.limits; history = records_in b; house = receipts_of b.house; is_traced = b.history.is_taken }
+use Rattle.record_book.specs.JournalSeen.{records_in}
 
 -- the record of the closing is prepared while a run is open
 abbrev pub prepared_closing : World → Option Record

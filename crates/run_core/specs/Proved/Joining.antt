@@ -5,10 +5,7 @@ use Rattle.call_types.specs.declared.limits.Limits.{Limits}
 use Rattle.record_book.specs.Book.{BookState}
 use Rattle.byte_ledger.specs.Counted.{Counted}
 use Rattle.run_core.specs.Run.{ReportedSession, Streams, GivesConnections, Connection, at_start, ServesEach, counted_by, IsClosing}
-use Rattle.run_core.specs.declared.report.RunFault.{RunFault}
-use Rattle.run_core.specs.declared.report.RunFault.TheVariants as fault
 use Rattle.run_core.specs.declared.sessions.Want.{Want}
-use Rattle.run_core.specs.declared.sessions.Want.TheVariants as want
 
 -- the sessions that connections of these streams were served by in a run with these limits, in order, and the shares of all their seats
 pub record IsJoined (limits : Option Limits) (always : Bool) (told : List Streams) (sessions : List ReportedSession) (shares : List Counted) : Type 0 where
@@ -16,11 +13,6 @@ pub record IsJoined (limits : Option Limits) (always : Bool) (told : List Stream
   pub told_are : map at_start connections ≡ told
   pub each : ServesEach limits always connections sessions
   pub shares_are : shares ≡ counted_by connections
-
--- the fault of a run in which this was wanting for a session
-abbrev pub fault_of_want : Want → RunFault
-fault_of_want want.Memory = fault.NoMemory
-fault_of_want want.Thread = fault.NoThread
 
 -- sessions that have ended served the connections that were given, if nothing was wanting for one, and the run is closed
 pub record HasEnded (always : Bool) (limits : Option Limits) (lacked : Option Want) (coming later : Option (List Streams)) (book : BookState) (house : SeatState) (ends : List ReportedSession) (shares : List Counted) : Type 0 where

@@ -8,13 +8,14 @@ use Rattle.session_core.specs.declared.end.End.{End}
 use Rattle.session_core.specs.declared.end.End.TheVariants as end
 use Rattle.session_core.specs.declared.told.Told.{Told}
 use Rattle.session_core.specs.declared.told.Told.TheVariants as told
-use Rattle.session_core.specs.Proved.Stages.{Stage, Over, LeftSession}
+use Rattle.session_core.specs.Stages.{Stage, Over, LeftSession}
 use Rattle.session_core.specs.declared.stage.Stage.TheVariants as stage
 use Rattle.session_core.specs.declared.stage.LeaveCause.{LeaveCause}
 use Rattle.session_core.specs.declared.stage.LeaveCause.TheVariants as why
 use Rattle.session_core.specs.declared.stage.Over.TheVariants as over
 use Rattle.logged_streams.specs.declared.stream_log.TheConstants.{INTERRUPTIONS_MAX}
-use Rattle.session_core.specs.Proved.Output.{OutputState, SendsAll, FailsToSend}
+use Rattle.session_core.specs.OutputState.{OutputState}
+use Rattle.session_core.specs.Proved.Output.{SendsAll, FailsToSend}
 use Rattle.session_core.specs.Proved.Ends.{IsOver, IsOverHere, IsMet}
 use Rattle.session_core.specs.Served.{AreTaken, ComesBy, ComesTo, EndsAt, SessionState}
 use Rattle.logged_streams.specs.Streams.{LoggedReaderState, LoggedWriterState}

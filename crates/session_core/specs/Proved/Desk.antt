@@ -11,14 +11,15 @@ use Rattle.record_book.specs.Seat.{SeatState}
 use Rattle.system_lock.specs.declared.kernel.Why.{Why}
 use Rattle.system_lock.specs.declared.kernel.Why.TheVariants as ended_why
 use Rattle.session_core.specs.declared.told.Told.{Told}
-use Rattle.session_core.specs.Proved.Stages.{Stage, Over, Turn, LeftSession, Standing}
+use Rattle.session_core.specs.Stages.{Stage, Over, Turn, LeftSession, Standing}
 use Rattle.session_core.specs.declared.desk.Attended.{Attended}
 use Rattle.session_core.specs.declared.desk.Attended.TheVariants as attended
 use Rattle.session_core.specs.declared.stage.LeaveCause.{LeaveCause}
 use Rattle.session_core.specs.declared.stage.Over.TheVariants as over
 use Rattle.session_core.specs.declared.stage.Standing.TheVariants as standing
 use Rattle.session_core.specs.declared.stage.Turn.TheVariants as turn
-use Rattle.session_core.specs.Proved.Output.{OutputState, Holds, Broke}
+use Rattle.session_core.specs.OutputState.{OutputState}
+use Rattle.session_core.specs.Proved.Output.{Holds, Broke}
 use Rattle.session_core.specs.Talk.{Converses}
 use Rattle.session_core.specs.Proved.Turns.{IsTalking, IsWaitingAt, IsGivenUp, HasReceipts, OverBy}
 use Rattle.session_core.specs.Proved.Closing.{ClosesBy, KeepsSeat, LeavesAll}
@@ -125,12 +126,6 @@ attended_by (standing.Ready at) = attended.Ready
 attended_by (standing.Waits seat) = attended.Waits
 attended_by (standing.Lost seat) = attended.Left
 attended_by (standing.Left left) = attended.Left
-
--- what a desk holds
-pub record DeskState : Type 0 where
-  pub ring : TakingEnd
-  pub output_is : OutputState
-  pub standing : Option Standing
 
 -- where a session stands after a turn
 abbrev pub StandsBy : (Request → Refusal → Type 0) → (SeatState → Call → Refusal → Type 0) → (SeatState → Why → Type 0) → OutputState → Turn → OutputState → Standing → Type 0

@@ -5,10 +5,11 @@ use Rattle.call_types.specs.declared.request.Request.{Request}
 use Rattle.record_book.specs.Seat.{SeatState}
 use Rattle.frame_codec.specs.declared.decoder.Progress.{Progress}
 use Rattle.frame_codec.specs.declared.decoder.Progress.TheVariants as progress
-use Rattle.session_core.specs.Proved.Stages.{Stage, Over}
+use Rattle.session_core.specs.Stages.{Stage, Over}
 use Rattle.session_core.specs.declared.stage.LeaveCause.TheVariants as why
 use Rattle.session_core.specs.declared.stage.Over.TheVariants as over
-use Rattle.session_core.specs.Proved.Output.{OutputState, Holds, Broke}
+use Rattle.session_core.specs.OutputState.{OutputState}
+use Rattle.session_core.specs.Proved.Output.{Holds, Broke}
 use Rattle.logged_streams.specs.Streams.{LoggedReaderState, IsReadNoMore}
 use Rattle.request_pump.specs.Input.{Begins, AreRequests, IsFault}
 use Rattle.request_pump.specs.Pushes.{PushState}

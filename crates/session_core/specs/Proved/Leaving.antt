@@ -2,8 +2,8 @@
 use Rattle.std.specs.Prelude.{Option, None, Some, Result, Ok, Err}
 use Rattle.record_book.specs.Seat.{Receipted, SeatState}
 use Rattle.session_core.specs.Proved.Closing.{with_last}
-use Rattle.session_core.specs.Proved.Output.{OutputState}
-use Rattle.session_core.specs.Proved.Stages.{Standing}
+use Rattle.session_core.specs.OutputState.{OutputState}
+use Rattle.session_core.specs.Stages.{Standing}
 use Rattle.session_core.specs.declared.answer.AnsweredSeat.TheVariants as seat
 use Rattle.session_core.specs.declared.end.End.{End}
 use Rattle.session_core.specs.declared.stage.Stage.TheVariants as stage

@@ -3,19 +3,7 @@ use Rattle.std.specs.Prelude.{◌≡◌, ℕ, ◌+◌, ◌%◌, ◌≤◌, ◌<�
 use Rattle.std.specs.declared.io.ErrorKind.{ErrorKind}
 use Rattle.std.specs.declared.io.ErrorKind.TheVariants as kinds
 use Rattle.session_core.specs.declared.memory.Manner.{Manner}
-
--- what a reader has left, how often it was read, and how it answers
-pub record ReaderState : Type 0 where
-  pub rest : List ℕ
-  pub calls : ℕ
-  pub manner : Manner
-
--- what a writer holds, how often it was written to and flushed, and how it answers
-pub record WriterState : Type 0 where
-  pub bytes : List ℕ
-  pub calls : ℕ
-  pub flushes : ℕ
-  pub manner : Manner
+use Rattle.session_core.specs.MemoryStreams.{ReaderState}
 
 -- whether this call is the one that fails
 abbrev pub fails_now : Option ℕ → ℕ → Bool

@@ -3,15 +3,9 @@ use Rattle.std.specs.Prelude.{◌≡◌, ℕ, List, [], ◌∷◌, ◌++◌, Opt
 use Rattle.std.specs.Io.KnownBytes.{Appends}
 use Rattle.frame_codec.specs.Decoding.{told_place}
 use Rattle.session_core.specs.Answers.{answers_text, IsFrontWritten}
-use Rattle.logged_streams.specs.Streams.{LoggedWriterState, fresh_log, IsWrittenNoMore}
+use Rattle.logged_streams.specs.Streams.{fresh_log, IsWrittenNoMore}
 use Rattle.session_core.specs.declared.told.Told.{Told}
-
--- the writer; the bytes that are not written yet; how many were, as it is told; and the answers
-pub record OutputState : Type 0 where
-  pub sink : LoggedWriterState
-  pub unsent : List ℕ
-  pub sent : ℕ
-  pub answers : List Told
+use Rattle.session_core.specs.OutputState.{OutputState}
 
 -- nothing was answered
 abbrev pub fresh_output : Option (List ℕ) → OutputState

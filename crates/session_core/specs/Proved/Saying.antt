@@ -5,7 +5,7 @@ use Rattle.call_types.specs.declared.request.Request.{Request}
 use Rattle.record_book.specs.Seat.{SeatState}
 use Rattle.system_lock.specs.declared.kernel.Why.{Why}
 use Rattle.system_lock.specs.declared.kernel.Why.TheVariants as ended_why
-use Rattle.session_core.specs.Proved.Stages.{Over, Turn}
+use Rattle.session_core.specs.Stages.{Over, Turn}
 use Rattle.session_core.specs.declared.stage.LeaveCause.{LeaveCause}
 use Rattle.session_core.specs.declared.stage.LeaveCause.TheVariants as why
 use Rattle.session_core.specs.declared.stage.Over.TheVariants as over

@@ -16,8 +16,8 @@ use Rattle.request_pump.specs.declared.pumped.PumpEnd.TheVariants as pump_end
 use Rattle.session_core.specs.declared.end.End.{End}
 use Rattle.session_core.specs.declared.stage.LeaveCause.{LeaveCause}
 use Rattle.session_core.specs.declared.stage.LeaveCause.TheVariants as why
-use Rattle.session_core.specs.Proved.Stages.{LeftSession}
-use Rattle.session_core.specs.Proved.Output.{OutputState}
+use Rattle.session_core.specs.Stages.{LeftSession}
+use Rattle.session_core.specs.OutputState.{OutputState}
 use Rattle.session_core.specs.Proved.Closing.{session_of}
 use Rattle.session_core.specs.Proved.Desk.{IsEnding}
 use Rattle.session_core.specs.Served.{SessionState}

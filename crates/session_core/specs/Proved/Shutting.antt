@@ -1,7 +1,7 @@
 -- A connection that is shut as soon as its session is left (own).
 use Rattle.std.specs.Prelude.{ℕ, List, Option, None, Some}
-use Rattle.session_core.specs.Proved.Output.{OutputState}
-use Rattle.session_core.specs.Proved.Stages.{Standing}
+use Rattle.session_core.specs.OutputState.{OutputState}
+use Rattle.session_core.specs.Stages.{Standing}
 use Rattle.session_core.specs.declared.stage.Standing.TheVariants as standing
 
 -- a session that stands there is left only with its connection shut

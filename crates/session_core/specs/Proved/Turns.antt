@@ -12,10 +12,11 @@ use Rattle.system_lock.specs.declared.kernel.Why.TheVariants as ended_why
 use Rattle.session_core.specs.declared.told.Told.{Told}
 use Rattle.session_core.specs.declared.told.Told.TheVariants as told
 use Rattle.session_core.specs.Answers.{receipts_of}
-use Rattle.session_core.specs.Proved.Output.{OutputState, Holds, Broke, Puts}
+use Rattle.session_core.specs.OutputState.{OutputState}
+use Rattle.session_core.specs.Proved.Output.{Holds, Broke, Puts}
 use Rattle.session_core.specs.Talk.{IsCut, IsUnopened, Converses, Talked, Waits}
 use Rattle.session_core.specs.Served.{HasExited, IsGranted, IsRefusedOpening}
-use Rattle.session_core.specs.Proved.Stages.{Stage, Over, Turn}
+use Rattle.session_core.specs.Stages.{Stage, Over, Turn}
 use Rattle.session_core.specs.declared.stage.Stage.TheVariants as stage
 use Rattle.session_core.specs.declared.stage.LeaveCause.{LeaveCause}
 use Rattle.session_core.specs.declared.stage.LeaveCause.TheVariants as why

@@ -1,5 +1,5 @@
 -- Slots with a count of their uses, which are empty after the last use.
-use Rattle.std.specs.Prelude.{ℕ, ◌+◌, ◌-◌, nat_lt, List, Option, None, Some, map, slice_set, if◌then◌else◌}
+use Rattle.std.specs.Prelude.{ℕ, ◌+◌, ◌-◌, nat_lt, List, Option, None, Some, slice_set, if◌then◌else◌}
 use Rattle.slots.specs.Slots.{slot, edited}
 use Rattle.slots.specs.declared.used.Used.{Used}
 
@@ -7,15 +7,6 @@ use Rattle.slots.specs.declared.used.Used.{Used}
 abbrev pub uses_at : {T : Type 0} → Option (Used T) → ℕ
 uses_at None = 0
 uses_at (Some used) = used.uses
-
--- what is counted at a slot
-abbrev pub value_at : {T : Type 0} → Option (Used T) → Option T
-value_at None = None
-value_at (Some used) = Some used.value
-
--- the slots without their counts
-abbrev pub values_in : {T : Type 0} → List (Option (Used T)) → List (Option T)
-values_in slots = map value_at slots
 
 -- a new value, with one use
 abbrev pub used_once : {T : Type 0} → T → Used T

@@ -1,7 +1,7 @@
 -- What is done to the ring of a trace (own).
 use Rattle.std.specs.Prelude.{◌≡◌, ℕ, ◌+◌, false, [], ◌∷◌, ◌++◌}
 use Rattle.call_types.specs.declared.act.Record.{Record}
-use Rattle.trace_ring.specs.Proved.RingState.{RingState}
+use Rattle.trace_ring.specs.RingState.{RingState}
 
 -- a ring with room for so many records, and both its ends (own)
 abbrev pub fresh_ring : ℕ → RingState

@@ -3,11 +3,10 @@ use Rattle.std.specs.Prelude.{◌≡◌, ◌≢◌, ℕ, ◌+◌, ◌-◌, ◌*�
 use Rattle.std.specs.Io.KnownBytes.{Appends, IsAtEnd}
 use Rattle.call_types.specs.declared.act.Record.{Record}
 use Rattle.call_types.specs.declared.limits.TheConstants.{RECORD_LENGTH_MAX}
-use Rattle.frame_codec.specs.Decoding.{DecoderState, fresh, told_place}
+use Rattle.frame_codec.specs.Decoding.{fresh, told_place}
 use Rattle.frame_codec.specs.Frames.{AreFrames}
-use Rattle.frame_codec.specs.Proved.Laws.{HasGiven}
 use Rattle.frame_codec.specs.Records.{SpellsRecord}
-use Rattle.frame_codec.specs.Trace.{header_1, header_2, version_1}
+use Rattle.frame_codec.specs.Trace.{header_1}
 use Rattle.frame_codec.specs.declared.decoder.Progress.{Progress}
 use Rattle.frame_codec.specs.declared.decoder.Progress.TheVariants as progress
 use Rattle.frame_codec.specs.declared.trace.TheConstants.{HEADER_1_LENGTH, HEADER_2_LENGTH}
@@ -17,14 +16,9 @@ use Rattle.trace_writer.specs.Migrations.{Becomes, Fails, IsAtFault, IsFront, Is
 use Rattle.trace_writer.specs.declared.migrate.Migrated.{Migrated}
 use Rattle.trace_writer.specs.declared.migrate.MigrateFault.{MigrateFault}
 use Rattle.trace_writer.specs.declared.migrate.MigrateFault.TheVariants as faults
+use Rattle.trace_writer.specs.MigrationState.{MigrationState, HasPassed, new_header, IsMigrating, IsOwn}
 
 -- ---- the old header
-
--- these bytes are so much of the old header, and those after it, of which there are none before all of the header was met
-pub record IsHeaded (met : ℕ) (input body : List ℕ) : Type 0 where
-  pub is : input ≡ take met header_1 ++ body
-  pub within : met ≤ length header_1
-  pub begun : met < length header_1 → body ≡ []
 
 -- the front of a piece goes on with the old header, and the rest comes after it
 pub record TakesHeader (old new : ℕ) (piece rest : List ℕ) : Type 0 where
@@ -43,24 +37,9 @@ pub record LacksHeader (old : ℕ) (piece : List ℕ) : Type 0 where
 
 -- ---- what is passed on
 
--- how many bytes of the old header were met, what the decoder holds, how many records there are, and how many bytes their frames have
-pub record MigrationState : Type 0 where
-  pub met : ℕ
-  pub decoder : DecoderState
-  pub records : ℕ
-  pub passed : ℕ
-
 -- before the first byte
 abbrev pub fresh_migration : MigrationState
 fresh_migration = record { met = 0; decoder = fresh; records = 0; passed = 0 }
-
--- the frames with which these bytes begin were passed on
-pub record HasPassed (body text : List ℕ) (m : MigrationState) : Type 0 where
-  pub values : List Record
-  pub given : HasGiven SpellsRecord RECORD_LENGTH_MAX body values m.decoder
-  pub text_is : text ≡ given.text
-  pub records_are : m.records ≡ length values
-  pub passed_is : m.passed ≡ length text
 
 -- so many bytes come after those that were taken
 pub record MayPass (m : MigrationState) (more : ℕ) : Type 0 where
@@ -103,21 +82,9 @@ fault_at (progress.TooLong at) = Some (told_place (at + HEADER_1_LENGTH))
 
 -- ---- the new header
 
--- what was written of the header, once so much of the old one was met
-abbrev pub new_header : ℕ → List ℕ
-new_header met = if nat_lt met HEADER_1_LENGTH then [] else header_2 version_1
-
 -- what is written of it, if a piece goes on with the old one
 abbrev pub header_between : ℕ → ℕ → List ℕ
 header_between before met = if nat_lt before HEADER_1_LENGTH then new_header met else []
-
--- these bytes were taken without a fault, and this was written
-pub record IsMigrating (input written : List ℕ) (m : MigrationState) : Type 0 where
-  pub body : List ℕ
-  pub text : List ℕ
-  pub headed : IsHeaded m.met input body
-  pub passed : HasPassed body text m
-  pub written_is : written ≡ new_header m.met ++ text
 
 -- so many bytes may still come
 pub record IsUnderWay (m : MigrationState) (more : ℕ) : Type 0 where
@@ -161,13 +128,6 @@ WritesOut was is bytes before (Ok done) = Writes was is bytes
 WritesOut was is bytes before (Err (faults.Write sent)) = BreaksIn was is bytes before sent
 WritesOut was is bytes before (Err other) = ⊥
 
--- a fault that is not the reader's
-abbrev pub IsOwn : MigrateFault → Type 0
-IsOwn faults.Read = ⊥
-IsOwn (faults.Malformed at) = Unit {0}
-IsOwn (faults.Write sent) = Unit {0}
-IsOwn faults.NoMemory = Unit {0}
-
 -- what is told is not of the reader
 abbrev pub TellsOwn : {A : Type 0} → Result A MigrateFault → Type 0
 TellsOwn (Ok done) = Unit {0}
@@ -195,17 +155,3 @@ pub record WritesRest (was is : LoggedWriterState) (m : MigrationState) (found :
   pub own : TellsOwn found
   pub goes : (reader : LoggedReaderState) (input written : List ℕ) → IsMigrating input written m → length input + HEADER_2_LENGTH < 2 ^ 64 → IsAtEnd reader.remaining
       → Becomes reader is input (written ++ front) found
-
--- since the writer was so, these bytes were taken, and what is whole of them was written
-pub record HasWritten (was : LoggedWriterState) (m : MigrationState) (is : LoggedWriterState) (input : List ℕ) : Type 0 where
-  pub written : List ℕ
-  pub writes : Writes was is written
-  pub migrating : IsMigrating input written m
-
--- since the writer was so, these bytes were taken, and there is this fault, whatever the reader has left
-pub record HasStopped (was is : LoggedWriterState) (input : List ℕ) (fault : MigrateFault) : Type 0 where
-  pub written : List ℕ
-  pub appends : Appends was.contents is.contents written
-  pub few : WritesFew {A = Migrated} was.log is.log (length written) (Err fault)
-  pub fails : (reader : LoggedReaderState) → Fails reader is input written fault
-  pub is_own : IsOwn fault

@@ -6,7 +6,7 @@ use Rattle.frame_codec.specs.Frames.{frame}
 use Rattle.frame_codec.specs.Records.{record_bytes}
 use Rattle.frame_codec.specs.declared.encode.TheConstants.{RECORD_FRAME_MAX}
 use Rattle.trace_writer.specs.Traces.{BeginsUnspelled, HasFrame, IsTrace}
-use Rattle.trace_writer.specs.Proved.TracerState.{TracerState}
+use Rattle.trace_writer.specs.TracerState.{TracerState}
 use Rattle.trace_writer.specs.declared.traced.TraceFault.{TraceFault}
 use Rattle.trace_writer.specs.declared.traced.TraceFault.TheVariants as faults
 

@@ -1,5 +1,5 @@
 use Rattle.std.proofs.Common.{[], ◌∷◌, ◌++◌}
-use Rattle.file_extents.specs.Proved.Chunks.{chunk_in}
+use Rattle.file_extents.specs.ChunkTable.{chunk_in}
 use Rattle.file_extents.proofs.Rows.{added, kept_both}
 use Rattle.file_extents.proofs.row.add_chunks.Goals as goal
 

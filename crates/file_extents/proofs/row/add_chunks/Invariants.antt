@@ -1,5 +1,6 @@
 use Rattle.std.proofs.Common.{◌-◌, vec_len}
-use Rattle.file_extents.specs.Proved.Chunks.{chunk_in, Keeps}
+use Rattle.file_extents.specs.ChunkTable.{chunk_in}
+use Rattle.file_extents.specs.Proved.Chunks.{Keeps}
 use Rattle.file_extents.proofs.row.add_chunks.Given as goal
 
 abbrev pub invariant-loop-alloc : goal.invariant-loop-alloc

@@ -1,5 +1,5 @@
 use Rattle.std.proofs.Common.{◌≡◌, ℕ, ◌-◌, vec_len}
-use Rattle.file_extents.specs.Proved.Chunks.{row_in}
+use Rattle.file_extents.specs.ChunkTable.{row_in}
 use Rattle.file_extents.proofs.shelf.add_rows.Given as goal
 
 abbrev pub invariant-loop-alloc : goal.invariant-loop-alloc

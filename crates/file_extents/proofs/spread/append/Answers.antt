@@ -1,5 +1,5 @@
 use Rattle.std.proofs.Common.{arith, append_assoc, refl, ◌-◌, ◌%◌}
-use Rattle.file_extents.specs.Proved.Chunks.{chunk_at}
+use Rattle.file_extents.specs.ChunkTable.{chunk_at}
 use Rattle.file_extents.proofs.Places.{bytes_joined}
 use Rattle.file_extents.proofs.spread.append.Goals as goal
 

@@ -1,6 +1,6 @@
 use Rattle.std.proofs.Common.{ℕ, arith, length, length-take, length-drop, ◌+◌, ◌-◌, ◌%◌}
-use Rattle.call_types.specs.Proved.Stored.{span_bytes}
-use Rattle.file_extents.specs.Proved.Chunks.{chunk_at}
+use Rattle.call_types.specs.Stored.{span_bytes}
+use Rattle.file_extents.specs.ChunkTable.{chunk_at}
 use Rattle.file_extents.proofs.Places.{two_parts, behind_all}
 use Rattle.file_extents.proofs.Rooms.{room_goes}
 use Rattle.file_extents.proofs.spread.put_across.Goals as goal

@@ -1,5 +1,5 @@
-use Rattle.call_types.specs.Proved.Stored.{span_bytes}
-use Rattle.file_extents.specs.Proved.Chunks.{chunk_at}
+use Rattle.call_types.specs.Stored.{span_bytes}
+use Rattle.file_extents.specs.ChunkTable.{chunk_at}
 use Rattle.file_extents.proofs.Places.{edit_is_over}
 use Rattle.file_extents.proofs.spread.put_within.Goals as goal
 

@@ -1,7 +1,7 @@
 use Rattle.std.proofs.Common.{arith, ◌+◌, ◌-◌, ◌%◌}
 use Rattle.std.proofs.lemmas.Result.{on_ok_weaker}
 use Rattle.file_extents.specs.Proved.Contents.{HasRoom}
-use Rattle.file_extents.specs.Proved.Chunks.{chunk_at}
+use Rattle.file_extents.specs.ChunkTable.{chunk_at}
 use Rattle.file_extents.proofs.Rows.{kept_both}
 use Rattle.file_extents.proofs.Rooms.{room_joined, room_goes}
 use Rattle.file_extents.proofs.spread.reserve_across.Goals as goal

@@ -1,6 +1,6 @@
 use Rattle.std.proofs.Common.{arith, ◌∙◌}
 use Rattle.std.proofs.lemmas.Option.{IfSome_then}
-use Rattle.file_extents.specs.Proved.Chunks.{chunk_at}
+use Rattle.file_extents.specs.ChunkTable.{chunk_at}
 use Rattle.file_extents.proofs.Places.{window_is}
 use Rattle.file_extents.proofs.spread.stored.Goals as goal
 

@@ -1,5 +1,5 @@
 use Rattle.std.proofs.Common.{◌≡◌, ℕ, ◌-◌, vec_len}
-use Rattle.file_extents.specs.Proved.Chunks.{shelf_in}
+use Rattle.file_extents.specs.ChunkTable.{shelf_in}
 use Rattle.file_extents.proofs.table.add_shelves.Given as goal
 
 abbrev pub invariant-loop-alloc : goal.invariant-loop-alloc

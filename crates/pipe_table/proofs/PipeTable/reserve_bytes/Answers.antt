@@ -1,8 +1,10 @@
 use Rattle.std.proofs.Common.{◌≤◌, ap}
 use Rattle.std.proofs.lemmas.Result.{on_ok_weaker}
 use Rattle.slots.specs.Slots.{slot}
-use Rattle.slots.specs.Proved.Uses.{value_at, with_value}
-use Rattle.pipe_table.specs.Proved.Pipes.{block_in, with_block}
+use Rattle.slots.specs.UsedSlots.{value_at}
+use Rattle.slots.specs.Proved.Uses.{with_value}
+use Rattle.pipe_table.specs.Blocks.{block_in}
+use Rattle.pipe_table.specs.Proved.Pipes.{with_block}
 use Rattle.pipe_table.proofs.UseLaws.{edited_as}
 use Rattle.pipe_table.proofs.BlockLaws.{other_block, set_there, blocks_kept}
 use Rattle.pipe_table.proofs.PipeTable.reserve_bytes.Goals as goal

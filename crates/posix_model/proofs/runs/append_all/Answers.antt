@@ -1,5 +1,5 @@
 use Rattle.std.proofs.Common.{◌≡◌, ◌+◌, ◌<◌, ◌^◌, ◌++◌, ◌∙◌, length, ap, append_assoc, length-append, arith}
-use Rattle.posix_model.specs.Proved.Runs.{run_bytes, all_bytes}
+use Rattle.posix_model.specs.Runs.{run_bytes, all_bytes}
 use Rattle.posix_model.proofs.runs.append_all.Goals as goal
 
 pub append-requires : goal.append-requires

@@ -1,5 +1,5 @@
 use Rattle.std.proofs.Common.{◌≡◌, ◌+◌, ◌<◌, ◌^◌, ◌++◌, length}
-use Rattle.posix_model.specs.Proved.Runs.{all_bytes}
+use Rattle.posix_model.specs.Runs.{all_bytes}
 use Rattle.posix_model.proofs.runs.append_all.Given as goal
 
 abbrev pub invariant-loop-first : goal.invariant-loop-first

@@ -1,7 +1,7 @@
 use Rattle.std.proofs.Common.{◌≡◌, ◌-◌, ◌∙◌, length, ap}
-use Rattle.call_types.specs.Proved.Stored.{span_bytes}
+use Rattle.call_types.specs.Stored.{span_bytes}
 use Rattle.posix_model.specs.Bytes.{bytes_at}
-use Rattle.posix_model.specs.Proved.Runs.{run_bytes, all_bytes}
+use Rattle.posix_model.specs.Runs.{run_bytes, all_bytes}
 use Rattle.posix_model.proofs.RunLaws.{next_part, next_fits}
 use Rattle.posix_model.proofs.runs.append_part.Goals as goal
 

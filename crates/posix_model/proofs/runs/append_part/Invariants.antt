@@ -1,6 +1,6 @@
 use Rattle.std.proofs.Common.{◌≡◌, ◌+◌, ◌<◌, ◌^◌, ◌++◌, length}
 use Rattle.posix_model.specs.Bytes.{bytes_at}
-use Rattle.posix_model.specs.Proved.Runs.{all_bytes}
+use Rattle.posix_model.specs.Runs.{all_bytes}
 use Rattle.posix_model.proofs.runs.append_part.Given as goal
 
 abbrev pub invariant-loop-first : goal.invariant-loop-first

@@ -2,7 +2,7 @@ use Rattle.std.proofs.Common.{ℕ, None, Some, refl, sym, subst}
 use Rattle.session_core.specs.declared.end.End.TheVariants as end
 use Rattle.session_core.specs.declared.stage.Over.TheVariants as over
 use Rattle.session_core.specs.declared.stage.LeaveCause.TheVariants as why
-use Rattle.session_core.specs.Proved.Stages.{Over}
+use Rattle.session_core.specs.Stages.{Over}
 use Rattle.session_core.specs.Proved.Closing.{ClosesBy, LeavesWith, MayClose}
 use Rattle.session_core.proofs.SaidLemmas.{keeps_left, leaves_said, ended_said, closed_said, foreign_said, lost_said}
 use Rattle.session_core.proofs.CutLemmas.{hung_up_closes, leaves_closes, seat_closes, unwritten_closes}

@@ -1,5 +1,5 @@
 use Rattle.std.proofs.Common.{refl}
-use Rattle.audit_core.specs.Proved.Taking.{BodyState}
+use Rattle.audit_core.specs.TraceState.{BodyState}
 use Rattle.audit_core.proofs.TraceLemmas as laws
 use Rattle.audit_core.proofs.body.Body.take.Goals as goal
 

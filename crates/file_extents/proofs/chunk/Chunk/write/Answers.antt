@@ -1,4 +1,4 @@
-use Rattle.call_types.specs.Proved.Stored.{span_bytes}
+use Rattle.call_types.specs.Stored.{span_bytes}
 use Rattle.file_extents.proofs.Pieces.{stored_splice}
 use Rattle.file_extents.proofs.chunk.Chunk.write.Goals as goal
 

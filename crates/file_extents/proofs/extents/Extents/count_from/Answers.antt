@@ -1,5 +1,5 @@
 use Rattle.std.proofs.Common.{ℕ, arith, length-take, length-drop}
-use Rattle.file_extents.specs.Proved.Chunks.{chunk_at}
+use Rattle.file_extents.specs.ChunkTable.{chunk_at}
 use Rattle.file_extents.proofs.Places.{length_contents}
 use Rattle.file_extents.proofs.extents.Extents.count_from.Goals as goal
 

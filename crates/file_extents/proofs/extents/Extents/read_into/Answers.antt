@@ -1,7 +1,7 @@
 use Rattle.std.proofs.Common.{◌≤◌, ◌+◌, arith, ap, ◌++◌, ◌∙◌, length, vec_len, vec_capacity}
 use Rattle.posix_model.specs.Bytes.{bytes_at}
-use Rattle.file_extents.specs.Proved.Chunks.{chunk_at}
-use Rattle.file_extents.specs.Proved.Contents.{contents}
+use Rattle.file_extents.specs.ChunkTable.{chunk_at}
+use Rattle.file_extents.specs.ExtentsState.{contents}
 use Rattle.file_extents.proofs.Places.{read_is, length_read, none_past}
 use Rattle.file_extents.proofs.extents.Extents.read_into.Goals as goal
 

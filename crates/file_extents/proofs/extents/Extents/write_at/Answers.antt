@@ -1,6 +1,6 @@
 use Rattle.std.proofs.Common.{arith}
-use Rattle.call_types.specs.Proved.Stored.{span_bytes}
-use Rattle.file_extents.specs.Proved.Chunks.{chunk_at}
+use Rattle.call_types.specs.Stored.{span_bytes}
+use Rattle.file_extents.specs.ChunkTable.{chunk_at}
 use Rattle.file_extents.proofs.Places.{spliced, spliced_zero}
 use Rattle.file_extents.proofs.extents.Extents.write_at.Goals as goal
 

@@ -1,4 +1,4 @@
-use Rattle.file_extents.specs.Proved.Chunks.{chunk_at}
+use Rattle.file_extents.specs.ChunkTable.{chunk_at}
 use Rattle.file_extents.proofs.Places.{copied_contents}
 use Rattle.file_extents.proofs.extents.ExtentsClone.clone.Goals as goal
 

@@ -1,7 +1,7 @@
 use Rattle.std.proofs.Common.{◌≡◌, ◌<◌, ◌+◌, ◌∙◌, length, arith}
 use Rattle.std.proofs.lemmas.List.{get_or_default}
-use Rattle.call_types.specs.Proved.Stored.{span_bytes}
-use Rattle.file_extents.specs.Proved.Chunks.{no_chunk, chunk_in}
+use Rattle.call_types.specs.Stored.{span_bytes}
+use Rattle.file_extents.specs.ChunkTable.{no_chunk, chunk_in}
 use Rattle.file_extents.proofs.Rows.{edited_row, column_there}
 use Rattle.file_extents.proofs.row.Row.write.Goals as goal
 

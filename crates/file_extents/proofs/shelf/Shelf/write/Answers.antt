@@ -1,7 +1,7 @@
 use Rattle.std.proofs.Common.{◌≡◌, ◌<◌, ◌+◌, ◌/◌, ◌∙◌, [], length, arith}
 use Rattle.std.proofs.lemmas.List.{get_or_default}
-use Rattle.call_types.specs.Proved.Stored.{span_bytes}
-use Rattle.file_extents.specs.Proved.Chunks.{row_in}
+use Rattle.call_types.specs.Stored.{span_bytes}
+use Rattle.file_extents.specs.ChunkTable.{row_in}
 use Rattle.file_extents.proofs.Tiers.{edited_rows, row_there}
 use Rattle.file_extents.proofs.shelf.Shelf.write.Goals as goal
 

@@ -1,6 +1,6 @@
 use Rattle.std.proofs.Common.{◌∙◌, ap}
 use Rattle.posix_model.specs.Bytes.{padded_to, resized}
-use Rattle.file_table.specs.Proved.Files.{no_room}
+use Rattle.file_table.specs.StoredFiles.{no_room}
 use Rattle.file_table.proofs.FileLaws.{body_as, fifo_as}
 use Rattle.file_table.proofs.stored_file.StoredFile.set_len.Goals as goal
 

@@ -1,6 +1,6 @@
-use Rattle.call_types.specs.Proved.Stored.{span_bytes}
+use Rattle.call_types.specs.Stored.{span_bytes}
 use Rattle.posix_model.specs.Bytes.{splice}
-use Rattle.file_table.specs.Proved.Files.{no_room}
+use Rattle.file_table.specs.StoredFiles.{no_room}
 use Rattle.file_table.proofs.FileLaws.{body_as, fifo_as}
 use Rattle.file_table.proofs.stored_file.StoredFile.write.Goals as goal
 

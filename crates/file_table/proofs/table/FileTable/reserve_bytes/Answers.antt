@@ -1,7 +1,7 @@
 use Rattle.std.proofs.Common.{◌∙◌, ap, sym}
-use Rattle.slots.specs.Proved.Uses.{value_at}
+use Rattle.slots.specs.UsedSlots.{value_at}
 use Rattle.posix_model.specs.Proved.Whole.{is_regular_file}
-use Rattle.file_table.specs.Proved.Files.{room_slot}
+use Rattle.file_table.specs.StoredFiles.{room_slot}
 use Rattle.file_table.proofs.UseLaws.{edited_as}
 use Rattle.file_table.proofs.FileLaws.{Roomier, stands, regular_there, files_same, room_made, rooms_kept}
 use Rattle.file_table.proofs.table.FileTable.reserve_bytes.Goals as goal

@@ -1,5 +1,5 @@
 use Rattle.std.proofs.Common.{ap}
-use Rattle.call_types.specs.Proved.Stored.{span_bytes}
+use Rattle.call_types.specs.Stored.{span_bytes}
 use Rattle.posix_model.specs.Bytes.{splice}
 use Rattle.slots.specs.Proved.Uses.{with_value}
 use Rattle.file_table.specs.Proved.Files.{edited_bytes}

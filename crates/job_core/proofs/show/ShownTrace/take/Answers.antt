@@ -1,5 +1,5 @@
 use Rattle.std.proofs.Common.{◌∙◌, ap, sym}
-use Rattle.job_core.specs.Proved.Showing.{ShownState}
+use Rattle.job_core.specs.ShownState.{ShownState}
 use Rattle.job_core.proofs.ShowLemmas.{body_piece_in}
 use Rattle.job_core.proofs.show.ShownTrace.take.Goals as goal
 

@@ -1,5 +1,5 @@
 use Rattle.std.proofs.Common.{ap, length}
-use Rattle.job_core.specs.Proved.Showing.{ShownState}
+use Rattle.job_core.specs.ShownState.{ShownState}
 use Rattle.job_core.proofs.ShowLemmas.{body_taken, few_added, places_left}
 use Rattle.job_core.proofs.show.ShownTrace.take_body.Goals as goal
 

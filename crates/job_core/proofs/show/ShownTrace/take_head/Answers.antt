@@ -1,5 +1,5 @@
 use Rattle.std.proofs.Common.{◌∙◌, Some, ap, refl}
-use Rattle.job_core.specs.Proved.Showing.{ShownState}
+use Rattle.job_core.specs.ShownState.{ShownState}
 use Rattle.job_core.proofs.ShowLemmas.{head_piece_in}
 use Rattle.job_core.proofs.show.ShownTrace.take_head.Goals as goal
 

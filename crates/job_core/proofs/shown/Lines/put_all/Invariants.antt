@@ -1,7 +1,7 @@
 -- The lines so far, and those of what is left.
 use Rattle.std.proofs.Common.{◌≡◌, ◌+◌, ◌++◌, length}
 use Rattle.job_core.specs.Shown.{lines_from}
-use Rattle.job_core.specs.Proved.Showing.{lines_after}
+use Rattle.job_core.specs.ShownState.{lines_after}
 use Rattle.job_core.proofs.shown.Lines.put_all.Given as goal
 
 -- fewer records are left

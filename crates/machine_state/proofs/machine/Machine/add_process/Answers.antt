@@ -1,5 +1,5 @@
 use Rattle.std.proofs.Common.{sym, ◌∙◌, arith}
-use Rattle.machine_state.specs.Proved.Held.{stored_in}
+use Rattle.machine_state.specs.Held.{stored_in}
 use Rattle.machine_state.proofs.UseLaws.{there_values}
 use Rattle.machine_state.proofs.StoredLaws.{few_references}
 use Rattle.machine_state.proofs.ProcessLaws.{after_add, added_world}

@@ -1,5 +1,5 @@
 use Rattle.std.proofs.Common.{◌≡◌, ◌∙◌, ℕ, List, Option, ap, sym, subst}
-use Rattle.call_types.specs.Proved.Stored.{span_bytes}
+use Rattle.call_types.specs.Stored.{span_bytes}
 use Rattle.slots.specs.Slots.{slot}
 use Rattle.posix_model.specs.Pipes.{fifo_at}
 use Rattle.posix_model.specs.Change.{with_files, with_processes}

@@ -1,6 +1,6 @@
 use Rattle.std.proofs.Common.{refl}
 use Rattle.process_table.specs.Processes.{with_connection}
-use Rattle.machine_state.specs.Proved.Held.{stored_in}
+use Rattle.machine_state.specs.Held.{stored_in}
 use Rattle.machine_state.proofs.ProcessLaws.{after_process}
 use Rattle.machine_state.proofs.machine.Machine.attach.Goals as goal
 

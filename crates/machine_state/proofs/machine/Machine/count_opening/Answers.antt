@@ -1,4 +1,4 @@
-use Rattle.machine_state.specs.Proved.Held.{stored_in}
+use Rattle.machine_state.specs.Held.{stored_in}
 use Rattle.machine_state.proofs.OpenLaws.{after_opening, opening_world}
 use Rattle.machine_state.proofs.machine.Machine.count_opening.Goals as goal
 

@@ -1,5 +1,5 @@
 use Rattle.std.proofs.Common.{refl}
-use Rattle.machine_state.specs.Proved.Held.{stored_in}
+use Rattle.machine_state.specs.Held.{stored_in}
 use Rattle.machine_state.proofs.StoredLaws.{after_create}
 use Rattle.machine_state.proofs.machine.Machine.create.Goals as goal
 

@@ -1,7 +1,7 @@
 use Rattle.std.proofs.Common.{sym, ◌∙◌}
 use Rattle.call_types.specs.Descriptions.{described}
 use Rattle.posix_model.proofs.ChangeLaws.{stays_open}
-use Rattle.machine_state.specs.Proved.Held.{stored_in}
+use Rattle.machine_state.specs.Held.{stored_in}
 use Rattle.machine_state.proofs.UseLaws.{there_values}
 use Rattle.machine_state.proofs.StoredLaws.{after_description, description_world}
 use Rattle.machine_state.proofs.machine.Machine.describe.Goals as goal

@@ -1,6 +1,6 @@
 use Rattle.std.proofs.Common.{arith, ap, sym, ◌∙◌}
 use Rattle.file_table.specs.Proved.Files.{links_at}
-use Rattle.machine_state.specs.Proved.Held.{stored_in}
+use Rattle.machine_state.specs.Held.{stored_in}
 use Rattle.machine_state.proofs.UseLaws.{slot_values}
 use Rattle.machine_state.proofs.FileLaws.{files_there}
 use Rattle.machine_state.proofs.StoredLaws.{few_holders, few_links, after_link, linked_world}

@@ -2,7 +2,7 @@ use Rattle.std.proofs.Common.{◌≡◌, ◌∙◌, ap, sym, Some}
 use Rattle.std.specs.Option.{unwrap_or}
 use Rattle.call_types.specs.Names.{file_of, with_name, without_name}
 use Rattle.posix_model.proofs.NameLemmas.{still_none}
-use Rattle.machine_state.specs.Proved.Held.{stored_in, world_in}
+use Rattle.machine_state.specs.Held.{stored_in, world_in}
 use Rattle.machine_state.proofs.StoredLaws.{same_links, after_move}
 use Rattle.machine_state.proofs.machine.Machine.move_name.Goals as goal
 

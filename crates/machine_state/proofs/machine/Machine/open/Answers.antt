@@ -1,5 +1,5 @@
 use Rattle.std.proofs.Common.{arith, ap}
-use Rattle.machine_state.specs.Proved.Held.{stored_in}
+use Rattle.machine_state.specs.Held.{stored_in}
 use Rattle.pipe_table.specs.Proved.Pipes.{readers_at, writers_at}
 use Rattle.machine_state.proofs.UseLaws.{slot_values}
 use Rattle.machine_state.proofs.StoredLaws.{few_holders, few_ends}

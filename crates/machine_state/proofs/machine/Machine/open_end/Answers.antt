@@ -1,6 +1,6 @@
 use Rattle.std.proofs.Common.{ap, sym, ◌∙◌}
 use Rattle.posix_model.specs.Pipes.{pipe_of_fifo}
-use Rattle.machine_state.specs.Proved.Held.{stored_in}
+use Rattle.machine_state.specs.Held.{stored_in}
 use Rattle.machine_state.proofs.OpenLaws.{can_open_end}
 use Rattle.machine_state.proofs.machine.Machine.open_end.Goals as goal
 

@@ -1,5 +1,5 @@
 use Rattle.std.proofs.Common.{◌≡◌, Some, arith, sym, ◌∙◌}
-use Rattle.machine_state.specs.Proved.Held.{stored_in}
+use Rattle.machine_state.specs.Held.{stored_in}
 use Rattle.machine_state.proofs.FileLaws.{files_there}
 use Rattle.machine_state.proofs.StoredLaws.{few_holders}
 use Rattle.machine_state.proofs.OpenLaws.{after_first, first_world}

@@ -1,5 +1,5 @@
 use Rattle.std.proofs.Common.{◌≡◌, length, ap, sym, ◌∙◌}
-use Rattle.machine_state.specs.Proved.Held.{stored_in}
+use Rattle.machine_state.specs.Held.{stored_in}
 use Rattle.machine_state.proofs.OpenLaws.{length_pipes, can_open_second}
 use Rattle.machine_state.proofs.machine.Machine.open_pair.Goals as goal
 

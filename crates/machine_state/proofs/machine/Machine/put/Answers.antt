@@ -1,9 +1,9 @@
 use Rattle.std.proofs.Common.{sym, ap, ◌∙◌, length, take, length-take, length-take-le, arith}
-use Rattle.call_types.specs.Proved.Stored.{span_bytes}
+use Rattle.call_types.specs.Stored.{span_bytes}
 use Rattle.posix_model.specs.Change.{after_those, rest_of}
 use Rattle.process_table.specs.Processes.{parked_of}
 use Rattle.slots.specs.Slots.{slot}
-use Rattle.machine_state.specs.Proved.Held.{stored_in}
+use Rattle.machine_state.specs.Held.{stored_in}
 use Rattle.machine_state.proofs.PipeLaws.{pipes_there}
 use Rattle.machine_state.proofs.StoredLaws.{after_written, written_world, fits_ring}
 use Rattle.machine_state.proofs.machine.Machine.put.Goals as goal

@@ -1,4 +1,4 @@
-use Rattle.machine_state.specs.Proved.Held.{stored_in}
+use Rattle.machine_state.specs.Held.{stored_in}
 use Rattle.machine_state.proofs.ProcessLaws.{after_remove}
 use Rattle.machine_state.proofs.machine.Machine.remove_process.Goals as goal
 

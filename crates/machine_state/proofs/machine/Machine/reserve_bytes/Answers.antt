@@ -1,5 +1,5 @@
 use Rattle.std.proofs.Common.{refl, ap, arith}
-use Rattle.machine_state.specs.Proved.Held.{stored_in}
+use Rattle.machine_state.specs.Held.{stored_in}
 use Rattle.machine_state.proofs.StoredLaws.{after_bytes}
 use Rattle.machine_state.proofs.machine.Machine.reserve_bytes.Goals as goal
 

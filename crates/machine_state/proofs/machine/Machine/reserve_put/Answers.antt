@@ -1,7 +1,7 @@
 use Rattle.std.proofs.Common.{◌≡◌, ◌≤◌, ◌∙◌, refl, ap, sym, arith}
 use Rattle.std.proofs.lemmas.Result.{on_ok_weaker}
-use Rattle.machine_state.specs.Proved.Held.{stored_in}
-use Rattle.machine_state.specs.Proved.Pipes.{pipe_room}
+use Rattle.machine_state.specs.Held.{stored_in}
+use Rattle.machine_state.specs.StoredPipes.{pipe_room}
 use Rattle.machine_state.specs.Proved.Consistent.{IsConsistent}
 use Rattle.machine_state.proofs.PipeLaws.{pipes_there}
 use Rattle.machine_state.proofs.StoredLaws.{after_block, block_world, put_room}

@@ -1,6 +1,6 @@
 use Rattle.std.proofs.Common.{refl}
 use Rattle.posix_model.specs.Bytes.{resized}
-use Rattle.machine_state.specs.Proved.Held.{stored_in}
+use Rattle.machine_state.specs.Held.{stored_in}
 use Rattle.machine_state.proofs.FileLaws.{regular_there, files_written}
 use Rattle.machine_state.proofs.StoredLaws.{after_bytes}
 use Rattle.machine_state.proofs.machine.Machine.set_len.Goals as goal

@@ -1,5 +1,5 @@
 use Rattle.std.proofs.Common.{sym, ◌∙◌, drop}
-use Rattle.machine_state.specs.Proved.Held.{stored_in}
+use Rattle.machine_state.specs.Held.{stored_in}
 use Rattle.machine_state.proofs.PipeLaws.{pipes_there}
 use Rattle.machine_state.proofs.StoredLaws.{after_written, written_world}
 use Rattle.machine_state.proofs.machine.Machine.take.Goals as goal

@@ -1,4 +1,4 @@
-use Rattle.machine_state.specs.Proved.Held.{stored_in}
+use Rattle.machine_state.specs.Held.{stored_in}
 use Rattle.machine_state.proofs.DropLaws.{some_link, after_unlink}
 use Rattle.machine_state.proofs.machine.Machine.unlink.Goals as goal
 

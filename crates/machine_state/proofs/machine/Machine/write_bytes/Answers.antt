@@ -1,7 +1,7 @@
 use Rattle.std.proofs.Common.{refl}
-use Rattle.call_types.specs.Proved.Stored.{span_bytes}
+use Rattle.call_types.specs.Stored.{span_bytes}
 use Rattle.posix_model.specs.Bytes.{splice}
-use Rattle.machine_state.specs.Proved.Held.{stored_in}
+use Rattle.machine_state.specs.Held.{stored_in}
 use Rattle.machine_state.proofs.FileLaws.{regular_there, files_written}
 use Rattle.machine_state.proofs.StoredLaws.{after_bytes}
 use Rattle.machine_state.proofs.machine.Machine.write_bytes.Goals as goal

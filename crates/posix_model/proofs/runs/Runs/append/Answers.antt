@@ -1,6 +1,6 @@
 use Rattle.std.proofs.Common.{◌≡◌, ◌+◌, ◌<◌, ◌^◌, ◌++◌, ◌∙◌, length, ap, sym, length-append, arith}
-use Rattle.call_types.specs.Proved.Stored.{span_bytes}
-use Rattle.posix_model.specs.Proved.Runs.{run_bytes, all_bytes}
+use Rattle.call_types.specs.Stored.{span_bytes}
+use Rattle.posix_model.specs.Runs.{run_bytes, all_bytes}
 use Rattle.posix_model.proofs.RunLaws.{one_run_more, none_added}
 use Rattle.posix_model.proofs.runs.Runs.append.Goals as goal
 

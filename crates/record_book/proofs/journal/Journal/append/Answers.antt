@@ -8,7 +8,8 @@ use Rattle.posix_model.specs.Step.{given, stepped}
 use Rattle.posix_model.specs.Proved.Sound.{ended_by, adds, ended, closes}
 use Rattle.posix_model.specs.Turns.{took, gave}
 use Rattle.record_book.specs.Book.{world_now}
-use Rattle.record_book.specs.Proved.Inside.{state_of, prepared_closing}
+use Rattle.record_book.specs.JournalSeen.{state_of}
+use Rattle.record_book.specs.Proved.Inside.{prepared_closing}
 use Rattle.record_book.specs.Exits.{closing_record}
 use Rattle.record_book.specs.Proved.Prepared.{prepared_for}
 use Rattle.record_book.proofs.GrowLemmas.{journal_grows, journal_stays, closed_same}

@@ -1,5 +1,6 @@
 use Rattle.std.proofs.Common.{OnOk, OnErr, refl, subst}
-use Rattle.session_core.specs.Proved.Output.{OutputState, SendsAll, FailsToSend}
+use Rattle.session_core.specs.OutputState.{OutputState}
+use Rattle.session_core.specs.Proved.Output.{SendsAll, FailsToSend}
 use Rattle.session_core.proofs.OutputLemmas.{sends_all, fails_to_send}
 use Rattle.session_core.proofs.output.Output.send.Goals as goal
 

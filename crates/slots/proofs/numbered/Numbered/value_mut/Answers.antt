@@ -1,6 +1,6 @@
 use Rattle.std.proofs.Common.{◌≡◌, true, false, Some, refl, ap}
 use Rattle.std.specs.Vec.{vec_capacity, vec_len}
-use Rattle.slots.specs.Proved.Entries.{room_of}
+use Rattle.slots.specs.NumberedSlots.{room_of}
 use Rattle.slots.proofs.EntryLaws.{slot_slots, stands, rises_edited, slots_edited}
 use Rattle.slots.proofs.numbered.Numbered.value_mut.Goals as goal
 

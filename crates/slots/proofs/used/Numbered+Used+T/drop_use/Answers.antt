@@ -1,6 +1,6 @@
 use Rattle.std.proofs.Common.{refl, ap, arith, sym, ◌∙◌}
 use Rattle.std.specs.Vec.{vec_capacity, vec_len}
-use Rattle.slots.specs.Proved.Entries.{room_of}
+use Rattle.slots.specs.NumberedSlots.{room_of}
 use Rattle.slots.specs.Proved.Uses.{uses_at, one_less}
 use Rattle.slots.proofs.EntryLaws.{same_room, one_more_room, more_room, slot_slots, stands, rises_edited, rises_removed, slots_edited, slots_gone, slots_same}
 use Rattle.slots.proofs.UseLaws.{more_left, none_left}

@@ -1,5 +1,6 @@
 use Rattle.std.proofs.Common.{◌≡◌, ◌∙◌, ◌++◌, List, ℕ, ap, refl}
-use Rattle.trace_writer.specs.Proved.Migrating.{MigrationState, header_between}
+use Rattle.trace_writer.specs.MigrationState.{MigrationState}
+use Rattle.trace_writer.specs.Proved.Migrating.{header_between}
 use Rattle.trace_writer.proofs.MigrationLemmas as laws
 use Rattle.trace_writer.proofs.migration.Migration.take.Goals as goal
 

@@ -1,5 +1,5 @@
 use Rattle.std.proofs.Common.{◌≡◌, ◌+◌, ◌-◌, ℕ, length, ap, arith, refl, rules}
-use Rattle.trace_writer.specs.Proved.Migrating.{MigrationState}
+use Rattle.trace_writer.specs.MigrationState.{MigrationState}
 use Rattle.trace_writer.proofs.MigrationLemmas.{Passing, counts_as, counts_fit, cut_so, passes_on}
 use Rattle.trace_writer.proofs.migration.Migration.take_body.Goals as goal
 

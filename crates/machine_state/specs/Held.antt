@@ -1,11 +1,18 @@
 -- What contracts see of a machine: its world, and the room reserved.
 use Rattle.std.specs.Prelude.{ℕ, Bool, List, Option}
 use Rattle.call_types.specs.Names.{Entries}
-use Rattle.machine_state.specs.Proved.Types.{World, Process, Description, Used, Ring, TableState, StoredFile, StoredPipe}
-use Rattle.slots.specs.Proved.Uses.{values_in}
-use Rattle.file_table.specs.Proved.Files.{file_slots, room_slots}
-use Rattle.pipe_table.specs.Proved.Pipes.{block_slots}
-use Rattle.machine_state.specs.Proved.Pipes.{pipe_slots, pipe_room}
+use Rattle.posix_model.specs.declared.world.World.{World}
+use Rattle.process_table.specs.declared.process.Process.{Process}
+use Rattle.call_types.specs.declared.description.Description.{Description}
+use Rattle.slots.specs.declared.used.Used.{Used}
+use Rattle.pipe_ring.specs.Ring.{Ring}
+use Rattle.file_extents.specs.ChunkTable.{TableState}
+use Rattle.file_table.specs.declared.stored_file.StoredFile.{StoredFile}
+use Rattle.pipe_table.specs.declared.StoredPipe.{StoredPipe}
+use Rattle.slots.specs.UsedSlots.{values_in}
+use Rattle.file_table.specs.StoredFiles.{file_slots, room_slots}
+use Rattle.pipe_table.specs.Blocks.{block_slots}
+use Rattle.machine_state.specs.StoredPipes.{pipe_slots, pipe_room}
 use Rattle.machine_state.specs.declared.machine.Machine.TheInside.{Inside}
 
 -- for how many more files, pipes, descriptions, processes and names there is room, for which bytes in each file, how many

@@ -1,4 +1,4 @@
--- What is known of a trace that is being written (own).
+-- What holds of each tracer (own).
 use Rattle.std.specs.Prelude.{◌≡◌, ℕ, ◌+◌, ◌*◌, ◌≤◌, ◌<◌, ◌^◌, Bool, true, List, ◌++◌, Option, None, Some, length}
 use Rattle.std.specs.Io.KnownBytes.{Appends}
 use Rattle.call_types.specs.declared.act.Record.{Record}
@@ -10,17 +10,6 @@ use Rattle.frame_codec.specs.declared.trace.ToldLimits.{ToldLimits}
 use Rattle.trace_writer.specs.Traces.{CountsFailures, IsSpelled}
 use Rattle.trace_writer.specs.declared.traced.TraceFault.{TraceFault}
 use Rattle.trace_writer.specs.declared.traced.TraceFault.TheVariants as faults
-
--- what the trace tells of the limits, what the sink held at first and how many failures it had counted, what is not written yet, the records that were kept, what went wrong, and whether
--- a record was not kept (own)
-pub record TracerState : Type 0 where
-  pub told : ToldLimits
-  pub base : Option (List ℕ)
-  pub before : ℕ
-  pub unsent : List ℕ
-  pub received : List Record
-  pub fault : Option TraceFault
-  pub is_torn : Bool
 
 -- a front of the text was written, and unless something went wrong the rest is not written yet (own)
 pub record Writes (told : ToldLimits) (base now : Option (List ℕ)) (before after : ℕ) (unsent : List ℕ) (written : ℕ) (received : List Record) (fault : Option TraceFault) (is_torn is_sound : Bool) : Type 0 where

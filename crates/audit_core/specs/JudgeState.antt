@@ -1,0 +1,21 @@
+-- What the records so far led to (own).
+use Rattle.std.specs.Prelude.{◌≡◌, ℕ, List, length}
+use Rattle.call_types.specs.declared.act.Record.{Record}
+use Rattle.frame_codec.specs.Decoding.{told_place}
+use Rattle.frame_codec.specs.declared.trace.ToldLimits.{ToldLimits}
+use Rattle.posix_model.specs.declared.world.World.{World}
+use Rattle.posix_model.specs.History.{world_of}
+use Rattle.posix_model.specs.Reserve.{IsLegalRun}
+
+-- what is told of the run, the world after the records so far, and how many they were
+pub record JudgeState : Type 0 where
+  pub told : ToldLimits
+  pub world : World
+  pub place : ℕ
+
+-- these records were judged: they are those of a legal run, and led to this world
+pub record HasJudged (told : ToldLimits) (h : List Record) (j : JudgeState) : Type 0 where
+  pub is_legal : IsLegalRun told.bounds told.records h
+  pub told_is : j.told ≡ told
+  pub world : j.world ≡ world_of told.bounds h
+  pub place : j.place ≡ told_place (length h)
