@@ -1,30 +1,28 @@
 #!/usr/bin/env python3
 """Is what you must believe one list, which rests on nothing else? (a second)
 
-usage: tests/beliefs.py [--list]
+usage: tests/beliefs.py
 
 The definitions that a reader must believe are the files of `crates/*/specs` outside the folders `Proved`. None of them
 uses a file of such a folder. The table of docs/PROOFS.md has each crate with definitions in one row, and how many
 lines these have, without comments, empty lines and imports.
 
 Contracts also speak through the code: what a type is seen as is the ghosts `Value` and `view` of its `Model`, and what
-a kernel, a sink or a source says is the ghosts of its implementation. Those that name a definition of a folder `Proved`
-are the ones that are listed here, and no others. What the implementations say that touch the system, or are asked by
-many threads, is listed here word by word: nothing proves that.
+a kernel, a sink or a source says is the ghosts of its implementation. None of them names a definition of a folder
+`Proved`; only an `invariant` may. What the implementations say that touch the system, or are asked by many threads, is
+listed here word by word: nothing proves that.
 
-The last line is `N passed, M failed`. With `--list` nothing is checked, and it prints a line for each such definition:
-the crate, the type, the ghost, the definition, its file and its lines; then one for each that these rest on.
+The last line is `N passed, M failed`.
 """
 
-import argparse
 import re
 import sys
-from collections.abc import Iterator, Sequence
+from collections.abc import Sequence
 from functools import partial
 from pathlib import Path
 
 from support.counting import Count, require, same
-from support.meanings import Ghost, ghosts, with_all_below
+from support.meanings import Ghost, ghosts
 from support.places import TOP
 
 PAGE = TOP / "docs" / "PROOFS.md"
@@ -35,53 +33,6 @@ NODES = {"Lib.antt", f"{PROVED}.antt"}
 ROW = re.compile(r"\| (?P<what>[^|]+) \| (?P<crates>`[^|]+`) \| (?P<lines>[\d,]+) \|")
 IMPORT = re.compile(r"Rattle\.\w+\.specs\.Proved\b[\w.]*")
 UNCOUNTED = re.compile(r"\s*(--|(pub )?use |$)")
-
-# What is seen through definitions of folders `Proved`: each ghost, and those that it names.
-SEEN_THROUGH_PROVED = """
-audit_core Auditing.has_taken: IsTaking
-audit_core Auditing.has_told: IsTold
-audit_core Body.Value: BodyState
-audit_core Judge.Value: JudgeState
-audit_core Judge.view: state_of
-audit_core TraceAudit.Value: TraceState
-byte_ledger Merged.Value: MergedState
-call_types Data.view: stored_bytes
-call_types Gathered.view: gathered_bytes gathered_room
-call_types Name.view: stored_name
-file_extents Chunk.Value: ChunkState
-file_extents Extents.Value: ExtentsState
-file_extents Extents.view: contents chunk_at
-file_extents Row.Value: ChunkState
-file_extents Row.is_clone: chunk_in
-file_extents Shelf.Value: ChunkState
-file_extents Shelf.is_clone: shelved
-file_extents Table.Value: TableState
-file_extents Table.is_clone: chunk_at
-job_core ScriptText.has_told: HasStopped
-job_core ShownTrace.Value: ShownState
-job_core Showing.has_taken: HasShown
-job_core Showing.has_told: HasStopped
-machine_state Machine.Value: Held
-machine_state Machine.view: held_by
-pipe_ring PipeRing.Value: Ring
-posix_model Runs.view: all_bytes
-record_book History.Value: RingState
-record_book Journal.view: state_of
-run_core RunFault.from_gives: fault_of_want
-session_core Desk.Value: DeskState
-session_core MemoryReader.Value: ReaderState
-session_core MemoryWriter.Value: WriterState
-session_core Output.Value: OutputState
-slots Keyed.view: slots_of room_of
-slots Numbered.view: slots_of room_of
-trace_ring TraceRing.Value: RingState
-trace_ring TraceRing.view: ring_state
-trace_writer MemorySink.Value: MemoryState
-trace_writer Migrating.has_taken: HasWritten
-trace_writer Migrating.has_told: HasStopped
-trace_writer Migration.Value: MigrationState
-trace_writer Tracer.Value: TracerState
-"""
 
 # The crates whose implementations touch the system or are asked by many threads, the traits of others that say nothing
 # of that, and what the implementations say.
@@ -150,13 +101,9 @@ def table(text: str) -> dict[str, str]:
     return dict(line.split(": ", 1) for line in text.strip().splitlines())
 
 
-def seen_through_proved(all_ghosts: Sequence[Ghost]) -> dict[str, str]:
-    """The ghosts that name definitions of folders `Proved`, and these."""
-    return {
-        f"{ghost.owner()}.{ghost.name}": " ".join(one.name for one in ghost.definitions)
-        for ghost in all_ghosts
-        if ghost.definitions
-    }
+def names_nothing_proved(ghost: Ghost) -> None:
+    """Fails if a ghost names what a folder of what is proved defines."""
+    require(not ghost.proved, f"it names {', '.join(ghost.proved)}")
 
 
 def said(all_ghosts: Sequence[Ghost]) -> dict[str, str]:
@@ -174,26 +121,9 @@ def check_table(count: Count, wanted: dict[str, str], given: dict[str, str]) -> 
         count.check(name, partial(same, wanted.get(name, "nothing"), given.get(name, "nothing")))
 
 
-def listed(all_ghosts: Sequence[Ghost]) -> Iterator[str]:
-    """The lines of the list."""
-    named = {(one.file, one.name): one for ghost in all_ghosts for one in ghost.definitions}
-    for ghost in sorted(all_ghosts, key=Ghost.owner):
-        for one in ghost.definitions:
-            yield f"{ghost.owner()}  {ghost.name}  {one.name}  {one.place()}  {one.lines()}"
-    for one in with_all_below(list(named.values())):
-        if (one.file, one.name) not in named:
-            yield f"below these  {one.name}  {one.place()}  {one.lines()}"
-
-
-def main(words: Sequence[str]) -> int:
-    """Makes all checks, or prints the list: the exit status."""
-    parser = argparse.ArgumentParser(description="Looks at what has to be believed.")
-    parser.add_argument("--list", action="store_true", help="print what is seen through what is proved, and check none")
+def main() -> int:
+    """Makes all checks: the exit status."""
     all_ghosts = ghosts()
-    if parser.parse_args(words).list:
-        for line in listed(all_ghosts):
-            print(line)
-        return 0
     count = Count()
     files = definitions()
     rows = list(ROW.finditer(PAGE.read_text()))
@@ -203,10 +133,11 @@ def main(words: Sequence[str]) -> int:
         count.check(f"a row for {crate}", partial(is_in_one_row, crate, rows))
     for row in rows:
         count.check(f"lines of {row['crates']}", partial(has_its_lines, row, files))
-    check_table(count, table(SEEN_THROUGH_PROVED), seen_through_proved(all_ghosts))
+    for ghost in all_ghosts:
+        count.check(f"{ghost.owner()} says {ghost.name}", partial(names_nothing_proved, ghost))
     check_table(count, table(SAID), said(all_ghosts))
     return count.end()
 
 
 if __name__ == "__main__":
-    sys.exit(main(sys.argv[1:]))
+    sys.exit(main())
