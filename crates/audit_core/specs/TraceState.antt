@@ -32,6 +32,7 @@ abbrev pub IsTakingBy : List ℕ → List ℕ → Option BodyState → Type 0
 IsTakingBy input front None = (header input ≡ Short) × (front ≡ input)
 IsTakingBy input front (Some b) = (told : ToldLimits) × (header input ≡ Headed told b.headed) × IsJudging told (drop b.headed input) b
 
+-- the same of what is held, and their number can be told
 pub record IsTaking (input : List ℕ) (t : TraceState) : Type 0 where
   pub by : IsTakingBy input t.front t.body
   pub few : length input < 2 ^ 64

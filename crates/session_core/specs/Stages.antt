@@ -6,17 +6,22 @@ use Rattle.session_core.specs.declared.stage.Turn.{Turn as TurnOf}
 use Rattle.session_core.specs.declared.stage.LeftSession.{LeftSession as LeftOf}
 use Rattle.session_core.specs.declared.stage.Standing.{Standing as StandingOf}
 
+-- how far a session has come
 abbrev pub Stage : Type 0
 Stage = StageOf SeatState (Unit {0})
 
+-- a session that does not go on
 abbrev pub Over : Type 0
 Over = OverOf SeatState SeatState (Unit {0})
 
+-- what came of a request
 abbrev pub Turn : Type 0
 Turn = TurnOf SeatState SeatState (Unit {0})
 
+-- a session that is left
 abbrev pub LeftSession : Type 0
 LeftSession = LeftOf SeatState (Unit {0})
 
+-- where a session stands between two turns
 abbrev pub Standing : Type 0
 Standing = StandingOf SeatState SeatState (Unit {0})
