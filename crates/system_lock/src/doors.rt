@@ -1,7 +1,7 @@
 //! The processes that sleep, and those whose connections are lost: two doors at which a process waits or is turned away.
 
 ghost use Rattle.std.specs.Prelude.{◌≡◌, [], true, false, IfOk};
-ghost use Rattle.system_lock.specs.System.{is_live_in, is_among};
+ghost use Rattle.system_lock.specs.System.{is_live_in, is_among, marked_at_doors};
 ghost use Rattle.system_lock.specs.Proved.Sleeping.{with_one};
 ghost use Rattle.record_book.specs.Refusals.{is_ready_in};
 ghost use Rattle.system_lock.specs.Proved.Events.{still_asleep, still_lost};
@@ -16,12 +16,41 @@ use byte_ledger::ledgers::Ledgers;
 use posix_model::laws::processes_are_counted;
 use record_book::book::Book;
 use std::alloc::{AllocError, Global};
+use std::marker::Model;
 
 /// The processes that sleep, and those whose connections are lost. None of these sleeps.
 #[derive(Drop)]
 pub(crate) struct Doors {
     pub(crate) sleepers: Sleepers,
     pub(crate) lost: Lost,
+}
+
+/// What shows that it was told of a process that its connection is lost. That it was marked at the doors, or had ended, only the marking
+/// shows. Contracts see it as a `MarkState`.
+#[derive(Drop)]
+pub struct Marked {
+    process: u32,
+    at_doors: bool,
+}
+
+impl Model for Marked {
+    ghost use Rattle.system_lock.specs.System.{MarkState};
+
+    ghost Value = { MarkState };
+
+    ghost view = { λ m. record { process_is = m.process; at_doors = m.at_doors } };
+}
+
+impl Marked {
+    /// Shows that nobody had to be told: in a kernel without doors no call waits for long.
+    pub fn needless(process: u32) -> Self
+        ensures { result ≡ record { process_is = process; at_doors = false } }
+    {
+        Marked {
+            process,
+            at_doors: false,
+        }
+    }
 }
 
 /// Different processes that are live are at most as many as may be live at once. It does nothing.
@@ -82,16 +111,28 @@ impl Doors {
     }
 
     /// Marks a process as lost, unless it has ended or is marked, and wakes it if it sleeps. It takes no memory.
-    pub(crate) fn give_up<L: Ledgers>(&mut self, book: &Book<L>, bells: &Bells, process: u32)
+    pub(crate) fn give_up<L: Ledgers>(
+        &mut self,
+        book: &Book<L>,
+        bells: &Bells,
+        process: u32,
+    ) -> Marked
         requires { DoorsSound book.now self.old }
         ensures sound { DoorsSound book.now self.new }
         ensures lost { self.new.lost.processes.items ≡ lost_with book.now self.old.lost.processes.items process }
         ensures asleep { self.new.sleepers.asleep.items ≡ asleep_without book.now self.old.lost.processes.items self.old.sleepers.asleep.items process }
+        ensures its { result ≡ marked_at_doors process }
     {
-        if is_live(book, process) && !self.lost.has(process) {
-            live_are_few();
-            self.lost.mark(process);
-            self.sleepers.take_out(bells, process);
+        let marked = Marked {
+            process,
+            at_doors: true,
+        };
+        if !is_live(book, process) || self.lost.has(process) {
+            return marked;
         }
+        live_are_few();
+        self.lost.mark(process);
+        self.sleepers.take_out(bells, process);
+        marked
     }
 }

@@ -1,5 +1,6 @@
 //! What a session asks a kernel for.
 
+use crate::doors::Marked;
 use call_types::call::Call;
 use call_types::refusal::Refusal;
 use call_types::request::Request;
@@ -68,13 +69,14 @@ pub enum Finished<S, P> {
 /// Records the acts of processes in one book, for any thread. No contract here promises that a call returns. A seat is
 /// of the kind `S`, a spent one of the kind `P`; their types name the ledgers of the book.
 pub trait Kernel<S: AsSeat, P: AsSeat> {
-    ghost use Rattle.std.specs.Prelude.{IfErr};
+    ghost use Rattle.std.specs.Prelude.{ℕ, IfErr};
     ghost use Rattle.call_types.specs.declared.call.Call.{Call};
     ghost use Rattle.call_types.specs.declared.refusal.Refusal.{Refusal};
     ghost use Rattle.call_types.specs.declared.request.Request.{Request};
     ghost use Rattle.record_book.specs.Seat.{SeatState};
     ghost use Rattle.system_lock.specs.declared.kernel.Why.{Why};
     ghost use Rattle.system_lock.specs.Kernel.{AsksForASeat, OpensAs, CallsBy, FinishesAs, HangsUpAs, SaysEnded};
+    ghost use Rattle.system_lock.specs.System.{MarkState};
 
     // The kernel refused this opening so, and did not record it. Where the kernel is not known, only `open` tells this.
     ghost not_opened: { Request → Refusal → Type 0 };
@@ -84,6 +86,9 @@ pub trait Kernel<S: AsSeat, P: AsSeat> {
 
     // The process of this seat has ended so. Only `finish` and `hang_up` tell this.
     ghost ended: { SeatState → Why → Type 0 };
+
+    // This shows that the connection of this process was told to be lost.
+    ghost marks: { MarkState → ℕ → Type 0 };
 
     /// Opens a process: by a join a new one, by an attach a child that is not attached yet. Where the record is an error there is no process, and the
     /// spent seat has its one receipt. A `Refusal` is NoMemory or RunFull, and
@@ -116,8 +121,9 @@ pub trait Kernel<S: AsSeat, P: AsSeat> {
         ensures ended { ended (S.as_seat seat) result.why };
 
     /// Tells that the connection of a process is lost: a call that it waits in, now or later, is given up where it is not ready. Nothing
-    /// is recorded here. It takes no memory, and waits for the lock alone.
-    fn lost<R: Wait>(&self, rt: &R, process: u32);
+    /// is recorded here. It takes no memory, and waits for the lock alone. What it gives shows that this was told.
+    fn lost<R: Wait>(&self, rt: &R, process: u32) -> Marked
+        ensures { marks result process };
 }
 
 /// These of the seats of one book.

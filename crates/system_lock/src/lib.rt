@@ -3,7 +3,7 @@
 
 mod acts;
 mod bells;
-mod doors;
+pub mod doors;
 pub mod kernel;
 pub mod lock;
 mod lost;

@@ -7,6 +7,7 @@ ghost use Rattle.system_lock.specs.Says.{IsEnded, IsNotOpened};
 
 use crate::acts::Tried;
 use crate::bells::Bells;
+use crate::doors::Marked;
 use crate::kernel::{
     Admission, AdmissionTo, EndedIn, Finished, FinishedIn, Kernel, NotOpened, NotOpenedIn,
 };
@@ -66,13 +67,17 @@ impl<L: Ledgers> SystemLock<L> {
 }
 
 impl<L: Ledgers> Kernel<Seat<L>, SpentSeat<L>> for SystemLock<L> {
+    ghost use Rattle.std.specs.Prelude.{◌≡◌};
     ghost use Rattle.system_lock.specs.Says.{IsNotOpened, IsRefused, IsEnded};
+    ghost use Rattle.system_lock.specs.System.{marked_at_doors};
 
     ghost not_opened = { IsNotOpened L.limits };
 
     ghost refused = { IsRefused L.limits };
 
     ghost ended = { IsEnded L.limits };
+
+    ghost marks = { λ mark process. mark ≡ marked_at_doors process };
 
     fn open<R: Wait>(
         &self,
@@ -123,8 +128,8 @@ impl<L: Ledgers> Kernel<Seat<L>, SpentSeat<L>> for SystemLock<L> {
         system.hang_up(&self.bells, seat)
     }
 
-    fn lost<R: Wait>(&self, rt: &R, process: u32) {
+    fn lost<R: Wait>(&self, rt: &R, process: u32) -> Marked {
         let mut system = self.system.lock(rt);
-        system.give_up(&self.bells, process);
+        system.give_up(&self.bells, process)
     }
 }

@@ -5,6 +5,7 @@ ghost use Rattle.system_lock.specs.Kernel.{FinishesBy, HangsUpBy, AsksForASeat, 
 
 use crate::acts;
 use crate::acts::Tried;
+use crate::doors::Marked;
 use crate::kernel::{
     Admission, AdmissionTo, EndedIn, Finished, FinishedIn, Kernel, NotOpened, NotOpenedIn, Why,
 };
@@ -83,6 +84,8 @@ impl<L: Ledgers> Kernel<Seat<L>, SpentSeat<L>> for OneBook<L> {
 
     ghost ended = { λ _ _. ⊤ };
 
+    ghost marks = { λ _ _. ⊤ };
+
     fn open<R: Wait>(
         &self,
         rt: &R,
@@ -122,5 +125,7 @@ impl<L: Ledgers> Kernel<Seat<L>, SpentSeat<L>> for OneBook<L> {
     }
 
     /// It does nothing: a call that would wait is given up whether its connection is lost or not.
-    fn lost<R: Wait>(&self, _rt: &R, _process: u32) {}
+    fn lost<R: Wait>(&self, _rt: &R, process: u32) -> Marked {
+        Marked::needless(process)
+    }
 }

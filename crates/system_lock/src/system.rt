@@ -9,7 +9,7 @@ ghost use Rattle.system_lock.specs.Kernel.{AsksForASeat, CallsBy, HangsUpBy};
 ghost use Rattle.system_lock.specs.Proved.Reasons.{OpensBy, IsReason, EndsByReason};
 ghost use Rattle.system_lock.specs.Proved.Acts.{TriesBy};
 ghost use Rattle.system_lock.specs.Says.{StandsUnder};
-ghost use Rattle.system_lock.specs.System.{is_live_in, is_among, AreDistinct, AreLive, AreUnmarked};
+ghost use Rattle.system_lock.specs.System.{is_live_in, is_among, marked_at_doors, AreDistinct, AreLive, AreUnmarked};
 ghost use Rattle.system_lock.specs.Proved.Sleepers.{pipe_in};
 ghost use Rattle.system_lock.specs.Proved.Doors.{lost_with, asleep_without};
 ghost use Rattle.system_lock.specs.Proved.Events.{OpensIn, CallsIn, ExitsIn, ExitIsDue, TriesIn, GivesUpTheLost, IsLeftWaiting, still_asleep, still_lost, with_sleeper};
@@ -18,7 +18,7 @@ ghost use Rattle.record_book.specs.Book.{new_book};
 use crate::acts;
 use crate::acts::{Tried, TriedIn};
 use crate::bells::Bells;
-use crate::doors::Doors;
+use crate::doors::{Doors, Marked};
 use crate::kernel::{EndedIn, Why};
 use crate::stirred::{Stirred, events_spare, opener, pipe_waited};
 use byte_ledger::ledgers::{Blanks, Ledgers};
@@ -248,12 +248,13 @@ impl<L: Ledgers> System<L> {
     }
 
     /// Marks a process as lost, if it is live and not marked yet, and wakes it if it sleeps. It takes no memory.
-    pub(crate) fn give_up(&mut self, bells: &Bells, process: u32)
+    pub(crate) fn give_up(&mut self, bells: &Bells, process: u32) -> Marked
         ensures book { self.new.book_is ≡ self.old.book_is }
         ensures marked { is_live_in self.old.book_is process ≡ true → is_among self.new.lost_are process ≡ true }
         ensures lost { self.new.lost_are ≡ lost_with self.old.book_is self.old.lost_are process }
         ensures asleep { self.new.asleep_are ≡ asleep_without self.old.book_is self.old.lost_are self.old.asleep_are process }
+        ensures its { result ≡ marked_at_doors process }
     {
-        self.doors.give_up(&self.book, bells, process);
+        self.doors.give_up(&self.book, bells, process)
     }
 }
