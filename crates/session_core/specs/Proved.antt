@@ -9,3 +9,4 @@ pub mod Shutting
 pub mod Laws
 pub mod Saying
 pub mod Leaving
+pub mod Losing

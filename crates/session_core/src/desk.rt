@@ -1,8 +1,9 @@
 //! The desk of a session: what answers its requests, whichever of its two threads holds it.
 
-ghost use Rattle.std.specs.Prelude.{◌≡◌, ◌∷◌, ◌++◌, ℕ, List, Option, Some, [], length};
+ghost use Rattle.std.specs.Prelude.{◌≡◌, ◌∷◌, ◌++◌, ℕ, List, Option, Some, true, [], length};
 ghost use Rattle.rtrb.specs.Ring.{received, known_items, SameConsumer};
 ghost use Rattle.call_types.specs.declared.request.Request.{Request};
+ghost use Rattle.session_core.specs.Proved.Losing.{IsToldOf, is_opening, ready_process};
 ghost use Rattle.session_core.specs.Proved.Shutting.{ShutIfLeft};
 ghost use Rattle.session_core.specs.Proved.Desk.{TurnStands, StandsBy, StandsOn, SendsOn, SentIfOn, SentIfReady, IsReady, LeftBy, EndsOn, attended_by};
 ghost use Rattle.session_core.specs.Refusals.{AreSaid, RefusalSaid};
@@ -25,6 +26,7 @@ use rtrb::Consumer;
 use std::io::Write;
 use std::marker::{Brand, Model, PhantomData};
 use std::sync::Wait;
+use system_lock::doors::Marked;
 use system_lock::kernel::{AdmissionTo, Kernel};
 
 /// Which session it is: the end of its ring that gives requests, and what its writer held at the start.
@@ -243,30 +245,44 @@ fn wait_ready<
     }
 }
 
+/// Tells that the connection of a process is lost, if there is one. What it gives shows that this was told.
+pub(crate) fn tell_lost<Rt: Wait, L: Ledgers, K: Kernel<Seat<L>, SpentSeat<L>>>(
+    rt: &Rt,
+    kernel: &K,
+    process: Option<u32>,
+) -> Option<Marked>
+    ensures { IsToldOf K.marks process result }
+{
+    match process {
+        Some(process) => Some(kernel.lost(rt, process)),
+        None => None,
+    }
+}
+
 /// Whether no process is opened yet.
-fn is_opening<S, A>(stage: &Stage<S, A>) -> bool {
+fn is_opening<S, A>(stage: &Stage<S, A>) -> bool
+    ensures { result ≡ is_opening stage.now }
+{
     match stage {
         Stage::Opening(_) => true,
         Stage::Ready(_) => false,
     }
 }
 
-/// Tells that the connection of a process is lost, where a process is there.
-fn tell_lost<Rt: Wait, L: Ledgers, K: Kernel<Seat<L>, SpentSeat<L>>>(
-    rt: &Rt,
-    kernel: &K,
-    standing: &StandingOf<L>,
-) {
+/// The process of a session at which a request may be taken up, if there is one.
+fn ready_process<L: Ledgers>(standing: &StandingOf<L>) -> Option<u32>
+    ensures { result ≡ ready_process standing.now }
+{
     match standing {
-        Standing::Ready(Stage::Ready(seat)) => kernel.lost(rt, seat.pid()),
+        Standing::Ready(Stage::Ready(seat)) => Some(seat.pid()),
         Standing::Ready(Stage::Opening(_))
         | Standing::Waits(_)
         | Standing::Lost(_)
-        | Standing::Left(_) => {}
+        | Standing::Left(_) => None,
     }
 }
 
-/// Takes up a request when no more is read. A process that it opens has lost its connection already.
+/// Takes up a request when no more is read. A process that it opens has lost its connection already: that is told, and what shows it is given.
 fn take_late<
     Rt: Wait,
     W: Write + Connection,
@@ -280,17 +296,21 @@ fn take_late<
     output: &mut Output<W, G>,
     stage: StageOf<L>,
     request: Request,
-) -> StandingOf<L>
-    ensures stands { (taken : List Request) → StandsOn K.not_opened K.refused K.ended taken output.old (standings.Ready stage) (taken ++ request ∷ []) output.new result }
-    ensures shut { ShutIfLeft W.was_shut output.new result }
+) -> (StandingOf<L>, Option<Marked>)
+    ensures stands { (taken : List Request) → StandsOn K.not_opened K.refused K.ended taken output.old (standings.Ready stage) (taken ++ request ∷ []) output.new result.0 }
+    ensures shut { ShutIfLeft W.was_shut output.new result.0 }
+    ensures told { is_opening stage ≡ true → IsToldOf K.marks (ready_process result.0) result.1 }
 {
     let is_opening = is_opening(&stage);
     let turn = take_next(rt, note, output, kernel, stage, request);
     let standing = stand(rt, output, kernel, turn);
-    if is_opening {
-        tell_lost(rt, kernel, &standing);
-    }
-    standing
+    let opened = if is_opening {
+        ready_process(&standing)
+    } else {
+        None
+    };
+    let told = tell_lost(rt, kernel, opened);
+    (standing, told)
 }
 
 /// Answers the `count` requests that are still in the ring, once both its ends are in one thread. Then it leaves the
@@ -325,7 +345,15 @@ pub(crate) fn leave_requests<
                     return leave(rt, output, kernel, Over::Leaves { stage, why });
                 }
                 count -= 1;
-                take_late(rt, note, kernel, output, stage, consumer.pop_known())
+                let (after, _told) = take_late(
+                    rt,
+                    note,
+                    kernel,
+                    output,
+                    stage,
+                    consumer.pop_known(),
+                );
+                after
             }
             Standing::Waits(seat) => wait_on(rt, kernel, output, seat),
             Standing::Lost(seat) => return leave(rt, output, kernel, Over::Lost { seat, why }),

@@ -1,5 +1,8 @@
 //! What the two threads of a session tell each other.
 
+ghost use Rattle.std.specs.Prelude.{◌≡◌};
+
+use std::marker::Model;
 use std::sync::{Condvar, Mutex, Wait};
 use std::thread::Parker;
 
@@ -10,6 +13,29 @@ enum Process {
     Opened(u32),
     /// There is none, and there will be none as long as the thread that reads goes on.
     None,
+}
+
+/// The process of a session, once it is known whether there is one. Only a note gives it. Contracts see the number, if there is one.
+#[derive(Drop)]
+pub struct KnownProcess {
+    process: Option<u32>,
+}
+
+impl Model for KnownProcess {
+    ghost use Rattle.std.specs.Prelude.{ℕ, Option};
+
+    ghost Value = { Option ℕ };
+
+    ghost view = { λ k. k.process };
+}
+
+impl KnownProcess {
+    /// The number of the process, if there is one.
+    pub fn number(&self) -> Option<u32>
+        ensures { result ≡ self.now }
+    {
+        self.process
+    }
 }
 
 /// What stands in a note.
@@ -66,15 +92,16 @@ impl Note {
         self.changed.notify_all();
     }
 
-    /// Waits until it is known whether there is a process: its number, if there is one.
-    pub fn process<R: Wait>(&self, rt: &R) -> Option<u32> {
+    /// Waits until it is known whether there is a process.
+    pub fn process<R: Wait>(&self, rt: &R) -> KnownProcess {
         let lines = self.changed.wait_while(rt, self.lines.lock(rt), |lines| {
             lines.process == Process::Unknown
         });
-        match lines.process {
+        let process = match lines.process {
             Process::Opened(process) => Some(process),
             Process::Unknown | Process::None => None,
-        }
+        };
+        KnownProcess { process }
     }
 
     /// Wakes the thread that answers, now or as soon as it sleeps.

@@ -256,6 +256,7 @@ fn leave_rest<
         reader,
         producer,
         pushes,
+        ..
     } = pushed;
     let Desk {
         mut consumer,

@@ -6,9 +6,9 @@ ghost use Rattle.rtrb.specs.Ring.{SameProducer};
 ghost use Rattle.request_pump.specs.Pump.{Pumps};
 
 use crate::connection::Connection;
-use crate::desk::{Attended, Desk, Naming};
+use crate::desk::{Attended, Desk, Naming, tell_lost};
 use crate::gate::Gate;
-use crate::note::Note;
+use crate::note::{KnownProcess, Note};
 use crate::starter::{StartFailed, Starter, start};
 use byte_ledger::ledgers::Ledgers;
 use call_types::request::Request;
@@ -26,7 +26,29 @@ use std::snapshot::Snapshot;
 use std::sync::{Arc, Mutex, Wait};
 use std::thread;
 use std::thread::{Promise, PromisedHandle, Threads};
+use system_lock::doors::Marked;
 use system_lock::kernel::Kernel;
+
+/// What shows that the end of the reads was told: to the kernel too, where the session has a process. Only `ReadingTold::by` makes one.
+#[derive(Drop)]
+pub(crate) struct ReadingTold {
+    process: KnownProcess,
+    mark: Option<Marked>,
+}
+
+impl ReadingTold {
+    ghost use Rattle.session_core.specs.Proved.Losing.{IsToldOf};
+
+    /// Shows it by the kernel's mark of the process, if there is one.
+    fn by<L: Ledgers, K: Kernel<Seat<L>, SpentSeat<L>>>(
+        process: KnownProcess,
+        mark: Option<Marked>,
+    ) -> Self
+        requires { IsToldOf K.marks process mark }
+    {
+        ReadingTold { process, mark }
+    }
+}
 
 /// What the two threads of a session share. The desk is put there as the thread that reads starts. Whoever answers holds its lock; the
 /// thread that waits in a call takes the desk away, and puts it back when the call has gone on.
@@ -76,11 +98,11 @@ impl<
     }
 
     /// Tells that no more is read: a call that the process waits in, now or later, is given up.
-    fn end_reading<Rt: Wait>(&self, rt: &Rt) {
+    fn end_reading<Rt: Wait>(&self, rt: &Rt) -> ReadingTold {
         self.note.end_reading(rt);
-        if let Some(process) = self.note.process(rt) {
-            self.kernel.lost(rt, process);
-        }
+        let process = self.note.process(rt);
+        let mark = tell_lost(rt, &*self.kernel, process.number());
+        ReadingTold::by::<L, K>(process, mark)
     }
 
     /// Answers what the ring holds, and writes it. A desk that is away is with a call that waits.
@@ -133,8 +155,8 @@ impl<
 
 /// What the thread that reads rings, and tells when it ends.
 pub(crate) trait Attendant: Bell {
-    /// No more is read.
-    fn end_reading(&self);
+    /// No more is read. What it gives shows that this was told.
+    fn end_reading(&self) -> ReadingTold;
 }
 
 /// It answers at the desk, and wakes the other thread where a call waits or the session is left.
@@ -182,18 +204,19 @@ impl<
     L: Ledgers,
     K: Kernel<Seat<L>, SpentSeat<L>> + Drop,
 > Attendant for Helper<Rt, D, W, G, L, K> {
-    fn end_reading(&self) {
-        self.shared.end_reading(&self.rt);
+    fn end_reading(&self) -> ReadingTold {
+        self.shared.end_reading(&self.rt)
     }
 }
 
-/// What the thread that reads has come to. Contracts see it as a `PumpState`.
+/// What the thread that reads has come to, and what shows that its end was told. Contracts see it as a `PumpState`.
 #[derive(Drop)]
 pub(crate) struct Pushed<R: Read> {
     pub(crate) end: PumpEnd,
     pub(crate) reader: LoggedReader<R>,
     pub(crate) producer: Producer<Request>,
     pub(crate) pushes: PushLog,
+    pub(crate) told: ReadingTold,
 }
 
 impl<R: Read> Model for Pushed<R> {
@@ -251,12 +274,13 @@ fn read_to_end<R: Read, H: Attendant>(
         pushes,
         bell,
     } = pump(alloc, reader, producer, helper);
-    bell.end_reading();
+    let told = bell.end_reading();
     Pushed {
         end,
         reader,
         producer,
         pushes,
+        told,
     }
 }
 

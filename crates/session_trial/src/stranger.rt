@@ -11,6 +11,7 @@ use call_types::request::Request;
 use record_book::opening::OpenedIn;
 use record_book::seat::{Receipt, Seat, SpentSeat};
 use std::sync::Wait;
+use system_lock::doors::Marked;
 use system_lock::kernel::{
     AdmissionTo, Ended, EndedIn, Finished, FinishedIn, Kernel, NotOpenedIn, Why,
 };
@@ -70,6 +71,8 @@ impl<L: Ledgers> Kernel<Seat<L>, SpentSeat<L>> for Stranger<L> {
 
     ghost ended = { λ _ _. ⊤ };
 
+    ghost marks = { λ _ _. ⊤ };
+
     fn open<R: Wait>(
         &self,
         rt: &R,
@@ -107,7 +110,7 @@ impl<L: Ledgers> Kernel<Seat<L>, SpentSeat<L>> for Stranger<L> {
         }
     }
 
-    fn lost<R: Wait>(&self, rt: &R, process: u32) {
-        self.book.lost(rt, process);
+    fn lost<R: Wait>(&self, rt: &R, process: u32) -> Marked {
+        self.book.lost(rt, process)
     }
 }

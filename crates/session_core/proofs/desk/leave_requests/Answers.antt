@@ -39,9 +39,9 @@ loop-preserved-else-count-eq0 g c = record {
   left = laws.one_less c.loop.count (known_items c.loop.consumer) (known_items c.pop_known.new.self) c.pop_known.result c.pop_known.ensures.received.1 c.loop.invariant.left;
   same = laws.rest_taken (received c.loop.consumer) (received c.pop_known.new.self) (known_items c.loop.consumer) (known_items c.pop_known.new.self) c.pop_known.result c.pop_known.ensures.received.0 c.pop_known.ensures.received.1 ∙ c.loop.invariant.same;
   stands = λ base is.
-      subst (λ (l : List Request). Stands g.K.Kernel.not_opened g.K.Kernel.refused g.K.Kernel.ended base l c.take_late.new.output c.take_late.result) (sym c.pop_known.ensures.received.0)
-      (c.take_late.ensures.stands (received c.loop.consumer) base (subst (Stands g.K.Kernel.not_opened g.K.Kernel.refused g.K.Kernel.ended base (received c.loop.consumer) c.loop.output) c.in-Ready.is (c.loop.invariant.stands base is)));
-  shut = λ first. c.take_late.ensures.shut;
+      subst (λ (l : List Request). Stands g.K.Kernel.not_opened g.K.Kernel.refused g.K.Kernel.ended base l c.take_late-after.new.output c.take_late-after.result.0) (sym c.pop_known.ensures.received.0)
+      (c.take_late-after.ensures.stands (received c.loop.consumer) base (subst (Stands g.K.Kernel.not_opened g.K.Kernel.refused g.K.Kernel.ended base (received c.loop.consumer) c.loop.output) c.in-Ready.is (c.loop.invariant.stands base is)));
+  shut = λ first. c.take_late-after.ensures.shut;
 }
 
 pub loop-preserved : goal.loop-preserved

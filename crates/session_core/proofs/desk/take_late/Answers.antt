@@ -3,14 +3,8 @@ use Rattle.session_core.specs.Refusals.{RefusalSaid}
 use Rattle.session_core.proofs.DeskLemmas as laws
 use Rattle.session_core.proofs.desk.take_late.Goals as goal
 
-pub returns-then-is_opening-clause-stands : goal.returns-then-is_opening-clause-stands
-returns-then-is_opening-clause-stands g c taken base is =
-    c.stand-standing.ensures.stands base (taken ++ c.args.request ∷ [])
-    (laws.one_taken (RefusalSaid g.K.Kernel.not_opened g.K.Kernel.refused g.K.Kernel.ended) base taken (taken ++ c.args.request ∷ []) c.args.request c.args.stage c.args.output.now c.take_next-turn.new.output c.take_next-turn.result refl is c.take_next-turn.ensures.takes c.take_next-turn.ensures.refusals)
-    c.take_next-turn.ensures.said
-
-pub returns-else-is_opening-clause-stands : goal.returns-else-is_opening-clause-stands
-returns-else-is_opening-clause-stands g c taken base is =
+pub returns-clause-stands : goal.returns-clause-stands
+returns-clause-stands g c taken base is =
     c.stand-standing.ensures.stands base (taken ++ c.args.request ∷ [])
     (laws.one_taken (RefusalSaid g.K.Kernel.not_opened g.K.Kernel.refused g.K.Kernel.ended) base taken (taken ++ c.args.request ∷ []) c.args.request c.args.stage c.args.output.now c.take_next-turn.new.output c.take_next-turn.result refl is c.take_next-turn.ensures.takes c.take_next-turn.ensures.refusals)
     c.take_next-turn.ensures.said
