@@ -13,7 +13,7 @@ use Rattle.run_core.specs.Receipts.{held_by}
 use Rattle.run_core.specs.Traced.{TraceTold, IsTold}
 use Rattle.record_book.specs.Book.{BookState}
 use Rattle.call_types.specs.declared.act.Record.{Record}
-use Rattle.run_core.specs.Run.{Connection, CountsItsOwn, GivesConnections, IsBlank, IsProcessOf, IsRun, IsRunOf, ReportedSession, RunTold, ServesConnection, ServesEach, ServesInRun, Streams, at_start, counted_by, streams, with_seat}
+use Rattle.run_core.specs.Run.{AreShut, Connection, CountsItsOwn, GivesConnections, IsBlank, IsProcessOf, IsRun, IsRunOf, ReportedSession, RunTold, ServesConnection, ServesEach, ServesInRun, Streams, at_start, counted_by, streams, with_seat}
 use Rattle.run_core.specs.Proved.Joining.{HasEnded, IsJoined}
 use Rattle.run_core.specs.declared.sessions.Want.{Want}
 
@@ -102,6 +102,24 @@ joined_next {T} limits always reader writer yielded thread sessions new_sessions
 pub joined_all : {T : Type 0} (limits : Option Limits) (always : Bool) (connection : T → Streams) (yielded all : List T) (sessions : List ReportedSession) (shares : List Counted)
     → yielded ≡ all → IsJoined limits always (map connection yielded) sessions shares → IsJoined limits always (map connection all) sessions shares
 joined_all {T} limits always connection yielded all sessions shares is h = subst (λ (ts : List T). IsJoined limits always (map connection ts) sessions shares) is h
+
+-- ---- what was shut
+
+-- no session is there
+pub none_shut : (was_shut : Option (List ℕ) → Type 0) (sessions : List ReportedSession) → length sessions ≡ 0 → AreShut was_shut sessions
+none_shut was_shut [] none = tt
+none_shut was_shut (one ∷ more) none = absurd cc
+
+shut_more : (was_shut : Option (List ℕ) → Type 0) (sessions : List ReportedSession) (s : ReportedSession) → AreShut was_shut sessions → was_shut s.writer.contents → AreShut was_shut (sessions ++ s ∷ [])
+shut_more was_shut [] s all one = (one, tt)
+shut_more was_shut (first ∷ sessions) s all one = (all.0, shut_more was_shut sessions s all.1 one)
+
+-- the connection of one session more was shut
+pub shut_next : (was_shut : Option (List ℕ) → Type 0) (sessions new_sessions : List ReportedSession) (seat : Option SeatState) (s : ReportedSession) (served : SessionState)
+    → AreShut was_shut sessions → with_seat seat s ≡ served → was_shut served.writer.contents → new_sessions ≡ sessions ++ s ∷ [] → AreShut was_shut new_sessions
+shut_next was_shut sessions new_sessions seat s served all same one more =
+    let own = subst (λ (is : SessionState). was_shut is.writer.contents) (sym same) one in
+    subst (AreShut was_shut) (sym more) (shut_more was_shut sessions s all own)
 
 -- ---- the run
 

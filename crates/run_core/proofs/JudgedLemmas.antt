@@ -1,5 +1,5 @@
 -- What was written of a run is legal.
-use Rattle.std.proofs.Common.{◌≡◌, ℕ, ◌+◌, ◌-◌, ◌<◌, ◌≤◌, suc, Bool, List, [], ◌∷◌, ◌++◌, map, Option, None, Some, IfSome, length, sym, ap, subst, ◌∙◌, arith, inl, inr}
+use Rattle.std.proofs.Common.{◌≡◌, ℕ, ◌+◌, ◌-◌, ◌<◌, ◌≤◌, suc, Bool, List, [], ◌∷◌, ◌++◌, map, Option, None, Some, IfSome, length, refl, sym, ap, subst, ◌∙◌, arith, inl, inr}
 use Rattle.std.specs.List.{AllByRecursion, AllZip, slice_get}
 use Rattle.std.specs.Option.{option_map}
 use Rattle.std.proofs.lemmas.Bool.{cases_lt}
@@ -9,21 +9,25 @@ use Rattle.call_types.specs.declared.act.Act.TheVariants as acts
 use Rattle.call_types.specs.declared.act.Record.{Record}
 use Rattle.call_types.specs.declared.call.Call.TheVariants as calls
 use Rattle.call_types.specs.declared.limits.Limits.{Limits}
-use Rattle.frame_codec.specs.Records.{ActFits, FlagsFit, IsInRange}
+use Rattle.call_types.specs.declared.limits.TheConstants.{RECORD_LENGTH_MAX}
+use Rattle.frame_codec.specs.Frames.{IsFrame, frame}
+use Rattle.frame_codec.specs.Records.{ActFits, FlagsFit, IsInRange, SpellsRecord, record_bytes}
 use Rattle.frame_codec.specs.Trace.{header_2, told_of, whole_in}
 use Rattle.posix_model.specs.declared.world.World.{World}
 use Rattle.posix_model.specs.Reserve.{IsLegalRun}
+use Rattle.trace_writer.specs.Traces.{BeginsUnspelled}
 use Rattle.record_book.specs.Book.{world_now}
 use Rattle.record_book.specs.Exits.{closing_record, closing_records, exit_record, orphans_from, receipts_from}
 use Rattle.record_book.specs.Seat.{Receipted, SeatState}
 use Rattle.session_core.specs.Proved.Laws.{ActsFit, SeatFits, ActsOfSeatsFit}
-use Rattle.audit_core.specs.Proved.Laws.{WrittenIsLegal, AllInRange}
+use Rattle.audit_core.specs.Proved.Laws.{LegalHaveFrames, WrittenIsLegal, AllInRange}
+use Rattle.audit_core.specs.Trace.{HaveFrames}
 use Rattle.audit_core.specs.Verdict.{IsVerdict}
 use Rattle.audit_core.specs.declared.verdict.Verdict.TheVariants.{Legal}
 use Rattle.run_core.specs.Receipts.{Held, GoodAt, GoodFrom, names, named, wanted, held_by}
 use Rattle.run_core.specs.Run.{Connection, ReportedSession, ServesConnection, RunTold, IsRun, held_in, with_seat}
 use Rattle.run_core.specs.Judged.{FlagsDecide}
-use Rattle.run_core.specs.Proved.Laws.{FlagsDecideAll, RunsAreJudged}
+use Rattle.run_core.specs.Proved.Laws.{FlagsDecideAll, RunsAreJudged, RunsAreSpelled}
 
 -- ---- the records of receipts
 
@@ -147,3 +151,24 @@ runs_judged acts_fit written_legal told h decide is_told =
       bytes_is = t.bytes_is;
       verdict = subst (λ (n : ℕ). IsVerdict t.front (Legal n v.0)) whole v.1;
     }
+
+-- ---- what can be spelled
+
+-- the last of records that have frames have frames
+last_have : (first last : List Record) → HaveFrames (first ++ last) → HaveFrames last
+last_have [] last have = have
+last_have (r ∷ first) last have = last_have first last have.1
+
+-- the first of records that have frames has one
+none_unspelled : (h : List Record) → HaveFrames h → BeginsUnspelled h → ⊥
+none_unspelled [] have unspelled = unspelled
+none_unspelled (r ∷ h) have unspelled =
+    let one : IsFrame SpellsRecord RECORD_LENGTH_MAX r (frame (record_bytes r)) = record { payload = record_bytes r; few = have.0.1; spelled = (have.0.0, refl); is = refl } in
+    unspelled (frame (record_bytes r)) one
+
+pub runs_spelled : ActsOfSeatsFit → LegalHaveFrames → RunsAreSpelled
+runs_spelled acts_fit have told h decide is =
+    let records = h.book.history in
+    let framed = have h.book.limits.bounds records h.run.is_legal.is_legal (history_in_range acts_fit told h decide) in
+    let s = h.trace.spelled in
+    none_unspelled s.later (last_have s.framed s.later (subst HaveFrames s.is framed)) (s.unspelled is)

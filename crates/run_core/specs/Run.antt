@@ -115,6 +115,11 @@ ServesEach limits always connections sessions = AllZip (ServesConnection limits 
 abbrev pub counted_by : List Connection → List Counted
 counted_by connections = filter_map (λ c. option_map (λ (s : SeatState). s.counted) c.seat) connections
 
+-- the connection of each of these sessions was shut
+abbrev pub AreShut : (Option (List ℕ) → Type 0) → List ReportedSession → Type 0
+AreShut was_shut [] = Unit {0}
+AreShut was_shut (s ∷ ss) = was_shut s.writer.contents × AreShut was_shut ss
+
 -- so many sessions are as many as there were to be, and the source did not fail; or they are fewer, and it failed once
 abbrev pub FailsIfFewer : ℕ → ℕ → ℕ → ℕ → Type 0
 FailsIfFewer count sessions before after = ((count ≡ sessions) × (after ≡ before)) ⊎ ((count < sessions) × (after ≡ before + 1))

@@ -7,7 +7,7 @@ ghost use Rattle.rtrb.specs.Ring.{received};
 ghost use Rattle.run_core.specs.Judged.{IsJudged};
 ghost use Rattle.run_core.specs.Proved.Laws.{FlagsDecideAll};
 ghost use Rattle.run_core.specs.Receipts.{held_by};
-ghost use Rattle.run_core.specs.Run.{IsRun, IsRunOf, IsBlank, IsProcessOf, FailsIfFewer, GivesConnections, ServesInRun, CountsItsOwn, held_in, streams, with_seat};
+ghost use Rattle.run_core.specs.Run.{AreShut, IsRun, IsRunOf, IsBlank, IsProcessOf, FailsIfFewer, GivesConnections, ServesInRun, CountsItsOwn, held_in, streams, with_seat};
 ghost use Rattle.run_core.specs.Proved.Joining.{HasEnded, IsJoined};
 ghost use Rattle.logged_streams.specs.Streams.{one_more};
 ghost use Rattle.session_core.specs.Served.{failures_after};
@@ -18,6 +18,7 @@ ghost use Rattle.run_core.specs.declared.sessions.Want.{Want};
 ghost use Rattle.run_core.specs.declared.sessions.Want.TheVariants as wants;
 ghost use Rattle.run_core.specs.declared.report.RunFault.TheVariants as run_fault;
 ghost use Rattle.run_core.specs.declared.sessions.Shortage.TheVariants as shortage;
+ghost use Rattle.trace_writer.specs.declared.traced.TraceFault.TheVariants as trace_fault;
 
 use crate::closing::{Closed, close, end_run, unshared};
 use crate::laws::runs_are_judged;
@@ -27,6 +28,7 @@ use crate::tracing::{Done, Traces, start_trace};
 use byte_ledger::ledgers::{Blanks, Ledgers};
 use byte_ledger::tallies::Shares;
 use call_types::limits::Limits;
+use session_core::connection::Connection;
 use session_core::gate::Gate;
 use session_core::serve::{Served, serve};
 use session_core::starter::{StartFailed, Starter, start};
@@ -57,8 +59,8 @@ impl<G: Gate, L: Ledgers> Shared<G, L> {
     }
 }
 
-/// What the thread of a session promises: that the connection is served. Its writer holds nothing yet, and its starter has failed at
-/// nothing.
+/// What the thread of a session promises: that the connection is served and then shut. Its writer holds nothing yet, and its starter has
+/// failed at nothing.
 #[derive(Drop)]
 pub(crate) struct Serving<R: Read, W: Write, G: Gate, T: Starter> {
     reader: Snapshot<R>,
@@ -76,13 +78,13 @@ pub(crate) struct Over<R: Read, W: Write, L: Ledgers, T: Starter> {
     starter: T,
 }
 
-impl<R: Read, W: Write, G: Gate, L: Ledgers, T: Starter> Promise<Over<R, W, L, T>>
+impl<R: Read, W: Write + Connection, G: Gate, L: Ledgers, T: Starter> Promise<Over<R, W, L, T>>
     for Serving<R, W, G, T> {
     ghost use Rattle.std.specs.Prelude.{◌≡◌};
     ghost use Rattle.session_core.specs.Served.{failures_after};
     ghost use Rattle.run_core.specs.Run.{ServesInRun};
 
-    ghost kept_by = { λ p over. ServesInRun L.limits G.is_open (R.remaining p.reader.value) (W.contents p.writer.value) over.served × (T.failures over.starter ≡ failures_after over.served.end_is (T.failures p.starter.value)) };
+    ghost kept_by = { λ p over. ServesInRun L.limits G.is_open (R.remaining p.reader.value) (W.contents p.writer.value) over.served × (T.failures over.starter ≡ failures_after over.served.end_is (T.failures p.starter.value)) × W.was_shut over.served.writer.contents };
 }
 
 impl<R: Read, W: Write, G: Gate, T: Starter> Serving<R, W, G, T> {
@@ -125,6 +127,7 @@ fn serve_connection<
 ) -> Over<S::Reader, S::Writer, L, T>
     ensures serves { ServesInRun L.limits G.is_open (S.Reader.Read.remaining reader) (S.Writer.Write.contents writer) result.served }
     ensures starts { T.failures result.starter ≡ failures_after result.served.end_is (T.failures starter) }
+    ensures shut { S.Writer.Connection.was_shut result.served.writer.contents }
 {
     let mut starter = starter;
     let admission = lock.admit();
@@ -247,7 +250,7 @@ fn next_session<
 
 /// The sessions that were started, and what was wanting for a connection that was accepted after them, if there was one.
 #[derive(Drop)]
-struct Started<R: Read, W: Write, G: Gate, L: Ledgers, T: Starter> {
+struct Started<R: Read, W: Write + Connection, G: Gate, L: Ledgers, T: Starter> {
     running: Vec<Running<R, W, G, L, T>>,
     want: Option<Want>,
 }
@@ -347,7 +350,14 @@ fn part<R: Read + Drop, W: Write + Drop, L: Ledgers>(
 }
 
 /// Waits until all sessions have ended, parts each from its seat, and counts what their starters could not start. There is room for them.
-fn join_all<Rt: Threads, R: Read + Drop, W: Write + Drop, G: Gate, L: Ledgers, T: Starter + Drop>(
+fn join_all<
+    Rt: Threads,
+    R: Read + Drop,
+    W: Write + Connection + Drop,
+    G: Gate,
+    L: Ledgers,
+    T: Starter + Drop,
+>(
     rt: &Rt,
     starter: &mut T,
     running: Vec<Running<R, W, G, L, T>>,
@@ -360,6 +370,7 @@ fn join_all<Rt: Threads, R: Read + Drop, W: Write + Drop, G: Gate, L: Ledgers, T
     ensures joined { IsJoined L.limits G.is_open (map (λ thread. streams (R.remaining thread.promise.reader.value) (W.contents thread.promise.writer.value)) running.items) result.sessions.items result.shares.items }
     ensures starts { T.failures starter.new ≡ failures_with result.sessions.items (T.failures starter.old) }
     ensures all { vec_len result.sessions ≡ vec_len running }
+    ensures shut { AreShut W.was_shut result.sessions.items }
 {
     let Parted {
         mut sessions,
@@ -383,13 +394,13 @@ fn join_all<Rt: Threads, R: Read + Drop, W: Write + Drop, G: Gate, L: Ledgers, T
 
 /// Room for all sessions of a run: while they go on, and when they are over.
 #[derive(Drop)]
-struct Rooms<R: Read, W: Write, G: Gate, L: Ledgers, T: Starter> {
+struct Rooms<R: Read, W: Write + Connection, G: Gate, L: Ledgers, T: Starter> {
     running: Vec<Running<R, W, G, L, T>>,
     ends: Parted<R, W, L>,
 }
 
 /// Makes room for so many sessions.
-fn rooms_for<R: Read + Drop, W: Write + Drop, G: Gate, L: Ledgers, T: Starter + Drop>(
+fn rooms_for<R: Read + Drop, W: Write + Connection + Drop, G: Gate, L: Ledgers, T: Starter + Drop>(
     alloc: Global,
     sessions: usize,
 ) -> Result<Rooms<R, W, G, L, T>, AllocError>
@@ -463,6 +474,7 @@ fn serve_all<
     ensures ended { HasEnded G.is_open L.limits result.want (S.coming source.old) (S.coming source.new) result.closed.book result.closed.house result.parted.sessions.items result.parted.shares.items }
     ensures starts { T.failures starter.new ≡ failures_with result.parted.sessions.items (failures_for result.want (T.failures starter.old)) }
     ensures lost { (want : Want) → result.want ≡ Some want → S.failures source.new ≡ S.failures source.old }
+    ensures shut { AreShut S.Writer.Connection.was_shut result.parted.sessions.items }
 {
     let Rooms { running, ends } = rooms;
     let started = start_all(rt, alloc, starter, &shared, source, sessions, running);
@@ -580,6 +592,9 @@ fn serve_traced<
     ensures started { IfOk result (λ report. T.failures starter.new ≡ failures_with report.ends.items (T.failures starter.old)) }
     ensures unstarted { IfErr result (λ u. T.failures starter.new ≡ failures_with (left_sessions (option_map (λ left. left.ends.items) u.left)) (failures_by u.fault (T.failures starter.old))) }
     ensures lost { IfErr result (λ u. u.fault ≡ run_fault.NoThread → S.failures source.new ≡ S.failures source.old) }
+    ensures shut { IfOk result (λ report. AreShut S.Writer.Connection.was_shut report.ends.items) }
+    ensures left_shut { IfErr result (λ u. AreShut S.Writer.Connection.was_shut (left_sessions (option_map (λ left. left.ends.items) u.left))) }
+    ensures spelled { IfOk result (λ report. report.traced.fault ≡ Some trace_fault.Unspellable → ⊥) }
 {
     runs_are_judged(limits);
     let ended = serve_all(rt, alloc, starter, shared, source, sessions, rooms);
@@ -592,8 +607,8 @@ fn serve_traced<
 /// once the gate lets it through. When all sessions have ended, the run is closed, what their seats counted is gathered, and receipts,
 /// records and what the trace thread received are compared. Where accepting fails, the sessions before are served to their end, and the
 /// report has fewer. Where a session's own thread cannot be started, or memory is wanting for it, they are too, but there is no report.
-/// Where the sink fails, the report tells it. The trace tells the limits of the run, and an audit finds what the sink took legal, with
-/// the whole records that are told. A run without a report hands out what its sessions left, its records and what the trace thread
+/// Where the sink fails, the report tells it; that a record cannot be spelled it never tells. The trace tells the limits of the run, and an
+/// audit finds what the sink took legal, with the whole records that are told. The connection of each session is shut. A run without a report hands out what its sessions left, its records and what the trace thread
 /// received, in which its fault can be seen. All threads are started through the starter, which counts those that could not be: one for
 /// each session that has no thread to read, and one where that is why there is no report. In any case no thread goes on then.
 pub fn run_sessions<
@@ -630,6 +645,9 @@ pub fn run_sessions<
     ensures started { IfOk result (λ report. T.failures starter.new ≡ failures_with report.ends.items (T.failures starter.old)) }
     ensures unstarted { IfErr result (λ u. T.failures starter.new ≡ failures_with (left_sessions (option_map (λ left. left.ends.items) u.left)) (failures_by u.fault (T.failures starter.old))) }
     ensures lost { IfErr result (λ u. u.fault ≡ run_fault.NoThread → S.failures source.new ≡ S.failures source.old) }
+    ensures shut { IfOk result (λ report. AreShut S.Writer.Connection.was_shut report.ends.items) }
+    ensures left_shut { IfErr result (λ u. AreShut S.Writer.Connection.was_shut (left_sessions (option_map (λ left. left.ends.items) u.left))) }
+    ensures spelled { IfOk result (λ report. report.traced.fault ≡ Some trace_fault.Unspellable → ⊥) }
 {
     let rooms = rooms_for(alloc, sessions)?;
     let (shared, end) = shared_by::<G, L>(alloc, limits, blanks, gate)?;

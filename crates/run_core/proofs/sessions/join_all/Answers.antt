@@ -7,7 +7,7 @@ use Rattle.run_core.specs.Run.{streams}
 use Rattle.session_core.specs.Served.{SessionState, failures_after}
 use Rattle.session_core.specs.declared.end.End.{End}
 use Rattle.run_core.proofs.StarterLemmas.{absorbed, none_counted}
-use Rattle.run_core.proofs.JoinLemmas.{joined_all, joined_next, joined_none, shares_some, shares_none}
+use Rattle.run_core.proofs.JoinLemmas.{joined_all, joined_next, joined_none, none_shut, shares_some, shares_none, shut_next}
 use Rattle.run_core.proofs.sessions.join_all.Goals as goal
 
 -- none was joined
@@ -18,6 +18,7 @@ loop-thread-init g c = record {
   shares_room = search rules;
   joined = joined_none g.L.Ledgers.limits g.G.Gate.is_open c.args.room.sessions.items c.args.room.shares.items (sym c.args.room.sessions.ok.0 ∙ c.requires.empty) (sym c.args.room.shares.ok.0 ∙ c.requires.no_shares);
   starts = none_counted c.args.room.sessions.items (g.T.Starter.failures c.args.starter.now) (sym c.args.room.sessions.ok.0 ∙ c.requires.empty);
+  shut = none_shut g.W.Connection.was_shut c.args.room.sessions.items (sym c.args.room.sessions.ok.0 ∙ c.requires.empty);
   goes = search rules;
   ends = search rules;
 }
@@ -40,6 +41,7 @@ loop-thread-preserved-in-Some-counted g c =
           (c.push_reserved-in-Some-counted.ensures.items ∙ ap (λ (l : List Counted). c.loop-thread.shares.items ++ l) (sym (shares_some c.join-served.result.served.seat c.part-session.result.1 c.in-Some-counted.counted c.part-session.ensures.shares c.in-Some-counted.is)));
       starts = absorbed c.loop-thread.sessions.items _ c.part-session.result.0 (g.T.Starter.failures c.args.starter.now) (g.T.Starter.failures c.loop-thread.starter) (g.T.Starter.failures c.join-served.result.starter) (g.T.Starter.failures c.absorb.new.self)
           before.starts c.absorb.ensures (c.join-served.ensures.1 ∙ ap (λ (n : ℕ). failures_after c.join-served.result.served.end_is n) c.in-Some.thread.promise.fresh ∙ ap (λ (e : End). failures_after e 0) (sym (ap (λ (s : SessionState). s.end_is) c.part-session.ensures.session))) c.push_reserved.ensures.items;
+      shut = shut_next g.W.Connection.was_shut c.loop-thread.sessions.items _ c.join-served.result.served.seat c.part-session.result.0 c.join-served.result.served before.shut c.part-session.ensures.session c.join-served.ensures.2 c.push_reserved.ensures.items;
       goes = search rules;
       ends = search rules;
     }
@@ -59,6 +61,7 @@ loop-thread-preserved g c =
           (sym (append-nil c.loop-thread.shares.items) ∙ ap (λ (l : List Counted). c.loop-thread.shares.items ++ l) (sym (shares_none c.join-served.result.served.seat c.part-session.result.1 c.part-session.ensures.shares c.in-None-counted.is)));
       starts = absorbed c.loop-thread.sessions.items _ c.part-session.result.0 (g.T.Starter.failures c.args.starter.now) (g.T.Starter.failures c.loop-thread.starter) (g.T.Starter.failures c.join-served.result.starter) (g.T.Starter.failures c.absorb.new.self)
           before.starts c.absorb.ensures (c.join-served.ensures.1 ∙ ap (λ (n : ℕ). failures_after c.join-served.result.served.end_is n) c.in-Some.thread.promise.fresh ∙ ap (λ (e : End). failures_after e 0) (sym (ap (λ (s : SessionState). s.end_is) c.part-session.ensures.session))) c.push_reserved.ensures.items;
+      shut = shut_next g.W.Connection.was_shut c.loop-thread.sessions.items _ c.join-served.result.served.seat c.part-session.result.0 c.join-served.result.served before.shut c.part-session.ensures.session c.join-served.ensures.2 c.push_reserved.ensures.items;
       goes = search rules;
       ends = search rules;
     }

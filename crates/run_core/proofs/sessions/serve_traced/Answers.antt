@@ -107,3 +107,9 @@ returns-in_err-report-clause-unstarted g c =
     let before = g.T.Starter.failures c.args.starter.now in
     let p = err_from_is_err_and c.from_residual.result c.from_residual.ensures.1 in
     rw (p.1, p.2, c.in_err-report.ensures.left) (c.serve_all-ended.ensures.starts ∙ ap (λ (n : ℕ). failures_with c.serve_all-ended.result.parted.sessions.items n) (c.in_err-report.ensures.wanted before))
+
+pub returns-clause-spelled : goal.returns-clause-spelled
+returns-clause-spelled g c =
+    let told = c.in_ok-report.ensures in
+    let decided = subst (λ (traced : Traced). FlagsDecideAll (map arc_value traced.received.items)) (sym told.trace.0) told.decided in
+    c.runs_are_judged.ensures.spelled _ (returns-clause-run g c) decided
