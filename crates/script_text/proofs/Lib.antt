@@ -22,3 +22,7 @@ pub mod Rooms
 pub mod NumbersAhead
 pub mod LastFields
 pub mod CommonCalls
+pub mod AnswerLaws
+pub mod AskedLaws
+pub mod RaceCuts
+pub mod RaceLaws

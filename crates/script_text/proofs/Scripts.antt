@@ -12,7 +12,7 @@ use Rattle.script_text.specs.ReadingCalls.{reading}
 use Rattle.script_text.specs.ReadingResults.{ScriptFails}
 
 -- the lines of a script
-abbrev lines_of : List ℕ → List (List ℕ)
+abbrev pub lines_of : List ℕ → List (List ℕ)
 lines_of bytes = slice_split (λ c. eqb c 10) bytes
 
 either : (b : Bool) (c : ℕ) (cs : List ℕ) → lines_of cs ≡ (cut 10 cs).0 ∷ left_lines (cut 10 cs).1
@@ -21,7 +21,7 @@ either true c cs h = refl
 either false c cs h = ap (onto_first c) h
 
 -- a script is its first line, and the lines after it
-first_line : (bytes : List ℕ) → lines_of bytes ≡ (cut 10 bytes).0 ∷ left_lines (cut 10 bytes).1
+pub first_line : (bytes : List ℕ) → lines_of bytes ≡ (cut 10 bytes).0 ∷ left_lines (cut 10 bytes).1
 first_line [] = refl
 first_line (c ∷ cs) = either (eqb c 10) c cs (first_line cs)
 

@@ -9,4 +9,6 @@ pub mod ReadingScripts
 pub mod Lines
 pub mod Spellings
 pub mod Expected
+pub mod Answers
+pub mod Races
 pub mod Proved

@@ -5,3 +5,4 @@ pub mod Asked
 pub mod Decoded
 pub mod Digits
 pub mod Scripts
+pub mod Answered

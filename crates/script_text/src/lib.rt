@@ -2,6 +2,7 @@
 #![tactic(auto)]
 
 mod ahead;
+pub mod answers;
 mod calls;
 mod common;
 mod cutting;
@@ -15,8 +16,10 @@ mod number;
 mod outcomes;
 mod payload;
 mod put;
+pub mod races;
 pub mod reading;
 pub mod round_trip;
+pub mod row;
 pub mod script;
 mod whence;
 mod words;

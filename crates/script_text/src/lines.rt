@@ -4,12 +4,13 @@ ghost use Rattle.std.specs.Prelude.{◌≡◌, ◌≤◌, ◌+◌, ◌-◌, ◌+
 ghost use Rattle.call_types.specs.Writing.{Appends};
 ghost use Rattle.script_text.specs.Lines.{actor_word, act_line, act_text, outcome_text, record_line, script_act_text, script_actor_word, refused_line, still_line, refusal_word, totals_line};
 ghost use Rattle.script_text.specs.Proved.Asked.{asked_of};
-ghost use Rattle.script_text.specs.Proved.Room.{HasRoom, UsesRoom, act_room, script_act_room, outcome_room};
+ghost use Rattle.script_text.specs.Proved.Room.{HasRoom, UsesRoom, act_room, call_room, script_act_room, outcome_room};
 
 use crate::calls::{CALL_ROOM, put_call, room_of_call};
 use crate::outcomes::{OUTCOME_ROOM, put_outcome, room_of_outcome};
 use crate::put::{FIELD_ROOM, put, put_number, put_process};
 use call_types::act::{Act, Record, ScriptAct};
+use call_types::call::Call;
 use call_types::outcome::Outcome;
 use call_types::refusal::Refusal;
 use std::alloc::AllocError;
@@ -128,6 +129,27 @@ pub fn write_act(out: &mut Vec<u8>, record: &Record) -> Result<(), AllocError>
 {
     out.reserve(LINE_ROOM + room_of_act(&record.act))?;
     put_act_line(out, record.actor, &record.act);
+    Ok(())
+}
+
+/// Appends the line of a script that asks for a call, with its LF, for which there is room.
+fn put_call_line(out: &mut Vec<u8>, process: u32, call: &Call)
+    requires { HasRoom out.old (LINE_ROOM + call_room call.now) }
+    ensures { out.new.items ≡ out.old.items ++ act_line process (Act.Call call.now) }
+{
+    put_process(out, process);
+    out.push_reserved(b' ');
+    put_call(out, call);
+    out.push_reserved(b'\n');
+}
+
+/// Appends the line of a script that asks for a call of a process, with its LF.
+pub fn write_call_line(out: &mut Vec<u8>, process: u32, call: &Call) -> Result<(), AllocError>
+    // The line stands after the old bytes; where memory runs out these are still the front.
+    ensures { Appends result out.old.items out.new.items (act_line process (Act.Call call.now)) }
+{
+    out.reserve(LINE_ROOM + room_of_call(call))?;
+    put_call_line(out, process, call);
     Ok(())
 }
 

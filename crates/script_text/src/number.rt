@@ -12,7 +12,7 @@ pub(crate) fn number_value(most: u32, word: &[u8]) -> Option<u32>
 }
 
 /// The same of a number that may have 64 bits.
-fn wide_number_value(most: u64, word: &[u8]) -> Option<u64>
+pub(crate) fn wide_number_value(most: u64, word: &[u8]) -> Option<u64>
     ensures value { result ≡ number_of most word.now }
     ensures small { IfSome result (λ n. n ≤ most) }
 {

@@ -1,6 +1,7 @@
 //! What came of an act, written in a line.
 
-ghost use Rattle.std.specs.Prelude.{◌≡◌, ◌≤◌, ◌++◌, codes, decimal, length, ◌<◌, ◌^◌};
+ghost use Rattle.std.specs.Prelude.{◌≡◌, ◌≤◌, ◌++◌, codes, decimal, length, Some, ◌<◌, ◌^◌};
+ghost use Rattle.script_text.specs.Answers.{answer_text};
 ghost use Rattle.script_text.specs.Lines.{kind_word, error_word, stat_text, reply_text, outcome_text};
 ghost use Rattle.script_text.specs.Proved.Room.{HasRoom, UsesRoom, outcome_room};
 
@@ -25,7 +26,7 @@ fn kind_text(kind: FileType) -> &'static [u8]
 }
 
 /// How an error is written.
-fn error_text(errno: Errno) -> &'static [u8]
+pub(crate) fn error_text(errno: Errno) -> &'static [u8]
     ensures text { result.now ≡ error_word errno }
     ensures short { length result.now ≤ 12 }
 {
@@ -133,5 +134,16 @@ pub(crate) fn put_outcome(out: &mut Vec<u8>, outcome: &Outcome)
         Outcome::Reply(reply) => put_reply(out, reply),
         Outcome::Parked { moved } => put_moved(out, b"parked ", *moved),
         Outcome::Part { moved } => put_moved(out, b"part ", *moved),
+    }
+}
+
+/// Appends the answer of a call that was made, by its last outcome.
+pub(crate) fn put_answer(out: &mut Vec<u8>, outcome: &Outcome)
+    requires { HasRoom out.old (outcome_room outcome.now) }
+    ensures { out.new.items ≡ out.old.items ++ answer_text (Some outcome.now) }
+{
+    match outcome {
+        Outcome::Reply(reply) => put_reply(out, reply),
+        Outcome::Parked { moved } | Outcome::Part { moved } => put_moved(out, b"waits ", *moved),
     }
 }

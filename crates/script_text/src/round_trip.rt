@@ -1,9 +1,12 @@
 //! What holds of the reading itself. Each function does nothing; its contract is the law.
 
-ghost use Rattle.std.specs.Prelude.{◌≡◌, ◌<◌, ◌^◌, ◌++◌, ℕ, List, Ok, codes};
+ghost use Rattle.std.specs.Prelude.{◌≡◌, ◌<◌, ◌^◌, ◌++◌, ℕ, List, Option, Some, Ok, codes};
 ghost use Rattle.call_types.specs.declared.call.Call.{Call};
 ghost use Rattle.call_types.specs.declared.act.ScriptAct.{ScriptAct};
 ghost use Rattle.call_types.specs.declared.act.ScriptAct.TheVariants as acts;
+ghost use Rattle.call_types.specs.declared.outcome.Outcome.{Outcome};
+ghost use Rattle.script_text.specs.Answers.{answer_text, asked_of};
+ghost use Rattle.script_text.specs.Proved.Answered.{FitsAnswer, RaceRows};
 ghost use Rattle.script_text.specs.Proved.CallRows.{CallRows};
 ghost use Rattle.script_text.specs.Lines.{process_word, call_text, script_line};
 ghost use Rattle.script_text.specs.ReadingCalls.{reading};
@@ -34,4 +37,14 @@ pub fn read_scripts_are_spelled()
 pub fn calls_as_read()
     ensures calls { CallRows }
     ensures script_max { SCRIPT_MAX ≡ 2 ^ 24 }
+{}
+
+/// What is written for an answer is asked for by its text, where its numbers and its data are in their ranges.
+pub fn written_answers_are_asked_for()
+    ensures { (answer : Option Outcome) → FitsAnswer answer → asked_of (answer_text answer) ≡ Some (Some (answer_text answer)) }
+{}
+
+/// What texts ask for, and the races that scripts are, said once more row by row.
+pub fn races_as_read()
+    ensures { RaceRows }
 {}
