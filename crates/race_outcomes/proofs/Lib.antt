@@ -1,7 +1,11 @@
-pub mod PlaceLemmas
-pub mod OrderLemmas
-pub mod SearchLemmas
 pub mod EndLemmas
-pub mod MoveLemmas
+pub mod HistoryLemmas
 pub mod LaneLemmas
+pub mod MoveLemmas
+pub mod OrderLemmas
+pub mod PlaceLemmas
 pub mod SameLemmas
+pub mod SearchLemmas
+pub mod SetupLemmas
+pub mod TellingLemmas
+pub mod WitnessLemmas

@@ -3,4 +3,7 @@ pub mod Lanes
 pub mod Moves
 pub mod Outcomes
 pub mod Search
+pub mod Tellings
+pub mod Setups
+pub mod Witnesses
 pub mod Proved

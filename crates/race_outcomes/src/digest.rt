@@ -1,7 +1,6 @@
 //! Numbers made of positions, by which the chains of an index are told apart. Nothing is promised of them.
 
 use crate::position::Position;
-use crate::row::Row;
 use call_types::description::{Description, Target};
 use call_types::outcome::{Outcome, Reply};
 use call_types::span::Span;
@@ -9,6 +8,7 @@ use posix_model::contents::Contents;
 use posix_model::runs::Runs;
 use posix_model::world::{File, World};
 use process_table::process::Process;
+use script_text::row::Row;
 use slots::ticket::Ticket;
 use std::alloc::Global;
 

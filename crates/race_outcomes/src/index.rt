@@ -3,9 +3,9 @@
 ghost use Rattle.std.specs.Prelude.{◌≡◌, true};
 ghost use Rattle.race_outcomes.specs.Search.{Has};
 
-use crate::row::Row;
 use crate::search::Met;
 use crate::space::Space;
+use script_text::row::Row;
 use std::alloc::{AllocError, Global};
 
 /// How many chains there are.

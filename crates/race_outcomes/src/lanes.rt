@@ -3,8 +3,8 @@
 ghost use Rattle.std.specs.Prelude.{◌≡◌, ◌++◌, ◌∷◌, [], IfOk, OnOk, OnErr};
 ghost use Rattle.race_outcomes.specs.Lanes.{AreOfDifferent, IsPlaceOf, with_call};
 
-use crate::row::Row;
 use call_types::call::Call;
+use script_text::row::Row;
 use std::alloc::{AllocError, Global};
 use std::marker::Model;
 
@@ -34,7 +34,7 @@ impl Model for Lanes {
 }
 
 /// The place of the lane of a process.
-fn place_of(lanes: &[Lane], actor: u32) -> Option<usize>
+pub(crate) fn place_of(lanes: &[Lane], actor: u32) -> Option<usize>
     ensures { IsPlaceOf actor lanes.now result }
 {
     for (place, lane) in lanes.iter().enumerate() {

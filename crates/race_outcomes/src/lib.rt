@@ -4,9 +4,12 @@
 mod digest;
 pub mod index;
 pub mod lanes;
+pub mod lines;
 pub mod outcomes;
 pub mod position;
-pub mod row;
 mod same;
 pub mod search;
+pub mod setup;
 pub mod space;
+pub mod tellings;
+pub mod witness;

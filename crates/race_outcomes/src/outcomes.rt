@@ -9,10 +9,10 @@ ghost use Rattle.race_outcomes.specs.Outcomes.{start_of, tellings, AreAll};
 ghost use Rattle.race_outcomes.specs.Proved.Ends.{TellsAt, TellsAll, Adds};
 
 use crate::position::{Answers, Position, Race};
-use crate::row::Row;
 use crate::same::Same;
 use crate::search::{Explored, GivenUp, Met, explore, order_to};
 use posix_model::world::World;
+use script_text::row::Row;
 use std::alloc::{AllocError, Global};
 
 /// What the calls of a race may answer, and an order of moves after which they did.
@@ -44,7 +44,7 @@ fn nothing_told(alloc: Global, lanes: usize) -> Result<Answers, AllocError>
 }
 
 /// Where a race begins.
-fn start_of(alloc: Global, race: &Race, world: World) -> Result<Position, AllocError>
+pub(crate) fn start_of(alloc: Global, race: &Race, world: World) -> Result<Position, AllocError>
     ensures { IfOk result (λ start. start ≡ start_of race.now.lanes world) }
 {
     let told = nothing_told(alloc, race.lanes.all().len())?;

@@ -7,7 +7,6 @@ ghost use Rattle.race_outcomes.specs.Moves.{next_act, answered, move_of, move};
 
 use crate::digest::digest_of;
 use crate::lanes::{Lane, Lanes};
-use crate::row::Row;
 use crate::same::same_position;
 use crate::space::Space;
 use call_types::act::Act;
@@ -16,6 +15,7 @@ use call_types::limits::Limits;
 use call_types::outcome::Outcome;
 use plain_world::step::{StepFault, plain_step};
 use posix_model::world::World;
+use script_text::row::Row;
 use std::alloc::{AllocError, Global};
 
 /// What the calls of all lanes answer: of each lane, the last outcome of each call that was begun.
@@ -36,7 +36,7 @@ pub struct Race {
 }
 
 /// Whether a process waits in a call.
-fn is_parked(world: &World, process: usize) -> bool
+pub(crate) fn is_parked(world: &World, process: usize) -> bool
     ensures { result ≡ is_parked (slot world.now.processes process) }
 {
     match world.processes.get(process) {
@@ -46,7 +46,11 @@ fn is_parked(world: &World, process: usize) -> bool
 }
 
 /// What the process of a lane does next, if anything is left.
-fn next_act(waits: bool, lane: &Lane, told: &Row<Outcome>) -> Result<Option<Act>, AllocError>
+pub(crate) fn next_act(
+    waits: bool,
+    lane: &Lane,
+    told: &Row<Outcome>,
+) -> Result<Option<Act>, AllocError>
     ensures { IfOk result (λ act. act ≡ next_act waits lane.now told.now) }
 {
     if waits {

@@ -5,7 +5,6 @@ ghost use Rattle.posix_model.specs.Bytes.{bytes_at};
 ghost use Rattle.call_types.specs.declared.limits.TheConstants.{TRANSFER_MAX};
 
 use crate::position::Position;
-use crate::row::Row;
 use call_types::bounded::Name;
 use call_types::description::{Description, Mode, Target};
 use call_types::limits::TRANSFER_MAX;
@@ -17,6 +16,7 @@ use posix_model::world::{Fifo, File, World};
 use process_table::kept_call::KeptCall;
 use process_table::process::{Parked, Process};
 use process_table::table::DescriptorTable;
+use script_text::row::Row;
 use slots::dense::Slots;
 use slots::ticket::Ticket;
 use std::alloc::Global;

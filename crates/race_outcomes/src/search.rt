@@ -7,8 +7,8 @@ ghost use Rattle.race_outcomes.specs.Search.{AreTraced, LeadsTo, IsExplored};
 ghost use Rattle.race_outcomes.specs.Proved.Search.{Searched, TakesIn, TakesMove, TakesMoves, NotesEnd};
 
 use crate::index::Index;
-use crate::row::Row;
 use crate::space::Space;
+use script_text::row::Row;
 use std::alloc::{AllocError, Global};
 
 /// Why a search was given up.
