@@ -7,3 +7,4 @@ pub mod RunLemmas
 pub mod AuditLemmas
 pub mod MigrateLemmas
 pub mod ShowLemmas
+pub mod RaceLemmas

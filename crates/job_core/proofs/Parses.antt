@@ -21,7 +21,7 @@ use Rattle.clap.specs.declared.parser.matches.ValueSource.TheVariants.{CommandLi
 use Rattle.clap.specs.declared.error.Error.{Error}
 use Rattle.clap.specs.declared.error.kind.ErrorKind.TheVariants as kind
 use Rattle.clap.proofs.WalkLemmas.{first_value-rows}
-use Rattle.job_core.specs.CommandLine.{Asks, Deserves, Given, IsJobOf, IsMistake, IsOutOfRange, IsRequest, audit_app, fdref_app, file_rule, flag_rule, migrate_app, name_given, option_rule, replay_app, required_rule, serve_app, show_app, text_given, word_rule}
+use Rattle.job_core.specs.CommandLine.{Asks, Deserves, Given, IsJobOf, IsMistake, IsOutOfRange, IsRequest, audit_app, fdref_app, file_rule, flag_rule, migrate_app, name_given, option_rule, outcomes_app, replay_app, required_rule, serve_app, show_app, text_given, word_rule}
 use Rattle.job_core.specs.Proved.Parsing.{GivesAll, GivesBoth, GivesFile, HaveApps, HaveRules, IsFaultOf, IsParse, RefusesNumber}
 use Rattle.job_core.specs.declared.job.Job.{Job}
 use Rattle.job_core.specs.declared.job.JobFault.{JobFault}
@@ -114,6 +114,9 @@ show_shape = built_leaf (inherited above show_app.top)
 
 abbrev migrate_shape : Shape
 migrate_shape = built_leaf (inherited above migrate_app.top)
+
+abbrev outcomes_shape : Shape
+outcomes_shape = built_leaf (inherited above outcomes_app.top)
 
 -- ---- each use leaves a value
 
@@ -224,7 +227,7 @@ differ a b i m n at_a at_b apart e = apart (sym at_a ∙ ap (λ (t : Text). slic
 
 -- the names of the subcommands
 abbrev IsName : Text → Type 0
-IsName name = (name ≡ codes "replay") ⊎ ((name ≡ codes "serve") ⊎ ((name ≡ codes "audit") ⊎ ((name ≡ codes "show") ⊎ (name ≡ codes "migrate"))))
+IsName name = (name ≡ codes "replay") ⊎ ((name ≡ codes "serve") ⊎ ((name ≡ codes "audit") ⊎ ((name ≡ codes "show") ⊎ ((name ≡ codes "migrate") ⊎ (name ≡ codes "outcomes")))))
 
 -- what is required of the subcommand of this name is given
 record Has (name : Text) (given : Given) : Type 0 where
@@ -278,22 +281,33 @@ migrate_has given both = record {
   migrate = λ e. both;
 }
 
-abbrev met : Bool → Bool → Bool → Bool → Bool → Option Shape
-met a b c d e = cond a (Some replay_shape) (cond b (Some serve_shape) (cond c (Some audit_shape) (cond d (Some show_shape) (cond e (Some migrate_shape) None))))
+outcomes_has : (given : Given) → Has (codes "outcomes") given
+outcomes_has given = record {
+  serve = λ e. absurd (differ (codes "outcomes") (codes "serve") 0 111 115 refl refl (λ n. omega (arith, n)) e);
+  audit = λ e. absurd (differ (codes "outcomes") (codes "audit") 0 111 97 refl refl (λ n. omega (arith, n)) e);
+  show = λ e. absurd (differ (codes "outcomes") (codes "show") 0 111 115 refl refl (λ n. omega (arith, n)) e);
+  migrate = λ e. absurd (differ (codes "outcomes") (codes "migrate") 0 111 109 refl refl (λ n. omega (arith, n)) e);
+}
+
+abbrev met : Bool → Bool → Bool → Bool → Bool → Bool → Option Shape
+met a b c d e f =
+    cond a (Some replay_shape)
+    (cond b (Some serve_shape) (cond c (Some audit_shape) (cond d (Some show_shape) (cond e (Some migrate_shape) (cond f (Some outcomes_shape) None)))))
 
 entered_fits : (stop : Option (Text × List Text)) → entered_fault whole stop ≡ [] → is_some (entered whole stop) ≡ true → Fits (entered whole stop)
 entered_fits None e some = cc
 entered_fits (Some p) e some =
-    go (answers_to p.0 (label_of replay_shape)) (answers_to p.0 (label_of serve_shape)) (answers_to p.0 (label_of audit_shape)) (answers_to p.0 (label_of show_shape)) (answers_to p.0 (label_of migrate_shape)) e some
+    go (answers_to p.0 (label_of replay_shape)) (answers_to p.0 (label_of serve_shape)) (answers_to p.0 (label_of audit_shape)) (answers_to p.0 (label_of show_shape)) (answers_to p.0 (label_of migrate_shape)) (answers_to p.0 (label_of outcomes_shape)) e some
   where
-    go : (a b c d m : Bool) → option_map_or (λ s. level_fault s [] nothing_held p.1 false []) (met a b c d m) [] ≡ []
-        → is_some (option_map (λ s. rows_at s p.1) (met a b c d m)) ≡ true → Fits (option_map (λ s. rows_at s p.1) (met a b c d m))
-    go true b c d m e some = (inl refl, replay_has _)
-    go false true c d m e some = (inr (inl refl), serve_has _ (serve_gives p.1 e))
-    go false false true d m e some = (inr (inr (inl refl)), audit_has _ (audit_gives p.1 e))
-    go false false false true m e some = (inr (inr (inr (inl refl))), show_has _ (show_gives p.1 e))
-    go false false false false true e some = (inr (inr (inr (inr refl))), migrate_has _ (migrate_gives p.1 e))
-    go false false false false false e some = cc
+    go : (a b c d m o : Bool) → option_map_or (λ s. level_fault s [] nothing_held p.1 false []) (met a b c d m o) [] ≡ []
+        → is_some (option_map (λ s. rows_at s p.1) (met a b c d m o)) ≡ true → Fits (option_map (λ s. rows_at s p.1) (met a b c d m o))
+    go true b c d m o e some = (inl refl, replay_has _)
+    go false true c d m o e some = (inr (inl refl), serve_has _ (serve_gives p.1 e))
+    go false false true d m o e some = (inr (inr (inl refl)), audit_has _ (audit_gives p.1 e))
+    go false false false true m o e some = (inr (inr (inr (inl refl))), show_has _ (show_gives p.1 e))
+    go false false false false true o e some = (inr (inr (inr (inr (inl refl)))), migrate_has _ (migrate_gives p.1 e))
+    go false false false false false true e some = (inr (inr (inr (inr (inr refl)))), outcomes_has _)
+    go false false false false false false e some = cc
 
 fits : (words : List Text) → fault_of fdref_app words ≡ [] → Fits (subcommand_of fdref_app words)
 fits words e =
@@ -332,13 +346,14 @@ named words m parse = go (subcommand_name_of m) (found_at words m parse)
 
 -- it is none of them, so there is no such name
 pub none_named : (name : Option Text) → IsNamed name → (name ≡ Some (codes "replay") → ⊥) → (name ≡ Some (codes "serve") → ⊥) → (name ≡ Some (codes "audit") → ⊥)
-    → (name ≡ Some (codes "show") → ⊥) → (name ≡ Some (codes "migrate") → ⊥) → ⊥
-none_named None h replay serve audit show migrate = h
-none_named (Some name) (inl e) replay serve audit show migrate = replay (ap Some e)
-none_named (Some name) (inr (inl e)) replay serve audit show migrate = serve (ap Some e)
-none_named (Some name) (inr (inr (inl e))) replay serve audit show migrate = audit (ap Some e)
-none_named (Some name) (inr (inr (inr (inl e)))) replay serve audit show migrate = show (ap Some e)
-none_named (Some name) (inr (inr (inr (inr e)))) replay serve audit show migrate = migrate (ap Some e)
+    → (name ≡ Some (codes "show") → ⊥) → (name ≡ Some (codes "migrate") → ⊥) → (name ≡ Some (codes "outcomes") → ⊥) → ⊥
+none_named None h replay serve audit show migrate outcomes = h
+none_named (Some name) (inl e) replay serve audit show migrate outcomes = replay (ap Some e)
+none_named (Some name) (inr (inl e)) replay serve audit show migrate outcomes = serve (ap Some e)
+none_named (Some name) (inr (inr (inl e))) replay serve audit show migrate outcomes = audit (ap Some e)
+none_named (Some name) (inr (inr (inr (inl e)))) replay serve audit show migrate outcomes = show (ap Some e)
+none_named (Some name) (inr (inr (inr (inr (inl e))))) replay serve audit show migrate outcomes = migrate (ap Some e)
+none_named (Some name) (inr (inr (inr (inr (inr e))))) replay serve audit show migrate outcomes = outcomes (ap Some e)
 
 -- and the matches of that subcommand have each argument that it requires
 has : (words : List Text) (m inner : ArgMatches) (name : Text) → IsParse words m → subcommand_name_of m ≡ Some name

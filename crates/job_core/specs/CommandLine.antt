@@ -10,12 +10,14 @@ use Rattle.clap.specs.declared.error.kind.ErrorKind.TheVariants as kind
 use Rattle.call_types.specs.declared.limits.Limits.{Limits}
 use Rattle.call_types.specs.declared.limits.TheConstants.{RECORDS_MAX, FILE_SIZE_MAX, PIPE_CAPACITY_MIN, PIPE_CAPACITY_MAX}
 use Rattle.job_core.specs.declared.job.Job.{Job}
-use Rattle.job_core.specs.declared.job.Job.TheVariants.{Replay, Serve, Audit, Show, Migrate}
+use Rattle.job_core.specs.declared.job.Job.TheVariants.{Replay, Serve, Audit, Show, Migrate, Outcomes}
 use Rattle.job_core.specs.declared.shown.Form.{Form}
 use Rattle.job_core.specs.declared.shown.Form.TheVariants as form
+use Rattle.job_core.specs.declared.telling.Telling.{Telling}
+use Rattle.job_core.specs.declared.telling.Telling.TheVariants as told
 use Rattle.job_core.specs.declared.job.JobFault.{JobFault}
 use Rattle.job_core.specs.declared.job.JobFault.TheVariants.{Usage, Shown, NoMemory}
-use Rattle.job_core.specs.declared.job.TheConstants.{SESSIONS_MAX}
+use Rattle.job_core.specs.declared.job.TheConstants.{SESSIONS_MAX, STATES_MAX, WITNESS_MAX}
 
 -- ---- what the program takes
 
@@ -65,6 +67,14 @@ show_app = with_rule (with_rule (new_app (codes "show")) (flag_rule (codes "acts
 abbrev pub migrate_app : App
 migrate_app = with_rule (with_rule (new_app (codes "migrate")) (word_rule (codes "in"))) (word_rule (codes "out"))
 
+-- the subcommand `outcomes`, with its four options
+abbrev pub outcomes_app : App
+outcomes_app = with_rule
+    (with_rule
+    (with_rule (with_rule (new_app (codes "outcomes")) (option_rule (codes "states"))) (option_rule (codes "pipe-capacity")))
+    (option_rule (codes "witness")))
+    (flag_rule (codes "acts"))
+
 -- the program's settings: it has a version, wants a subcommand, and has none named `help`
 abbrev pub bare_app : App
 bare_app = record (new_app (codes "fdref")) {
@@ -80,9 +90,11 @@ bare_app = record (new_app (codes "fdref")) {
 abbrev pub fdref_app : App
 fdref_app = with_subcommand
     (with_subcommand
+    (with_subcommand
     (with_subcommand (with_subcommand (with_subcommand bare_app replay_app.top) serve_app.top) audit_app.top)
     show_app.top)
-    migrate_app.top
+    migrate_app.top)
+    outcomes_app.top
 
 -- ---- what the words give
 
@@ -129,6 +141,30 @@ IsCapacity (Some text) n = IsDecimalOf text n × (PIPE_CAPACITY_MIN ≤ n) × (n
 abbrev pub IsNoCapacity : Option Text → Type 0
 IsNoCapacity text = (n : ℕ) → IsCapacity text n → ⊥
 
+-- n is the number of positions that are searched, the default where no text is given
+abbrev pub IsStates : Option Text → ℕ → Type 0
+IsStates None n = n ≡ 300000
+IsStates (Some text) n = IsNumber STATES_MAX (Some text) n
+
+-- the text is no such number
+abbrev pub IsNoStates : Option Text → Type 0
+IsNoStates text = (n : ℕ) → IsStates text n → ⊥
+
+-- n is the number of an outcome that the text gives, from 0
+abbrev pub IsOutcome : Text → ℕ → Type 0
+IsOutcome text n = IsDecimalOf text n × (n ≤ WITNESS_MAX)
+
+-- what is told where this text is given to `--witness`, with each witness in this form
+abbrev pub IsTold : Option Text → Form → Telling → Type 0
+IsTold None how telling = telling ≡ told.Outcomes
+IsTold (Some text) how told.Outcomes = ⊥
+IsTold (Some text) how (told.Witness n shape) = IsOutcome text n × (shape ≡ how)
+IsTold (Some text) how (told.Witnesses shape) = (text ≡ codes "all") × (shape ≡ how)
+
+-- the text is neither the word `all` nor the number of an outcome
+abbrev pub IsNoTelling : Option Text → Type 0
+IsNoTelling text = (how : Form) (telling : Telling) → IsTold text how telling → ⊥
+
 -- what is given to each option of a subcommand
 abbrev pub Given : Type 0
 Given = Text → Option Text
@@ -163,6 +199,18 @@ pub record IsMigrate (given : Given) (old new : Text) : Type 0 where
   pub from : given (codes "in") ≡ Some old
   pub to : given (codes "out") ≡ Some new
 
+-- what is told is what is given so
+abbrev pub IsTelling : Given → Telling → Type 0
+IsTelling given telling = IsTold (given (codes "witness")) (form_of (given (codes "acts"))) telling
+
+-- limits, positions and what is told are those of a race that is given so
+pub record IsOutcomes (given : Given) (limits : Limits) (most : ℕ) (telling : Telling) : Type 0 where
+  pub records : IsRecords None limits.records
+  pub capacity : IsCapacity (given (codes "pipe-capacity")) limits.bounds.pipe_capacity
+  pub size : limits.bounds.file_size ≡ FILE_SIZE_MAX
+  pub states : IsStates (given (codes "states")) most
+  pub witness : IsTelling given telling
+
 -- the job is the one that the subcommand of this name asks for
 abbrev pub IsJobOf : Option Text → Given → Job → Type 0
 IsJobOf name given (Replay limits) = (name ≡ Some (codes "replay")) × IsReplay given limits
@@ -170,14 +218,18 @@ IsJobOf name given (Serve path count limits file) = (name ≡ Some (codes "serve
 IsJobOf name given (Audit path) = (name ≡ Some (codes "audit")) × (given (codes "file") ≡ Some (string_bytes path))
 IsJobOf name given (Show path how) = (name ≡ Some (codes "show")) × IsShow given (string_bytes path) how
 IsJobOf name given (Migrate from to) = (name ≡ Some (codes "migrate")) × IsMigrate given (string_bytes from) (string_bytes to)
+IsJobOf name given (Outcomes limits most telling) = (name ≡ Some (codes "outcomes")) × IsOutcomes given limits most telling
 
--- a number that the subcommand of this name is given is out of its range
+-- a number that the subcommand of this name is given is out of its range, or a text names no outcome
 abbrev pub IsOutOfRange : Option Text → Given → Type 0
 IsOutOfRange name given = ((name ≡ Some (codes "replay")) × (IsNoRecords (given (codes "records"))
     ⊎ IsNoCapacity (given (codes "pipe-capacity"))))
-    ⊎ ((name ≡ Some (codes "serve")) × (IsNoNumber SESSIONS_MAX (given (codes "sessions"))
+    ⊎ (((name ≡ Some (codes "serve")) × (IsNoNumber SESSIONS_MAX (given (codes "sessions"))
     ⊎ (IsNoNumber RECORDS_MAX (given (codes "records"))
     ⊎ IsNoCapacity (given (codes "pipe-capacity")))))
+    ⊎ ((name ≡ Some (codes "outcomes")) × (IsNoStates (given (codes "states"))
+    ⊎ (IsNoCapacity (given (codes "pipe-capacity"))
+    ⊎ IsNoTelling (given (codes "witness"))))))
 
 -- the words parse, and ask for the job
 pub record Asks (words : List Text) (job : Job) : Type 0 where

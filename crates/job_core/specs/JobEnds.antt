@@ -3,6 +3,8 @@ use Rattle.std.specs.Prelude.{ℕ, List, [], ◌++◌, codes, decimal}
 use Rattle.script_text.specs.Expected.{expected_text}
 use Rattle.job_core.specs.declared.job_end.JobEnd.{JobEnd}
 use Rattle.job_core.specs.declared.job_end.JobEnd.TheVariants as ended
+use Rattle.job_core.specs.declared.job_end.Unfit.{Unfit}
+use Rattle.job_core.specs.declared.job_end.Unfit.TheVariants as unfit
 
 -- the exit status of an end
 abbrev pub ended_status : JobEnd → ℕ
@@ -21,6 +23,19 @@ ended_status ended.IllegalTrace = 7
 ended_status ended.MalformedTrace = 8
 ended_status (ended.Rest bytes) = 0
 ended_status (ended.Malformed at) = 8
+ended_status (ended.BadRace line why) = 3
+ended_status (ended.BadAnswer line column) = 3
+ended_status ended.NoRace = 3
+ended_status (ended.TooManyStates most) = 9
+ended_status ended.NoneAgrees = 1
+ended_status ended.NoSuchOutcome = 1
+
+-- why a line of a race cannot stand where it does, and what can (own)
+abbrev pub unfit_text : Unfit → List ℕ
+unfit_text unfit.NoCall = codes "not a call\nexpected a call of a process, as p0 read 0 5"
+unfit_text unfit.Refused = codes "refused\nexpected an act of a process that is there, is attached and waits in no call"
+unfit_text unfit.Waits = codes "waits\nexpected a call that comes back before the race"
+unfit_text unfit.NotAttached = codes "not attached\nexpected a call of a process that is attached when the race begins"
 
 -- what is written of an end on standard error (own)
 abbrev pub ended_text : JobEnd → List ℕ
@@ -40,3 +55,10 @@ ended_text ended.IllegalTrace = []
 ended_text ended.MalformedTrace = []
 ended_text (ended.Rest bytes) = codes "rest " ++ (decimal bytes ++ codes "\n")
 ended_text (ended.Malformed at) = codes "malformed " ++ (decimal at ++ codes "\n")
+ended_text (ended.BadRace line why) = codes "line " ++ (decimal line ++ (codes ": " ++ (unfit_text why ++ codes "\n")))
+ended_text (ended.BadAnswer line column) =
+    codes "line " ++ (decimal line ++ (codes " column " ++ (decimal column ++ codes ": not an answer\nexpected ? or an answer, as 5, x6869, ok, error EBADF, waits 0 or -\n")))
+ended_text ended.NoRace = codes "no race\nexpected a line race after the acts before it\n"
+ended_text (ended.TooManyStates most) = codes "too many states: more than " ++ (decimal most ++ codes "\n")
+ended_text ended.NoneAgrees = []
+ended_text ended.NoSuchOutcome = codes "no such outcome\n"

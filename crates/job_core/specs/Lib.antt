@@ -9,4 +9,5 @@ pub mod Shown
 pub mod Show
 pub mod ScriptText
 pub mod ShownState
+pub mod Outcomes
 pub mod Proved

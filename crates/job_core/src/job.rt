@@ -1,13 +1,15 @@
 //! What the words of a command line ask for.
-ghost use Rattle.std.specs.Prelude.{◌≡◌, ◌≤◌, ◌∷◌, ◌++◌, [], IfOk, IfErr, IfSome, IsOkAnd, OnOk, map, codes, is_some, option_map, true, false};
+ghost use Rattle.std.specs.Prelude.{◌≡◌, ◌≤◌, ℕ, ◌∷◌, ◌++◌, [], IfOk, IfErr, IfSome, IsOkAnd, OnOk, map, codes, is_some, option_map, true, false};
 ghost use Rattle.job_core.specs.declared.shown.Form.TheVariants as form;
+ghost use Rattle.job_core.specs.declared.telling.Telling.TheVariants as told;
 ghost use Rattle.clap.specs.Words.{app_of, found_of, first_value, fault_of, kind_of, new_app, rule_of};
 ghost use Rattle.clap.specs.declared.builder.command.Command.TheViews.{out-Command as fields_of};
 ghost use Rattle.call_types.specs.declared.limits.TheConstants.{FILE_SIZE_MAX};
-ghost use Rattle.job_core.specs.CommandLine.{Asks, Deserves, IsCapacity, IsJobOf, IsNoCapacity, IsNoNumber, IsNoRecords, IsNumber, IsRecords, SaysNotText, audit_app, bare_app, fdref_app, file_rule, flag_rule, form_of, line, migrate_app, name_given, option_rule, replay_app, required_rule, serve_app, show_app, status_of, text_given, word_rule};
-ghost use Rattle.job_core.specs.Proved.Parsing.{GivesAll, GivesBoth, GivesFile, HaveApps, HaveRules, IsFaultOf, IsParse, RefusesNumber, migrated, served, shown};
+ghost use Rattle.job_core.specs.CommandLine.{Asks, Deserves, IsCapacity, IsJobOf, IsNoCapacity, IsNoNumber, IsNoRecords, IsNoStates, IsNoTelling, IsNumber, IsOutcome, IsRecords, IsStates, IsTelling, IsTold, SaysNotText, audit_app, bare_app, fdref_app, file_rule, flag_rule, form_of, line, migrate_app, name_given, option_rule, outcomes_app, replay_app, required_rule, serve_app, show_app, status_of, text_given, word_rule};
+ghost use Rattle.job_core.specs.Proved.Parsing.{GivesAll, GivesBoth, GivesFile, HaveApps, HaveRules, IsFaultOf, IsParse, RefusesNumber, migrated, served, shown, witnessed};
 
 use crate::shown::Form;
+use crate::telling::Telling;
 use call_types::limits::{
     Limits, PIPE_CAPACITY, PIPE_CAPACITY_MAX, PIPE_CAPACITY_MIN, RECORDS_MAX,
 };
@@ -22,6 +24,15 @@ pub const DEFAULT_RECORDS: u64 = 10_000;
 
 /// The most sessions that a server may have.
 pub const SESSIONS_MAX: u8 = 64;
+
+/// The positions of a race that are searched where its command line names no number.
+pub const STATES_DEFAULT: u64 = 300_000;
+
+/// The most positions of a race that may be searched.
+pub const STATES_MAX: u64 = 100_000_000;
+
+/// The greatest number of an outcome that can be asked for.
+pub const WITNESS_MAX: u64 = 4_294_967_295;
 
 /// The least and the greatest number that an option takes.
 #[derive(Clone, Copy)]
@@ -46,6 +57,12 @@ const SESSIONS_RANGE: Range = Range {
 const CAPACITY_RANGE: Range = Range {
     least: PIPE_CAPACITY_MIN,
     most: PIPE_CAPACITY_MAX,
+};
+
+/// The numbers of positions that are searched.
+const STATES_RANGE: Range = Range {
+    least: 1,
+    most: STATES_MAX,
 };
 
 /// What the program is asked to do.
@@ -75,6 +92,12 @@ pub enum Job {
     Migrate {
         from: String,
         to: String,
+    },
+    /// To tell all that the calls of the race on standard input may answer, if it has at most so many positions.
+    Outcomes {
+        limits: Limits,
+        most: u64,
+        telling: Telling,
     },
 }
 
@@ -174,6 +197,19 @@ be read, OUT is there or cannot be written, or output failed, 5 for want of memo
 
 Example:
   fdref migrate /tmp/old.trace /tmp/new.trace";
+
+/// The same of `outcomes`.
+const OUTCOMES_HELP: &str =
+    "Reads acts, a line 'race', and calls that are made at once, those of one process
+in turn. After a call may stand ' = OUTCOME', what it is to answer.
+Writes 'race K pN CALL' for each call, 'outcome K: ANSWER, ..' for each outcome
+that the calls can have over all orders, and 'outcomes N states M'.
+Ends with 0 then, 1 where none agrees with what is asked or there is no outcome K,
+3 where a line cannot be, 4 where input or output failed, 5 for want of memory, 9
+for too many states.
+
+Example:
+  printf 'join\\np0 open a rw,creat\\np0 fork\\np1 attach\\nrace\\np0 write 0 x61\\np1 write 0 x62\\np1 pread 0 0 9\\n' | fdref outcomes";
 
 /// What the help of the program says after its commands.
 const FDREF_HELP: &str =
@@ -353,16 +389,59 @@ fn migrate_command<'a>(alloc: Global) -> Result<Command<'a>, AllocError>
     described_command(alloc, "migrate", about, MIGRATE_HELP).args(args)
 }
 
-/// Puts the five subcommands into a list that is empty.
+/// The option of `outcomes` for its positions.
+fn states_arg<'a>(alloc: Global) -> Arg<'a>
+    ensures rule { rule_of result ≡ option_rule (codes "states") }
+    ensures local { result.global ≡ false }
+{
+    let help = "Positions that are searched, 1 to 100000000 [default: 300000]";
+    option_arg(alloc, "states", "N").help(help)
+}
+
+/// The option of `outcomes` for its witnesses.
+fn witness_arg<'a>(alloc: Global) -> Arg<'a>
+    ensures rule { rule_of result ≡ option_rule (codes "witness") }
+    ensures local { result.global ≡ false }
+{
+    let help = "Print one order that ends in outcome K, or with all one for each";
+    option_arg(alloc, "witness", "K").help(help)
+}
+
+/// The options of `outcomes`.
+fn outcomes_args<'a>(alloc: Global) -> Result<Vec<Arg<'a>>, AllocError>
+    ensures { IfOk result (λ args. HaveRules args.items outcomes_app.top.rules) }
+{
+    let acts = "Print the acts of a witness, as lines of a script, and not its records";
+    let args = [
+        states_arg(alloc),
+        capacity_arg(alloc),
+        witness_arg(alloc),
+        flag_arg(alloc, "acts", acts),
+    ];
+    list_of(alloc, args)
+}
+
+/// The subcommand `outcomes`.
+fn outcomes_command<'a>(alloc: Global) -> Result<Command<'a>, AllocError>
+    ensures app { IfOk result (λ c. app_of c ≡ outcomes_app) }
+    ensures local { IfOk result (λ c. (fields_of c).has_globals ≡ false) }
+{
+    let about = "Prints all that the calls of a race may answer, over every order";
+    let args = outcomes_args(alloc)?;
+    described_command(alloc, "outcomes", about, OUTCOMES_HELP).args(args)
+}
+
+/// Puts the six subcommands into a list that is empty.
 fn push_subcommands<'a>(alloc: Global, commands: &mut Vec<Command<'a>>) -> Result<(), AllocError>
     requires { commands.old.items ≡ [] }
-    ensures { OnOk result (HaveApps commands.new.items (replay_app ∷ serve_app ∷ audit_app ∷ show_app ∷ migrate_app ∷ [])) }
+    ensures { OnOk result (HaveApps commands.new.items (replay_app ∷ serve_app ∷ audit_app ∷ show_app ∷ migrate_app ∷ outcomes_app ∷ [])) }
 {
     push_made(commands, replay_command(alloc))?;
     push_made(commands, serve_command(alloc))?;
     push_made(commands, audit_command(alloc))?;
     push_made(commands, show_command(alloc))?;
-    push_made(commands, migrate_command(alloc))
+    push_made(commands, migrate_command(alloc))?;
+    push_made(commands, outcomes_command(alloc))
 }
 
 /// The command line of the program with no subcommand yet.
@@ -419,6 +498,30 @@ fn serve_error(alloc: Global, option: &str, text: &str, range: Range) -> Result<
 {
     let command = serve_command(alloc)?.bin_name("fdref serve")?;
     number_error(alloc, command, option, text, range)
+}
+
+/// The error of `outcomes` whose option has a text that is no number in its range.
+fn outcomes_error(
+    alloc: Global,
+    option: &str,
+    text: &str,
+    range: Range,
+) -> Result<Error, AllocError>
+    ensures { IfOk result (λ e. kind_of e ≡ ErrorKind.ValueValidation) }
+{
+    let command = outcomes_command(alloc)?.bin_name("fdref outcomes")?;
+    number_error(alloc, command, option, text, range)
+}
+
+/// The error of `outcomes` whose `--witness` has a text that names no outcome.
+fn witness_error(alloc: Global, text: &str) -> Result<Error, AllocError>
+    ensures { IfOk result (λ e. kind_of e ≡ ErrorKind.ValueValidation) }
+{
+    let mut command = outcomes_command(alloc)?.bin_name("fdref outcomes")?;
+    let message = format!(in alloc;
+        "invalid value '{text}' for '--witness <K>': not a number from 0 to {WITNESS_MAX}, nor the word all"
+    )?;
+    command.error(ErrorKind::ValueValidation, message.as_str())
 }
 
 /// The number of records that the text of `--records` gives.
@@ -480,6 +583,72 @@ fn sessions_of(text: &str) -> Option<u8>
         return None;
     }
     Some(sessions)
+}
+
+/// The number of positions that the text of `--states` gives.
+fn states_of(text: &str) -> Option<u64>
+    ensures number { IfSome result (λ most. IsNumber STATES_MAX (Some text.now) most) }
+    ensures refused { result ≡ None → IsNoNumber STATES_MAX (Some text.now) }
+{
+    let most = text.parse::<u64>().ok()?;
+    if most == 0 || most > STATES_MAX {
+        return None;
+    }
+    Some(most)
+}
+
+/// The number of positions that the matches of `outcomes` give, or the text that is no such number.
+fn given_states<'a>(matches: &ArgMatches<'a>) -> Result<u64, &'a str>
+    ensures number { IfOk result (λ most. IsStates (first_value (found_of matches.now) (codes "states")) most) }
+    ensures range { IfOk result (λ most. (1 ≤ most) × (most ≤ STATES_MAX)) }
+    ensures refused { IfErr result (λ text. IsNoStates (first_value (found_of matches.now) (codes "states"))) }
+{
+    match matches.get_str("states") {
+        None => Ok(STATES_DEFAULT),
+        Some(text) => match states_of(text) {
+            Some(most) => Ok(most),
+            None => Err(text),
+        },
+    }
+}
+
+/// The number of an outcome that the text of `--witness` gives.
+fn outcome_of(text: &str) -> Option<u64>
+    ensures number { IfSome result (λ number. IsOutcome text.now number) }
+    ensures refused { result ≡ None → (n : ℕ) → IsOutcome text.now n → ⊥ }
+{
+    let number = text.parse::<u64>().ok()?;
+    if number > WITNESS_MAX {
+        return None;
+    }
+    Some(number)
+}
+
+/// What the text of `--witness` asks to tell, with each witness in this form.
+fn telling_of(text: &str, form: Form) -> Option<Telling>
+    ensures telling { IfSome result (λ telling. IsTold (Some text.now) form telling) }
+    ensures refused { result ≡ None → IsNoTelling (Some text.now) }
+{
+    if text == "all" {
+        return Some(Telling::Witnesses { form });
+    }
+    let number = outcome_of(text)?;
+    Some(Telling::Witness { number, form })
+}
+
+/// What the matches of `outcomes` ask to tell, or the text that names no outcome.
+fn given_telling<'a>(matches: &ArgMatches<'a>) -> Result<Telling, &'a str>
+    ensures telling { IfOk result (λ telling. IsTelling (first_value (found_of matches.now)) telling) }
+    ensures refused { IfErr result (λ text. IsNoTelling (first_value (found_of matches.now) (codes "witness"))) }
+{
+    let form = form_of(matches.get_str("acts"));
+    match matches.get_str("witness") {
+        None => Ok(Telling::Outcomes),
+        Some(text) => match telling_of(text, form) {
+            Some(telling) => Ok(telling),
+            None => Err(text),
+        },
+    }
 }
 
 /// The fault that an error of the parse is.
@@ -612,6 +781,36 @@ fn migrate_job(alloc: Global, matches: &ArgMatches<'_>) -> Result<Job, JobFault>
     Ok(Job::Migrate { from, to })
 }
 
+/// The job that the matches of `outcomes` ask for.
+fn outcomes_job(alloc: Global, matches: &ArgMatches<'_>) -> Result<Job, JobFault>
+    ensures job { IfOk result (λ job. IsJobOf (Some (codes "outcomes")) (first_value (found_of matches.now)) job) }
+    ensures fault { IfErr result (λ fault. RefusesNumber (Some (codes "outcomes")) (first_value (found_of matches.now)) fault) }
+{
+    let most = match given_states(matches) {
+        Ok(most) => most,
+        Err(text) => {
+            let error = outcomes_error(alloc, "states", text, STATES_RANGE)?;
+            return Err(JobFault::Usage(error));
+        }
+    };
+    let capacity = match given_capacity(matches) {
+        Ok(capacity) => capacity,
+        Err(text) => {
+            let error = outcomes_error(alloc, "pipe-capacity", text, CAPACITY_RANGE)?;
+            return Err(JobFault::Usage(error));
+        }
+    };
+    let telling = match given_telling(matches) {
+        Ok(telling) => telling,
+        Err(text) => return Err(JobFault::Usage(witness_error(alloc, text)?)),
+    };
+    Ok(Job::Outcomes {
+        limits: limits_of(DEFAULT_RECORDS, capacity),
+        most,
+        telling,
+    })
+}
+
 /// The matches of the program's command line.
 fn parsed<'a, S: AsStr>(alloc: Global, words: &'a [S]) -> Result<ArgMatches<'a>, JobFault>
     ensures ok { IfOk result (λ m. IsParse (map S.text words.entry.now) m) }
@@ -641,8 +840,11 @@ pub fn job_of<S: AsStr>(alloc: Global, words: &[S]) -> Result<Job, JobFault>
     if let Some(show) = matches.subcommand_matches("show") {
         return show_job(alloc, show);
     }
-    match matches.subcommand_matches("migrate") {
-        Some(migrate) => migrate_job(alloc, migrate),
+    if let Some(migrate) = matches.subcommand_matches("migrate") {
+        return migrate_job(alloc, migrate);
+    }
+    match matches.subcommand_matches("outcomes") {
+        Some(outcomes) => outcomes_job(alloc, outcomes),
         None => unreachable!(),
     }
 }
@@ -706,4 +908,20 @@ pub fn lines_read()
     ensures capacity_below { IsNoCapacity (Some (codes "511")) }
     ensures served_capacity { text_given (line (served ++ codes "--pipe-capacity=65536" ∷ [])) (codes "pipe-capacity") ≡ Some (codes "65536") }
     ensures capacity_given { (fault_of fdref_app (line (codes "replay" ∷ codes "--pipe-capacity=512" ∷ [])) ≡ []) × (text_given (line (codes "replay" ∷ codes "--pipe-capacity=512" ∷ [])) (codes "pipe-capacity") ≡ Some (codes "512")) }
+    ensures outcomes { (fault_of fdref_app (line (codes "outcomes" ∷ [])) ≡ []) × (name_given (line (codes "outcomes" ∷ [])) ≡ Some (codes "outcomes")) }
+    ensures outcomes_alone { (text_given (line (codes "outcomes" ∷ [])) (codes "states") ≡ None) × (text_given (line (codes "outcomes" ∷ [])) (codes "witness") ≡ None) }
+    ensures states { (fault_of fdref_app (line (codes "outcomes" ∷ codes "--states" ∷ codes "5" ∷ [])) ≡ []) × (text_given (line (codes "outcomes" ∷ codes "--states" ∷ codes "5" ∷ [])) (codes "states") ≡ Some (codes "5")) }
+    ensures witness { (fault_of fdref_app (line witnessed) ≡ []) × (text_given (line witnessed) (codes "witness") ≡ Some (codes "3")) }
+    ensures acts_of_witness { form_of (text_given (line witnessed) (codes "acts")) ≡ form.Acts }
+    ensures file_of_outcomes { fault_of fdref_app (line (codes "outcomes" ∷ codes "t" ∷ [])) ≡ ErrorKind.UnknownArgument ∷ [] }
+    ensures default_states { IsStates None 300000 }
+    ensures most_states { IsStates (Some (codes "100000000")) 100000000 }
+    ensures no_states { IsNoStates (Some (codes "0")) }
+    ensures too_many_states { IsNoStates (Some (codes "100000001")) }
+    ensures tell_outcomes { IsTold None form.Acts told.Outcomes }
+    ensures tell_all { IsTold (Some (codes "all")) form.Records (told.Witnesses form.Records) }
+    ensures tell_third { IsTold (Some (codes "3")) form.Acts (told.Witness 3 form.Acts) }
+    ensures tell_greatest { IsTold (Some (codes "4294967295")) form.Acts (told.Witness 4294967295 form.Acts) }
+    ensures outcome_above { IsNoTelling (Some (codes "4294967296")) }
+    ensures word_of_outcome { IsNoTelling (Some (codes "x")) }
 {}

@@ -6,6 +6,37 @@ use script_text::fault::{Expected, ScriptFault};
 use std::alloc::AllocError;
 use std::fmt;
 
+/// Why a line of a race cannot stand where it does.
+#[derive(Clone, Copy, Debug, PartialEq, Eq)]
+pub enum Unfit {
+    /// After the line `race` it is no call of a process, but a join, an attach or an exit.
+    NoCall,
+    /// Its process is not there, is not attached or waits in a call.
+    Refused,
+    /// Before the line `race` it is a call that waits.
+    Waits,
+    /// After the line `race` it is a call of a process that is not attached when the race begins.
+    NotAttached,
+}
+
+impl fmt::Display for Unfit {
+    ghost use Rattle.std.specs.Prelude.{Some};
+    ghost use Rattle.job_core.specs.JobEnds.{unfit_text};
+
+    ghost output = { λ why. Some (unfit_text why) };
+
+    fn fmt<W: fmt::Write>(&self, f: &mut fmt::Formatter<W>) -> fmt::Result {
+        f.write_str(match self {
+            Unfit::NoCall => "not a call\nexpected a call of a process, as p0 read 0 5",
+            Unfit::Refused =>
+                "refused\nexpected an act of a process that is there, is attached and waits in no call",
+            Unfit::Waits => "waits\nexpected a call that comes back before the race",
+            Unfit::NotAttached =>
+                "not attached\nexpected a call of a process that is attached when the race begins",
+        })
+    }
+}
+
 /// How a job ended.
 #[derive(Clone, Copy, Debug, PartialEq, Eq)]
 pub enum JobEnd {
@@ -50,6 +81,26 @@ pub enum JobEnd {
     Malformed {
         at: u64,
     },
+    /// A line of the race cannot stand there; lines are counted from 1. Nothing was written.
+    BadRace {
+        line: usize,
+        why: Unfit,
+    },
+    /// What a call of the race is to answer is no answer; line and column are counted from 1. Nothing was written.
+    BadAnswer {
+        line: usize,
+        column: usize,
+    },
+    /// The script has no line `race`, or no act before it. Nothing was written.
+    NoRace,
+    /// The race has more than so many positions. Nothing was written.
+    TooManyStates {
+        most: u64,
+    },
+    /// No outcome of the race agrees with what its calls are to answer; the lines of the calls and the last one were written.
+    NoneAgrees,
+    /// The race has no outcome of the number that was asked for. Nothing was written.
+    NoSuchOutcome,
 }
 
 impl JobEnd {
@@ -59,13 +110,16 @@ impl JobEnd {
     {
         match self {
             JobEnd::Done | JobEnd::Rest { .. } => 0,
+            JobEnd::NoneAgrees | JobEnd::NoSuchOutcome => 1,
             JobEnd::BadLine { .. } | JobEnd::TooLong => 3,
+            JobEnd::BadRace { .. } | JobEnd::BadAnswer { .. } | JobEnd::NoRace => 3,
             JobEnd::CannotRead | JobEnd::CannotWrite | JobEnd::CannotListen | JobEnd::TraceFault =>
                 4,
             JobEnd::NoMemory | JobEnd::NoThread => 5,
             JobEnd::MissingShare | JobEnd::Disagree { .. } => 6,
             JobEnd::IllegalTrace => 7,
             JobEnd::MalformedTrace | JobEnd::Malformed { .. } => 8,
+            JobEnd::TooManyStates { .. } => 9,
         }
     }
 }
@@ -78,7 +132,9 @@ impl fmt::Display for JobEnd {
 
     fn fmt<W: fmt::Write>(&self, f: &mut fmt::Formatter<W>) -> fmt::Result {
         match self {
-            JobEnd::Done | JobEnd::IllegalTrace | JobEnd::MalformedTrace => Ok(()),
+            JobEnd::Done | JobEnd::IllegalTrace | JobEnd::MalformedTrace | JobEnd::NoneAgrees => Ok(
+                (),
+            ),
             JobEnd::BadLine {
                 line,
                 column,
@@ -98,6 +154,16 @@ impl fmt::Display for JobEnd {
             JobEnd::Disagree { place } => write!(f, "disagree at {place}\n"),
             JobEnd::Rest { bytes } => write!(f, "rest {bytes}\n"),
             JobEnd::Malformed { at } => write!(f, "malformed {at}\n"),
+            JobEnd::BadRace { line, why } => write!(f, "line {line}: {why}\n"),
+            JobEnd::BadAnswer { line, column } => write!(
+                f,
+                "line {line} column {column}: not an answer\nexpected ? or an answer, as 5, x6869, ok, error EBADF, waits 0 or -\n"
+            ),
+            JobEnd::NoRace => f.write_str(
+                "no race\nexpected a line race after the acts before it\n",
+            ),
+            JobEnd::TooManyStates { most } => write!(f, "too many states: more than {most}\n"),
+            JobEnd::NoSuchOutcome => f.write_str("no such outcome\n"),
         }
     }
 }

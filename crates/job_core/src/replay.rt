@@ -1,5 +1,6 @@
 //! One run of a script: its bytes in, its lines out.
 ghost use Rattle.std.specs.Prelude.{◌≡◌, ◌+◌, ◌≤◌, [], ◌++◌, Ok, length, IfOk, IfErr, IfSome, OnOk};
+ghost use Rattle.script_text.specs.Races.{race_script};
 ghost use Rattle.script_text.specs.ReadingScripts.{script};
 ghost use Rattle.script_text.specs.ReadingResults.{ScriptFails};
 ghost use Rattle.script_text.specs.declared.script.TheConstants.{SCRIPT_MAX};
@@ -78,11 +79,15 @@ impl Takes<()> for ScriptText {
 
 /// Reads the whole script, or a piece more than a script has. It can't be read where a read fails, sixteen in a row were interrupted, or
 /// 1,048,576 found no end.
-fn read_text<R: Read>(alloc: Global, reader: &mut LoggedReader<R>) -> Result<Vec<u8>, JobEnd>
+pub(crate) fn read_text<R: Read>(
+    alloc: Global,
+    reader: &mut LoggedReader<R>,
+) -> Result<Vec<u8>, JobEnd>
     ensures few { reader.new.log.calls ≤ reader.old.log.calls + READS_MAX }
     ensures few_interrupted { reader.new.log.interruptions ≤ INTERRUPTIONS_MAX }
     ensures text { IfOk result (λ text. IfSome reader.old.remaining (λ input. script text.items ≡ script input)) }
     ensures whole { IfOk result (λ text. IfSome reader.old.remaining (λ input. length text.items ≤ SCRIPT_MAX → text.items ≡ input)) }
+    ensures race { IfOk result (λ text. IfSome reader.old.remaining (λ input. race_script text.items ≡ race_script input)) }
     ensures sound { OnOk result (reader.new.log.failed ≡ reader.old.log.failed) }
     ensures fault { IfErr result (λ ended. FailsToRead READS_MAX reader.old.log reader.new.log ended) }
 {

@@ -23,6 +23,10 @@ shown = codes "show" ∷ codes "--acts" ∷ codes "t" ∷ []
 abbrev pub migrated : List Text
 migrated = codes "migrate" ∷ codes "t" ∷ codes "u" ∷ []
 
+-- words that ask for the acts of one order of a race
+abbrev pub witnessed : List Text
+witnessed = codes "outcomes" ∷ codes "--witness" ∷ codes "3" ∷ codes "--acts" ∷ []
+
 -- each option of a server that has to be given is given
 abbrev pub GivesAll : Given → Type 0
 GivesAll given = (is_some (given (codes "socket")) ≡ true) × (is_some (given (codes "sessions")) ≡ true)

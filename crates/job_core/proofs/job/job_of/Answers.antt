@@ -92,23 +92,39 @@ migrate_job-requires g c =
     let migrate = c.in-Some-subcommand_matches-4 in
     migrate_given words c.in_ok-matches.matches migrate.migrate.now c.in_ok-matches.ensures.ok (migrate.ensures.found.0 refl) migrate.ensures.rows
 
-pub returns-clause-job : goal.returns-clause-job
-returns-clause-job g c =
+pub returns-in-Some-subcommand_matches-4-clause-job : goal.returns-in-Some-subcommand_matches-4-clause-job
+returns-in-Some-subcommand_matches-4-clause-job g c =
     let words : List Text = map g.S.AsStr.text c.args.words.now in
     let migrate = c.in-Some-subcommand_matches-4 in
     IfOk-weaker c.migrate_job.result _ _
     (λ job h. asked words c.in_ok-matches.matches migrate.migrate.now (codes "migrate") job c.in_ok-matches.ensures.ok (migrate.ensures.found.0 refl) migrate.ensures.rows h)
     c.migrate_job.ensures.job
 
-pub returns-clause-fault : goal.returns-clause-fault
-returns-clause-fault g c =
+pub returns-in-Some-subcommand_matches-4-clause-fault : goal.returns-in-Some-subcommand_matches-4-clause-fault
+returns-in-Some-subcommand_matches-4-clause-fault g c =
     let words : List Text = map g.S.AsStr.text c.args.words.now in
     let migrate = c.in-Some-subcommand_matches-4 in
     IfErr-weaker c.migrate_job.result _ _
     (λ fault h. refused words c.in_ok-matches.matches migrate.migrate.now (codes "migrate") fault c.in_ok-matches.ensures.ok (migrate.ensures.found.0 refl) migrate.ensures.rows h)
     c.migrate_job.ensures.fault
 
--- the words name one of the five
+pub returns-clause-job : goal.returns-clause-job
+returns-clause-job g c =
+    let words : List Text = map g.S.AsStr.text c.args.words.now in
+    let outcomes = c.in-Some-subcommand_matches-5 in
+    IfOk-weaker c.outcomes_job.result _ _
+    (λ job h. asked words c.in_ok-matches.matches outcomes.outcomes.now (codes "outcomes") job c.in_ok-matches.ensures.ok (outcomes.ensures.found.0 refl) outcomes.ensures.rows h)
+    c.outcomes_job.ensures.job
+
+pub returns-clause-fault : goal.returns-clause-fault
+returns-clause-fault g c =
+    let words : List Text = map g.S.AsStr.text c.args.words.now in
+    let outcomes = c.in-Some-subcommand_matches-5 in
+    IfErr-weaker c.outcomes_job.result _ _
+    (λ fault h. refused words c.in_ok-matches.matches outcomes.outcomes.now (codes "outcomes") fault c.in_ok-matches.ensures.ok (outcomes.ensures.found.0 refl) outcomes.ensures.rows h)
+    c.outcomes_job.ensures.fault
+
+-- the words name one of the six
 pub unreachable-requires : goal.unreachable-requires
 unreachable-requires g c =
     let words : List Text = map g.S.AsStr.text c.args.words.now in
@@ -117,4 +133,5 @@ unreachable-requires g c =
     (λ e. let bad : false ≡ true = c.in_default-subcommand_matches.ensures.found.1 e in cc)
     (λ e. let bad : false ≡ true = c.in_default-subcommand_matches-2.ensures.found.1 e in cc)
     (λ e. let bad : false ≡ true = c.in_default-subcommand_matches-3.ensures.found.1 e in cc)
+    (λ e. let bad : false ≡ true = c.in_default-subcommand_matches-4.ensures.found.1 e in cc)
     (λ e. let bad : false ≡ true = c.in-None.ensures.found.1 e in cc)

@@ -114,3 +114,27 @@ returns-clause-one_word c = refl
 pub returns-clause-three_words : goal.returns-clause-three_words
 unfolding clap_on_literals
 returns-clause-three_words c = refl
+
+pub returns-clause-outcomes : goal.returns-clause-outcomes
+unfolding clap_on_literals
+returns-clause-outcomes c = (refl, refl)
+
+pub returns-clause-outcomes_alone : goal.returns-clause-outcomes_alone
+unfolding clap_on_literals
+returns-clause-outcomes_alone c = (refl, refl)
+
+pub returns-clause-states : goal.returns-clause-states
+unfolding clap_on_literals
+returns-clause-states c = (refl, refl)
+
+pub returns-clause-witness : goal.returns-clause-witness
+unfolding clap_on_literals
+returns-clause-witness c = (refl, refl)
+
+pub returns-clause-acts_of_witness : goal.returns-clause-acts_of_witness
+unfolding clap_on_literals
+returns-clause-acts_of_witness c = refl
+
+pub returns-clause-file_of_outcomes : goal.returns-clause-file_of_outcomes
+unfolding clap_on_literals
+returns-clause-file_of_outcomes c = refl

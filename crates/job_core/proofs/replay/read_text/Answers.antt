@@ -1,4 +1,5 @@
 use Rattle.std.proofs.Common.{inl, inr, refl}
+use Rattle.job_core.proofs.RaceLemmas as races
 use Rattle.job_core.proofs.ReplayLemmas as laws
 use Rattle.job_core.proofs.replay.read_text.Goals as goal
 
@@ -33,3 +34,13 @@ returns-in-TooLong-clause-sound g c = c.in-Told.ensures.reads.ends.0
 
 pub returns-clause-fault : goal.returns-clause-fault
 returns-clause-fault g c = inr (refl, c.in-Told.ensures.reads.ends.0)
+
+pub returns-in-AtEnd-clause-race : goal.returns-in-AtEnd-clause-race
+returns-in-AtEnd-clause-race g c =
+    let r = c.in-AtEnd.ensures.reads in
+    races.race_of c.args.reader.now.remaining c.read_all.new.taker.bytes.items (laws.text_read c.args.reader.now.remaining c.read_all.new.reader.remaining c.read_all.new.taker.bytes.items r.input r.consumes r.ends.0 r.ends.2)
+
+pub returns-in-TooLong-clause-race : goal.returns-in-TooLong-clause-race
+returns-in-TooLong-clause-race g c =
+    let r = rw c.in-TooLong.is at c.in-Told.ensures.reads in
+    races.race_of_front c.args.reader.now.remaining c.read_all.new.reader.remaining c.read_all.new.taker.bytes.items r.input r.consumes r.ends.1.0 r.ends.1.1
