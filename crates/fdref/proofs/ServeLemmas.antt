@@ -1,13 +1,18 @@
 -- From a run and the line of its report to what its end says.
-use Rattle.std.proofs.Common.{◌≡◌, ◌∙◌, ◌≤◌, ◌+◌, inl, inr, ℕ, Bool, true, false, cond, List, Option, None, Some, length, refl, sym, ap, subst, arith}
+use Rattle.std.proofs.Common.{◌≡◌, ◌∙◌, ◌≤◌, ◌+◌, ◌-◌, ◌^◌, inl, inr, ℕ, Bool, true, false, cond, List, [], ◌∷◌, Option, None, Some, length, refl, sym, ap, subst, arith, ◌||◌}
 use Rattle.std.specs.Prelude.{nat_lt}
 use Rattle.std.proofs.lemmas.Bool.{ltb-true}
-use Rattle.logged_streams.specs.Streams.{LoggedWriterState, Writes}
-use Rattle.run_core.specs.Run.{FailsIfFewer, IsRun, RunTold}
+use Rattle.logged_streams.specs.Streams.{LoggedWriterState, Writes, one_more}
+use Rattle.run_core.specs.Run.{FailsIfFewer, IsRun, ReportedSession, RunTold}
+use Rattle.run_core.specs.Starters.{failures_by, failures_with}
+use Rattle.session_core.specs.Served.{failures_after}
+use Rattle.session_core.specs.Starting.{added}
+use Rattle.session_core.specs.declared.end.End.{End}
+use Rattle.session_core.specs.declared.end.End.TheVariants as end
 use Rattle.run_core.specs.declared.report.RunFault.{RunFault}
 use Rattle.run_core.specs.declared.report.RunFault.TheVariants as fault
 use Rattle.trace_writer.specs.declared.traced.TraceFault.{TraceFault}
-use Rattle.fdref.specs.Serve.{IsToldOf, Reported, RunAsked, SinkState, Unreported, WritesReport, end_of_run, lacks_a_thread, report_line, traced_end}
+use Rattle.fdref.specs.Serve.{IsToldOf, Reported, RunAsked, SinkState, Unreported, WritesReport, end_of_run, is_unstarted, lacks_a_thread, report_line, traced_end}
 use Rattle.fdref.specs.Proved.Serving.{end_without_report}
 use Rattle.job_core.specs.Output.{WritesLine}
 use Rattle.job_core.specs.declared.job_end.JobEnd.{JobEnd}
@@ -86,3 +91,82 @@ never_lost fault.NoMemory e = cc
 never_lost fault.NoThread e = cc
 never_lost fault.Missing e = cc
 never_lost (fault.Disagree place) e = cc
+
+-- ---- a run for which a thread was wanting
+
+-- a count is not made less by those of sessions
+count_stays : (sessions : List ReportedSession) (least n : ℕ) → least ≤ 2 ^ 64 - 1 → least ≤ n → least ≤ failures_with sessions n
+count_stays [] least n fits below = below
+count_stays (s ∷ sessions) least n fits below = count_stays sessions least (added n (failures_after s.end_is 0)) fits (omega (arith, fits, below))
+
+-- the starter of a session that has no thread has failed once
+failed_once : (e : End) → is_unstarted e ≡ true → failures_after e 0 ≡ 1
+failed_once end.NoThread is = refl
+failed_once end.Closed is = absurd cc
+failed_once end.ReadFault is = absurd cc
+failed_once (end.WriteFault sent) is = absurd cc
+failed_once end.Malformed is = absurd cc
+failed_once end.Ahead is = absurd cc
+failed_once end.RunFull is = absurd cc
+failed_once end.NoMemory is = absurd cc
+failed_once end.Foreign is = absurd cc
+
+-- that of any other has not
+never_failed : (e : End) → is_unstarted e ≡ false → failures_after e 0 ≡ 0
+never_failed end.NoThread is = absurd cc
+never_failed end.Closed is = refl
+never_failed end.ReadFault is = refl
+never_failed (end.WriteFault sent) is = refl
+never_failed end.Malformed is = refl
+never_failed end.Ahead is = refl
+never_failed end.RunFull is = refl
+never_failed end.NoMemory is = refl
+never_failed end.Foreign is = refl
+
+-- one session before others, by whether it has no thread
+one_session : (s : ReportedSession) (sessions : List ReportedSession) (n : ℕ) (lacks : Bool) → is_unstarted s.end_is ≡ lacks
+    → (lacks ≡ false → one_more (added n (failures_after s.end_is 0)) ≤ failures_with sessions (added n (failures_after s.end_is 0)))
+    → one_more n ≤ failures_with sessions (added n (failures_after s.end_is 0))
+one_session s sessions n true is others =
+    let once = failed_once s.end_is is in
+    count_stays sessions (one_more n) (added n (failures_after s.end_is 0)) (omega arith) (omega (arith, once))
+one_session s sessions n false is others =
+    let never = never_failed s.end_is is in
+    let rest = others refl in
+    omega (arith, never, rest)
+
+-- of sessions before others that lack a thread where the first does not
+lacks_later : (b c : Bool) → b ≡ false → (b || c) ≡ true → c ≡ true
+lacks_later true c is all = absurd cc
+lacks_later false c is all = all
+
+-- where one of these sessions has no thread, there is one failure more
+pub lack_counts : (sessions : List ReportedSession) (n : ℕ) → lacks_a_thread sessions ≡ true → one_more n ≤ failures_with sessions n
+lack_counts [] n lacks = absurd cc
+lack_counts (s ∷ sessions) n lacks =
+    one_session s sessions n (is_unstarted s.end_is) refl
+    (λ first. lack_counts sessions (added n (failures_after s.end_is 0)) (lacks_later (is_unstarted s.end_is) (lacks_a_thread sessions) first lacks))
+
+-- a run ends for want of a thread only where a session has none
+lacked : (n m : ℕ) (f : Option TraceFault) (lacks : Bool) → end_of_run n m f lacks ≡ ended.NoThread → lacks ≡ true
+lacked n m f lacks e = go (nat_lt n m) f lacks e
+  where
+    go : (b : Bool) (f : Option TraceFault) (lacks : Bool) → cond b ended.CannotListen (traced_end f lacks) ≡ ended.NoThread → lacks ≡ true
+    go true f lacks e = absurd cc
+    go false None true e = refl
+    go false None false e = absurd cc
+    go false (Some fault) lacks e = absurd cc
+
+-- the same, by what became of the line of its report
+pub session_lacked : (line : List ℕ) (old new : LoggedWriterState) (sessions wanted : ℕ) (fault : Option TraceFault) (ends : List ReportedSession) (before : ℕ) (end : JobEnd)
+    → WritesLine line (end_of_run sessions wanted fault (lacks_a_thread ends)) old new end → end ≡ ended.NoThread → one_more before ≤ failures_with ends before
+session_lacked line old new sessions wanted fault ends before end (inl (so, appends)) is = lack_counts ends before (lacked sessions wanted fault (lacks_a_thread ends) (sym so ∙ is))
+session_lacked line old new sessions wanted fault ends before end (inr (inl (cannot, front))) is = let bad : ended.CannotWrite ≡ ended.NoThread = sym cannot ∙ is in absurd cc
+session_lacked line old new sessions wanted fault ends before end (inr (inr (memory, same))) is = let bad : ended.NoMemory ≡ ended.NoThread = sym memory ∙ is in absurd cc
+
+-- a run without a report ends so only where a thread of its own was wanting
+pub thread_lacked : (told : RunFault) (ends : List ReportedSession) (n : ℕ) → end_without_report told ≡ ended.NoThread → one_more n ≤ failures_with ends (failures_by told n)
+thread_lacked fault.NoThread ends n is = count_stays ends (one_more n) (one_more n) (omega arith) (omega arith)
+thread_lacked fault.NoMemory ends n is = absurd cc
+thread_lacked fault.Missing ends n is = absurd cc
+thread_lacked (fault.Disagree place) ends n is = absurd cc

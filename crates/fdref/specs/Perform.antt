@@ -4,6 +4,7 @@ use Rattle.std.specs.String.{string_bytes}
 use Rattle.logged_streams.specs.Streams.{LoggedWriterState}
 use Rattle.job_core.specs.Audit.{AuditEnds}
 use Rattle.job_core.specs.Migrate.{MigrateEnds, Outputs}
+use Rattle.job_core.specs.Outcomes.{OutcomesEnd}
 use Rattle.job_core.specs.Replay.{ReplayEnds}
 use Rattle.call_types.specs.declared.limits.Limits.{Limits}
 use Rattle.run_core.specs.Run.{IsBlank, Streams}
@@ -66,11 +67,13 @@ pub record Surroundings : Type 1 where
   pub coming_at : List ℕ → Option (List Streams)
   pub is_unheard : List ℕ → Type 0
 
--- a script is run on the input, sessions are served and reported, or the trace in a file is judged, shown or written anew
+-- a script is run on the input, all that the calls of a race on it may answer is told, sessions are served and reported, or the trace in a file is
+-- judged, shown or written anew
 abbrev pub Performs : Surroundings → Job → Option (List ℕ) → LoggedWriterState → LoggedWriterState → JobEnd → Type 0
 Performs round (job.Replay limits) input old new end = ReplayEnds limits input old new end
 Performs round (job.Serve socket sessions limits trace) input old new end =
     ServeEnds (round.coming_at (string_bytes socket)) (round.is_unheard (string_bytes socket)) (round.is_unmade (string_bytes trace)) limits sessions old new end
+Performs round (job.Outcomes limits most how) input old new end = OutcomesEnd limits most how input old new end
 Performs round (job.Audit path) input old new end = AuditEnds (round.bytes_at (string_bytes path)) old new end
 Performs round (job.Show path form) input old new end = ShowEnds form (round.bytes_at (string_bytes path)) old new end
 Performs round (job.Migrate from to) input old new end = MovesTo (round.bytes_at (string_bytes from)) (round.is_taken (string_bytes to)) old new end

@@ -12,6 +12,7 @@ use job_core::audit_file::audit_file;
 use job_core::job::Job;
 use job_core::job_end::JobEnd;
 use job_core::migrate_file::migrate_file;
+use job_core::outcomes::outcomes;
 use job_core::replay::replay;
 use job_core::show::show;
 use job_core::shown::Form;
@@ -246,6 +247,14 @@ pub fn perform<
             trace.as_str(),
             writer,
         ),
+        Job::Outcomes {
+            limits,
+            most,
+            telling,
+        } => {
+            let mut reader = LoggedReader::new(reader);
+            outcomes(alloc, &mut reader, writer, limits, most, telling)
+        }
         Job::Audit { file } => audit_at(alloc, files, file.as_str(), writer),
         Job::Show { file, form } => show_at(alloc, files, file.as_str(), writer, form),
         Job::Migrate { from, to } => {

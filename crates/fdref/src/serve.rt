@@ -1,9 +1,10 @@
 //! A run of sessions, its trace, and the line that reports it.
 
-ghost use Rattle.std.specs.Prelude.{◌≡◌, ◌+◌, ◌<◌, ◌^◌, Some, true, IfOk, option_map};
+ghost use Rattle.std.specs.Prelude.{◌≡◌, ◌+◌, ◌<◌, ◌≤◌, ◌^◌, Some, true, IfOk, option_map};
 ghost use Rattle.fdref.specs.Serve.{Reports, end_of_run, is_unstarted, lacks_a_thread, report_line};
 ghost use Rattle.fdref.specs.Proved.Serving.{end_without_report};
 ghost use Rattle.job_core.specs.Output.{WritesLine};
+ghost use Rattle.logged_streams.specs.Streams.{one_more};
 ghost use Rattle.job_core.specs.declared.job_end.JobEnd.TheVariants as ended;
 
 use byte_ledger::ledgers::{Blanks, Ledgers};
@@ -158,6 +159,7 @@ fn serve_with<
     requires few { K.failures sink + 1 < 2 ^ 64 }
     ensures reports { Reports (record { limits = limits; sessions = sessions; coming = S.coming source.old; later = S.coming source.new; sink = record { contents = K.contents sink; failures = K.failures sink; is_synced = K.is_synced sink } }) writer.old writer.new (option_map (λ s. record { contents = K.contents s; failures = K.failures s; is_synced = K.is_synced s }) result.sink) result.end }
     ensures failed { result.end ≡ ended.CannotListen → S.failures source.new ≡ S.failures source.old + 1 }
+    ensures unstarted { result.end ≡ ended.NoThread → one_more (T.failures starter.old) ≤ T.failures starter.new }
 {
     let ran = run_sessions::<Rt, S, OpenGate, L, K, T>(
         rt, alloc, starter, source, sessions, limits, blanks, OpenGate, sink,
@@ -179,7 +181,7 @@ fn serve_with<
 }
 
 /// Serves so many sessions within these limits, writes their trace to a sink, and the line of their report. A run with a report gives
-/// the sink back, which has the trace that the line tells of.
+/// the sink back, which has the trace that the line tells of. It ends for want of a thread only where the starter could not start one more.
 pub fn serve_on<
     Rt: Threads + Wait + Clock + Copy + Drop + Send + Sync + 'static,
     S: Source + Send + 'static,
@@ -202,6 +204,7 @@ pub fn serve_on<
     requires few { K.failures sink + 1 < 2 ^ 64 }
     ensures reports { Reports (record { limits = limits; sessions = sessions; coming = S.coming source.old; later = S.coming source.new; sink = record { contents = K.contents sink; failures = K.failures sink; is_synced = K.is_synced sink } }) writer.old writer.new (option_map (λ s. record { contents = K.contents s; failures = K.failures s; is_synced = K.is_synced s }) result.sink) result.end }
     ensures failed { result.end ≡ ended.CannotListen → S.failures source.new ≡ S.failures source.old + 1 }
+    ensures unstarted { result.end ≡ ended.NoThread → one_more (T.failures starter.old) ≤ T.failures starter.new }
 {
     serve_with::<Rt, S, K, W, Brand, T>(
         rt,
