@@ -180,6 +180,7 @@ def mistake_is_told(program: str, value: str, option: str, range_of_it: str) -> 
 
 @case("version", "fdref 0.1.0", "--version")
 @case("version of replay", "fdref-replay 0.1.0", "replay", "-V")
+@case("version of outcomes", "fdref-outcomes 0.1.0", "outcomes", "-V")
 def is_version(program: str, text: str, *words: str) -> None:
     """A text alone."""
     expect(run(program, words), stdout=told(text))
@@ -193,6 +194,8 @@ def is_version(program: str, text: str, *words: str) -> None:
 @case("help of audit", "<FILE>", "audit", "--help")
 @case("help of migrate", "<IN> <OUT>", "migrate", "--help")
 @case("help of show", "--acts", "show", "--help")
+@case("help of outcomes", "--witness <K>", "outcomes", "--help")
+@case("states in the help of outcomes", "1 to 100000000 [default: 300000]", "outcomes", "--help")
 @case("what the help of replay says", "Reads a script", "replay", "-h")
 @case("what the help of serve says", "Ends with 0", "serve", "-h")
 @case("what the help of audit says", "Writes 'legal N rest B'", "audit", "-h")
@@ -340,11 +343,12 @@ def input_in_pieces(program: str) -> None:
 
 
 @case("a directory as input")
-def input_is_a_directory(program: str) -> None:
+@case("a directory as a race", "outcomes")
+def input_is_a_directory(program: str, job: str = "replay") -> None:
     """An input that cannot be read."""
     at = os.open("/", os.O_RDONLY)
     try:
-        expect(run(program, ["replay"], at), status=4, stderr=told("cannot read"))
+        expect(run(program, [job], at), status=4, stderr=told("cannot read"))
     finally:
         os.close(at)
 
@@ -357,10 +361,11 @@ def small(count: int = 1) -> bytes:
 @case("a full device as output", small())
 @case("a full device as output of many lines", small(9_000))
 @case("a full device as output of no act", b"")
-def output_is_full(program: str, script: bytes) -> None:
+@case("a full device as output of a race", b"race\n", "outcomes")
+def output_is_full(program: str, script: bytes, job: str = "replay") -> None:
     """An output that takes nothing."""
     with open("/dev/full", "wb", buffering=0) as full:
-        expect(run(program, ["replay"], script, full), status=4, stderr=told("cannot write"))
+        expect(run(program, [job], script, full), status=4, stderr=told("cannot write"))
 
 
 @case("a full device for help", "--help")
@@ -375,12 +380,13 @@ def text_is_not_taken(program: str, *words: str) -> None:
 
 @case("nobody reads the output", small())
 @case("nobody reads many lines", small(9_000))
-def output_is_closed(program: str, script: bytes) -> None:
+@case("nobody reads outcomes", b"race\n", "outcomes")
+def output_is_closed(program: str, script: bytes, job: str = "replay") -> None:
     """An output that nobody reads."""
     reading, writing = os.pipe()
     os.close(reading)
     try:
-        expect(run(program, ["replay"], script, writing), status=4, stderr=told("cannot write"))
+        expect(run(program, [job], script, writing), status=4, stderr=told("cannot write"))
     finally:
         os.close(writing)
 

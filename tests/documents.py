@@ -21,7 +21,7 @@ from support.places import TOP
 README = TOP / "README.md"
 README_LINES, README_WIDTH, README_WORDS = 100, 100, 700
 WIDTH = 120
-WORDS = 26_000
+WORDS = 27_000
 
 # Where names have to stand that a document has in backquotes, and the endings of such files.
 SOURCES = ("crates", "tests", "tools", "clients", "bench", "examples", ".ci")

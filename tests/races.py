@@ -6,7 +6,8 @@ usage: tests/races.py [--program PATH] [--seconds N] [--only WORD]
 tools/race_kernel.c is compiled by each compiler that is there, with warnings as errors, and given scripts whose
 histories have a known form. Bad scripts and words have their exit statuses, and after a signal no process and no folder
 may be left. Then tools/race.py races on the system at hand: no history may be without an order and without a reason.
-Last, each way in which tests/stand_ins/wrong_system.c makes the system wrong has to be found.
+It races the files of examples/races, too: what is seen and is not an outcome has a reason. Last, each way in which
+tests/stand_ins/wrong_system.c makes the system wrong has to be found, and some of them by these files.
 
 Where no C compiler is there, it says so and leaves all of it out. The last line is `N passed, M failed`, and the exit
 status is 1 where M is above 0.
@@ -25,6 +26,7 @@ from functools import partial
 from itertools import combinations
 from pathlib import Path
 
+from parts import race_files
 from parts.c_programs import SANITIZERS, WARNINGS, can, compilers, compiles
 from support import histories, ordering
 from support.counting import Case, Count, Failure, require, same
@@ -88,6 +90,10 @@ class Bench(Driver):
         done = self.run(script.encode(), *words)
         require(done.status == 0 and not done.stderr, done.said())
         return histories.read_histories(done.stdout.decode("ascii"))
+
+    def tools(self) -> race_files.Tools:
+        """What races of files are made with."""
+        return race_files.Tools(self.program, self.asks(), self.folder)
 
     def end_all(self) -> None:
         """Ends the processes that a driver has left which is wrong."""
@@ -523,9 +529,12 @@ def term_leaves_nothing(bench: Bench) -> None:
 
 def tool_cases(bench: Bench) -> Iterator[Case]:
     """The tool: what it is told, and what it finds here."""
-    for words in (["--kind", "none"], ["--processes", "1"], ["--dir", "/no/such"], ["--keep", "/no/such"], ["all"]):
+    for words in (["--kind", "none"], ["--processes", "1"], ["--dir", "/no/such"], ["--keep", "/no/such"], ["a", "b"]):
         yield f"words {words}", partial(tool_ends, bench, 2, ["--seconds", "1", *words])
+    for words in (["a", "--kind", "names"], ["a", "--processes", "3"]):
+        yield f"words {words}", partial(tool_ends, bench, 2, words)
     yield "no time", partial(tool_ends, bench, 2, [])
+    yield "no file", partial(tool_ends, bench, 3, ["/no/such"])
     yield "no program", partial(tool_ends, bench, 3, ["--seconds", "1", "--program", "/no/such"])
     yield "no driver", partial(tool_ends, bench, 3, ["--seconds", "1", "--driver", "/no/such"])
     yield "impossible answers", partial(impossible_is_told, bench)
@@ -555,6 +564,7 @@ def wrong_cases(bench: Bench) -> Iterator[Case]:
     """Each wrong system."""
     if IS_LINUX:
         yield from ((f"{way} by {kind}", partial(is_found, bench, way, kind)) for way, kind in WRONG.items())
+        yield from race_files.wrong_cases(bench.tools(), bench.built(compilers()[0], "wrong_system"))
         yield "nothing is left of them", bench.is_clean
 
 
@@ -565,7 +575,8 @@ def all_parts(bench: Bench) -> Iterator[tuple[str, Iterator[Case]]]:
     """All parts of the test."""
     yield from [("words", word_cases(bench)), ("forms", form_cases(bench)), ("ends", end_cases(bench))]
     yield from [("compilers", compiler_cases(bench)), ("reasons", reason_cases())]
-    yield from [("tool", tool_cases(bench)), ("wrong systems", wrong_cases(bench))]
+    yield from [("tool", tool_cases(bench)), ("files", race_files.tool_cases(bench.tools()))]
+    yield from [("examples", race_files.example_cases(bench.tools())), ("wrong systems", wrong_cases(bench))]
 
 
 def main(words: Sequence[str]) -> int:

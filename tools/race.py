@@ -3,6 +3,7 @@
 
 usage: tools/race.py --seconds N [--kind WORD] [--seed WORD] [--processes N] [--pipe-capacity N] [--pin] [--dir DIR]
                      [--keep DIR]
+       tools/race.py FILE [--seconds N] [--seed WORD] [--pipe-capacity N] [--pin] [--dir DIR] [--keep DIR]
 
 Random scripts of each kind (tools/race_kinds.py) are run by tools/race_kernel.c, many rounds of each: real processes
 make their calls at once, at full speed. XSH 2.9.7 asks that calls on regular files are atomic to each other, so there
@@ -12,15 +13,22 @@ same answers. Histories of a script that have the same answers and the same call
 pipes of model and fdref hold 1,024 bytes, or as many as --pipe-capacity says.
 
 A history that no order explains is told with its reason, if there is one: the page of the standard, and what is known
-of the system. The last lines count histories by kind and by reason. Exit status: 0 where each history that no order
-explains has a reason, 1 where one has none, 2 for wrong words, 3 where a script could not be run. docs/KERNELS.md has
-more.
+of the system. The last lines count histories by kind and by reason.
+
+With a FILE, which is a race for `fdref outcomes`, the system runs that for N seconds (5), and a table is printed: what
+was seen and is not allowed, with its reason, then what is allowed and was not seen, and then the rest. Each line has
+how often an outcome was seen, its number in `fdref outcomes`, and the answers; the last one counts them. What FILE asks
+for is left out.
+
+Exit status: 0 where all that no order explains has a reason, 1 where something has none, 2 for wrong words, 3 where a
+script could not be run. docs/KERNELS.md has more.
 """
 
 import argparse
 import collections
 import itertools
 import os
+import random
 import re
 import signal
 import sys
@@ -32,8 +40,8 @@ from typing import NamedTuple
 
 sys.path.insert(1, str(Path(__file__).resolve().parents[1] / "tests"))
 
-from support import histories, ordering, plain_model, replaying
-from support.commands import add_capacity, add_program, program_of
+from support import histories, ordering, outcomes, plain_model, replaying
+from support.commands import add_capacity, add_program, capacity_words, program_of
 from support.counting import Failure
 from support.drivers import compiled
 from support.histories import History, Noted
@@ -41,12 +49,15 @@ from support.plain_model import DEFAULTS, Limits
 from support.running import CannotRun, run
 
 import race_kinds
+import race_table
 
 # A script takes a share of the time; it has so many rounds, at least and at most, and a first guess of their speed.
 ROUNDS_LEAST = 10
 ROUNDS_MOST = 300
 ROUNDS_IN_A_SECOND = 20.0
 SHARE_MOST = 1.5
+# How long the race of a file is run where no time is told.
+FILE_SECONDS = 5.0
 # How long one script may take to run, one history to be searched, and through how many states.
 RUN_SECONDS = 120
 SEARCH_SECONDS = 20
@@ -364,7 +375,8 @@ def parse(words: Sequence[str]) -> argparse.Namespace:
     parser = argparse.ArgumentParser(
         description=__doc__, formatter_class=argparse.RawDescriptionHelpFormatter, usage=argparse.SUPPRESS
     )
-    parser.add_argument("--seconds", type=float, required=True, metavar="N", help="how long it races")
+    parser.add_argument("file", nargs="?", metavar="FILE", help="a race for `fdref outcomes`, whose outcomes are told")
+    parser.add_argument("--seconds", type=float, metavar="N", help="how long it races")
     parser.add_argument("--seed", default="1", metavar="WORD", help="any word (1): script K of one is always the same")
     parser.add_argument("--kind", default="", metavar="WORD", help="only the kinds that have this word in their name")
     parser.add_argument("--processes", type=int, metavar="N", help="of each script; 3 to 5 where none is given")
@@ -376,6 +388,10 @@ def parse(words: Sequence[str]) -> argparse.Namespace:
     parser.add_argument("--pin", action="store_true", help="each process has a processor of its own")
     parser.add_argument("--keep", metavar="DIR", help="a folder for histories without an order and without a reason")
     args = parser.parse_args(words)
+    if args.file is not None and (args.kind or args.processes is not None):
+        parser.error("a FILE has its own calls and processes")
+    if args.file is None and args.seconds is None:
+        parser.error("without a FILE --seconds N is needed")
     args.kinds = [kind for kind in race_kinds.KINDS if args.kind in kind]
     if not args.kinds:
         parser.error(f"no kind has {args.kind} in its name: there are {', '.join(race_kinds.KINDS)}")
@@ -408,6 +424,65 @@ def tell_and_keep(races: Races, found: Unexplained, name: str, folder: str | Non
         keep_files(found, name, folder)
 
 
+# ---- a file
+
+
+def race_in(file: str) -> outcomes.Race:
+    """The race that a file has, and nothing that it asks for."""
+    try:
+        return outcomes.read_race(Path(file).read_bytes())
+    except (OSError, outcomes.BadRace) as fault:
+        raise CannotRun(f"{file}: {fault}") from None
+
+
+def raced(asked: Asked, script: str, seed: str, seconds: float) -> Iterator[list[list[Noted]]]:
+    """The histories of a script for so long, in several runs with delays of their own, one at least."""
+    start = time.monotonic()
+    rounds = ROUNDS_LEAST
+    for number in itertools.count():
+        if number and time.monotonic() - start >= seconds:
+            return
+        begun = time.monotonic()
+        found = asked.histories(script, rounds, random.Random(f"{seed} {number}").randrange(1, 2**32))
+        yield found
+        speed = len(found) / (time.monotonic() - begun)
+        left = min(SHARE_MOST, start + seconds - time.monotonic())
+        rounds = max(ROUNDS_LEAST, min(ROUNDS_MOST, int(speed * left)))
+
+
+def race_file(args: argparse.Namespace, asked: Asked) -> int:
+    """Races what a file has, and prints the table: the exit status."""
+    race = race_in(args.file)
+    script = race.text()
+    program = [asked.program] if isinstance(asked.program, str) else asked.program
+    table = race_table.Table(race, race_table.allowed_by(program, race, capacity_words(asked.limits)))
+    first: History | None = None
+    for found in raced(asked, script, args.seed, FILE_SECONDS if args.seconds is None else args.seconds):
+        first = first or found[0]
+        table.add(found)
+    if first:
+        print("".join(f"{line}\n" for line in race_table.setup_differs(program, race, first, asked.limits)), end="")
+    odd = table.odd(lambda history: reason_without_order(script, history, asked.limits))
+    print("\n".join(table.lines(odd)), flush=True)
+    bare = [it for it in odd if it.reason is None]
+    for it in bare[:TOLD_MOST]:
+        tell(Unexplained(script, it.history, None), args.file, asked.limits)
+    for it in bare if args.keep else []:
+        keep_files(Unexplained(script, it.history, None), Path(args.file).stem, args.keep)
+    print(table.last_line(odd))
+    return 1 if bare else 0
+
+
+def reason_without_order(script: str, history: History, limits: Limits) -> Reason | None:
+    """The reason of a history whose answers fdref does not allow, so that no order may explain it."""
+    if isinstance(explained(history, limits), ordering.Explained):
+        raise replaying.Differs(f"fdref outcomes does not tell what an order explains:\n{told(history)}")
+    return reason_of(Race(script, history, limits))
+
+
+# ---- how it is run
+
+
 def asked_for(args: argparse.Namespace, folder: str) -> Asked:
     """The driver and fdref, as the command line has them."""
     program = program_of(args.program)
@@ -427,6 +502,8 @@ def main(words: Sequence[str]) -> int:
     signal.signal(signal.SIGTERM, end_quietly)
     with tempfile.TemporaryDirectory(prefix="race-") as folder:
         try:
+            if args.file is not None:
+                return race_file(args, asked_for(args, folder))
             races = Races(asked_for(args, folder), args.seed, args.processes)
             race_all(args, races)
         except (CannotRun, replaying.Differs, histories.BadHistory) as fault:

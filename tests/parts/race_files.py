@@ -1,0 +1,172 @@
+"""Races of files on the system at hand, and what tools/race.py tells of them."""
+
+import sys
+from collections.abc import Iterator, Sequence
+from functools import partial
+from pathlib import Path
+from typing import NamedTuple
+
+from support.counting import Case, Failure, require, same
+from support.outcomes import read_race
+from support.places import EXAMPLES, STAND_INS, TOOLS
+from support.running import Ran, run
+
+sys.path.insert(1, str(TOOLS))
+
+import race
+import race_table
+
+RACES = EXAMPLES / "races"
+SECONDS = 60
+# How long each example is raced.
+EXAMPLE_SECONDS = 0.3
+
+# Ways of a wrong system, with the example that shows each.
+WRONG = {
+    "gap": "rename-over-open",
+    "stale": "two-appenders",
+    "interleave": "512-and-513-bytes",
+    "lost": "read-beside-last-writer",
+    "tear": "pwrite-beside-append",
+}
+
+
+class Tools(NamedTuple):
+    """fdref, the command that runs the driver, and a folder for files."""
+
+    program: str
+    driver: list[str]
+    folder: str
+
+    def race(self, *words: str) -> Ran:
+        """Runs the tool."""
+        command = [sys.executable, str(TOOLS / "race.py"), "--program", self.program, *words]
+        return run(command, seconds=SECONDS)
+
+
+# ---- a system that is made up
+
+SCRIPT = "join\np0 pipe\np0 fork\np1 attach\nrace\n"
+SCRIPT += "p0 read 0 1\np1 setfl 0 -,nonblock = ok\np1 read 0 1\np1 write 1 x61\n"
+SETUP = "0 1 p0 join = 0\n2 3 p0 pipe = 0 1\n4 5 p0 fork = 1\n6 7 p1 attach = ok\n"
+READ, SET, NONE = "p0 read 0 1 =", "p1 setfl 0 -,nonblock = ok", "p1 read 0 1 = error EAGAIN"
+WRITE = "p1 write 1 x61 = 1"
+# Of each history the calls that race; the second stands there twice.
+MADE_UP = [
+    f"20 21 {SET}\n22 23 {NONE}\n24 25 {WRITE}\n26 27 {READ} x61\n",
+    f"20 21 {SET}\n22 23 {READ} error EAGAIN\n24 25 {NONE}\n26 27 {WRITE}\n",
+    f"20 21 {SET}\n22 23 {READ} error EAGAIN\n24 25 {NONE}\n26 27 {WRITE}\n",
+    f"20 - {READ} parked ?\n22 23 {SET}\n24 - p1 read 0 1 = parked ?\n",
+]
+# What is told of them.
+TABLE = """seen, and not allowed
+       1    - waits ?, ok, waits ?, -
+              no reason is known
+allowed, and seen
+       2    0 error EAGAIN, ok, error EAGAIN, 1
+       1    1 x61, ok, error EAGAIN, 1
+"""
+LAST = "4 rounds; outcomes: 2 allowed, 2 of them seen; 1 seen and not allowed, 1 of them without a reason\n"
+
+
+def made_up(tools: Tools, name: str, found: Sequence[str], setup: str = SETUP) -> list[str]:
+    """The words for a driver that tells these histories, whatever it is asked for, and for a file of the script."""
+    driver, file = Path(tools.folder, f"{name}-driver"), Path(tools.folder, f"{name}.race")
+    driver.write_text("#!/bin/sh\ncat <<END\n" + "".join(f"{setup}{text}\n" for text in found) + "END\n")
+    driver.chmod(0o755)
+    file.write_text(SCRIPT)
+    return [str(file), "--seconds", "0", "--driver", str(driver)]
+
+
+def table_is_told(tools: Tools) -> None:
+    """What was seen and is not allowed is told, shown and kept, and is status 1."""
+    words = made_up(tools, "odd", MADE_UP)
+    done = tools.race(*words, "--keep", tools.folder)
+    told = done.stdout.decode()
+    require(done.status == 1 and told.startswith(TABLE) and told.endswith(LAST), told + done.said())
+    require(f"{words[0]}: no order explains\n" in told, told)
+    kept = Path(tools.folder, "odd.histories").read_text()
+    same(f"{SETUP}{MADE_UP[3]}\n", kept)
+    same(SCRIPT.replace(" = ok", ""), Path(tools.folder, "odd.script").read_text())
+
+
+def unseen_is_told(tools: Tools) -> None:
+    """What is allowed and was not seen is told; without what is not allowed the status is 0."""
+    wanted = "allowed, and not seen\n       0    1 x61, ok, error EAGAIN, 1\n"
+    wanted += "allowed, and seen\n       1    0 error EAGAIN, ok, error EAGAIN, 1\n"
+    wanted += "1 rounds; outcomes: 2 allowed, 1 of them seen; 0 seen and not allowed, 0 of them without a reason\n"
+    same(Ran(0, wanted.encode(), b""), tools.race(*made_up(tools, "seen", MADE_UP[1:2])))
+
+
+def setup_is_told(tools: Tools) -> None:
+    """What the system answers otherwise before the race is told first."""
+    done = tools.race(*made_up(tools, "setup", MADE_UP[:1], SETUP.replace("= 0 1", "= 3 4")))
+    first = b"before the race: p0 pipe = 3 4, and fdref says 0 1\n"
+    require(done.status == 0 and done.stdout.startswith(first), done.said())
+
+
+def wrong_fdref_is_told(tools: Tools) -> None:
+    """An outcome that an order explains, and fdref does not tell, is a fault of fdref."""
+    program = f"{sys.executable} {STAND_INS / 'wrong_outcomes.py'} last-never-first"
+    done = tools.race(*made_up(tools, "wrong", MADE_UP[1:2]), "--program", program)
+    require(done.status == 3 and b"fdref outcomes does not tell what an order explains" in done.stderr, done.said())
+
+
+def fault_is_told(tools: Tools, text: str, told: str) -> None:
+    """A file that is no race is status 3, and what is wrong with it is told."""
+    file = Path(tools.folder, "bad.race")
+    file.write_text(text)
+    done = tools.race(str(file), "--seconds", "0", "--driver", "/bin/false")
+    require(done.status == 3 and not done.stdout and told in done.stderr.decode(), done.said())
+
+
+def tool_cases(tools: Tools) -> Iterator[Case]:
+    """What is told of a file."""
+    yield "the table", partial(table_is_told, tools)
+    yield "what was not seen", partial(unseen_is_told, tools)
+    yield "before the race", partial(setup_is_told, tools)
+    yield "a wrong fdref", partial(wrong_fdref_is_told, tools)
+    for text, told in (
+        ("join\n", "no race"),
+        ("join\nrace\np0 exit\n", "line 3: not a call"),
+        ("join\nrace\np1 pipe\n", "line 3: not attached"),
+        ("join\np0 pipe\np0 read 0 1\nrace\n", "line 3: waits"),
+        ("join\nrace\np0 pipe\n", "race_kernel ends with"),
+    ):
+        yield f"file {text!r}", partial(fault_is_told, tools, text, told)
+
+
+# ---- this system, and wrong ones
+
+
+def table_of(tools: Tools, name: str, driver: Sequence[str], seconds: float) -> Iterator[list[race_table.Odd]]:
+    """What is seen of an example and is not allowed, after each run of the driver."""
+    script = read_race((RACES / f"{name}.race").read_bytes())
+    asked = race.Asked([tools.program], list(driver))
+    table = race_table.Table(script, race_table.allowed_by([tools.program], script, []))
+    for found in race.raced(asked, script.text(), name, seconds):
+        table.add(found)
+        yield table.odd(lambda history: race.reason_without_order(script.text(), history, asked.limits))
+
+
+def system_is_allowed(tools: Tools, name: str) -> None:
+    """What this system is seen to do in an example is allowed, or has a reason."""
+    *_, odd = table_of(tools, name, tools.driver, EXAMPLE_SECONDS)
+    require(all(it.reason for it in odd), f"{[it.text for it in odd]}")
+
+
+def is_found(tools: Tools, way: str, name: str, library: str) -> None:
+    """An example finds a system that is wrong in a way."""
+    driver = ["env", f"WRONG_SYSTEM={way}", f"LD_PRELOAD={library}", *tools.driver]
+    if not any(not it.reason for odd in table_of(tools, name, driver, SECONDS) for it in odd):
+        raise Failure(f"{name} does not find it")
+
+
+def example_cases(tools: Tools) -> Iterator[Case]:
+    """Each example on the system at hand."""
+    yield from ((file.stem, partial(system_is_allowed, tools, file.stem)) for file in sorted(RACES.glob("*.race")))
+
+
+def wrong_cases(tools: Tools, library: str) -> Iterator[Case]:
+    """Wrong systems, each of which an example finds."""
+    yield from ((f"{way} by {name}", partial(is_found, tools, way, name, library)) for way, name in WRONG.items())
