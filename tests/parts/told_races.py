@@ -216,7 +216,7 @@ def none_agrees(program: Sequence[str]) -> None:
 # ---- what is no race
 
 NOT_A_CALL = "not a call\nexpected a call of a process, as p0 read 0 5"
-REFUSED = "refused\nexpected an act of a process that is there, is attached and waits in no call"
+REFUSED = "refused\nexpected an act that leaves a record: a join, an attach, or a call or exit of an attached process"
 WAITS = "waits\nexpected a call that comes back before the race"
 ABSENT = "not attached\nexpected a call of a process that is attached when the race begins"
 NO_ANSWER = "not an answer\nexpected ? or an answer, as 5, x6869, ok, error EBADF, waits 0 or -"

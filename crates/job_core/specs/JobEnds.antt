@@ -33,7 +33,7 @@ ended_status ended.NoSuchOutcome = 1
 -- why a line of a race cannot stand where it does, and what can (own)
 abbrev pub unfit_text : Unfit → List ℕ
 unfit_text unfit.NoCall = codes "not a call\nexpected a call of a process, as p0 read 0 5"
-unfit_text unfit.Refused = codes "refused\nexpected an act of a process that is there, is attached and waits in no call"
+unfit_text unfit.Refused = codes "refused\nexpected an act that leaves a record: a join, an attach, or a call or exit of an attached process"
 unfit_text unfit.Waits = codes "waits\nexpected a call that comes back before the race"
 unfit_text unfit.NotAttached = codes "not attached\nexpected a call of a process that is attached when the race begins"
 

@@ -29,7 +29,7 @@ impl fmt::Display for Unfit {
         f.write_str(match self {
             Unfit::NoCall => "not a call\nexpected a call of a process, as p0 read 0 5",
             Unfit::Refused =>
-                "refused\nexpected an act of a process that is there, is attached and waits in no call",
+                "refused\nexpected an act that leaves a record: a join, an attach, or a call or exit of an attached process",
             Unfit::Waits => "waits\nexpected a call that comes back before the race",
             Unfit::NotAttached =>
                 "not attached\nexpected a call of a process that is attached when the race begins",

@@ -1,5 +1,5 @@
-//! What the words of a command line ask for, how a job ends, and the jobs of one thread: a replay, an audit, a
-//! trace that is shown, and one that is written anew.
+//! What the words of a command line ask for, how a job ends, and the jobs of one thread: a replay, the outcomes of a
+//! race, an audit, a trace that is shown, and one that is written anew.
 #![tactic(auto)]
 
 pub mod audit_file;

@@ -26,7 +26,7 @@ pub struct Setup {
 #[derive(Clone, Copy, Debug, PartialEq, Eq)]
 pub enum Unready {
     /// The rules record no such act there: a call of a process that is not live and attached, a resume of one that waits in
-    /// no call that is ready, an exit of a process that is not live, and the closing of the run, which ends what a race needs.
+    /// no call that is ready, an exit of a process that is not attached. Nor may the run be closed before a race.
     Refused { line: usize },
     /// A call of this line waits, or goes on waiting: what comes before a race has to end.
     Waits { line: usize },
