@@ -5,7 +5,7 @@ usage: tests/outcomes.py [--program PATH] [--runs N] [--seed WORD] [--only WORD]
 
 The program is crates/fdref/out/fdref where no PATH is given.
 
-  - Races by hand have as many outcomes and positions as a formula says, and those of examples/races that their table
+  - Races by hand have as many outcomes and positions as a formula says, and those of examples/races that their page
     tells.
   - Each outcome that is asked for is found alone, and what is not one is not found.
   - Each witness is an order of the race: `fdref replay` answers its acts alike, and it ends in its outcome.
