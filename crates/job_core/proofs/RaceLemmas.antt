@@ -26,7 +26,7 @@ use Rattle.race_outcomes.specs.Tellings.{AreTold, IsToldAt, outcome_line, texts}
 use Rattle.race_outcomes.specs.Witnesses.{records_along}
 use Rattle.race_outcomes.specs.declared.lanes.Lane.{Lane}
 use Rattle.race_outcomes.specs.declared.position.Position.{Position}
-use Rattle.race_outcomes.specs.declared.search.Met.{Met}
+use Rattle.race_outcomes.specs.declared.positions.Met.{Met}
 use Rattle.race_outcomes.specs.declared.tellings.Told.{Told}
 use Rattle.job_core.specs.Output.{AppendsFront}
 use Rattle.job_core.specs.Shown.{shown_lines}

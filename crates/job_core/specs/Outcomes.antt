@@ -19,7 +19,7 @@ use Rattle.race_outcomes.specs.Setups.{set_up, absent, lanes_of}
 use Rattle.race_outcomes.specs.Tellings.{answers, AreTold, counts_line, outcome_line, outcome_lines, race_lines}
 use Rattle.race_outcomes.specs.Witnesses.{records_along}
 use Rattle.race_outcomes.specs.declared.position.Position.{Position}
-use Rattle.race_outcomes.specs.declared.search.Explored.{Explored}
+use Rattle.race_outcomes.specs.declared.positions.Explored.{Explored}
 use Rattle.race_outcomes.specs.declared.setup.Setup.{Setup}
 use Rattle.race_outcomes.specs.declared.setup.Unready.TheVariants as unready
 use Rattle.job_core.specs.Output.{AppendsFront}

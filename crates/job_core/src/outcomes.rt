@@ -21,9 +21,9 @@ use logged_streams::reader::LoggedReader;
 use logged_streams::writer::LoggedWriter;
 use posix_model::world::World;
 use race_outcomes::lines::{put_counts, put_outcome, put_outcomes, put_race};
-use race_outcomes::outcomes::explore_race;
-use race_outcomes::position::{Position, Race};
-use race_outcomes::search::{Explored, GivenUp, order_to};
+use race_outcomes::position::Race;
+use race_outcomes::positions::Positions;
+use race_outcomes::search::{GivenUp, explore_race};
 use race_outcomes::setup::{Setup, Unready, absent, lanes_of, set_up};
 use race_outcomes::tellings::{Told, tellings};
 use race_outcomes::witness::records_along;
@@ -100,12 +100,7 @@ fn made_ready(alloc: Global, limits: Limits, text: &[u8]) -> Result<(RaceScript,
 }
 
 /// All positions of a race, if there are at most `most`.
-fn explored(
-    alloc: Global,
-    race: &Race,
-    world: World,
-    most: u64,
-) -> Result<Explored<Position>, JobEnd>
+fn explored(alloc: Global, race: &Race, world: World, most: u64) -> Result<Positions, JobEnd>
     ensures all { IfOk result (IsExplored (move race.now.limits.bounds race.now.lanes) (start_of race.now.lanes world)) }
     ensures fault { IfErr result (λ end. GivesUp (move race.now.limits.bounds race.now.lanes) (start_of race.now.lanes world) most end) }
 {
@@ -122,7 +117,7 @@ struct Search {
     script: RaceScript,
     setup: Setup,
     race: Race,
-    explored: Explored<Position>,
+    explored: Positions,
     told: Vec<Told>,
 }
 
@@ -199,7 +194,7 @@ fn witness(alloc: Global, search: &Search, told: &Told) -> Result<Row<Record>, A
     requires at { IsToldIn search.now told.now }
     ensures { IfOk result (IsWitness search.now.race.limits.bounds search.now.script search.now.setup told.now.text.items) }
 {
-    let order = order_to(alloc, &search.race, &search.explored.met, told.place)?;
+    let order = search.explored.order_to(alloc, &search.race, told.place)?;
     let along = records_along(alloc, &search.race, &search.setup.world, order.all())?;
     let mut records = Row::new(alloc);
     append(&mut records, search.setup.records.all())?;
@@ -300,7 +295,7 @@ fn print_all(alloc: Global, search: &Search, form: Option<Form>) -> Result<Print
     let mut lines = Vec::new(alloc);
     put_race(&mut lines, search.script.calls.all())?;
     put_told(alloc, &mut lines, search, form)?;
-    put_counts(&mut lines, search.told.len(), search.explored.met.len())?;
+    put_counts(&mut lines, search.told.len(), search.explored.len())?;
     let end = end_of_count(search.told.len());
     Ok(Printed { lines, end })
 }

@@ -1,4 +1,3 @@
-pub mod EndLemmas
 pub mod HistoryLemmas
 pub mod LaneLemmas
 pub mod MoveLemmas
@@ -7,5 +6,6 @@ pub mod PlaceLemmas
 pub mod SameLemmas
 pub mod SearchLemmas
 pub mod SetupLemmas
+pub mod SpotLemmas
 pub mod TellingLemmas
 pub mod WitnessLemmas

@@ -4,8 +4,8 @@ use Rattle.std.specs.List.{Contains, slice_get}
 use Rattle.std.proofs.lemmas.List.{length_push, same_from_push}
 use Rattle.std.proofs.lemmas.Option.{slice_get_within}
 use Rattle.std.proofs.lemmas.List.Elements.{Contains-append_left, Contains-push, Contains-push_cases}
-use Rattle.race_outcomes.specs.declared.search.Met.{Met}
-use Rattle.race_outcomes.specs.declared.search.Move.{Move}
+use Rattle.race_outcomes.specs.declared.positions.Met.{Met}
+use Rattle.race_outcomes.specs.declared.positions.Move.{Move}
 use Rattle.race_outcomes.specs.Orders.{Leads, IsEnd, AreApart, MoreOrders}
 use Rattle.race_outcomes.specs.Search.{Has, ComesBy, IsTraced, AreTraced, LeadsBetween, LeadsTo, EndsAt, IsExplored}
 use Rattle.race_outcomes.specs.Proved.Search.{IsBefore, IsOrder, OrderOf, Searched, TakesIn, Keeps, TakesMove, TakesBelow, TakesMoves, NotesEnd, NotedEnds, SoFar, GoesBack}

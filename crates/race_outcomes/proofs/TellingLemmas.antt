@@ -20,8 +20,8 @@ use Rattle.race_outcomes.specs.Setups.{lanes_of}
 use Rattle.script_text.specs.declared.races.RaceCall.{RaceCall}
 use Rattle.race_outcomes.specs.declared.lanes.Lane.{Lane}
 use Rattle.race_outcomes.specs.declared.position.Position.{Position}
-use Rattle.race_outcomes.specs.declared.search.Met.{Met}
-use Rattle.race_outcomes.specs.declared.search.Explored.{Explored}
+use Rattle.race_outcomes.specs.declared.positions.Met.{Met}
+use Rattle.race_outcomes.specs.declared.positions.Explored.{Explored}
 use Rattle.race_outcomes.specs.declared.tellings.Seat.{Seat}
 use Rattle.race_outcomes.specs.declared.tellings.Told.{Told}
 use Rattle.race_outcomes.specs.Lanes.{IsFirstOf, IsPlaceOf}
@@ -31,7 +31,7 @@ use Rattle.race_outcomes.specs.Outcomes.{start_of}
 use Rattle.race_outcomes.specs.Search.{Has, EndsAt, IsExplored}
 use Rattle.race_outcomes.specs.Tellings.{Agrees, IsTold, AreTold, IsToldAt, answer_of, answers_from, answers, made_by, texts}
 use Rattle.race_outcomes.specs.Proved.Tellings.{lane_place, seat_of, seats_from, in_row, in_lane, answers_at, SaysAt, SaysOrNot, SaidBelow, SaidAll}
-use Rattle.race_outcomes.proofs.PlaceLemmas.{stands_somewhere, stands_there, same_some, below_or_last}
+use Rattle.race_outcomes.proofs.PlaceLemmas.{some_there, stands_somewhere, stands_there, same_some, below_or_last}
 
 -- ---- seats
 
@@ -106,6 +106,18 @@ texts_push (x ∷ xs) t = ap (λ ts. x.text.items ∷ ts) (texts_push xs t)
 nothing_more : (xs : List Told) → xs ++ [] ≡ xs
 nothing_more [] = refl
 nothing_more (x ∷ xs) = ap (λ ys. x ∷ ys) (nothing_more xs)
+
+-- a position that was met says what its answers are
+pub says_there : (calls : List RaceCall) (seats : List Seat) (met : List (Met Position)) (t : Told) (told : List (List Outcome)) → t.place < length met → ((m : Met Position) → slice_get met t.place ≡ Some m → told ≡ m.position.told) → Agrees calls (answers_at told seats) → t.text.items ≡ answers_text (answers_at told seats) → SaysAt calls seats met t
+says_there calls seats met t told within is agrees text =
+    let here : (m : _) × (slice_get met t.place ≡ Some m) = some_there met t.place within in
+    let same : told ≡ here.0.position.told = is here.0 here.1 in
+    record {
+      entry = here.0;
+      stands = here.1;
+      agrees = subst (λ all. Agrees calls (answers_at all seats)) same agrees;
+      text = text ∙ ap (λ all. answers_text (answers_at all seats)) same;
+    }
 
 pub nothing_said : (calls : List RaceCall) (seats : List Seat) (met : List (Met Position)) (ends : List ℕ) → SaidBelow calls seats met ends 0 []
 nothing_said calls seats met ends = record {

@@ -1,5 +1,5 @@
 -- The records of orders of moves.
-use Rattle.std.proofs.Common.{◌≡◌, ◌∙◌, ◌++◌, ◌∷◌, [], List, ℕ, Bool, Option, None, Some, slice_set, refl, ap, sym, subst, arith}
+use Rattle.std.proofs.Common.{◌≡◌, ◌∙◌, ◌++◌, ◌∷◌, [], List, ℕ, Bool, Option, None, Some, length, refl, ap, sym, subst, arith}
 use Rattle.std.specs.List.{slice_get}
 use Rattle.std.specs.Option.{option_map, option_map_or, option_to_list}
 use Rattle.slots.specs.Slots.{slot}
@@ -9,10 +9,10 @@ use Rattle.posix_model.specs.Step.{is_parked, step, Stepped, outcome_of}
 use Rattle.posix_model.specs.History.{empty_world, after, world_of, legal, world_from, legal_from}
 use Rattle.race_outcomes.specs.declared.lanes.Lane.{Lane}
 use Rattle.race_outcomes.specs.declared.position.Position.{Position}
-use Rattle.race_outcomes.specs.Moves.{next_act, answered, moved, acted, move_on, move}
+use Rattle.race_outcomes.specs.Moves.{next_at, going, going_by, moved, move_on, move}
 use Rattle.race_outcomes.specs.Orders.{Leads}
 use Rattle.race_outcomes.specs.Outcomes.{start_of}
-use Rattle.race_outcomes.specs.Witnesses.{recorded_as, record_in, record_on, record_of, records_along, IsWitness}
+use Rattle.race_outcomes.specs.Witnesses.{recorded_as, record_on, record_of, records_along, IsWitness}
 use Rattle.race_outcomes.proofs.PlaceLemmas.{same_some}
 use Rattle.race_outcomes.proofs.HistoryLemmas.{legal_append}
 
@@ -23,25 +23,25 @@ record HasRecord (bounds : Bounds) (w : World) (o : Option Record) (to : World) 
   gives : outcome_of bounds w one.actor one.act ≡ Some one.outcome
   leads : after bounds w one ≡ to
 
-moved_record : (bounds : Bounds) (from : Position) (number actor : ℕ) (waits : Bool) (told : List Outcome) (act : Act) (s : Option Stepped) (to : Position) → step bounds from.world actor act ≡ s → moved from number waits told s ≡ Some to → HasRecord bounds from.world (record_in bounds from.world actor (Some act)) to.world
-moved_record bounds from number actor waits told act None to is goes = absurd (grind (arith, goes))
-moved_record bounds from number actor waits told act (Some s) to is goes = record {
-  one = recorded_as actor act s.outcome;
-  is = ap (λ o. option_map (recorded_as actor act) (option_map (λ (x : Stepped). x.outcome) o)) is;
+stepped_record : (bounds : Bounds) (w : World) (actor : ℕ) (told : List (List Outcome)) (number : ℕ) (row : List Outcome) (resumes : Bool) (act : Act) (s : Option Stepped) (to : Position) → step bounds w actor act ≡ s → option_map (moved told number row) (option_map (going resumes act) s) ≡ Some to → HasRecord bounds w (option_map (recorded_as actor) (option_map (going resumes act) s)) to.world
+stepped_record bounds w actor told number row resumes act None to is goes = absurd (grind (arith, goes))
+stepped_record bounds w actor told number row resumes act (Some s) to is goes = record {
+  one = recorded_as actor (going resumes act s);
+  is = refl;
   gives = ap (λ o. option_map (λ (x : Stepped). x.outcome) o) is;
-  leads = ap (λ o. option_map_or (λ (x : Stepped). x.world) o from.world) is ∙ ap (λ (p : Position). p.world) (same_some (moved from number waits told (Some s)) (record { world = s.world; told = slice_set from.told number (answered waits told s.outcome) }) to refl goes);
+  leads = ap (λ o. option_map_or (λ (x : Stepped). x.world) o w) is ∙ ap (λ (p : Position). p.world) (same_some (Some (moved told number row (going resumes act s))) (moved told number row (going resumes act s)) to refl goes);
 }
 
-acted_record : (bounds : Bounds) (from : Position) (number : ℕ) (lane : Lane) (waits : Bool) (told : List Outcome) (act : Option Act) (to : Position) → acted bounds from number lane waits told act ≡ Some to → HasRecord bounds from.world (record_in bounds from.world lane.actor act) to.world
-acted_record bounds from number lane waits told None to goes = absurd (grind (arith, goes))
-acted_record bounds from number lane waits told (Some act) to goes = moved_record bounds from number lane.actor waits told act (step bounds from.world lane.actor act) to refl goes
+going_record : (bounds : Bounds) (w : World) (actor : ℕ) (told : List (List Outcome)) (number : ℕ) (row : List Outcome) (resumes : Bool) (act : Option Act) (to : Position) → option_map (moved told number row) (going_by bounds w actor resumes act) ≡ Some to → HasRecord bounds w (option_map (recorded_as actor) (going_by bounds w actor resumes act)) to.world
+going_record bounds w actor told number row resumes None to goes = absurd (grind (arith, goes))
+going_record bounds w actor told number row resumes (Some act) to goes = stepped_record bounds w actor told number row resumes act (step bounds w actor act) to refl goes
 
-on_record : (bounds : Bounds) (from : Position) (number : ℕ) (lane : Option Lane) (told : Option (List Outcome)) (to : Position) → move_on bounds from number lane told ≡ Some to → HasRecord bounds from.world (record_on bounds from.world lane told) to.world
-on_record bounds from number None told to goes = absurd (grind (arith, goes))
+on_record : (bounds : Bounds) (from : Position) (number : ℕ) (lane : Option Lane) (row : Option (List Outcome)) (to : Position) → move_on bounds from number lane row ≡ Some to → HasRecord bounds from.world (record_on bounds from.world lane row) to.world
+on_record bounds from number None row to goes = absurd (grind (arith, goes))
 on_record bounds from number (Some lane) None to goes = absurd (grind (arith, goes))
-on_record bounds from number (Some lane) (Some told) to goes =
+on_record bounds from number (Some lane) (Some row) to goes =
     let waits : Bool = is_parked (slot from.world.processes lane.actor) in
-    acted_record bounds from number lane waits told (next_act waits lane told) to goes
+    going_record bounds from.world lane.actor from.told number row waits (next_at waits lane (length row)) to goes
 
 -- one more move in front
 more : (bounds : Bounds) (w between : World) (one : Record) (n : ℕ) (ns : List ℕ) (end : World) (rs : List Record) → outcome_of bounds w one.actor one.act ≡ Some one.outcome → after bounds w one ≡ between → IsWitness bounds between ns end rs → IsWitness bounds w (n ∷ ns) end (one ∷ rs)

@@ -2,7 +2,9 @@ pub mod Orders
 pub mod Lanes
 pub mod Moves
 pub mod Outcomes
+pub mod Positions
 pub mod Search
+pub mod Tables
 pub mod Tellings
 pub mod Setups
 pub mod Witnesses

@@ -1,3 +1,4 @@
+pub mod Recorded
 pub mod Search
-pub mod Ends
+pub mod Spots
 pub mod Tellings

@@ -1,9 +1,9 @@
 -- What a search of all positions finds.
 use Rattle.std.specs.Prelude.{◌≡◌, ◌<◌, ℕ, List, Option, None, Some}
 use Rattle.std.specs.List.{Contains, slice_get}
-use Rattle.race_outcomes.specs.declared.search.Met.{Met}
-use Rattle.race_outcomes.specs.declared.search.Move.{Move}
-use Rattle.race_outcomes.specs.declared.search.Explored.{Explored}
+use Rattle.race_outcomes.specs.declared.positions.Met.{Met}
+use Rattle.race_outcomes.specs.declared.positions.Move.{Move}
+use Rattle.race_outcomes.specs.declared.positions.Explored.{Explored}
 use Rattle.race_outcomes.specs.Orders.{Leads, IsReached, IsEnd}
 
 -- a position is among those that were met

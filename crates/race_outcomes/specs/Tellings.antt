@@ -13,7 +13,7 @@ use Rattle.race_outcomes.specs.Setups.{lanes_of}
 use Rattle.script_text.specs.declared.races.RaceCall.{RaceCall}
 use Rattle.race_outcomes.specs.declared.lanes.Lane.{Lane}
 use Rattle.race_outcomes.specs.declared.position.Position.{Position}
-use Rattle.race_outcomes.specs.declared.search.Met.{Met}
+use Rattle.race_outcomes.specs.declared.positions.Met.{Met}
 use Rattle.race_outcomes.specs.declared.tellings.Told.{Told}
 use Rattle.race_outcomes.specs.Orders.{IsEnd}
 use Rattle.race_outcomes.specs.Outcomes.{IsOutcome}

@@ -2,29 +2,23 @@
 use Rattle.std.specs.Prelude.{◌≡◌, ◌++◌, ◌∷◌, [], ℕ, List, Option, None, Some, length}
 use Rattle.std.specs.List.{slice_get}
 use Rattle.std.specs.Option.{option_map, option_map_or, option_to_list}
-use Rattle.slots.specs.Slots.{slot}
-use Rattle.posix_model.specs.Types.{Act, Outcome, Record, Bounds}
+use Rattle.posix_model.specs.Types.{Outcome, Record, Bounds}
 use Rattle.posix_model.specs.declared.world.World.{World}
-use Rattle.posix_model.specs.Step.{is_parked, outcome_of}
 use Rattle.posix_model.specs.History.{legal_from, world_from}
 use Rattle.race_outcomes.specs.declared.lanes.Lane.{Lane}
+use Rattle.race_outcomes.specs.declared.position.Going.{Going}
 use Rattle.race_outcomes.specs.declared.position.Position.{Position}
-use Rattle.race_outcomes.specs.Moves.{next_act, move}
+use Rattle.race_outcomes.specs.Moves.{going_on, move}
 
--- the record of an act with this outcome
-abbrev pub recorded_as : ℕ → Act → Outcome → Record
-recorded_as actor act outcome = record { actor = actor; act = act; outcome = outcome }
-
--- what an act is recorded as in a world, if there is one and it is a step
-abbrev pub record_in : Bounds → World → ℕ → Option Act → Option Record
-record_in bounds w actor None = None
-record_in bounds w actor (Some act) = option_map (recorded_as actor act) (outcome_of bounds w actor act)
+-- the record of an act of a process
+abbrev pub recorded_as : ℕ → Going → Record
+recorded_as actor g = record { actor = actor; act = g.act; outcome = g.outcome }
 
 -- what the next act of a lane is recorded as, where the lane may not be there
 abbrev pub record_on : Bounds → World → Option Lane → Option (List Outcome) → Option Record
-record_on bounds w None told = None
+record_on bounds w None row = None
 record_on bounds w (Some lane) None = None
-record_on bounds w (Some lane) (Some told) = record_in bounds w lane.actor (next_act (is_parked (slot w.processes lane.actor)) lane told)
+record_on bounds w (Some lane) (Some row) = option_map (recorded_as lane.actor) (going_on bounds w lane (length row))
 
 -- what a move of the lane of this number is recorded as, if it can move
 abbrev pub record_of : Bounds → List Lane → Position → ℕ → Option Record

@@ -1,6 +1,5 @@
-//! Numbers made of positions, by which the chains of an index are told apart. Nothing is promised of them.
+//! Numbers made of worlds, answers and places, by which the chains of an index are told apart. Nothing is promised of them.
 
-use crate::position::Position;
 use call_types::description::{Description, Target};
 use call_types::outcome::{Outcome, Reply};
 use call_types::span::Span;
@@ -179,12 +178,25 @@ impl Digest {
     }
 }
 
-/// A number that is made of a position.
-pub fn digest_of(alloc: Global, position: &Position) -> u64 {
+/// A number that is made of a world.
+pub fn digest_of_world(alloc: Global, world: &World) -> u64 {
     let mut digest = Digest { sum: 0 };
-    for row in position.told.all() {
-        digest.add_row(row);
+    digest.add_world(alloc, world);
+    digest.sum
+}
+
+/// A number that is made of what a lane was answered.
+pub fn digest_of_row(row: &Row<Outcome>) -> u64 {
+    let mut digest = Digest { sum: 0 };
+    digest.add_row(row);
+    digest.sum
+}
+
+/// A number that is made of places.
+pub fn digest_of_places(places: &[usize]) -> u64 {
+    let mut digest = Digest { sum: 0 };
+    for place in places {
+        digest.add(*place as u64);
     }
-    digest.add_world(alloc, &position.world);
     digest.sum
 }

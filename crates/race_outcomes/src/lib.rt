@@ -2,14 +2,13 @@
 #![tactic(auto)]
 
 mod digest;
-pub mod index;
 pub mod lanes;
 pub mod lines;
-pub mod outcomes;
 pub mod position;
+pub mod positions;
 mod same;
 pub mod search;
 pub mod setup;
-pub mod space;
+mod table;
 pub mod tellings;
 pub mod witness;

@@ -1,14 +1,11 @@
 //! Positions of a race, and the moves between them.
 
-ghost use Rattle.std.specs.Prelude.{◌≡◌, slice_set, IfOk};
+ghost use Rattle.std.specs.Prelude.{◌≡◌, IfOk};
 ghost use Rattle.posix_model.specs.Step.{is_parked};
 ghost use Rattle.slots.specs.Slots.{slot};
-ghost use Rattle.race_outcomes.specs.Moves.{next_act, answered, move_of, move};
+ghost use Rattle.race_outcomes.specs.Moves.{next_at, answered, going_on};
 
-use crate::digest::digest_of;
 use crate::lanes::{Lane, Lanes};
-use crate::same::same_position;
-use crate::space::Space;
 use call_types::act::Act;
 use call_types::call::Call;
 use call_types::limits::Limits;
@@ -45,118 +42,69 @@ pub(crate) fn is_parked(world: &World, process: usize) -> bool
     }
 }
 
-/// What the process of a lane does next, if anything is left.
-pub(crate) fn next_act(
-    waits: bool,
-    lane: &Lane,
-    told: &Row<Outcome>,
-) -> Result<Option<Act>, AllocError>
-    ensures { IfOk result (λ act. act ≡ next_act waits lane.now told.now) }
+/// What the process of a lane does next that has begun so many of its calls, if anything is left.
+fn next_at(waits: bool, lane: &Lane, begun: usize) -> Result<Option<Act>, AllocError>
+    ensures { IfOk result (λ act. act ≡ next_at waits lane.now begun) }
 {
     if waits {
         return Ok(Some(Act::Resume));
     }
-    match lane.calls.get(told.len()) {
+    match lane.calls.get(begun) {
         Some(call) => Ok(Some(Act::Call(call.clone()?))),
         None => Ok(None),
     }
 }
 
-/// The outcomes of a lane's calls after one more act of it: a resume tells a new one of the last call.
-fn answered(waits: bool, told: &Row<Outcome>, outcome: Outcome) -> Result<Row<Outcome>, AllocError>
-    ensures { IfOk result (λ after. after ≡ answered waits told.now outcome) }
-{
-    let mut after = told.clone()?;
-    if waits {
-        after.put(told.len().saturating_sub(1), outcome);
-    } else {
-        after.push(outcome)?;
-    }
-    Ok(after)
+/// One more act of a lane: what it is, whether it goes on with a call, and what it comes to.
+#[derive(Drop)]
+pub(crate) struct Going {
+    pub act: Act,
+    pub resumes: bool,
+    pub world: World,
+    pub outcome: Outcome,
 }
 
-/// The outcomes of all lanes after one more act of one of them.
-fn told_with(told: &Answers, number: usize, row: Row<Outcome>) -> Result<Answers, AllocError>
-    ensures { IfOk result (λ after. after ≡ slice_set told.now number row) }
-{
-    let mut after = told.clone()?;
-    after.put(number, row);
-    Ok(after)
-}
-
-/// Where the next act of a lane leads, if there is one that can be made.
-fn move_of(
+/// What the next act of a lane that has begun so many of its calls comes to in a world, if there is one that can be made.
+pub(crate) fn go_on(
     alloc: Global,
     limits: Limits,
-    from: &Position,
-    number: usize,
+    world: &World,
     lane: &Lane,
-    told: &Row<Outcome>,
-) -> Result<Option<Position>, AllocError>
-    ensures { IfOk result (λ to. to ≡ move_of limits.bounds from.now number lane.now told.now) }
+    begun: usize,
+) -> Result<Option<Going>, AllocError>
+    ensures { IfOk result (λ going. going ≡ going_on limits.bounds world.now lane.now begun) }
 {
-    let waits = is_parked(&from.world, lane.actor as usize);
-    let act = match next_act(waits, lane, told)? {
+    let resumes = is_parked(world, lane.actor as usize);
+    let act = match next_at(resumes, lane, begun)? {
         Some(act) => act,
         None => return Ok(None),
     };
-    match plain_step(alloc, limits, &from.world, lane.actor, &act) {
-        Ok((world, outcome)) => {
-            let row = answered(waits, told, outcome)?;
-            let told = told_with(&from.told, number, row)?;
-            Ok(Some(Position { world, told }))
-        }
+    match plain_step(alloc, limits, world, lane.actor, &act) {
+        Ok((world, outcome)) => Ok(Some(Going {
+            act,
+            resumes,
+            world,
+            outcome,
+        })),
         Err(StepFault::NotReady) => Ok(None),
         Err(StepFault::NoMemory) => Err(AllocError),
     }
 }
 
-/// Where a move of the lane of this number leads, if it can move.
-fn move_from(
-    alloc: Global,
-    race: &Race,
-    from: &Position,
-    number: usize,
-) -> Result<Option<Position>, AllocError>
-    ensures { IfOk result (λ to. to ≡ move race.now.limits.bounds race.now.lanes from.now number) }
+/// The outcomes of a lane's calls after one more act of it: a resume tells a new one of the last call.
+pub(crate) fn answered(
+    resumes: bool,
+    told: &Row<Outcome>,
+    outcome: &Outcome,
+) -> Result<Row<Outcome>, AllocError>
+    ensures { IfOk result (λ after. after ≡ answered resumes told.now outcome.now) }
 {
-    let lane = match race.lanes.all().get(number) {
-        Some(lane) => lane,
-        None => return Ok(None),
-    };
-    match from.told.get(number) {
-        Some(told) => move_of(alloc, race.limits, from, number, lane, told),
-        None => Ok(None),
+    let mut after = told.clone()?;
+    let last = outcome.clone()?;
+    if resumes {
+        after.put(told.len().saturating_sub(1), last);
+    } else {
+        after.push(last)?;
     }
-}
-
-#[tactic(auto, using(crate::proofs::MoveLemmas::move_past))]
-impl Space<Position> for Race {
-    ghost use Rattle.std.specs.Prelude.{length};
-    ghost use Rattle.race_outcomes.specs.Moves.{move};
-
-    ghost moves = { λ race. move race.limits.bounds race.lanes };
-
-    ghost lanes = { λ race. length race.lanes };
-
-    fn lanes(&self) -> usize {
-        self.lanes.all().len()
-    }
-
-    fn make_move(
-        &self,
-        alloc: Global,
-        from: &Position,
-        lane: usize,
-    ) -> Result<Option<Position>, AllocError> {
-        move_from(alloc, self, from, lane)
-    }
-
-    fn is_same(&self, alloc: Global, one: &Position, other: &Position) -> bool {
-        same_position(alloc, one, other)
-    }
-
-    fn digest(&self, alloc: Global, position: &Position) -> u64 {
-        digest_of(alloc, position)
-    }
+    Ok(after)
 }

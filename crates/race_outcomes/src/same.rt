@@ -1,10 +1,9 @@
-//! Whether two positions are the same. Every part is compared exactly but for long files.
+//! Whether two worlds are the same. Every part is compared exactly but for long files.
 
 ghost use Rattle.std.specs.Prelude.{◌≡◌, ◌↔◌, true, take};
 ghost use Rattle.posix_model.specs.Bytes.{bytes_at};
 ghost use Rattle.call_types.specs.declared.limits.TheConstants.{TRANSFER_MAX};
 
-use crate::position::Position;
 use call_types::bounded::Name;
 use call_types::description::{Description, Mode, Target};
 use call_types::limits::TRANSFER_MAX;
@@ -258,7 +257,7 @@ fn same_files(alloc: Global, these: &[Option<File>], others: &[Option<File>]) ->
 }
 
 /// Whether two worlds are the same. No says nothing of long files.
-fn same_world(alloc: Global, this: &World, other: &World) -> bool
+pub fn same_world(alloc: Global, this: &World, other: &World) -> bool
     ensures { result ≡ true → this.now ≡ other.now }
 {
     this.closed == other.closed
@@ -267,11 +266,4 @@ fn same_world(alloc: Global, this: &World, other: &World) -> bool
         && this.pipes.is_as(&other.pipes)
         && this.names.is_as(&other.names)
         && same_files(alloc, this.files.all(), other.files.all())
-}
-
-/// Whether two positions are the same. No says nothing of long files.
-pub fn same_position(alloc: Global, this: &Position, other: &Position) -> bool
-    ensures { result ≡ true → this.now ≡ other.now }
-{
-    this.told.is_as(&other.told) && same_world(alloc, &this.world, &other.world)
 }

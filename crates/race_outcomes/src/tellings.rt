@@ -17,8 +17,8 @@ ghost use Rattle.race_outcomes.specs.Tellings.{made_by, IsAsked, Agrees, AreTold
 ghost use Rattle.race_outcomes.specs.Proved.Tellings.{seats_from, answer_at, answers_at, SaysOrNot, SaidAll};
 
 use crate::lanes::{Lane, place_of};
-use crate::position::{Answers, Position, Race};
-use crate::search::{Explored, Met};
+use crate::position::{Answers, Race};
+use crate::positions::Positions;
 use call_types::outcome::Outcome;
 use script_text::answers::write_answer;
 use script_text::races::RaceCall;
@@ -198,22 +198,18 @@ fn told_at(
     alloc: Global,
     calls: &[RaceCall],
     seats: &[Seat],
-    met: &Row<Met<Position>>,
+    explored: &Positions,
     place: usize,
 ) -> Result<Option<Told>, AllocError>
-    requires { place < length met.now }
-    ensures { IfOk result (SaysOrNot calls.now seats.now met.now place) }
+    requires { place < length explored.now.met }
+    ensures { IfOk result (SaysOrNot calls.now seats.now explored.now.met place) }
 {
-    let entry = match met.get(place) {
-        Some(entry) => entry,
-        None => unreachable!(),
-    };
-    let told = &entry.position.told;
-    if !agrees(alloc, calls, seats, told)? {
+    let told = explored.told(alloc, place)?;
+    if !agrees(alloc, calls, seats, &told)? {
         return Ok(None);
     }
     let mut text = Vec::new(alloc);
-    write_seats(&mut text, told, seats)?;
+    write_seats(&mut text, &told, seats)?;
     Ok(Some(Told { text, place }))
 }
 
@@ -232,15 +228,15 @@ fn told_all(
     alloc: Global,
     calls: &[RaceCall],
     seats: &[Seat],
-    met: &Row<Met<Position>>,
+    explored: &Positions,
     ends: &[usize],
 ) -> Result<Vec<Told>, AllocError>
-    requires { (place : ℕ) → Contains ends.now place → place < length met.now }
-    ensures { IfOk result (λ told. SaidAll calls.now seats.now met.now ends.now told.items) }
+    requires { (place : ℕ) → Contains ends.now place → place < length explored.now.met }
+    ensures { IfOk result (λ told. SaidAll calls.now seats.now explored.now.met ends.now told.items) }
 {
     let mut all = Vec::new(alloc);
     for index in 0..ends.len() {
-        let told = told_at(alloc, calls, seats, met, ends[index])?;
+        let told = told_at(alloc, calls, seats, explored, ends[index])?;
         add_told(&mut all, told)?;
     }
     Ok(all)
@@ -262,7 +258,7 @@ pub fn tellings(
     alloc: Global,
     race: &Race,
     calls: &[RaceCall],
-    explored: &Explored<Position>,
+    explored: &Positions,
 ) -> Result<Vec<Told>, AllocError>
     requires lanes { race.now.lanes ≡ lanes_of calls.now }
     requires ends { (place : ℕ) → Contains explored.now.ends place → EndsAt (move race.now.limits.bounds race.now.lanes) explored.now.met place }
@@ -270,13 +266,7 @@ pub fn tellings(
     ensures places { IfOk result (λ told. All (IsToldAt (move race.now.limits.bounds race.now.lanes) explored.now.met calls.now) told.items) }
 {
     let seats = seats_of(alloc, race.lanes.all(), calls)?;
-    let mut told = told_all(
-        alloc,
-        calls,
-        seats.all(),
-        &explored.met,
-        explored.ends.all(),
-    )?;
+    let mut told = told_all(alloc, calls, seats.all(), explored, explored.ends())?;
     put_in_order(&mut told);
     Ok(told)
 }

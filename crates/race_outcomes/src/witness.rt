@@ -1,81 +1,82 @@
 //! What is recorded of an order of moves.
 
-ghost use Rattle.std.specs.Prelude.{◌≡◌, ◌++◌, List, IfOk, OnOk};
-ghost use Rattle.std.specs.Option.{option_to_list};
+ghost use Rattle.std.specs.Prelude.{◌≡◌, ◌++◌, [], List, replicate, IfOk};
 ghost use Rattle.call_types.specs.declared.act.Record.{Record as OneRecord};
 ghost use Rattle.posix_model.specs.History.{legal, world_of};
 ghost use Rattle.race_outcomes.specs.declared.position.Position.{Position as APosition};
-ghost use Rattle.race_outcomes.specs.Moves.{move};
+ghost use Rattle.race_outcomes.specs.Moves.{move, moved};
 ghost use Rattle.race_outcomes.specs.Orders.{Leads};
 ghost use Rattle.race_outcomes.specs.Outcomes.{start_of};
-ghost use Rattle.race_outcomes.specs.Witnesses.{record_in, record_of, records_along, IsWitness};
+ghost use Rattle.race_outcomes.specs.Witnesses.{recorded_as, records_along, IsWitness};
+ghost use Rattle.race_outcomes.specs.Proved.Recorded.{RecordsMove};
 
-use crate::outcomes::start_of;
-use crate::position::{Position, Race, is_parked, next_act};
-use crate::space::Space;
-use call_types::act::{Act, Record};
-use call_types::limits::Limits;
-use plain_world::step::{StepFault, plain_step};
+use crate::position::{Answers, Going, Position, Race, answered, go_on};
+use call_types::act::Record;
+use call_types::outcome::Outcome;
 use posix_model::world::World;
 use script_text::row::Row;
 use std::alloc::{AllocError, Global};
 
-/// What an act is recorded as, if it is a step.
-fn record_in(
-    alloc: Global,
-    limits: Limits,
-    world: &World,
-    actor: u32,
-    act: Option<Act>,
-) -> Result<Option<Record>, AllocError>
-    ensures { IfOk result (λ one. one ≡ record_in limits.bounds world.now actor act) }
-{
-    let act = match act {
-        Some(act) => act,
-        None => return Ok(None),
-    };
-    match plain_step(alloc, limits, world, actor, &act) {
-        Ok((_after, outcome)) => Ok(Some(Record {
-            actor,
-            act,
-            outcome,
-        })),
-        Err(StepFault::NotReady) => Ok(None),
-        Err(StepFault::NoMemory) => Err(AllocError),
-    }
+/// The record of a move, and where it leads.
+#[derive(Drop)]
+struct Recorded {
+    one: Record,
+    to: Position,
 }
 
-/// What a move of the lane of this number is recorded as, if it can move.
-fn record_of(
+/// What a move is recorded as that comes to this, and where it leads.
+fn record_move(
+    from: Position,
+    number: usize,
+    actor: u32,
+    row: Row<Outcome>,
+    going: Going,
+) -> Result<Recorded, AllocError>
+    ensures { IfOk result (λ both. (both.one ≡ recorded_as actor going) × (both.to ≡ moved from.told number row going)) }
+{
+    let after = answered(going.resumes, &row, &going.outcome)?;
+    let mut told = from.told;
+    told.put(number, after);
+    let one = Record {
+        actor,
+        act: going.act,
+        outcome: going.outcome,
+    };
+    let to = Position {
+        world: going.world,
+        told,
+    };
+    Ok(Recorded { one, to })
+}
+
+/// What a lane was answered, once more.
+fn copy_of_row(row: &Row<Outcome>) -> Result<Row<Outcome>, AllocError>
+    ensures { IfOk result (λ copy. copy ≡ row.now) }
+{
+    row.clone()
+}
+
+/// What a move of the lane of this number is recorded as and where it leads, if it can move.
+fn go_along(
     alloc: Global,
     race: &Race,
-    from: &Position,
+    from: Position,
     number: usize,
-) -> Result<Option<Record>, AllocError>
-    ensures { IfOk result (λ one. one ≡ record_of race.now.limits.bounds race.now.lanes from.now number) }
+) -> Result<Option<Recorded>, AllocError>
+    ensures { IfOk result (RecordsMove race.now.limits.bounds race.now.lanes from number) }
 {
     let lane = match race.lanes.all().get(number) {
         Some(lane) => lane,
         None => return Ok(None),
     };
-    match from.told.get(number) {
-        Some(told) => {
-            let waits = is_parked(&from.world, lane.actor as usize);
-            let act = next_act(waits, lane, told)?;
-            record_in(alloc, race.limits, &from.world, lane.actor, act)
-        }
+    let row = match from.told.get(number) {
+        Some(row) => copy_of_row(row)?,
+        None => return Ok(None),
+    };
+    match go_on(alloc, race.limits, &from.world, lane, row.len())? {
+        Some(going) => Ok(Some(record_move(from, number, lane.actor, row, going)?)),
         None => Ok(None),
     }
-}
-
-/// Adds a record, if there is one.
-fn add_record(records: &mut Row<Record>, one: Option<Record>) -> Result<(), AllocError>
-    ensures { OnOk result (records.new ≡ records.old ++ option_to_list one) }
-{
-    if let Some(record) = one {
-        records.push(record)?;
-    }
-    Ok(())
 }
 
 /// The records of these moves, one after another, from a position on.
@@ -90,20 +91,35 @@ fn records_from(
     let mut from = start;
     let mut records = Row::new(alloc);
     for number in order {
-        add_record(&mut records, record_of(alloc, race, &from, *number)?)?;
-        from = match race.make_move(alloc, &from, *number)? {
-            Some(to) => to,
+        match go_along(alloc, race, from, *number)? {
+            Some(both) => {
+                records.push(both.one)?;
+                from = both.to;
+            }
             None => return Ok(records),
-        };
+        }
     }
     Ok(records)
+}
+
+/// No answer yet, of so many lanes.
+fn nothing_told(alloc: Global, lanes: usize) -> Result<Answers, AllocError>
+    ensures { IfOk result (λ told. told ≡ replicate lanes []) }
+{
+    let mut told = Row::new(alloc);
+    for _lane in 0..lanes {
+        told.push(Row::new(alloc))?;
+    }
+    Ok(told)
 }
 
 /// Where a race begins in a world like this one.
 fn start_in(alloc: Global, race: &Race, world: &World) -> Result<Position, AllocError>
     ensures { IfOk result (λ start. start ≡ start_of race.now.lanes world.now) }
 {
-    start_of(alloc, race, world.clone()?)
+    let world = world.clone()?;
+    let told = nothing_told(alloc, race.lanes.all().len())?;
+    Ok(Position { world, told })
 }
 
 /// The records of these moves, one after another, from where a race begins in this world. An error says that memory ran out.

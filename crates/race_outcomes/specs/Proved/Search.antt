@@ -1,8 +1,8 @@
 -- What a search has done so far.
 use Rattle.std.specs.Prelude.{◌≡◌, ◌<◌, ◌≤◌, ◌+◌, ◌++◌, ◌⊎◌, ◌↔◌, ℕ, List, [], ◌∷◌, Bool, true, false, Option, None, Some, length}
 use Rattle.std.specs.List.{Contains, slice_get}
-use Rattle.race_outcomes.specs.declared.search.Met.{Met}
-use Rattle.race_outcomes.specs.declared.search.Move.{Move}
+use Rattle.race_outcomes.specs.declared.positions.Met.{Met}
+use Rattle.race_outcomes.specs.declared.positions.Move.{Move}
 use Rattle.race_outcomes.specs.Orders.{Leads, IsEnd, AreApart}
 use Rattle.race_outcomes.specs.Search.{Has, AreTraced, LeadsBetween, EndsAt}
 

@@ -7,7 +7,7 @@ use Rattle.script_text.specs.Answers.{answers_text}
 use Rattle.script_text.specs.declared.races.RaceCall.{RaceCall}
 use Rattle.race_outcomes.specs.declared.lanes.Lane.{Lane}
 use Rattle.race_outcomes.specs.declared.position.Position.{Position}
-use Rattle.race_outcomes.specs.declared.search.Met.{Met}
+use Rattle.race_outcomes.specs.declared.positions.Met.{Met}
 use Rattle.race_outcomes.specs.declared.tellings.Seat.{Seat}
 use Rattle.race_outcomes.specs.declared.tellings.Told.{Told}
 use Rattle.race_outcomes.specs.Tellings.{Agrees, made_by, texts}

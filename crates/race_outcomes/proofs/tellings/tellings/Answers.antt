@@ -14,7 +14,7 @@ told_all-requires c = λ place has.
 pub returns : goal.returns
 returns c =
     let said : SaidAll c.args.calls.now c.all-2.result.now c.args.explored.now.met c.args.explored.now.ends c.in_ok-told.told.items =
-    subst (λ ends. SaidAll c.args.calls.now c.all-2.result.now c.args.explored.now.met ends c.in_ok-told.told.items) c.all-3.ensures c.in_ok-told.ensures in
+    subst (λ ends. SaidAll c.args.calls.now c.all-2.result.now c.args.explored.now.met ends c.in_ok-told.told.items) c.ends.ensures c.in_ok-told.ensures in
     let seated : c.all-2.result.now ≡ seats_from c.args.race.now.lanes [] c.args.calls.now = search rules in
     record {
       all = λ world. are_told c.args.race.now.limits.bounds c.args.race.now.lanes c.args.calls.now world c.args.explored.now c.all-2.result.now c.in_ok-told.told.items c.put_in_order.new.told.items

@@ -3,4 +3,4 @@ use Rattle.race_outcomes.proofs.tellings.told_all.Given as goal
 
 -- the ends before this one are done
 abbrev pub invariant-loop-index : goal.invariant-loop-index
-invariant-loop-index l = SaidBelow l.calls l.seats l.met l.ends l.index l.all.items
+invariant-loop-index l = SaidBelow l.calls l.seats l.explored.met l.ends l.index l.all.items
