@@ -221,15 +221,26 @@ WAITS = "waits\nexpected a call that comes back before the race"
 ABSENT = "not attached\nexpected a call of a process that is attached when the race begins"
 NO_ANSWER = "not an answer\nexpected ? or an answer, as 5, x6869, ok, error EBADF, waits 0 or -"
 NO_RACE = "no race\nexpected a line race after the acts before it"
-ACTOR = "not an act\nexpected a process, as p0, or join or close-run"
+ACTOR_OR_RACE = "not an act\nexpected a process, as p0, or join or race"
+PROCESS = "not an act\nexpected a process, as p0"
+ACT = "not an act\nexpected a call, attach, resume or exit"
+CALL = "not an act\nexpected a call"
 
 BAD_RACES = [
     ("", NO_RACE),
     ("join\np0 pipe\n", NO_RACE),
-    ("join\nrace \n", f"line 2 column 1: {ACTOR}"),
-    ("join\n race\n", f"line 2 column 1: {ACTOR}"),
-    ("join\nrace\r\n", f"line 2 column 1: {ACTOR}"),
-    ("race\nrace\n", f"line 2 column 1: {ACTOR}"),
+    ("join\nrace \n", f"line 2 column 1: {ACTOR_OR_RACE}"),
+    ("join\n race\n", f"line 2 column 1: {ACTOR_OR_RACE}"),
+    ("join\nrace\r\n", f"line 2 column 1: {ACTOR_OR_RACE}"),
+    ("join\nraec\np0 pipe\n", f"line 2 column 1: {ACTOR_OR_RACE}"),
+    ("join\np0\nrace\n", f"line 2 column 3: {ACT}"),
+    ("join\np0 race\n", f"line 2 column 4: {ACT}"),
+    ("race\nrace\n", f"line 2 column 1: {PROCESS}"),
+    ("race\n\n p0 pipe\n", f"line 3 column 1: {PROCESS}"),
+    ("race\njion = ok\n", f"line 2 column 1: {PROCESS}"),
+    ("join\nrace\np0 foo\n", f"line 3 column 4: {CALL}"),
+    ("join\nrace\np0\n", f"line 3 column 3: {CALL}"),
+    ("race\np0 opne = ?\n", f"line 2 column 4: {CALL}"),
     ("join\n\np0 pipe 1\nrace\n", "line 3 column 9: not an act\nexpected the end of the line"),
     ("join\np0 pipe = 0 1\nrace\n", "line 2 column 9: not an act\nexpected the end of the line"),
     ("race\np0 close\n", "line 2 column 9: not an act\nexpected a descriptor, from -2147483648 to 2147483647"),
@@ -256,7 +267,7 @@ BAD_RACES = [
     ("p0 pipe\nrace\np0 pipe = no\n", f"line 3 column 11: {NO_ANSWER}"),
     ("p0 pipe\nrace\np0 pipe\n", f"line 1: {REFUSED}"),
     ("race\np0 exit\np0 opne\n", f"line 2: {NOT_A_CALL}"),
-    ("p0 opne\n", "line 1 column 4: not an act\nexpected a call, attach, resume or exit"),
+    ("p0 opne\n", f"line 1 column 4: {ACT}"),
     ("race\n" + "\n" * SCRIPT_MOST, "script too long"),
 ]
 

@@ -16,7 +16,7 @@ from typing import NamedTuple
 
 from support import plain_model
 from support.frames import ERRORS
-from support.plain_model import DEFAULTS, FIELDS, SCRIPT_MOST, Act, Limits
+from support.plain_model import DEFAULTS, EXPECTED, FIELDS, SCRIPT_MOST, Act, Limits
 from support.running import Ran
 from support.runs import ALL_RECORDS, line_of
 from support.worlds import States
@@ -31,6 +31,9 @@ WAITS = "waits\nexpected a call that comes back before the race"
 NOT_ATTACHED = "not attached\nexpected a call of a process that is attached when the race begins"
 NOT_AN_ANSWER = "not an answer\nexpected ? or an answer, as 5, x6869, ok, error EBADF, waits 0 or -"
 NO_RACE = "no race\nexpected a line race after the acts before it"
+# What could stand before a race, and in one, where something else could in a script without one.
+BEFORE_RACE = {EXPECTED[plain_model.read_actor]: "a process, as p0, or join or race"}
+IN_RACE = {EXPECTED[plain_model.read_actor]: "a process, as p0", EXPECTED[plain_model.read_call]: "a call"}
 COUNT_MOST, NUMBER_MOST = 2**32 - 1, 2**64 - 1
 
 
@@ -123,19 +126,20 @@ def is_number(word: str, most: int = NUMBER_MOST) -> bool:
     return re.fullmatch(r"0|[1-9][0-9]{0,19}", word, re.ASCII) is not None and int(word) <= most
 
 
-def read_act(line: bytes, number: int) -> Act:
-    """The act of a line."""
+def read_act(line: bytes, number: int, others: Mapping[str, str]) -> Act:
+    """The act of a line, in a part of a race where others could stand than in a script without one."""
     try:
         return plain_model.read_act(line)
     except plain_model.NotAnAct as fault:
         column, expected = fault.args
+        expected = others.get(expected, expected)
         raise BadRace(f"line {number} column {column}: not an act\nexpected {expected}") from None
 
 
 def read_call(line: bytes, number: int) -> Call:
     """The call of a line, and what is asked for behind it."""
     before, is_asked, asked = line.partition(b" = ")
-    act = read_act(before, number)
+    act = read_act(before, number, IN_RACE)
     if act.word not in FIELDS or act.word in NO_CALLS:
         raise BadRace(f"line {number}: {NOT_A_CALL}")
     try:
@@ -156,7 +160,7 @@ def read_race(text: bytes) -> Race:
         elif line and has_begun:
             race.calls.append(read_call(line, number))
         elif line:
-            race.setup.append((number, read_act(line, number)))
+            race.setup.append((number, read_act(line, number, BEFORE_RACE)))
     if not has_begun:
         raise BadRace(NO_RACE)
     return race

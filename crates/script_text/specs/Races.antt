@@ -8,12 +8,31 @@ use Rattle.call_types.specs.declared.act.ScriptAct.TheVariants as acts
 use Rattle.script_text.specs.Answers.{asked_of}
 use Rattle.script_text.specs.Reading.{◌>>=◌, Unread, onto, line_feed}
 use Rattle.script_text.specs.ReadingCalls.{BadColumn, reading}
+use Rattle.script_text.specs.declared.fault.Expected.{Expected}
+use Rattle.script_text.specs.declared.fault.Expected.TheVariants as expect
 use Rattle.script_text.specs.declared.script.TheConstants.{SCRIPT_MAX}
 use Rattle.script_text.specs.declared.races.SetupAct.{SetupAct}
 use Rattle.script_text.specs.declared.races.RaceCall.{RaceCall}
 use Rattle.script_text.specs.declared.races.RaceScript.{RaceScript}
 use Rattle.script_text.specs.declared.races.RaceFault.{RaceFault}
 use Rattle.script_text.specs.declared.races.RaceFault.TheVariants as faults
+use Rattle.script_text.specs.declared.races.Part.{Part}
+use Rattle.script_text.specs.declared.races.Part.TheVariants as parts
+
+-- ---- a line that is no act
+
+-- what could stand in a part of the script, where in any script this could: before the race also the line `race`, but no close-run, and
+-- after it only calls
+abbrev pub in_part : Part → Expected → Expected
+in_part parts.Setup expect.Actor = expect.ActorOrRace
+in_part parts.Race expect.Actor = expect.Process
+in_part parts.Race expect.Act = expect.Call
+in_part part other = other
+
+-- the act of line n of a part that is read so
+abbrev pub act_of : Part → ℕ → Result ScriptAct BadColumn → Result ScriptAct RaceFault
+act_of part n (Ok act) = Ok act
+act_of part n (Err bad) = Err (faults.BadLine n bad.column (in_part part bad.expected))
 
 -- ---- a line of a call
 
@@ -40,11 +59,6 @@ abbrev pub asked_at : ℕ → List ℕ → Unread → Result (Option (List ℕ))
 asked_at n before None = Ok None
 asked_at n before (Some text) = known_answer n before (asked_of text)
 
--- the act of line n that is read so
-abbrev pub act_of : ℕ → Result ScriptAct BadColumn → Result ScriptAct RaceFault
-act_of n (Ok act) = Ok act
-act_of n (Err bad) = Err (faults.BadLine n bad.column bad.expected)
-
 -- the process and the call of an act that is a call
 abbrev pub as_call : ScriptAct → Option (ℕ × Call)
 as_call (acts.Call process call) = Some (process, call)
@@ -58,7 +72,7 @@ call_of n (Err fault) (Some made) = Err fault
 
 -- the call of line n, and what is asked for behind it. Where several things are wrong, the call is told first
 abbrev pub call_line : ℕ → List ℕ → Result RaceCall RaceFault
-call_line n line = act_of n (reading (cut_answer line).0) >>= λ act. call_of n (asked_at n (cut_answer line).0 (cut_answer line).1) (as_call act)
+call_line n line = act_of parts.Race n (reading (cut_answer line).0) >>= λ act. call_of n (asked_at n (cut_answer line).0 (cut_answer line).1) (as_call act)
 
 -- one value as a list, where it is read
 abbrev pub alone : {A : Type 0} → Result A RaceFault → Result (List A) RaceFault
@@ -90,7 +104,7 @@ setup_line n (Err fault) = Err fault
 -- the acts of line n: an empty line has none
 abbrev pub line_setup : ℕ → List ℕ → Result (List SetupAct) RaceFault
 line_setup n [] = Ok []
-line_setup n (c ∷ cs) = setup_line n (act_of n (reading (c ∷ cs)))
+line_setup n (c ∷ cs) = setup_line n (act_of parts.Setup n (reading (c ∷ cs)))
 
 -- a race with nothing before its calls
 abbrev pub race_of : Result (List RaceCall) RaceFault → Result RaceScript RaceFault

@@ -10,8 +10,14 @@ use std::fmt;
 pub enum Expected {
     /// A process, or an act without one: `join` or `close-run`.
     Actor,
+    /// Before a race: a process, `join`, or the line `race`.
+    ActorOrRace,
+    /// In a race: a process.
+    Process,
     /// An act of a process.
     Act,
+    /// In a race: a call.
+    Call,
     Descriptor,
     /// An offset or a length.
     Position,
@@ -35,7 +41,10 @@ impl fmt::Display for Expected {
     fn fmt<W: fmt::Write>(&self, f: &mut fmt::Formatter<W>) -> fmt::Result {
         f.write_str(match self {
             Expected::Actor => "a process, as p0, or join or close-run",
+            Expected::ActorOrRace => "a process, as p0, or join or race",
+            Expected::Process => "a process, as p0",
             Expected::Act => "a call, attach, resume or exit",
+            Expected::Call => "a call",
             Expected::Descriptor => "a descriptor, from -2147483648 to 2147483647",
             Expected::Position => {
                 "an offset or a length, from -9223372036854775808 to 9223372036854775807"

@@ -3,7 +3,7 @@
 ghost use Rattle.std.specs.Prelude.{◌≡◌, ◌≤◌, ◌+◌, Some, length, bytes_eq, codes, option_copied};
 ghost use Rattle.script_text.specs.ReadingCalls.{reading};
 ghost use Rattle.script_text.specs.ReadingScripts.{left_lines, left_size};
-ghost use Rattle.script_text.specs.Races.{cut_answer, asked_at, act_of, as_call, call_line, line_calls, lines_calls, line_setup, lines_race, followed, RaceGives, ReadsRace};
+ghost use Rattle.script_text.specs.Races.{in_part, cut_answer, asked_at, act_of, as_call, call_line, line_calls, lines_calls, line_setup, lines_race, followed, RaceGives, ReadsRace};
 
 use crate::answers::read_asked;
 use crate::cutting::{Unread, cut_at};
@@ -108,9 +108,28 @@ fn asked_at(
     }
 }
 
-/// The act of line `number`.
-fn act_of(alloc: Global, number: usize, line: &[u8]) -> Result<ScriptAct, RaceFault>
-    ensures { RaceGives (λ act. act) result (act_of number (reading line.now)) }
+/// The parts of the script of a race: the lines before the line `race`, and those after it.
+#[derive(Clone, Copy)]
+enum Part {
+    Setup,
+    Race,
+}
+
+/// What could stand in this part, where in any script `expected` could.
+fn in_part(part: Part, expected: Expected) -> Expected
+    ensures { result ≡ in_part part expected }
+{
+    match (part, expected) {
+        (Part::Setup, Expected::Actor) => Expected::ActorOrRace,
+        (Part::Race, Expected::Actor) => Expected::Process,
+        (Part::Race, Expected::Act) => Expected::Call,
+        (_, other) => other,
+    }
+}
+
+/// The act of line `number`, which stands in this part.
+fn act_of(alloc: Global, part: Part, number: usize, line: &[u8]) -> Result<ScriptAct, RaceFault>
+    ensures { RaceGives (λ act. act) result (act_of part number (reading line.now)) }
 {
     match read_act(alloc, line) {
         Ok(act) => Ok(act),
@@ -118,7 +137,7 @@ fn act_of(alloc: Global, number: usize, line: &[u8]) -> Result<ScriptAct, RaceFa
         Err(ReadFault::BadLine { column, expected }) => Err(RaceFault::BadLine {
             line: number,
             column,
-            expected,
+            expected: in_part(part, expected),
         }),
     }
 }
@@ -142,7 +161,7 @@ fn call_line(alloc: Global, number: usize, line: &[u8]) -> Result<RaceCall, Race
     ensures { RaceGives (λ call. call) result (call_line number line.now) }
 {
     let (before, answer) = cut_answer(line);
-    let Some((process, call)) = as_call(act_of(alloc, number, before)?) else {
+    let Some((process, call)) = as_call(act_of(alloc, Part::Race, number, before)?) else {
         return Err(RaceFault::NoCall { line: number });
     };
     let asked = asked_at(alloc, number, before, answer)?;
@@ -196,7 +215,7 @@ fn push_act(
     ensures { RaceGives (λ done. setup.new) result (followed setup.old (line_setup number line.now)) }
 {
     if !line.is_empty() {
-        let act = act_of(alloc, number, line)?;
+        let act = act_of(alloc, Part::Setup, number, line)?;
         setup.push(SetupAct { line: number, act })?;
     }
     Ok(())

@@ -78,11 +78,13 @@ race_rows =
                 record { line = 9; process = 1; call = calls.Dup (pos 3); asked = None } ∷ [];
           });
     } ∷
-    record { text = codes "join\nracing\nrace"; race = Err (faults.BadLine 2 1 expect.Actor) } ∷
+    record { text = codes "join\nracing\nrace"; race = Err (faults.BadLine 2 1 expect.ActorOrRace) } ∷
+    record { text = codes "p0 race"; race = Err (faults.BadLine 1 4 expect.Act) } ∷
     record { text = codes "race\np0 close x = 3"; race = Err (faults.BadLine 2 10 expect.Descriptor) } ∷
     record { text = codes "race\np0 close 3 = EBADF"; race = Err (faults.BadAnswer 2 14) } ∷
     record { text = codes "race\np0 exit"; race = Err (faults.NoCall 2) } ∷
-    record { text = codes "race\nrace"; race = Err (faults.BadLine 2 1 expect.Actor) } ∷
+    record { text = codes "race\nrace"; race = Err (faults.BadLine 2 1 expect.Process) } ∷
+    record { text = codes "race\np0"; race = Err (faults.BadLine 2 3 expect.Call) } ∷
     record { text = codes "join\np0 attach"; race = Err faults.NoRace } ∷ []
 
 -- each text asks for what its row says, and each script is the race of its row
