@@ -31,7 +31,7 @@ use Rattle.session_core.specs.Proved.Turns.{IsTalking, IsOutOfPlace, HasReceipts
 use Rattle.request_pump.specs.Input.{Begins, AreRequests}
 use Rattle.request_pump.specs.Pushes.{PushState}
 use Rattle.request_pump.proofs.InputLemmas.{begins_read}
-use Rattle.session_core.specs.Proved.Ends.{LeavesOff, IsAnswered, IsCutAhead, IsCutOff, IsMet, IsOver, IsOverHere}
+use Rattle.session_core.specs.Proved.Ends.{LeavesOff, IsAnswered, IsCutAhead, IsCutOff, IsMet, IsOver, IsOverHere, IsUnfailed}
 use Rattle.session_core.specs.Proved.Closing.{end_of, SendsLast, HangsUp, LeavesWith, session_of, with_last, LeavesAll}
 use Rattle.session_core.proofs.WaitLemmas.{cut_converses, talked_converses, receipts_more}
 use Rattle.session_core.proofs.CallLemmas.{converses, has_receipts, talk_converses}
@@ -314,21 +314,22 @@ receipts_at base handled next o at why.RunFull h = h.1
 receipts_at base handled next o at why.NoMemory h = h.1
 receipts_at base handled next o at why.Ahead h = absurd h
 
-rests_off : (input : List ℕ) (base : Option (List ℕ)) (source : LoggedReaderState) (pushes : PushState) (o : OutputState) (at : Stage) (cause : LeaveCause) → LeavesOff base input o (over.Leaves at cause) → IsMet source pushes (over.Leaves at cause) → (seat : Result SeatState (Unit {0}))
+rests_off : (input : List ℕ) (base : Option (List ℕ)) (source : LoggedReaderState) (pushes : PushState) (o : OutputState) (at : Stage) (cause : LeaveCause) → LeavesOff base input o (over.Leaves at cause) → IsUnfailed source (over.Leaves at cause) → IsMet source pushes (over.Leaves at cause) → (seat : Result SeatState (Unit {0}))
     → RestsRead input base source pushes o seat cause
-rests_off input base source pushes o at why.Closed h met seat = rests_answered input base source pushes o at why.Closed seat h (met, inl (all_read base input o at h))
-rests_off input base source pushes o at why.ReadFault h met seat = rests_answered input base source pushes o at why.ReadFault seat h (met, inl (all_read base input o at h))
-rests_off input base source pushes o at why.Malformed h met seat = record {
+rests_off input base source pushes o at why.Closed h unfailed met seat = rests_answered input base source pushes o at why.Closed seat h ((met, unfailed), inl (all_read base input o at h))
+rests_off input base source pushes o at why.ReadFault h unfailed met seat = rests_answered input base source pushes o at why.ReadFault seat h (met, inl (all_read base input o at h))
+rests_off input base source pushes o at why.Malformed h unfailed met seat = record {
   holds = h.holds;
   talks = first_read input h.requests h.told o.answers at h.read h.talking;
-  ends = λ (writer : LoggedWriterState). inr (inl (record { requests = h.requests; told = h.told; fault = h.fault; read = h.read; answered = answered_so h.requests o.answers at h.talking }));
+  ends = λ (writer : LoggedWriterState). inr (unfailed, inl (record { requests = h.requests; told = h.told; fault = h.fault; read = h.read; answered = answered_so h.requests o.answers at h.talking }));
 }
-rests_off input base source pushes o at why.RunFull h met seat = absurd h
-rests_off input base source pushes o at why.Ahead h met seat = record {
+rests_off input base source pushes o at why.RunFull h unfailed met seat = absurd h
+rests_off input base source pushes o at why.Ahead h unfailed met seat = record {
   holds = h.holds;
   talks = record { requests = h.requests ++ h.back ∷ h.later; given = h.begins; converses = talk_converses h.requests (h.back ∷ h.later) o.answers at h.talking };
   ends = λ (writer : LoggedWriterState). inr (
     met,
+    unfailed,
     inl (record {
       requests = h.requests;
       back = h.back;
@@ -339,7 +340,7 @@ rests_off input base source pushes o at why.Ahead h met seat = record {
     }),
   );
 }
-rests_off input base source pushes o at why.NoMemory h met seat = record {
+rests_off input base source pushes o at why.NoMemory h unfailed met seat = record {
   holds = h.holds;
   talks = record { requests = h.requests; given = h.begins; converses = h.converses };
   ends = λ (writer : LoggedWriterState). inr tt;
@@ -372,12 +373,12 @@ Here old new found left = (Given : Giving) (Ends : Reasons) → Admits Given End
 
 -- the same of one that leaves off when no more is read
 abbrev Off : OutputState → OutputState → Over → LeftSession → Type 0
-Off old new found left = (base : Option (List ℕ)) (input : List ℕ) (source : LoggedReaderState) (pushes : PushState) → LeavesOff base input old found → IsMet source pushes found → ComesTo input base (session_of source pushes new left)
+Off old new found left = (base : Option (List ℕ)) (input : List ℕ) (source : LoggedReaderState) (pushes : PushState) → LeavesOff base input old found → IsUnfailed source found → IsMet source pushes found → ComesTo input base (session_of source pushes new left)
 
-all_read_so : (old new : OutputState) (found : Over) (left : LeftSession) → Here old new found left → Off old new found left → (base : Option (List ℕ)) (input : List ℕ) (source : LoggedReaderState) (pushes : PushState) → IsOver base input old found → IsMet source pushes found
+all_read_so : (old new : OutputState) (found : Over) (left : LeftSession) → Here old new found left → Off old new found left → (base : Option (List ℕ)) (input : List ℕ) (source : LoggedReaderState) (pushes : PushState) → IsOver base input source old found → IsMet source pushes found
     → ComesTo input base (session_of source pushes new left)
 all_read_so old new found left here off base input source pushes (inl k) met = here (Begins input) (EndsFor input (Some source) pushes) (of_bytes input (Some source) pushes) base k
-all_read_so old new found left here off base input source pushes (inr k) met = off base input source pushes k met
+all_read_so old new found left here off base input source pushes (inr k) met = off base input source pushes k.0 k.1 met
 
 both : (old new : OutputState) (found : Over) (left : LeftSession) → Here old new found left → Off old new found left → LeavesAll old new found left
 both old new found left here off = record {
@@ -391,8 +392,8 @@ leaves_here old new at cause wanted left sent h none Given Ends admits base (inl
 leaves_here old new at cause wanted left sent h none Given Ends admits base (inr k) = absurd k
 
 leaves_off : (old new : OutputState) (at : Stage) (cause : LeaveCause) (wanted : End) (left : LeftSession) → SendsLast old new cause wanted → LeavesWith at wanted left.seat left.end → left.last ≡ None → Off old new (over.Leaves at cause) left
-leaves_off old new at cause wanted left sent h none base input source pushes k met =
-    leaves_with (Begins input) (EndsFor input (Some source) pushes) (of_bytes input (Some source) pushes) base old new at cause wanted left (rests_off input base source pushes old at cause k met) (receipts_off base input old at cause k) sent h none
+leaves_off old new at cause wanted left sent h none base input source pushes k unfailed met =
+    leaves_with (Begins input) (EndsFor input (Some source) pushes) (of_bytes input (Some source) pushes) base old new at cause wanted left (rests_off input base source pushes old at cause k unfailed met) (receipts_off base input old at cause k) sent h none
 
 pub leaves : (old new : OutputState) (at : Stage) (cause : LeaveCause) (wanted : End) (left : LeftSession) → SendsLast old new cause wanted → LeavesWith at wanted left.seat left.end → left.last ≡ None → LeavesAll old new (over.Leaves at cause) left
 leaves old new at cause wanted left sent h none = both old new (over.Leaves at cause) left (leaves_here old new at cause wanted left sent h none) (leaves_off old new at cause wanted left sent h none)
@@ -409,7 +410,7 @@ unwritten_here o at left h none Given Ends admits base (inr k) =
     (stands_broken Given Ends admits base o k.broke (record { requests = k.requests; given = k.given; converses = k.converses })) tt k.receipts h none
 
 pub unwritten : (o : OutputState) (at : Stage) (left : LeftSession) → LeavesWith at (end.WriteFault o.sent) left.seat left.end → left.last ≡ None → LeavesAll o o (over.Unwritten at) left
-unwritten o at left h none = both o o (over.Unwritten at) left (unwritten_here o at left h none) (λ base input source pushes k met. absurd k)
+unwritten o at left h none = both o o (over.Unwritten at) left (unwritten_here o at left h none) (λ base input source pushes k unfailed met. absurd k)
 
 -- nothing was answered
 pub first_none : (Given : Giving) (requests : List Request) (answers : List Told) → Given requests → answers ≡ [] → AnswersFirst Given answers
@@ -456,7 +457,7 @@ opening_untold_here o seat spent found h Given Ends admits base (inl k) = openin
 opening_untold_here o seat spent found h Given Ends admits base (inr k) = absurd k
 
 pub opening_untold : (o : OutputState) (seat spent : SeatState) (found : End) → HangsUp seat end.NoMemory spent found → LeavesAll o o (over.OpeningUntold seat) (record { seat = Ok spent; end = found; last = None })
-opening_untold o seat spent found h = both o o (over.OpeningUntold seat) (record { seat = Ok spent; end = found; last = None }) (opening_untold_here o seat spent found h) (λ base input source pushes k met. absurd k)
+opening_untold o seat spent found h = both o o (over.OpeningUntold seat) (record { seat = Ok spent; end = found; last = None }) (opening_untold_here o seat spent found h) (λ base input source pushes k unfailed met. absurd k)
 
 refusal_untold_here : (o : OutputState) (spent : SeatState) → Here o o (over.RefusalUntold spent) (record { seat = Ok spent; end = end.NoMemory; last = None })
 unfolding opening_told
@@ -469,7 +470,7 @@ refusal_untold_here o spent Given Ends admits base (inl k) = record {
 refusal_untold_here o spent Given Ends admits base (inr k) = absurd k
 
 pub refusal_untold : (o : OutputState) (spent : SeatState) → LeavesAll o o (over.RefusalUntold spent) (record { seat = Ok spent; end = end.NoMemory; last = None })
-refusal_untold o spent = both o o (over.RefusalUntold spent) (record { seat = Ok spent; end = end.NoMemory; last = None }) (refusal_untold_here o spent) (λ base input source pushes k met. absurd k)
+refusal_untold o spent = both o o (over.RefusalUntold spent) (record { seat = Ok spent; end = end.NoMemory; last = None }) (refusal_untold_here o spent) (λ base input source pushes k unfailed met. absurd k)
 
 -- ---- the last receipt is not answered
 
@@ -503,7 +504,7 @@ untold_failed_here old new seat spent receipt found fails h Given Ends admits ba
 pub untold_failed : (old new : OutputState) (seat spent : SeatState) (receipt : Receipted) (found : End) → FailsToSend old new → HangsUp seat (end.WriteFault new.sent) spent found
     → LeavesAll old new (over.Untold seat receipt) (record { seat = Ok spent; end = found; last = Some receipt })
 untold_failed old new seat spent receipt found fails h =
-    both old new (over.Untold seat receipt) (record { seat = Ok spent; end = found; last = Some receipt }) (untold_failed_here old new seat spent receipt found fails h) (λ base input source pushes k met. absurd k)
+    both old new (over.Untold seat receipt) (record { seat = Ok spent; end = found; last = Some receipt }) (untold_failed_here old new seat spent receipt found fails h) (λ base input source pushes k unfailed met. absurd k)
 
 untold_written : (Given : Giving) (Ends : Reasons) → Admits Given Ends → (base : Option (List ℕ)) (o : OutputState) (receipt : Receipted) (seat spent : SeatState) (found : End) → AnswersFirst Given o.answers → Holds base o → o.unsent ≡ [] → HasUntold Given seat.receipts o.answers
     → IsGranted seat.receipts → HangsUp seat end.NoMemory spent found → Comes Given Ends base o (Ok spent) found None
@@ -537,7 +538,7 @@ untold_sent_here old new seat spent receipt found sent h Given Ends admits base 
 
 pub untold_sent : (old new : OutputState) (seat spent : SeatState) (receipt : Receipted) (found : End) → SendsAll old new → HangsUp seat end.NoMemory spent found → LeavesAll old new (over.Untold seat receipt) (record { seat = Ok spent; end = found; last = None })
 untold_sent old new seat spent receipt found sent h =
-    both old new (over.Untold seat receipt) (record { seat = Ok spent; end = found; last = None }) (untold_sent_here old new seat spent receipt found sent h) (λ base input source pushes k met. absurd k)
+    both old new (over.Untold seat receipt) (record { seat = Ok spent; end = found; last = None }) (untold_sent_here old new seat spent receipt found sent h) (λ base input source pushes k unfailed met. absurd k)
 
 -- ---- the process has ended already
 
@@ -562,7 +563,7 @@ refused_here old new spent wanted sent Given Ends admits base (inl k) =
 refused_here old new spent wanted sent Given Ends admits base (inr k) = absurd k
 
 pub refused : (old new : OutputState) (spent : SeatState) (wanted : End) → SendsLast old new why.Closed wanted → LeavesAll old new (over.Refused spent) (record { seat = Ok spent; end = wanted; last = None })
-refused old new spent wanted sent = both old new (over.Refused spent) (record { seat = Ok spent; end = wanted; last = None }) (refused_here old new spent wanted sent) (λ base input source pushes k met. absurd k)
+refused old new spent wanted sent = both old new (over.Refused spent) (record { seat = Ok spent; end = wanted; last = None }) (refused_here old new spent wanted sent) (λ base input source pushes k unfailed met. absurd k)
 
 -- the call that waited is given up, and no more is read
 cut_off : (input : List ℕ) (base : Option (List ℕ)) (o : OutputState) (spent : SeatState) → IsCutOff base input o spent → AnswersToCut (Begins input) o.answers None
@@ -574,18 +575,19 @@ first_cut input base o spent k = record { requests = k.requests ++ k.later; give
 ahead_off : (input : List ℕ) (base : Option (List ℕ)) (o : OutputState) (spent : SeatState) → IsCutAhead base input o spent → IsCutOff base input o spent
 ahead_off input base o spent h = record { requests = h.requests; later = h.behind ++ h.back ∷ h.later; begins = h.begins; is = h.is }
 
-rests_cut : (input : List ℕ) (base : Option (List ℕ)) (source : LoggedReaderState) (pushes : PushState) (o : OutputState) (spent : SeatState) (cause : LeaveCause) → LeavesOff base input o (over.Lost spent cause) → IsMet source pushes (over.Lost spent cause)
+rests_cut : (input : List ℕ) (base : Option (List ℕ)) (source : LoggedReaderState) (pushes : PushState) (o : OutputState) (spent : SeatState) (cause : LeaveCause) → LeavesOff base input o (over.Lost spent cause) → IsUnfailed source (over.Lost spent cause) → IsMet source pushes (over.Lost spent cause)
     → RestsRead input base source pushes o (Ok spent) cause
-rests_cut input base source pushes o spent why.Closed h met = record { holds = h.0.is.holds; talks = first_cut input base o spent h.0; ends = λ (writer : LoggedWriterState). inr (met, inr (h.1, cut_off input base o spent h.0)) }
-rests_cut input base source pushes o spent why.ReadFault h met = record { holds = h.0.is.holds; talks = first_cut input base o spent h.0; ends = λ (writer : LoggedWriterState). inr (met, inr (h.1, cut_off input base o spent h.0)) }
-rests_cut input base source pushes o spent why.Malformed h met = record { holds = h.0.is.holds; talks = first_cut input base o spent h.0; ends = λ (writer : LoggedWriterState). inr (inr (h.1, cut_off input base o spent h.0)) }
-rests_cut input base source pushes o spent why.RunFull h met = absurd h
-rests_cut input base source pushes o spent why.NoMemory h met = record { holds = h.is.holds; talks = first_cut input base o spent h; ends = λ (writer : LoggedWriterState). inr tt }
-rests_cut input base source pushes o spent why.Ahead h met = record {
+rests_cut input base source pushes o spent why.Closed h unfailed met = record { holds = h.0.is.holds; talks = first_cut input base o spent h.0; ends = λ (writer : LoggedWriterState). inr ((met, unfailed), inr (h.1, cut_off input base o spent h.0)) }
+rests_cut input base source pushes o spent why.ReadFault h unfailed met = record { holds = h.0.is.holds; talks = first_cut input base o spent h.0; ends = λ (writer : LoggedWriterState). inr (met, inr (h.1, cut_off input base o spent h.0)) }
+rests_cut input base source pushes o spent why.Malformed h unfailed met = record { holds = h.0.is.holds; talks = first_cut input base o spent h.0; ends = λ (writer : LoggedWriterState). inr (unfailed, inr (h.1, cut_off input base o spent h.0)) }
+rests_cut input base source pushes o spent why.RunFull h unfailed met = absurd h
+rests_cut input base source pushes o spent why.NoMemory h unfailed met = record { holds = h.is.holds; talks = first_cut input base o spent h; ends = λ (writer : LoggedWriterState). inr tt }
+rests_cut input base source pushes o spent why.Ahead h unfailed met = record {
   holds = h.is.holds;
   talks = first_cut input base o spent (ahead_off input base o spent h);
   ends = λ (writer : LoggedWriterState). inr (
     met,
+    unfailed,
     inr (record {
       requests = h.requests;
       behind = h.behind;
@@ -611,9 +613,9 @@ lost_here old new spent cause wanted Given Ends admits base (inl k) = absurd k.i
 lost_here old new spent cause wanted Given Ends admits base (inr k) = absurd k
 
 lost_off : (old new : OutputState) (spent : SeatState) (cause : LeaveCause) (wanted : End) → SendsLast old new cause wanted → Off old new (over.Lost spent cause) (record { seat = Ok spent; end = wanted; last = None })
-lost_off old new spent cause wanted sent base input source pushes off met =
+lost_off old new spent cause wanted sent base input source pushes off unfailed met =
     spent_so (Begins input) (EndsFor input (Some source) pushes) base new spent wanted
-    (sends (Begins input) (EndsFor input (Some source) pushes) (of_bytes input (Some source) pushes) base old new (Ok spent) cause wanted (rests_cut input base source pushes old spent cause off met) sent)
+    (sends (Begins input) (EndsFor input (Some source) pushes) (of_bytes input (Some source) pushes) base old new (Ok spent) cause wanted (rests_cut input base source pushes old spent cause off unfailed met) sent)
     (exited_seat (Begins input) old new cause wanted spent sent (exited_cut input base old spent cause off))
 
 pub lost : (old new : OutputState) (spent : SeatState) (cause : LeaveCause) (wanted : End) → SendsLast old new cause wanted → LeavesAll old new (over.Lost spent cause) (record { seat = Ok spent; end = wanted; last = None })
@@ -653,7 +655,7 @@ ended_here old new spent cause wanted sent Given Ends admits base (inl k) =
 ended_here old new spent cause wanted sent Given Ends admits base (inr k) = absurd k
 
 pub ended : (old new : OutputState) (spent : SeatState) (cause : LeaveCause) (wanted : End) → SendsLast old new cause wanted → LeavesAll old new (over.Ended spent cause) (record { seat = Ok spent; end = wanted; last = None })
-ended old new spent cause wanted sent = both old new (over.Ended spent cause) (record { seat = Ok spent; end = wanted; last = None }) (ended_here old new spent cause wanted sent) (λ base input source pushes k met. absurd k)
+ended old new spent cause wanted sent = both old new (over.Ended spent cause) (record { seat = Ok spent; end = wanted; last = None }) (ended_here old new spent cause wanted sent) (λ base input source pushes k unfailed met. absurd k)
 
 foreign_here : (o : OutputState) (spent : SeatState) → Here o o (over.Foreign spent) (record { seat = Ok spent; end = end.Foreign; last = None })
 foreign_here o spent Given Ends admits base (inl k) = record {
@@ -665,7 +667,7 @@ foreign_here o spent Given Ends admits base (inl k) = record {
 foreign_here o spent Given Ends admits base (inr k) = absurd k
 
 pub foreign : (o : OutputState) (spent : SeatState) → LeavesAll o o (over.Foreign spent) (record { seat = Ok spent; end = end.Foreign; last = None })
-foreign o spent = both o o (over.Foreign spent) (record { seat = Ok spent; end = end.Foreign; last = None }) (foreign_here o spent) (λ base input source pushes k met. absurd k)
+foreign o spent = both o o (over.Foreign spent) (record { seat = Ok spent; end = end.Foreign; last = None }) (foreign_here o spent) (λ base input source pushes k unfailed met. absurd k)
 
 -- the same way to be over, and the same session that is left
 pub left_as : (old new : OutputState) (found same : Over) (left other : LeftSession) → found ≡ same → left ≡ other → LeavesAll old new same other → LeavesAll old new found left

@@ -169,42 +169,51 @@ met_early base taken o source pushes found (inr h) = met_unwritten base taken o 
 -- ---- all requests were answered
 
 after_all : (found : PumpEnd) (capacity : ℕ) (base : Option (List ℕ)) (input : List ℕ) (all : List Request) (o : OutputState) (source : LoggedReaderState) (pushes : PushState) (at : Stage) → REQUESTS_AHEAD ≤ capacity → PushedBy capacity input [] all found
-    → PumpMet source found → pushes.in_a_row ≡ back_at found → Holds base o → IsTalking all o.answers at → IsOver base input o (over.Leaves at (why_of found)) × IsMet source pushes (over.Leaves at (why_of found))
+    → PumpMet source found → pushes.in_a_row ≡ back_at found → Holds base o → IsTalking all o.answers at → IsOver base input source o (over.Leaves at (why_of found)) × IsMet source pushes (over.Leaves at (why_of found))
 after_all pump_end.Closed capacity base input all o source pushes at room h met back holds talking =
-    (inr (record { requests = all; read = subst (λ (l : List Request). AreRequests input l progress.More) (sym h.is) h.read; holds = holds; talking = talking }), met.0)
+    (inr (record { requests = all; read = subst (λ (l : List Request). AreRequests input l progress.More) (sym h.is) h.read; holds = holds; talking = talking }, met.1), met.0)
 after_all pump_end.ReadFault capacity base input all o source pushes at room h met back holds talking =
-    (inr (record { requests = all; read = subst (λ (l : List Request). AreRequests input l progress.More) (sym h.is) h.read; holds = holds; talking = talking }), met)
+    (inr (record { requests = all; read = subst (λ (l : List Request). AreRequests input l progress.More) (sym h.is) h.read; holds = holds; talking = talking }, tt), met)
 after_all pump_end.Malformed capacity base input all o source pushes at room h met back holds talking = (
-  inr (record {
-    requests = all;
-    told = h.told;
-    fault = h.fault;
-    read = subst (λ (l : List Request). AreRequests input l h.told) (sym h.is) h.read;
-    holds = holds;
-    talking = talking;
-  }),
+  inr (
+    record {
+      requests = all;
+      told = h.told;
+      fault = h.fault;
+      read = subst (λ (l : List Request). AreRequests input l h.told) (sym h.is) h.read;
+      holds = holds;
+      talking = talking;
+    },
+    met,
+  ),
   tt,
 )
 after_all pump_end.NoMemory capacity base input all o source pushes at room h met back holds talking = (
-  inr (record {
-    requests = all;
-    begins = subst (Begins input) (sym h.is) h.begins;
-    holds = holds;
-    receipts = has_receipts all o.answers at talking;
-    converses = converses all o.answers at talking;
-  }),
+  inr (
+    record {
+      requests = all;
+      begins = subst (Begins input) (sym h.is) h.begins;
+      holds = holds;
+      receipts = has_receipts all o.answers at talking;
+      converses = converses all o.answers at talking;
+    },
+    met,
+  ),
   tt,
 )
 after_all pump_end.Ahead capacity base input all o source pushes at room h met back holds talking = (
-  inr (record {
-    requests = all;
-    back = h.back;
-    later = h.later;
-    begins = subst (λ (l : List Request). Begins input (l ++ h.back ∷ h.later)) (sym h.is) h.begins;
-    full = omega (arith, room, h.full);
-    holds = holds;
-    talking = talking;
-  }),
+  inr (
+    record {
+      requests = all;
+      back = h.back;
+      later = h.later;
+      begins = subst (λ (l : List Request). Begins input (l ++ h.back ∷ h.later)) (sym h.is) h.begins;
+      full = omega (arith, room, h.full);
+      holds = holds;
+      talking = talking;
+    },
+    met,
+  ),
   back,
 )
 
@@ -218,33 +227,36 @@ cut_off_at found capacity base input all taken later o seat h split is =
     record { requests = taken; later = later ++ b.extra; begins = subst (Begins input) joined b.begins; is = is }
 
 after_cut : (found : PumpEnd) (capacity : ℕ) (base : Option (List ℕ)) (input : List ℕ) (all taken later : List Request) (o : OutputState) (source : LoggedReaderState) (pushes : PushState) (seat : SeatState) → REQUESTS_AHEAD ≤ capacity → PushedBy capacity input [] all found
-    → PumpMet source found → pushes.in_a_row ≡ back_at found → all ≡ taken ++ later → IsGivenUp base taken o seat → IsOver base input o (over.Lost seat (why_of found)) × IsMet source pushes (over.Lost seat (why_of found))
+    → PumpMet source found → pushes.in_a_row ≡ back_at found → all ≡ taken ++ later → IsGivenUp base taken o seat → IsOver base input source o (over.Lost seat (why_of found)) × IsMet source pushes (over.Lost seat (why_of found))
 after_cut pump_end.Closed capacity base input all taken later o source pushes seat room h met back split is =
-    (inr (cut_off_at pump_end.Closed capacity base input all taken later o seat h split is, record { requests = h.requests; read = h.read }), met.0)
+    (inr ((cut_off_at pump_end.Closed capacity base input all taken later o seat h split is, record { requests = h.requests; read = h.read }), met.1), met.0)
 after_cut pump_end.ReadFault capacity base input all taken later o source pushes seat room h met back split is =
-    (inr (cut_off_at pump_end.ReadFault capacity base input all taken later o seat h split is, record { requests = h.requests; read = h.read }), met)
+    (inr ((cut_off_at pump_end.ReadFault capacity base input all taken later o seat h split is, record { requests = h.requests; read = h.read }), tt), met)
 after_cut pump_end.Malformed capacity base input all taken later o source pushes seat room h met back split is =
-    (inr (cut_off_at pump_end.Malformed capacity base input all taken later o seat h split is, record { requests = h.requests; told = h.told; fault = h.fault; read = h.read }), tt)
-after_cut pump_end.NoMemory capacity base input all taken later o source pushes seat room h met back split is = (inr (cut_off_at pump_end.NoMemory capacity base input all taken later o seat h split is), tt)
+    (inr ((cut_off_at pump_end.Malformed capacity base input all taken later o seat h split is, record { requests = h.requests; told = h.told; fault = h.fault; read = h.read }), met), tt)
+after_cut pump_end.NoMemory capacity base input all taken later o source pushes seat room h met back split is = (inr (cut_off_at pump_end.NoMemory capacity base input all taken later o seat h split is, met), tt)
 after_cut pump_end.Ahead capacity base input all taken later o source pushes seat room h met back split is =
     let rest = h.back ∷ h.later in
     let joined : all ++ rest ≡ taken ++ (later ++ rest) = ap (λ (l : List Request). l ++ rest) split ∙ append_assoc taken later rest in (
-      inr (record {
-        requests = taken;
-        behind = later;
-        back = h.back;
-        later = h.later;
-        begins = subst (Begins input) joined (subst (λ (l : List Request). Begins input (l ++ rest)) (sym h.is) h.begins);
-        full = subst (λ (l : List Request). REQUESTS_AHEAD ≤ length l) split (omega (arith, room, h.full));
-        is = is;
-      }),
+      inr (
+        record {
+          requests = taken;
+          behind = later;
+          back = h.back;
+          later = h.later;
+          begins = subst (Begins input) joined (subst (λ (l : List Request). Begins input (l ++ rest)) (sym h.is) h.begins);
+          full = subst (λ (l : List Request). REQUESTS_AHEAD ≤ length l) split (omega (arith, room, h.full));
+          is = is;
+        },
+        met,
+      ),
       back,
     )
 
 -- ---- how a session is over
 
 is_over : (capacity : ℕ) (base : Option (List ℕ)) (input : List ℕ) (p : PumpState) (o : OutputState) (found : Over) → REQUESTS_AHEAD ≤ capacity → PushedBy capacity input [] (sent p.producer) p.end_is → PumpMet p.reader p.end_is → p.pushes.in_a_row ≡ back_at p.end_is
-    → EndsAs base (sent p.producer) (why_of p.end_is) o found → IsOver base input o found × IsMet p.reader p.pushes found
+    → EndsAs base (sent p.producer) (why_of p.end_is) o found → IsOver base input p.reader o found × IsMet p.reader p.pushes found
 is_over capacity base input p o found room pushed met back (inl early) =
     let b = begun p.end_is capacity input (sent p.producer) pushed in
     let joined : sent p.producer ++ b.extra ≡ early.taken ++ (early.later ++ b.extra) = ap (λ (l : List Request). l ++ b.extra) early.sent_are ∙ append_assoc early.taken early.later b.extra in (
@@ -252,10 +264,10 @@ is_over capacity base input p o found room pushed met back (inl early) =
       met_early base early.taken o p.reader p.pushes found early.is,
     )
 is_over capacity base input p o found room pushed met back (inr (inr lost)) =
-    subst (λ (f : Over). IsOver base input o f × IsMet p.reader p.pushes f) (sym lost.found_is)
+    subst (λ (f : Over). IsOver base input p.reader o f × IsMet p.reader p.pushes f) (sym lost.found_is)
     (after_cut p.end_is capacity base input (sent p.producer) lost.taken lost.later o p.reader p.pushes lost.seat room pushed met back lost.sent_are lost.is)
 is_over capacity base input p o found room pushed met back (inr (inl all)) =
-    subst (λ (f : Over). IsOver base input o f × IsMet p.reader p.pushes f) (sym all.is) (after_all p.end_is capacity base input (sent p.producer) o p.reader p.pushes all.at room pushed met back all.holds all.talking)
+    subst (λ (f : Over). IsOver base input p.reader o f × IsMet p.reader p.pushes f) (sym all.is) (after_all p.end_is capacity base input (sent p.producer) o p.reader p.pushes all.at room pushed met back all.holds all.talking)
 
 -- a pump whose ring was empty and has so much room
 pub record IsFreshRing (ring : PushingEnd) : Type 0 where
@@ -317,7 +329,7 @@ given_up unopened refused ended always from base ring p s fresh h settles =
     let by = ending.left_by in
     let at = is_over (producer_capacity ring) base h.input p ending.old ending.found fresh.room (pushed_from from ring p fresh h) h.met h.given_back ending.ends in
     subst (λ (x : SessionState). CutSaid ended x.seat x.answers x.end_is) settles.is
-    (cut_said unopened ended base h.input ending.old settles.o ending.found settles.left (with_last settles.o.answers settles.left.last) at.0 by.over_said by.keeps by.closes refl)
+    (cut_said unopened ended base h.input p.reader ending.old settles.o ending.found settles.left (with_last settles.o.answers settles.left.last) at.0 by.over_said by.keeps by.closes refl)
 
 refusals_said : (unopened : Request → Refusal → Type 0) (refused : SeatState → Call → Refusal → Type 0) (ended : SeatState → Why → Type 0) (always : Bool) (from base : Option (List ℕ)) (ring : PushingEnd) (p : PumpState) (s : SessionState)
     → IsFreshRing ring → (h : Pumps from ring p) → Settles unopened refused ended always base p s → BeginsSaid (RefusalSaid unopened refused ended) h.input s.answers

@@ -1,5 +1,5 @@
 -- What a session has come to: what it read, what it answered and wrote, and why it ended (own).
-use Rattle.std.specs.Prelude.{◌≡◌, ℕ, ◌≤◌, ◌⊎◌, Bool, true, List, [], ◌∷◌, ◌++◌, Option, None, Some, length}
+use Rattle.std.specs.Prelude.{◌≡◌, ℕ, ◌≤◌, ◌⊎◌, Bool, true, false, List, [], ◌∷◌, ◌++◌, Option, None, Some, length}
 use Rattle.std.specs.Io.KnownBytes.{Appends, Consumes, IsAtEnd}
 use Rattle.call_types.specs.declared.act.Act.TheVariants as act
 use Rattle.call_types.specs.declared.refusal.Refusal.{Refusal}
@@ -30,10 +30,10 @@ abbrev pub HasRead : Option (List ℕ) → Option LoggedReaderState → List ℕ
 HasRead from None input = input ≡ []
 HasRead from (Some reader) input = Consumes from reader.remaining input
 
--- a reader that is handed back is at its end
+-- a reader that is handed back is at its end, and no read failed
 abbrev pub IsReadToEnd : Option LoggedReaderState → Type 0
 IsReadToEnd None = ⊥
-IsReadToEnd (Some reader) = IsAtEnd reader.remaining
+IsReadToEnd (Some reader) = IsAtEnd reader.remaining × (reader.log.failed ≡ false)
 
 -- what became of the reads: of a reader that is gone there were none
 abbrev pub reads_of : Option LoggedReaderState → LogState
@@ -217,13 +217,13 @@ IsTurnedAway seat answers = (spent : SeatState) × (seat ≡ Some spent) × IsRe
 abbrev pub AnswersAllOrCut : List ℕ → List Told → Type 0
 AnswersAllOrCut input answers = AnswersAll input answers ⊎ (HasNoFault input × AnswersToCut (Begins input) answers None)
 
--- the bytes have a fault
-abbrev pub IsFaulty : List ℕ → List Told → Type 0
-IsFaulty input answers = AnswersToFault input answers ⊎ (HasFault input × AnswersToCut (Begins input) answers None)
+-- the bytes have a fault, and no read failed
+abbrev pub IsFaulty : List ℕ → Option LoggedReaderState → List Told → Type 0
+IsFaulty input reader answers = ((reads_of reader).failed ≡ false) × (AnswersToFault input answers ⊎ (HasFault input × AnswersToCut (Begins input) answers None))
 
--- a request came after at least as many as the ring has room for, and the ring gave it back, and once more when room had been asked for
-abbrev pub IsOverrun : List ℕ → PushState → List Told → Type 0
-IsOverrun input pushes answers = (pushes.in_a_row ≡ 2) × (AnswersToAhead input answers ⊎ AnswersToCutAhead input answers)
+-- a request came after at least as many as the ring has room for, and the ring gave it back, and once more when room had been asked for; no read failed
+abbrev pub IsOverrun : List ℕ → Option LoggedReaderState → PushState → List Told → Type 0
+IsOverrun input reader pushes answers = (pushes.in_a_row ≡ 2) × ((reads_of reader).failed ≡ false) × (AnswersToAhead input answers ⊎ AnswersToCutAhead input answers)
 
 -- the run was full for the opening, or when the call that waited could go on
 abbrev pub IsRunFull : (List Request → Type 0) → List Told → Type 0
@@ -249,8 +249,8 @@ EndsAt Given writer seat answers end.NoThread = ⊥
 abbrev pub EndsAfter : List ℕ → Option LoggedReaderState → PushState → Option SeatState → List Told → End → Type 0
 EndsAfter input reader pushes seat answers end.Closed = IsReadToEnd reader × AnswersAllOrCut input answers
 EndsAfter input reader pushes seat answers end.ReadFault = IsReadNoMore READS_MAX (reads_of reader) × AnswersAllOrCut input answers
-EndsAfter input reader pushes seat answers end.Malformed = IsFaulty input answers
-EndsAfter input reader pushes seat answers end.Ahead = IsOverrun input pushes answers
+EndsAfter input reader pushes seat answers end.Malformed = IsFaulty input reader answers
+EndsAfter input reader pushes seat answers end.Ahead = IsOverrun input reader pushes answers
 EndsAfter input reader pushes seat answers end.NoMemory = Unit {0}
 EndsAfter input reader pushes seat answers end.NoThread = IsUnstarted input seat answers
 EndsAfter input reader pushes seat answers other = ⊥

@@ -1,5 +1,5 @@
 -- A session that is over, and the bytes that it read (own).
-use Rattle.std.specs.Prelude.{◌≡◌, ℕ, ◌≤◌, ◌⊎◌, List, ◌∷◌, ◌++◌, Option, length}
+use Rattle.std.specs.Prelude.{◌≡◌, ℕ, ◌≤◌, ◌⊎◌, false, List, ◌∷◌, ◌++◌, Option, length}
 use Rattle.std.specs.Io.KnownBytes.{IsAtEnd}
 use Rattle.call_types.specs.declared.request.Request.{Request}
 use Rattle.record_book.specs.Seat.{SeatState}
@@ -109,9 +109,15 @@ LeavesOff base input o (over.Lost seat why.NoMemory) = IsCutOff base input o sea
 LeavesOff base input o (over.Lost seat why.Ahead) = IsCutAhead base input o seat
 LeavesOff base input o other = ⊥
 
--- a session that is over
-abbrev pub IsOver : Option (List ℕ) → List ℕ → OutputState → Over → Type 0
-IsOver base input o found = IsOverHere base (Begins input) o found ⊎ LeavesOff base input o found
+-- no read has failed, where a read fault is not what ends the session
+abbrev pub IsUnfailed : LoggedReaderState → Over → Type 0
+IsUnfailed source (over.Leaves at why.ReadFault) = Unit {0}
+IsUnfailed source (over.Lost seat why.ReadFault) = Unit {0}
+IsUnfailed source other = source.log.failed ≡ false
+
+-- a session that is over: at one of its requests, or when no more is read
+abbrev pub IsOver : Option (List ℕ) → List ℕ → LoggedReaderState → OutputState → Over → Type 0
+IsOver base input source o found = IsOverHere base (Begins input) o found ⊎ (LeavesOff base input o found × IsUnfailed source found)
 
 -- a session is closed only at the end of its bytes, has a read fault only where its reader is read no more, and is ahead only where its ring gave a request back twice
 abbrev pub IsMet : LoggedReaderState → PushState → Over → Type 0
