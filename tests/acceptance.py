@@ -98,7 +98,7 @@ def is_audit(program: str, row: Row) -> None:
     with tempfile.NamedTemporaryFile(prefix="fdref-") as file:
         file.write(row.trace())
         file.flush()
-        expect(run(program, ["audit", file.name]), *row.wanted())
+        expect(run(program, ["audit", *row.words(), file.name]), *row.wanted())
 
 
 def is_migration(program: str, row: Row) -> None:
@@ -154,6 +154,10 @@ SERVE = ["serve", "--socket", "/gone/socket", "--sessions", "1", "--records", "9
 @case("capacity of a server out of range", *SERVE, "--pipe-capacity", "511")
 @case("capacity of a server over its range", *SERVE, "--pipe-capacity", "65537")
 @case("capacity of an audit", "audit", "--pipe-capacity", "1024", "/dev/null")
+@case("audit without a file", "audit", "--complete")
+@case("complete with a value", "audit", "--complete=true", "/dev/null")
+@case("complete twice", "audit", "--complete", "--complete", "/dev/null")
+@case("complete of what is shown", "show", "--complete", "/dev/null")
 @case("migrate without a file", "migrate")
 @case("migrate without a file to write", "migrate", "/dev/null")
 @case("migrate with a word too many", "migrate", "/dev/null", "/gone/a", "/gone/b")
@@ -192,6 +196,7 @@ def is_version(program: str, text: str, *words: str) -> None:
 @case("help of serve", "--trace <FILE>", "serve", "--help")
 @case("capacity in the help of serve", "--pipe-capacity <N>", "serve", "--help")
 @case("help of audit", "<FILE>", "audit", "--help")
+@case("help of a demand on an audit", "--complete", "audit", "--help")
 @case("help of migrate", "<IN> <OUT>", "migrate", "--help")
 @case("help of show", "--acts", "show", "--help")
 @case("help of outcomes", "--witness <K>", "outcomes", "--help")

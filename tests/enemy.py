@@ -111,7 +111,7 @@ def check_lies(kinds: Kinds, program: str, seed: str) -> None:
     """The program finds lies of every kind as the plain auditor does."""
     for kind, named in some_lies(seed).items():
         kinds.check(f"lies: {kind}", judged(program, named))
-        for words in ("show", "show --acts"):
+        for words in ("audit --complete", "show", "show --acts"):
             kinds.check(f"lies: {words}", judged(program, named[:SHOWN_LIES], words))
     one_off = ((f"lie {at} of seed {seed}", partial(enemy_lies.finds_one_off, seed, at)) for at in range(LYING))
     kinds.check("lies that the plain auditor finds", one_off)
@@ -178,6 +178,7 @@ def check_bounded(kinds: Kinds, program: str, seed: str, runs: int, met: Counter
     check_lies(kinds, program, seed)
     kinds.check("children", judged(program, map(with_children, (1, 64, 65, 200)), "show --acts"))
     kinds.check("cuts", judged(program, enemy_audits.fronts(SMALL_ONES)))
+    kinds.check("cuts", judged(program, enemy_audits.fronts(SMALL_ONES), "audit --complete"))
     large = [(name, trace_of(lines.split("; "))) for name, lines, _ in LINES if name == "a part that is too small"]
     kinds.check("pipes", enemy_audits.by_pipes(program, [*SMALL_ONES, *small_lies(seed), *large]))
     kinds.check("pipes", enemy_audits.by_pipes(program, SMALL_ONES[:1], ("show", "show --acts")))

@@ -11,7 +11,7 @@ from functools import partial
 from pathlib import Path
 
 from parts.written_traces import Named
-from support.auditing import audited, shown
+from support.auditing import audited, completed, shown
 from support.counting import Case, Failure, require
 from support.places import SCRATCH
 from support.running import Ran, ran_all, run
@@ -25,6 +25,7 @@ PIECE = 250
 # What the plain auditor gives where the program has these words.
 WANTED: dict[str, Callable[[bytes], Ran]] = {
     "audit": audited,
+    "audit --complete": completed,
     "show": shown,
     "show --acts": partial(shown, acts=True),
 }

@@ -1,8 +1,9 @@
 """A plain auditor of traces, written from docs/FORMATS.md and docs/PROFILE.md alone.
 
-`audited(trace)` gives what `fdref audit` has to give for a file that holds these bytes, `shown(trace)` what `fdref
-show` has to, and `migrated(trace)` what `fdref migrate` has to, with the bytes that it has to write. It judges the
-records by the plain model, one after another, and knows nothing of the program.
+`audited(trace)` gives what `fdref audit` has to give for a file that holds these bytes, `completed(trace)` what `fdref
+audit --complete` has to, `shown(trace)` what `fdref show` has to, and `migrated(trace)` what `fdref migrate` has to,
+with the bytes that it has to write. It judges the records by the plain model, one after another, and knows nothing of
+the program.
 """
 
 from collections.abc import Iterable, Iterator
@@ -132,6 +133,17 @@ def illegal(place: int, wanted: str | None) -> Ran:
 def audited(trace: bytes) -> Ran:
     """What `fdref audit` gives for a trace."""
     return Audit(trace).verdict
+
+
+def completed(trace: bytes) -> Ran:
+    """What `fdref audit --complete` gives for a trace."""
+    audit = Audit(trace)
+    lines = audit.frames.lines
+    is_closed = bool(lines) and act_of(run_line_of(lines[-1]).act).word == "close-run"
+    if audit.verdict.status or (is_closed and not audit.frames.rest):
+        return audit.verdict
+    fault = b"not complete\nexpected house close-run as the last record, and nothing after it\n"
+    return Ran(1, audit.verdict.stdout, fault)
 
 
 def script_lines(lines: Iterable[str]) -> Iterator[str]:

@@ -1,8 +1,8 @@
 """The rows: each folder of tests/rows is a run of `fdref replay`, `audit` or `migrate`, with what it has to give.
 
-A run of `replay` has `script`, its standard input, and `args` (if there), its words after `replay`, one a line. A run
-of `audit` has `trace.hex`, the bytes of its file in hexadecimal, in which line ends have no meaning. A run of `migrate`
-has `old.hex`, the bytes of the file that it reads, and `new.hex`, those that it has to write. In all three `stdout` is
+A run of `replay` has `script`, its standard input, and a run of `audit` has `trace.hex`, the bytes of its file in
+hexadecimal, in which line ends have no meaning; both may have `args`, the words after `replay` or `audit`, one a line,
+of an audit those before its file. A run of `migrate` has `old.hex`, the bytes of the file that it reads, and `new.hex`, those that it has to write. In all three `stdout` is
 what it must write on standard output, `stderr` (if there) the text that it must write on standard error, without the
 end of its last line, and `status` (0 where it is missing) its exit status.
 """
@@ -37,7 +37,7 @@ class Row:
         return bytes.fromhex((self.folder / f"{name}.hex").read_text())
 
     def words(self) -> list[str]:
-        """The words after `replay`."""
+        """The words after `replay`, or those after `audit` before its file."""
         return self.read("args", b"").decode().splitlines()
 
     def wanted(self) -> Ran:

@@ -17,6 +17,9 @@ use Rattle.posix_model.specs.Proved.Laws.{StepKeepsWhole}
 use Rattle.posix_model.specs.History.{after, world_from, legal_from, empty_world}
 use Rattle.posix_model.specs.Reserve.{has_reserve, can_end, CanEndFrom}
 use Rattle.audit_core.specs.JudgeState.{JudgeState, HasJudged}
+use Rattle.audit_core.specs.Verdict.{ended_by, ending_from}
+use Rattle.audit_core.specs.declared.verdict.Ending.{Ending}
+use Rattle.audit_core.specs.declared.verdict.Ending.TheVariants.{Open}
 use Rattle.audit_core.specs.Proved.Judging.{CanMake, GoesOn, fresh_judge, IsAt}
 
 -- what an act comes to can be made
@@ -67,6 +70,11 @@ place_more place len e = omega (arith, e)
 pub place_told : (place len : ℕ) → place ≡ told_place len → len < 2 ^ 64 → place ≡ len
 place_told place len e few = omega (arith, e, few)
 
+-- records end with the last of them
+ending_from-push : (e : Ending) (h : List Record) (r : Record) → ending_from e (h ++ r ∷ []) ≡ ended_by r.act
+ending_from-push e [] r = refl
+ending_from-push e (x ∷ h) r = ending_from-push (ended_by x.act) h r
+
 -- what the model gives is judged with what was before it
 judged_more : (told : ToldLimits) (h : List Record) (r : Record) (a b : JudgeState) → length h < 2 ^ 64 → HasJudged told h a → GoesOn a b r → HasJudged told (h ++ r ∷ []) b
 judged_more told h r a b few judged on =
@@ -82,6 +90,7 @@ judged_more told h r a b few judged on =
       told_is = rw on.new_is judged.told_is;
       world = rw (on.new_is, judged.told_is, judged.world) (sym (world_from-push told.bounds empty_world h r));
       place = rw on.new_is place;
+      ending = rw on.new_is (sym (ending_from-push Open h r));
     }
 
 -- one record more is judged, and one less is left
@@ -95,4 +104,4 @@ one_judged o a b records rest r at on = record {
 
 -- at first nothing is judged
 pub none_judged : (told : ToldLimits) → HasJudged told [] (fresh_judge told)
-none_judged told = record { is_legal = record { is_legal = tt; ends = tt }; told_is = refl; world = refl; place = refl }
+none_judged told = record { is_legal = record { is_legal = tt; ends = tt }; told_is = refl; world = refl; place = refl; ending = refl }

@@ -18,9 +18,10 @@ use Rattle.posix_model.specs.declared.world.World.{World}
 use Rattle.posix_model.specs.History.{after, world_from, world_of, legal_from, empty_world}
 use Rattle.posix_model.specs.Reserve.{can_end, CanEndFrom, IsLegalRun}
 use Rattle.posix_model.specs.Step.{outcome_of}
-use Rattle.audit_core.specs.Verdict.{BreaksAt, Differs, Overruns, IsLegal, IsIllegal, IsMalformedAt, IsVerdictAfter, IsVerdictBy}
-use Rattle.audit_core.specs.Proved.Laws.{OneVerdict, TextIsLegal, TellsFront, FrontIsLegal, TellsFault, FaultStays}
+use Rattle.audit_core.specs.Verdict.{BreaksAt, Differs, EndsBy, EndsWith, Overruns, ending_of, IsLegal, IsIllegal, IsMalformedAt, IsVerdictAfter, IsVerdictBy}
+use Rattle.audit_core.specs.Proved.Laws.{OneEnding, OneVerdict, TextIsLegal, TellsFront, FrontIsLegal, TellsFault, FaultStays}
 use Rattle.audit_core.specs.Trace.{HaveFrames, Begins, IsUnfinished, IsAtFault}
+use Rattle.audit_core.specs.declared.verdict.Ending.{Ending}
 use Rattle.audit_core.specs.declared.verdict.Verdict.{Verdict}
 use Rattle.audit_core.specs.declared.verdict.Verdict.TheVariants.{Legal, Illegal, Malformed}
 use Rattle.audit_core.proofs.TraceLemmas.{has_frame, few_records, fault_long}
@@ -239,6 +240,24 @@ module _ (one : OneForm SpellsRecord RECORD_LENGTH_MAX) (none : NoFrameThere Spe
 
   pub one_verdict : OneVerdict
   one_verdict bytes v u p q = one_by (header bytes) bytes v u p q
+
+-- ---- one ending
+
+module _ (one : OneForm SpellsRecord RECORD_LENGTH_MAX) (none : NoFrameThere SpellsRecord RECORD_LENGTH_MAX) where
+  ends_after : (told : ToldLimits) (bytes : List ℕ) (n r : ℕ) (e f : Ending) → EndsWith told bytes n r e → EndsWith told bytes n r f → e ≡ f
+  ends_after told bytes n r e f v u =
+      let same = both_complete one none told bytes v.legal.h u.legal.h v.legal.left u.legal.left (complete_legal told bytes n r v.legal) (complete_legal told bytes n r u.legal) in
+      v.ending_is ∙ ap (λ (h : List Record). ending_of h) same.0 ∙ sym u.ending_is
+
+  ends_by : (h : Header) (bytes : List ℕ) (n r : ℕ) (e f : Ending) → EndsBy h bytes n r e → EndsBy h bytes n r f → e ≡ f
+  ends_by Unheaded bytes n r e f p q = p ∙ sym q
+  ends_by Short bytes n r e f p q = p ∙ sym q
+  ends_by (Headed told headed) bytes n r e f p q = ends_after told (drop headed bytes) n r e f p q
+
+  pub one_ending : OneEnding
+  one_ending bytes (Legal n r) e f p q = ends_by (header bytes) bytes n r e f p q
+  one_ending bytes (Illegal place expected) e f p q = p ∙ sym q
+  one_ending bytes (Malformed at) e f p q = p ∙ sym q
 
 -- ---- a fault stays
 

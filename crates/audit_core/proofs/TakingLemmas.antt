@@ -9,7 +9,8 @@ use Rattle.frame_codec.specs.declared.trace.Header.TheVariants.{Headed}
 use Rattle.frame_codec.specs.declared.trace.ToldLimits.{ToldLimits}
 use Rattle.audit_core.specs.TraceState.{BodyState, IsJudging, IsTaking}
 use Rattle.audit_core.specs.Proved.Taking.{fresh_body, fresh_trace, IsFound, BodyGoesOn, TakesBody, TakesAfter}
-use Rattle.audit_core.specs.Verdict.{IsLegal, IsVerdict, IsVerdictAfter, IsVerdictBy}
+use Rattle.audit_core.specs.Verdict.{EndsBy, EndsWith, IsFinding, IsLegal, IsVerdictAfter, IsVerdictBy}
+use Rattle.audit_core.specs.declared.verdict.Ending.TheVariants.{Open}
 use Rattle.audit_core.specs.declared.verdict.Verdict.{Verdict}
 use Rattle.audit_core.specs.declared.verdict.Verdict.TheVariants.{Legal, Illegal, Malformed}
 use Rattle.audit_core.proofs.JudgeLemmas.{none_judged}
@@ -79,7 +80,7 @@ small_told tells bytes told headed is = subst (λ (h : Header). TellsLimits h) i
 
 -- ---- the end
 
-pub ends_legal : (told : ToldLimits) (body : List ℕ) (b : BodyState) → IsJudging told body b → length body < 2 ^ 64 → IsLegal told body b.judge.place (length b.decoder.held)
+abbrev ends_legal : (told : ToldLimits) (body : List ℕ) (b : BodyState) → IsJudging told body b → length body < 2 ^ 64 → IsLegal told body b.judge.place (length b.decoder.held)
 ends_legal told body b j short =
     let are = are_frames j.records j.given.text j.given.frames in
     let few : length j.records ≤ length body =
@@ -97,14 +98,21 @@ ends_legal told body b j short =
     count_is : (place count total : ℕ) → place ≡ told_place count → count ≤ total → total < 2 ^ 64 → place ≡ count
     count_is place count total is few short = omega (arith, is, few, short)
 
-pub ends_after : (input front : List ℕ) (b : BodyState) → IsTaking input (record { front = front; body = Some b }) → IsVerdict input (Legal b.judge.place (length b.decoder.held))
+pub ends_after : (input front : List ℕ) (b : BodyState) → IsTaking input (record { front = front; body = Some b })
+    → IsFinding input (record { verdict = Legal b.judge.place (length b.decoder.held); ending = b.judge.ending })
 ends_after input front b t =
     let legal = ends_legal t.by.0 (drop b.headed input) b t.by.2 (let few = t.few in omega (arith, few, length-drop b.headed input)) in
-    subst (λ (h : Header). IsVerdictBy h input (Legal b.judge.place (length b.decoder.held))) (sym t.by.1) legal
+    let ends : EndsWith t.by.0 (drop b.headed input) b.judge.place (length b.decoder.held) b.judge.ending = record { legal = legal; ending_is = t.by.2.judged.ending } in
+    record {
+      verdict = subst (λ (h : Header). IsVerdictBy h input (Legal b.judge.place (length b.decoder.held))) (sym t.by.1) legal;
+      ending = subst (λ (h : Header). EndsBy h input b.judge.place (length b.decoder.held) b.judge.ending) (sym t.by.1) ends;
+    }
 
-pub ends_within : (input front : List ℕ) → IsTaking input (record { front = front; body = None }) → IsVerdict input (Legal 0 (length front))
-ends_within input front t =
-    subst (λ (h : Header). IsVerdictBy h input (Legal 0 (length front))) (sym t.by.0) (ap (λ (x : List ℕ). Legal 0 (length x)) t.by.1)
+pub ends_within : (input front : List ℕ) → IsTaking input (record { front = front; body = None }) → IsFinding input (record { verdict = Legal 0 (length front); ending = Open })
+ends_within input front t = record {
+  verdict = subst (λ (h : Header). IsVerdictBy h input (Legal 0 (length front))) (sym t.by.0) (ap (λ (x : List ℕ). Legal 0 (length x)) t.by.1);
+  ending = subst (λ (h : Header). EndsBy h input 0 (length front) Open) (sym t.by.0) refl;
+}
 
 -- ---- the beginning
 

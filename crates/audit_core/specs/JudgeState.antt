@@ -6,12 +6,15 @@ use Rattle.frame_codec.specs.declared.trace.ToldLimits.{ToldLimits}
 use Rattle.posix_model.specs.declared.world.World.{World}
 use Rattle.posix_model.specs.History.{world_of}
 use Rattle.posix_model.specs.Reserve.{IsLegalRun}
+use Rattle.audit_core.specs.Verdict.{ending_of}
+use Rattle.audit_core.specs.declared.verdict.Ending.{Ending}
 
--- what is told of the run, the world after the records so far, and how many they were
+-- what is told of the run, the world after the records so far, how many they were and how they end
 pub record JudgeState : Type 0 where
   pub told : ToldLimits
   pub world : World
   pub place : ℕ
+  pub ending : Ending
 
 -- these records were judged: they are those of a legal run, and led to this world
 pub record HasJudged (told : ToldLimits) (h : List Record) (j : JudgeState) : Type 0 where
@@ -19,3 +22,4 @@ pub record HasJudged (told : ToldLimits) (h : List Record) (j : JudgeState) : Ty
   pub told_is : j.told ≡ told
   pub world : j.world ≡ world_of told.bounds h
   pub place : j.place ≡ told_place (length h)
+  pub ending : j.ending ≡ ending_of h

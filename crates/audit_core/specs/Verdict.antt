@@ -1,5 +1,7 @@
 -- The verdict on the bytes of a trace (own).
-use Rattle.std.specs.Prelude.{◌≡◌, ◌≢◌, ℕ, ◌+◌, false, ◌⊎◌, List, ◌∷◌, ◌++◌, Option, None, Some, length, drop}
+use Rattle.std.specs.Prelude.{◌≡◌, ◌≢◌, ℕ, ◌+◌, false, ◌⊎◌, List, [], ◌∷◌, ◌++◌, Option, None, Some, length, drop}
+use Rattle.call_types.specs.declared.act.Act.{Act}
+use Rattle.call_types.specs.declared.act.Act.TheVariants as act
 use Rattle.call_types.specs.declared.act.Record.{Record}
 use Rattle.call_types.specs.declared.outcome.Outcome.{Outcome}
 use Rattle.posix_model.specs.Step.{outcome_of}
@@ -12,6 +14,9 @@ use Rattle.frame_codec.specs.declared.trace.ToldLimits.{ToldLimits}
 use Rattle.audit_core.specs.Trace.{Begins, IsUnfinished, IsAtFault}
 use Rattle.audit_core.specs.declared.verdict.Verdict.{Verdict}
 use Rattle.audit_core.specs.declared.verdict.Verdict.TheVariants.{Legal, Illegal, Malformed}
+use Rattle.audit_core.specs.declared.verdict.Ending.{Ending}
+use Rattle.audit_core.specs.declared.verdict.Ending.TheVariants.{Closed, Open}
+use Rattle.audit_core.specs.declared.verdict.Finding.{Finding}
 
 -- a record after these is not what the model gives: that is this outcome, or none
 pub record Differs (told : ToldLimits) (before : List Record) (r : Record) (expected : Option Outcome) : Type 0 where
@@ -75,3 +80,41 @@ IsVerdictBy (Headed told headed) bytes verdict = IsVerdictAfter told headed (dro
 -- the verdict on bytes
 abbrev pub IsVerdict : List ℕ → Verdict → Type 0
 IsVerdict bytes verdict = IsVerdictBy (header bytes) bytes verdict
+
+-- ---- how the records end
+
+-- how records end of which the last is about this act
+abbrev pub ended_by : Act → Ending
+ended_by act.CloseRun = Closed
+ended_by other = Open
+
+-- how records end that come after others that end so
+abbrev pub ending_from : Ending → List Record → Ending
+ending_from before [] = before
+ending_from before (r ∷ h) = ending_from (ended_by r.act) h
+
+-- how records end: with the closing of their run, or open
+abbrev pub ending_of : List Record → Ending
+ending_of h = ending_from Open h
+
+-- bytes with so many legal records, which end so, and after them so many bytes of an unfinished frame
+pub record EndsWith (told : ToldLimits) (body : List ℕ) (records rest : ℕ) (ending : Ending) : Type 0 where
+  pub legal : IsLegal told body records rest
+  pub ending_is : ending ≡ ending_of legal.h
+
+-- the records of bytes that begin so end so, of which there are so many, with so many bytes after them
+abbrev pub EndsBy : Header → List ℕ → ℕ → ℕ → Ending → Type 0
+EndsBy Unheaded bytes records rest ending = ending ≡ Open
+EndsBy Short bytes records rest ending = ending ≡ Open
+EndsBy (Headed told headed) bytes records rest ending = EndsWith told (drop headed bytes) records rest ending
+
+-- the records of bytes with this verdict end so; where the verdict tells a fault, they are told to be open
+abbrev pub IsEnding : List ℕ → Verdict → Ending → Type 0
+IsEnding bytes (Legal records rest) ending = EndsBy (header bytes) bytes records rest ending
+IsEnding bytes (Illegal place expected) ending = ending ≡ Open
+IsEnding bytes (Malformed at) ending = ending ≡ Open
+
+-- what is found of bytes: their verdict, and how their records end
+pub record IsFinding (bytes : List ℕ) (found : Finding) : Type 0 where
+  pub verdict : IsVerdict bytes found.verdict
+  pub ending : IsEnding bytes found.verdict found.ending

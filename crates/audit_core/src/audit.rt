@@ -4,7 +4,7 @@ ghost use Rattle.std.specs.Prelude.{◌+◌, ◌≤◌};
 ghost use Rattle.audit_core.specs.Audited.{Audits};
 
 use crate::trace::TraceAudit;
-use crate::verdict::Verdict;
+use crate::verdict::{Ending, Finding};
 use logged_streams::reader::LoggedReader;
 use logged_streams::reading::{ReadEnd, Takes, read_all};
 use logged_streams::stream_log::INTERRUPTIONS_MAX;
@@ -49,16 +49,19 @@ impl Takes<()> for Auditing {
     ghost use Rattle.audit_core.specs.TraceState.{IsTaking};
     ghost use Rattle.audit_core.specs.Auditing.{IsTold};
 
-    type Told = Result<Verdict, AuditFault>;
+    type Told = Result<Finding, AuditFault>;
 
     ghost has_taken = { λ _ _ auditing _ bytes. IsTaking bytes auditing.trace };
 
     ghost has_told = { λ _ _ _ _ bytes answer. IsTold bytes answer };
 
-    fn take(&mut self, _out: &mut (), piece: &[u8]) -> Option<Result<Verdict, AuditFault>> {
+    fn take(&mut self, _out: &mut (), piece: &[u8]) -> Option<Result<Finding, AuditFault>> {
         match self.trace.take(self.alloc, piece) {
             Ok(None) => None,
-            Ok(Some(verdict)) => Some(Ok(verdict)),
+            Ok(Some(verdict)) => Some(Ok(Finding {
+                verdict,
+                ending: Ending::Open,
+            })),
             Err(_) => Some(Err(AuditFault::NoMemory)),
         }
     }
@@ -66,7 +69,7 @@ impl Takes<()> for Auditing {
 
 /// Audits the trace that a reader gives, of either version. What comes after a record that breaks what is legal, or after a frame at
 /// fault, need not be read. Nothing is kept of the records but the state that they led to, and one frame at a time.
-pub fn audit<R: Read>(alloc: Global, reader: &mut LoggedReader<R>) -> Result<Verdict, AuditFault>
+pub fn audit<R: Read>(alloc: Global, reader: &mut LoggedReader<R>) -> Result<Finding, AuditFault>
     ensures few { reader.new.log.calls ≤ reader.old.log.calls + READS_MAX }
     ensures few_interrupted { reader.new.log.interruptions ≤ INTERRUPTIONS_MAX }
     ensures audits { Audits reader.old reader.new result }

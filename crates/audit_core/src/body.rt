@@ -5,7 +5,7 @@ ghost use Rattle.call_types.specs.declared.limits.TheConstants.{OFFSET_MAX};
 ghost use Rattle.audit_core.specs.Proved.Taking.{fault_at, fresh_body, TakesAfter, TakesBody};
 
 use crate::judge::{Judge, Judged};
-use crate::verdict::Verdict;
+use crate::verdict::{Ending, Verdict};
 use frame_codec::decoder::{Decoder, Progress};
 use frame_codec::frame_kind::Records;
 use frame_codec::laws::pieces_go_on;
@@ -60,6 +60,13 @@ impl Body {
         ensures { result ≡ self.now.judge.place }
     {
         self.judge.place()
+    }
+
+    /// How the whole records end.
+    pub(crate) fn ending(&self) -> Ending
+        ensures { result ≡ self.now.judge.ending }
+    {
+        self.judge.ending()
     }
 
     /// How many bytes come after the last whole record.

@@ -7,6 +7,7 @@ ghost use Rattle.posix_model.specs.Reserve.{can_end};
 ghost use Rattle.audit_core.specs.Proved.Judging.{fresh_judge, in_world, Judges, CanMake, JudgesAll};
 
 use crate::state::Audited;
+use crate::verdict::{Ending, ended_by};
 use call_types::act::{Act, Record};
 use call_types::outcome::Outcome;
 use frame_codec::trace::ToldLimits;
@@ -19,13 +20,14 @@ use std::marker::Model;
 use table_calls::decide::decide;
 use table_calls::given::given;
 
-/// A judge of records: the machine that those so far led to, what is told of their run, and how many they were. It keeps none of
-/// them.
+/// A judge of records: the machine that those so far led to, what is told of their run, how many they were and how they end. It keeps
+/// none of them.
 #[derive(Drop)]
 pub struct Judge {
     state: Audited,
     told: ToldLimits,
     place: u64,
+    ending: Ending,
 }
 
 impl Model for Judge {
@@ -71,6 +73,7 @@ impl Judge {
             },
             told,
             place: 0,
+            ending: Ending::Open,
         }
     }
 
@@ -79,6 +82,13 @@ impl Judge {
         ensures { result ≡ self.now.place }
     {
         self.place
+    }
+
+    /// How the records end that agreed with the model so far.
+    pub fn ending(&self) -> Ending
+        ensures { result ≡ self.now.ending }
+    {
+        self.ending
     }
 
     /// What an act comes to, or nothing where the rules record none. An error says that memory ran out.
@@ -148,6 +158,7 @@ impl Judge {
             return Ok(Judged::Differs { expected: None });
         }
         self.place = self.place.saturating_add(1);
+        self.ending = ended_by(&told.act);
         Ok(Judged::Same)
     }
 

@@ -2,7 +2,7 @@
 
 ghost use Rattle.std.specs.Prelude.{◌≡◌};
 ghost use Rattle.audit_core.specs.declared.audit.TheConstants.{READS_MAX};
-ghost use Rattle.audit_core.specs.Proved.Laws.{OneVerdict, TextIsLegal, FrontIsLegal, LegalFront, LegalHaveFrames, WrittenIsLegal, FaultStays, BrokenStays};
+ghost use Rattle.audit_core.specs.Proved.Laws.{OneVerdict, OneEnding, TextIsLegal, FrontIsLegal, LegalFront, LegalHaveFrames, WrittenIsLegal, FaultStays, BrokenStays};
 
 use frame_codec::laws::{no_frame_begins_another, stops_are_no_frames};
 use frame_codec::trace::{headers_are_read, headers_go_on};
@@ -13,9 +13,10 @@ pub fn reads_of_an_audit()
     ensures { READS_MAX ≡ 16777216 }
 {}
 
-/// Bytes have one verdict.
+/// Bytes have one verdict, and the records of legal ones one ending.
 pub fn verdicts_are_one()
-    ensures { OneVerdict }
+    ensures verdict { OneVerdict }
+    ensures ending { OneEnding }
 {
     no_frame_begins_another();
     stops_are_no_frames();

@@ -4,7 +4,7 @@ ghost use Rattle.std.specs.Prelude.{◌≡◌, IfOk};
 ghost use Rattle.audit_core.specs.Proved.Taking.{fresh_trace, TakesPiece, Ends};
 
 use crate::body::{Body, take_after};
-use crate::verdict::Verdict;
+use crate::verdict::{Ending, Finding, Verdict};
 use frame_codec::trace::{HeaderFront, Heading, headers_go_on, headers_tell_limits};
 use std::alloc::{AllocError, Global};
 use std::marker::Model;
@@ -37,18 +37,24 @@ impl TraceAudit {
         }
     }
 
-    /// The verdict, if no byte comes after those that were taken.
-    pub fn end(&self) -> Verdict
+    /// What is found, if no byte comes after those that were taken.
+    pub fn end(&self) -> Finding
         ensures { Ends self.now result }
     {
         match &self.body {
-            None => Verdict::Legal {
-                records: 0,
-                rest: self.front.as_slice().len() as u64,
+            None => Finding {
+                verdict: Verdict::Legal {
+                    records: 0,
+                    rest: self.front.as_slice().len() as u64,
+                },
+                ending: Ending::Open,
             },
-            Some(body) => Verdict::Legal {
-                records: body.records(),
-                rest: body.rest(),
+            Some(body) => Finding {
+                verdict: Verdict::Legal {
+                    records: body.records(),
+                    rest: body.rest(),
+                },
+                ending: body.ending(),
             },
         }
     }

@@ -1,5 +1,9 @@
 //! What an audit says of a trace.
 
+ghost use Rattle.std.specs.Prelude.{◌≡◌};
+ghost use Rattle.audit_core.specs.Verdict.{ended_by};
+
+use call_types::act::Act;
 use call_types::outcome::Outcome;
 
 /// What an audit says of a trace.
@@ -22,4 +26,31 @@ pub enum Verdict {
     Malformed {
         at: u64,
     },
+}
+
+/// How the records of a trace end.
+#[derive(Clone, Copy, Debug, PartialEq, Eq)]
+pub enum Ending {
+    /// The last of them is the closing of their run.
+    Closed,
+    /// The last of them is another, or there is none.
+    Open,
+}
+
+/// How records end of which the last is about this act.
+pub(crate) fn ended_by(act: &Act) -> Ending
+    ensures { result ≡ ended_by act.now }
+{
+    match act {
+        Act::CloseRun => Ending::Closed,
+        _ => Ending::Open,
+    }
+}
+
+/// What an audit finds.
+#[derive(Drop)]
+pub struct Finding {
+    pub verdict: Verdict,
+    /// How the records of a legal trace end. One that is not legal is told to be open.
+    pub ending: Ending,
 }

@@ -1,35 +1,37 @@
 -- A file whose bytes may be known to nobody, and the ends of what reads it.
 use Rattle.std.proofs.Common.{ℕ, inl, inr, List, Option, None, Some, subst}
-use Rattle.audit_core.specs.declared.verdict.Verdict.{Verdict}
+use Rattle.audit_core.specs.declared.verdict.Finding.{Finding}
 use Rattle.logged_streams.specs.Streams.{LoggedWriterState}
-use Rattle.job_core.specs.Audit.{AuditEnds, IsVerdictOn, WritesVerdict}
+use Rattle.job_core.specs.Audit.{AuditEnds, IsFoundOn, WritesVerdict}
 use Rattle.fdref.specs.Perform.{Has}
 use Rattle.job_core.specs.Migrate.{BreaksOff, MigrateEnds, Outputs}
 use Rattle.job_core.specs.Show.{OfAll, OfFront, ShowEnds}
+use Rattle.job_core.specs.declared.demand.Demand.{Demand}
 use Rattle.job_core.specs.declared.job_end.JobEnd.{JobEnd}
 use Rattle.job_core.specs.declared.job_end.JobEnd.TheVariants as ended
 use Rattle.job_core.specs.declared.shown.Form.{Form}
 
 -- ---- an audit
 
-unknown_judged : (input : Option (List ℕ)) (verdict : Verdict) → IsVerdictOn input verdict → IsVerdictOn None verdict
-unknown_judged input verdict j = record { bytes = j.bytes; whole = tt; is_verdict = j.is_verdict }
+unknown_judged : (input : Option (List ℕ)) (found : Finding) → IsFoundOn input found → IsFoundOn None found
+unknown_judged input found j = record { bytes = j.bytes; whole = tt; is_finding = j.is_finding }
 
-unknown_verdict : (input : Option (List ℕ)) (old new : LoggedWriterState) (end : JobEnd) → WritesVerdict input old new end → WritesVerdict None old new end
-unknown_verdict input old new end w = record { verdict = w.verdict; judged = unknown_judged input w.verdict w.judged; writes = w.writes; end_is = w.end_is }
+unknown_verdict : (wanted : Demand) (input : Option (List ℕ)) (old new : LoggedWriterState) (end : JobEnd) → WritesVerdict wanted input old new end → WritesVerdict wanted None old new end
+unknown_verdict wanted input old new end w = record { found = w.found; judged = unknown_judged input w.found w.judged; writes = w.writes; end_is = w.end_is }
 
-unknown_audit : (input : Option (List ℕ)) (old new : LoggedWriterState) (end : JobEnd) → AuditEnds input old new end → AuditEnds None old new end
-unknown_audit input old new ended.Done a = unknown_verdict input old new ended.Done a
-unknown_audit input old new ended.IllegalTrace a = unknown_verdict input old new ended.IllegalTrace a
-unknown_audit input old new ended.MalformedTrace a = unknown_verdict input old new ended.MalformedTrace a
-unknown_audit input old new ended.CannotWrite a = record { verdict = a.verdict; judged = unknown_judged input a.verdict a.judged; front = a.front }
-unknown_audit input old new ended.CannotRead a = a
-unknown_audit input old new ended.NoMemory a = a
-unknown_audit input old new other a = absurd a
+unknown_audit : (wanted : Demand) (input : Option (List ℕ)) (old new : LoggedWriterState) (end : JobEnd) → AuditEnds wanted input old new end → AuditEnds wanted None old new end
+unknown_audit wanted input old new ended.Done a = unknown_verdict wanted input old new ended.Done a
+unknown_audit wanted input old new ended.Incomplete a = unknown_verdict wanted input old new ended.Incomplete a
+unknown_audit wanted input old new ended.IllegalTrace a = unknown_verdict wanted input old new ended.IllegalTrace a
+unknown_audit wanted input old new ended.MalformedTrace a = unknown_verdict wanted input old new ended.MalformedTrace a
+unknown_audit wanted input old new ended.CannotWrite a = record { found = a.found; judged = unknown_judged input a.found a.judged; front = a.front }
+unknown_audit wanted input old new ended.CannotRead a = a
+unknown_audit wanted input old new ended.NoMemory a = a
+unknown_audit wanted input old new other a = absurd a
 
-pub audit_of : (known input : Option (List ℕ)) (old new : LoggedWriterState) (end : JobEnd) → Has known input → AuditEnds input old new end → AuditEnds known old new end
-audit_of None input old new end has a = unknown_audit input old new end a
-audit_of (Some bytes) input old new end has a = subst (λ (i : Option (List ℕ)). AuditEnds i old new end) has a
+pub audit_of : (wanted : Demand) (known input : Option (List ℕ)) (old new : LoggedWriterState) (end : JobEnd) → Has known input → AuditEnds wanted input old new end → AuditEnds wanted known old new end
+audit_of wanted None input old new end has a = unknown_audit wanted input old new end a
+audit_of wanted (Some bytes) input old new end has a = subst (λ (i : Option (List ℕ)). AuditEnds wanted i old new end) has a
 
 -- ---- what is shown
 

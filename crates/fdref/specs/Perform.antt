@@ -74,6 +74,6 @@ Performs round (job.Replay limits) input old new end = ReplayEnds limits input o
 Performs round (job.Serve socket sessions limits trace) input old new end =
     ServeEnds (round.coming_at (string_bytes socket)) (round.is_unheard (string_bytes socket)) (round.is_unmade (string_bytes trace)) limits sessions old new end
 Performs round (job.Outcomes limits most how) input old new end = OutcomesEnd limits most how input old new end
-Performs round (job.Audit path) input old new end = AuditEnds (round.bytes_at (string_bytes path)) old new end
+Performs round (job.Audit path wanted) input old new end = AuditEnds wanted (round.bytes_at (string_bytes path)) old new end
 Performs round (job.Show path form) input old new end = ShowEnds form (round.bytes_at (string_bytes path)) old new end
 Performs round (job.Migrate from to) input old new end = MovesTo (round.bytes_at (string_bytes from)) (round.is_taken (string_bytes to)) old new end

@@ -9,6 +9,7 @@ ghost use Rattle.job_core.specs.Show.{ShowEnds};
 use crate::serve::serve_on;
 use call_types::limits::Limits;
 use job_core::audit_file::audit_file;
+use job_core::demand::Demand;
 use job_core::job::Job;
 use job_core::job_end::JobEnd;
 use job_core::migrate_file::migrate_file;
@@ -90,13 +91,14 @@ fn audit_at<F: Opens, W: Write>(
     files: &F,
     path: &str,
     writer: &mut LoggedWriter<W>,
+    demand: Demand,
 ) -> JobEnd
-    ensures { AuditEnds (F.bytes_at files.now path.now) writer.old writer.new result }
+    ensures { AuditEnds demand (F.bytes_at files.now path.now) writer.old writer.new result }
 {
     match files.open(path) {
         Some(file) => {
             let mut reader = LoggedReader::new(file);
-            audit_file(alloc, &mut reader, writer)
+            audit_file(alloc, &mut reader, writer, demand)
         }
         None => JobEnd::CannotRead,
     }
@@ -255,7 +257,7 @@ pub fn perform<
             let mut reader = LoggedReader::new(reader);
             outcomes(alloc, &mut reader, writer, limits, most, telling)
         }
-        Job::Audit { file } => audit_at(alloc, files, file.as_str(), writer),
+        Job::Audit { file, demand } => { audit_at(alloc, files, file.as_str(), writer, demand) }
         Job::Show { file, form } => show_at(alloc, files, file.as_str(), writer, form),
         Job::Migrate { from, to } => {
             migrate_at(alloc, files, from.as_str(), to.as_str(), writer)

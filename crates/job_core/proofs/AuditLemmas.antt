@@ -1,15 +1,20 @@
 -- From an audit of what was read to the verdict on the whole input.
-use Rattle.std.proofs.Common.{◌≡◌, ◌∙◌, ℕ, List, ◌++◌, Option, None, Some, Ok, refl, sym, ap, subst}
-use Rattle.std.specs.Prelude.{IfSome}
+use Rattle.std.proofs.Common.{◌≡◌, ◌∙◌, ℕ, Bool, true, false, List, ◌++◌, Option, None, Some, Ok, refl, sym, ap, subst}
+use Rattle.std.specs.Prelude.{◌==◌, IfSome, if◌then◌else◌}
 use Rattle.std.proofs.lemmas.List.{append-nil}
 use Rattle.std.specs.Io.KnownBytes.{Consumes, IsAtEnd}
 use Rattle.logged_streams.specs.Streams.{LoggedReaderState, LoggedWriterState, Writes}
-use Rattle.audit_core.specs.Audited.{Audits}
+use Rattle.audit_core.specs.Audited.{Audits, IsJudgedAt}
 use Rattle.audit_core.specs.Proved.Laws.{FaultStays}
-use Rattle.audit_core.specs.Verdict.{IsVerdict}
+use Rattle.audit_core.specs.Verdict.{IsFinding}
+use Rattle.audit_core.specs.declared.verdict.Ending.{Ending}
+use Rattle.audit_core.specs.declared.verdict.Ending.TheVariants.{Closed, Open}
+use Rattle.audit_core.specs.declared.verdict.Finding.{Finding}
 use Rattle.audit_core.specs.declared.verdict.Verdict.{Verdict}
 use Rattle.audit_core.specs.declared.verdict.Verdict.TheVariants.{Legal, Illegal, Malformed}
-use Rattle.job_core.specs.Audit.{AuditEnds, IsVerdictOn, verdict_end, verdict_line}
+use Rattle.job_core.specs.Audit.{AuditEnds, IsFoundOn, WritesVerdict, legal_end, verdict_end, verdict_line}
+use Rattle.job_core.specs.declared.demand.Demand.{Demand}
+use Rattle.job_core.specs.declared.demand.Demand.TheVariants as demand
 use Rattle.job_core.specs.Output.{AppendsFront}
 use Rattle.job_core.specs.declared.job_end.JobEnd.{JobEnd}
 use Rattle.job_core.specs.declared.job_end.JobEnd.TheVariants as ended
@@ -20,46 +25,77 @@ all_read None to bytes consumes end = tt
 all_read (Some known) None bytes consumes end = absurd consumes
 all_read (Some known) (Some left) bytes consumes end = sym (consumes ∙ ap (λ (x : List ℕ). bytes ++ x) end ∙ append-nil bytes)
 
-legal_judged : (from to : Option (List ℕ)) (bytes : List ℕ) (records rest : ℕ) → Consumes from to bytes → IsAtEnd to → IsVerdict bytes (Legal records rest) → IsVerdictOn from (Legal records rest)
-legal_judged from to bytes records rest consumes end v = record { bytes = bytes; whole = all_read from to bytes consumes end; is_verdict = v }
+legal_judged : (from to : Option (List ℕ)) (bytes : List ℕ) (found : Finding) → Consumes from to bytes → IsAtEnd to → IsFinding bytes found → IsFoundOn from found
+legal_judged from to bytes found consumes end f = record { bytes = bytes; whole = all_read from to bytes consumes end; is_finding = f }
 
 -- what stays whatever comes after it holds of all
-stays_judged : (from to : Option (List ℕ)) (bytes : List ℕ) (verdict : Verdict) → Consumes from to bytes → IsVerdict bytes verdict
-    → ((more : List ℕ) → IsVerdict (bytes ++ more) verdict) → IsVerdictOn from verdict
-stays_judged None to bytes verdict consumes v stays = record { bytes = bytes; whole = tt; is_verdict = v }
-stays_judged (Some known) None bytes verdict consumes v stays = absurd consumes
-stays_judged (Some known) (Some left) bytes verdict consumes v stays = record { bytes = bytes ++ left; whole = sym consumes; is_verdict = stays left }
+stays_judged : (from to : Option (List ℕ)) (bytes : List ℕ) (found : Finding) → Consumes from to bytes → IsFinding bytes found
+    → ((more : List ℕ) → IsFinding (bytes ++ more) found) → IsFoundOn from found
+stays_judged None to bytes found consumes f stays = record { bytes = bytes; whole = tt; is_finding = f }
+stays_judged (Some known) None bytes found consumes f stays = absurd consumes
+stays_judged (Some known) (Some left) bytes found consumes f stays = record { bytes = bytes ++ left; whole = sym consumes; is_finding = stays left }
 
-pub judged : (from to : LoggedReaderState) (verdict : Verdict) → FaultStays → Audits from to (Ok verdict) → IsVerdictOn from.remaining verdict
-judged from to (Legal records rest) stays a = legal_judged from.remaining to.remaining a.input records rest a.consumes a.met.0 a.answers
-judged from to (Illegal place expected) stays a =
-    stays_judged from.remaining to.remaining a.input (Illegal place expected) a.consumes a.answers (λ more. stays a.input more (Illegal place expected) tt a.answers)
-judged from to (Malformed at) stays a =
-    stays_judged from.remaining to.remaining a.input (Malformed at) a.consumes a.answers (λ more. stays a.input more (Malformed at) tt a.answers)
+judged_so : (from to : LoggedReaderState) (bytes : List ℕ) (verdict : Verdict) (ending : Ending) → FaultStays → Consumes from.remaining to.remaining bytes → IsJudgedAt from to verdict
+    → IsFinding bytes (record { verdict = verdict; ending = ending }) → IsFoundOn from.remaining (record { verdict = verdict; ending = ending })
+judged_so from to bytes (Legal records rest) ending stays consumes met f = legal_judged from.remaining to.remaining bytes (record { verdict = Legal records rest; ending = ending }) consumes met.0 f
+judged_so from to bytes (Illegal place expected) ending stays consumes met f =
+    stays_judged from.remaining to.remaining bytes (record { verdict = Illegal place expected; ending = ending }) consumes f
+    (λ more. record { verdict = stays bytes more (Illegal place expected) tt f.verdict; ending = f.ending })
+judged_so from to bytes (Malformed at) ending stays consumes met f =
+    stays_judged from.remaining to.remaining bytes (record { verdict = Malformed at; ending = ending }) consumes f
+    (λ more. record { verdict = stays bytes more (Malformed at) tt f.verdict; ending = f.ending })
 
-pub verdict_written : (input : Option (List ℕ)) (old new : LoggedWriterState) (verdict : Verdict) (line : List ℕ) → IsVerdictOn input verdict → line ≡ verdict_line verdict → Writes old new line
-    → AuditEnds input old new (verdict_end verdict)
-verdict_written input old new (Legal records rest) line j is writes =
-    record { verdict = Legal records rest; judged = j; writes = subst (Writes old new) is writes; end_is = refl }
-verdict_written input old new (Illegal place expected) line j is writes =
-    record { verdict = Illegal place expected; judged = j; writes = subst (Writes old new) is writes; end_is = refl }
-verdict_written input old new (Malformed at) line j is writes =
-    record { verdict = Malformed at; judged = j; writes = subst (Writes old new) is writes; end_is = refl }
+pub judged : (from to : LoggedReaderState) (found : Finding) → FaultStays → Audits from to (Ok found) → IsFoundOn from.remaining found
+judged from to found stays a = judged_so from to a.input found.verdict found.ending stays a.consumes a.met a.answers
 
-pub front_written : (input : Option (List ℕ)) (old new : LoggedWriterState) (verdict : Verdict) (line : List ℕ) (end : JobEnd) → IsVerdictOn input verdict → line ≡ verdict_line verdict → AppendsFront old new line
-    → end ≡ ended.CannotWrite → AuditEnds input old new end
-front_written input old new verdict line end j is front e =
-    subst (AuditEnds input old new) (sym e) (record { verdict = verdict; judged = j; front = subst (AppendsFront old new) is front })
+-- the ends of an audit whose verdict is written
+legal_written : (wanted : Demand) (rest : ℕ) (ending : Ending) (input : Option (List ℕ)) (old new : LoggedWriterState) → WritesVerdict wanted input old new (legal_end wanted rest ending)
+    → AuditEnds wanted input old new (legal_end wanted rest ending)
+legal_written demand.Legal rest ending input old new w = w
+legal_written demand.Complete rest Open input old new w = w
+legal_written demand.Complete rest Closed input old new w = go (rest == 0) w
+  where
+    go : (b : Bool) → WritesVerdict demand.Complete input old new (if b then ended.Done else ended.Incomplete) → AuditEnds demand.Complete input old new (if b then ended.Done else ended.Incomplete)
+    go true w = w
+    go false w = w
+
+all_written : (wanted : Demand) (verdict : Verdict) (ending : Ending) (input : Option (List ℕ)) (old new : LoggedWriterState) → WritesVerdict wanted input old new (verdict_end wanted verdict ending)
+    → AuditEnds wanted input old new (verdict_end wanted verdict ending)
+all_written wanted (Legal records rest) ending input old new w = legal_written wanted rest ending input old new w
+all_written wanted (Illegal place expected) ending input old new w = w
+all_written wanted (Malformed at) ending input old new w = w
+
+pub verdict_written : (wanted : Demand) (input : Option (List ℕ)) (old new : LoggedWriterState) (found : Finding) (line : List ℕ) → IsFoundOn input found → line ≡ verdict_line found.verdict → Writes old new line
+    → AuditEnds wanted input old new (verdict_end wanted found.verdict found.ending)
+verdict_written wanted input old new found line j is writes =
+    all_written wanted found.verdict found.ending input old new (record { found = found; judged = j; writes = subst (Writes old new) is writes; end_is = refl })
+
+pub front_written : (wanted : Demand) (input : Option (List ℕ)) (old new : LoggedWriterState) (found : Finding) (line : List ℕ) (end : JobEnd) → IsFoundOn input found → line ≡ verdict_line found.verdict → AppendsFront old new line
+    → end ≡ ended.CannotWrite → AuditEnds wanted input old new end
+front_written wanted input old new found line end j is front e =
+    subst (AuditEnds wanted input old new) (sym e) (record { found = found; judged = j; front = subst (AppendsFront old new) is front })
 
 -- ---- the reads
 
 -- no read failed where there is a verdict
-pub read_well : (from to : LoggedReaderState) (verdict : Verdict) → Audits from to (Ok verdict) → to.log.failed ≡ from.log.failed
-read_well from to (Legal records rest) a = a.met.1
-read_well from to (Illegal place expected) a = a.met
-read_well from to (Malformed at) a = a.met
+met_well : (from to : LoggedReaderState) (verdict : Verdict) → IsJudgedAt from to verdict → to.log.failed ≡ from.log.failed
+met_well from to (Legal records rest) met = met.1
+met_well from to (Illegal place expected) met = met
+met_well from to (Malformed at) met = met
 
-pub verdict_of_none : (verdict : Verdict) → verdict_end verdict ≡ ended.CannotRead → ⊥
-verdict_of_none (Legal records rest) e = cc
-verdict_of_none (Illegal place expected) e = cc
-verdict_of_none (Malformed at) e = cc
+pub read_well : (from to : LoggedReaderState) (found : Finding) → Audits from to (Ok found) → to.log.failed ≡ from.log.failed
+read_well from to found a = met_well from to found.verdict a.met
+
+legal_of_none : (wanted : Demand) (rest : ℕ) (ending : Ending) → legal_end wanted rest ending ≡ ended.CannotRead → ⊥
+legal_of_none demand.Legal rest ending e = cc
+legal_of_none demand.Complete rest Open e = cc
+legal_of_none demand.Complete rest Closed e = go (rest == 0) e
+  where
+    go : (b : Bool) → (if b then ended.Done else ended.Incomplete) ≡ ended.CannotRead → ⊥
+    go true e = cc
+    go false e = cc
+
+pub verdict_of_none : (wanted : Demand) (verdict : Verdict) (ending : Ending) → verdict_end wanted verdict ending ≡ ended.CannotRead → ⊥
+verdict_of_none wanted (Legal records rest) ending e = legal_of_none wanted rest ending e
+verdict_of_none wanted (Illegal place expected) ending e = cc
+verdict_of_none wanted (Malformed at) ending e = cc

@@ -152,7 +152,7 @@ serve_fills =
     (required_fills (codes "socket"), (required_fills (codes "sessions"), (required_fills (codes "records"), (required_fills (codes "trace"), (option_fills (codes "pipe-capacity"), added_fill)))))
 
 audit_fills : Each audit_shape.rules
-audit_fills = (file_fills, added_fill)
+audit_fills = (flag_fills (codes "complete"), (file_fills, added_fill))
 
 show_fills : Each show_shape.rules
 show_fills = (flag_fills (codes "acts"), (file_fills, added_fill))
@@ -202,7 +202,7 @@ audit_gives : (words : List Text) → level_fault audit_shape [] nothing_held wo
 audit_gives words e =
     let rows = rows_after audit_shape.rules [] words in
     let level = level_filled audit_shape audit_fills [] words false [] e in
-    (none_missing audit_shape.rules rows level.0 (passes _ level.2)).0 refl
+    (none_missing audit_shape.rules rows level.0 (passes _ level.2)).1.0 refl
 
 show_gives : (words : List Text) → level_fault show_shape [] nothing_held words false [] ≡ []
     → GivesFile (λ id. first_of id (rows_after show_shape.rules [] words))

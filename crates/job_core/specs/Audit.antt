@@ -1,12 +1,17 @@
 -- What an audit writes, and what its end says (own).
-use Rattle.std.specs.Prelude.{◌≡◌, ℕ, List, ◌++◌, Option, None, Some, IfSome, codes, decimal}
+use Rattle.std.specs.Prelude.{◌≡◌, ◌==◌, if◌then◌else◌, ℕ, List, ◌++◌, Option, None, Some, IfSome, codes, decimal}
 use Rattle.call_types.specs.declared.outcome.Outcome.{Outcome}
 use Rattle.logged_streams.specs.Streams.{LoggedWriterState, Writes}
 use Rattle.script_text.specs.Lines.{outcome_text}
-use Rattle.audit_core.specs.Verdict.{IsVerdict}
+use Rattle.audit_core.specs.Verdict.{IsFinding}
+use Rattle.audit_core.specs.declared.verdict.Ending.{Ending}
+use Rattle.audit_core.specs.declared.verdict.Ending.TheVariants.{Closed, Open}
+use Rattle.audit_core.specs.declared.verdict.Finding.{Finding}
 use Rattle.audit_core.specs.declared.verdict.Verdict.{Verdict}
 use Rattle.audit_core.specs.declared.verdict.Verdict.TheVariants.{Legal, Illegal, Malformed}
 use Rattle.job_core.specs.Output.{AppendsFront}
+use Rattle.job_core.specs.declared.demand.Demand.{Demand}
+use Rattle.job_core.specs.declared.demand.Demand.TheVariants as demand
 use Rattle.job_core.specs.declared.job_end.JobEnd.{JobEnd}
 use Rattle.job_core.specs.declared.job_end.JobEnd.TheVariants as ended
 
@@ -21,37 +26,45 @@ verdict_line (Legal records rest) = codes "legal " ++ (decimal records ++ (codes
 verdict_line (Illegal place expected) = codes "illegal " ++ (decimal place ++ (codes " expected " ++ (expected_word expected ++ codes "\n")))
 verdict_line (Malformed at) = codes "malformed " ++ (decimal at ++ codes "\n")
 
--- how an audit ends whose verdict is written
-abbrev pub verdict_end : Verdict → JobEnd
-verdict_end (Legal records rest) = ended.Done
-verdict_end (Illegal place expected) = ended.IllegalTrace
-verdict_end (Malformed at) = ended.MalformedTrace
+-- how an audit of a legal trace ends, with so many bytes after its records, which end so: where completeness is demanded, the last of them
+-- has to be the closing, and nothing may come after it
+abbrev pub legal_end : Demand → ℕ → Ending → JobEnd
+legal_end demand.Legal rest ending = ended.Done
+legal_end demand.Complete rest Open = ended.Incomplete
+legal_end demand.Complete rest Closed = if rest == 0 then ended.Done else ended.Incomplete
 
--- the verdict on all the bytes of a trace, which are the input where that is known
-pub record IsVerdictOn (input : Option (List ℕ)) (verdict : Verdict) : Type 0 where
+-- how an audit ends whose verdict is written
+abbrev pub verdict_end : Demand → Verdict → Ending → JobEnd
+verdict_end wanted (Legal records rest) ending = legal_end wanted rest ending
+verdict_end wanted (Illegal place expected) ending = ended.IllegalTrace
+verdict_end wanted (Malformed at) ending = ended.MalformedTrace
+
+-- what is found of all the bytes of a trace, which are the input where that is known
+pub record IsFoundOn (input : Option (List ℕ)) (found : Finding) : Type 0 where
   pub bytes : List ℕ
   pub whole : IfSome input (λ known. bytes ≡ known)
-  pub is_verdict : IsVerdict bytes verdict
+  pub is_finding : IsFinding bytes found
 
--- its line was written, and nothing else, and the end is that of this verdict
-pub record WritesVerdict (input : Option (List ℕ)) (old new : LoggedWriterState) (end : JobEnd) : Type 0 where
-  pub verdict : Verdict
-  pub judged : IsVerdictOn input verdict
-  pub writes : Writes old new (verdict_line verdict)
-  pub end_is : end ≡ verdict_end verdict
+-- the line of the verdict was written, and nothing else, and the end is that of what was found
+pub record WritesVerdict (wanted : Demand) (input : Option (List ℕ)) (old new : LoggedWriterState) (end : JobEnd) : Type 0 where
+  pub found : Finding
+  pub judged : IsFoundOn input found
+  pub writes : Writes old new (verdict_line found.verdict)
+  pub end_is : end ≡ verdict_end wanted found.verdict found.ending
 
--- a front of its line was written, and nothing else
+-- a front of that line was written, and nothing else
 pub record WritesVerdictFront (input : Option (List ℕ)) (old new : LoggedWriterState) : Type 0 where
-  pub verdict : Verdict
-  pub judged : IsVerdictOn input verdict
-  pub front : AppendsFront old new (verdict_line verdict)
+  pub found : Finding
+  pub judged : IsFoundOn input found
+  pub front : AppendsFront old new (verdict_line found.verdict)
 
--- what the end of an audit says of what was written
-abbrev pub AuditEnds : Option (List ℕ) → LoggedWriterState → LoggedWriterState → JobEnd → Type 0
-AuditEnds input old new ended.Done = WritesVerdict input old new ended.Done
-AuditEnds input old new ended.IllegalTrace = WritesVerdict input old new ended.IllegalTrace
-AuditEnds input old new ended.MalformedTrace = WritesVerdict input old new ended.MalformedTrace
-AuditEnds input old new ended.CannotWrite = WritesVerdictFront input old new
-AuditEnds input old new ended.CannotRead = new ≡ old
-AuditEnds input old new ended.NoMemory = new ≡ old
-AuditEnds input old new other = ⊥
+-- what the end of an audit with this demand says of what was written
+abbrev pub AuditEnds : Demand → Option (List ℕ) → LoggedWriterState → LoggedWriterState → JobEnd → Type 0
+AuditEnds wanted input old new ended.Done = WritesVerdict wanted input old new ended.Done
+AuditEnds wanted input old new ended.Incomplete = WritesVerdict wanted input old new ended.Incomplete
+AuditEnds wanted input old new ended.IllegalTrace = WritesVerdict wanted input old new ended.IllegalTrace
+AuditEnds wanted input old new ended.MalformedTrace = WritesVerdict wanted input old new ended.MalformedTrace
+AuditEnds wanted input old new ended.CannotWrite = WritesVerdictFront input old new
+AuditEnds wanted input old new ended.CannotRead = new ≡ old
+AuditEnds wanted input old new ended.NoMemory = new ≡ old
+AuditEnds wanted input old new other = ⊥

@@ -9,6 +9,8 @@ use Rattle.clap.specs.declared.error.kind.ErrorKind.{ErrorKind}
 use Rattle.clap.specs.declared.error.kind.ErrorKind.TheVariants as kind
 use Rattle.call_types.specs.declared.limits.Limits.{Limits}
 use Rattle.call_types.specs.declared.limits.TheConstants.{RECORDS_MAX, FILE_SIZE_MAX, PIPE_CAPACITY_MIN, PIPE_CAPACITY_MAX}
+use Rattle.job_core.specs.declared.demand.Demand.{Demand}
+use Rattle.job_core.specs.declared.demand.Demand.TheVariants as demand
 use Rattle.job_core.specs.declared.job.Job.{Job}
 use Rattle.job_core.specs.declared.job.Job.TheVariants.{Replay, Serve, Audit, Show, Migrate, Outcomes}
 use Rattle.job_core.specs.declared.shown.Form.{Form}
@@ -55,9 +57,9 @@ serve_app = with_rule
     (required_rule (codes "trace")))
     (option_rule (codes "pipe-capacity"))
 
--- the subcommand `audit`, with its file
+-- the subcommand `audit`, with its one option and its file
 abbrev pub audit_app : App
-audit_app = with_rule (new_app (codes "audit")) file_rule
+audit_app = with_rule (with_rule (new_app (codes "audit")) (flag_rule (codes "complete"))) file_rule
 
 -- the subcommand `show`, with its one option and its file
 abbrev pub show_app : App
@@ -189,6 +191,16 @@ abbrev pub form_of : Option Text → Form
 form_of None = form.Records
 form_of (Some text) = if bytes_eq text (codes "true") then form.Acts else form.Records
 
+-- what is demanded of a trace that is audited: that it is complete, where that option is used
+abbrev pub demand_of : Option Text → Demand
+demand_of None = demand.Legal
+demand_of (Some text) = if bytes_eq text (codes "true") then demand.Complete else demand.Legal
+
+-- path and demand are those of a trace that is to be audited
+pub record IsAudit (given : Given) (path : Text) (wanted : Demand) : Type 0 where
+  pub file : given (codes "file") ≡ Some path
+  pub demand : wanted ≡ demand_of (given (codes "complete"))
+
 -- path and form are those of a trace that is to be shown
 pub record IsShow (given : Given) (path : Text) (how : Form) : Type 0 where
   pub file : given (codes "file") ≡ Some path
@@ -215,7 +227,7 @@ pub record IsOutcomes (given : Given) (limits : Limits) (most : ℕ) (telling : 
 abbrev pub IsJobOf : Option Text → Given → Job → Type 0
 IsJobOf name given (Replay limits) = (name ≡ Some (codes "replay")) × IsReplay given limits
 IsJobOf name given (Serve path count limits file) = (name ≡ Some (codes "serve")) × IsServe given (string_bytes path) count limits (string_bytes file)
-IsJobOf name given (Audit path) = (name ≡ Some (codes "audit")) × (given (codes "file") ≡ Some (string_bytes path))
+IsJobOf name given (Audit path wanted) = (name ≡ Some (codes "audit")) × IsAudit given (string_bytes path) wanted
 IsJobOf name given (Show path how) = (name ≡ Some (codes "show")) × IsShow given (string_bytes path) how
 IsJobOf name given (Migrate from to) = (name ≡ Some (codes "migrate")) × IsMigrate given (string_bytes from) (string_bytes to)
 IsJobOf name given (Outcomes limits most telling) = (name ≡ Some (codes "outcomes")) × IsOutcomes given limits most telling

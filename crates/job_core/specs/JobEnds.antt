@@ -29,6 +29,7 @@ ended_status ended.NoRace = 3
 ended_status (ended.TooManyStates most) = 9
 ended_status ended.NoneAgrees = 1
 ended_status ended.NoSuchOutcome = 1
+ended_status ended.Incomplete = 1
 
 -- why a line of a race cannot stand where it does, and what can (own)
 abbrev pub unfit_text : Unfit → List ℕ
@@ -62,3 +63,4 @@ ended_text ended.NoRace = codes "no race\nexpected a line race after the acts be
 ended_text (ended.TooManyStates most) = codes "too many states: more than " ++ (decimal most ++ codes "\n")
 ended_text ended.NoneAgrees = []
 ended_text ended.NoSuchOutcome = codes "no such outcome\n"
+ended_text ended.Incomplete = codes "not complete\nexpected house close-run as the last record, and nothing after it\n"

@@ -1,14 +1,15 @@
 //! The audit of a trace, and the line of its verdict.
 
 ghost use Rattle.std.specs.Prelude.{◌≡◌, ◌++◌, IfOk, OnOk};
-ghost use Rattle.job_core.specs.Audit.{AuditEnds, expected_word, verdict_end, verdict_line};
+ghost use Rattle.job_core.specs.Audit.{AuditEnds, expected_word, legal_end, verdict_end, verdict_line};
 ghost use Rattle.job_core.specs.Reads.{ReadsFew};
 
+use crate::demand::Demand;
 use crate::job_end::JobEnd;
 use crate::output::write_lines;
 use audit_core::audit::{AuditFault, READS_MAX, audit};
 use audit_core::laws::faults_stay;
-use audit_core::verdict::Verdict;
+use audit_core::verdict::{Ending, Verdict};
 use call_types::outcome::Outcome;
 use logged_streams::reader::LoggedReader;
 use logged_streams::writer::LoggedWriter;
@@ -53,38 +54,54 @@ fn line_of(alloc: Global, verdict: &Verdict) -> Result<Vec<u8>, AllocError>
     }
 }
 
+/// How an audit of a legal trace ends, with so many bytes after its records, which end so.
+fn legal_end(demand: Demand, rest: u64, ending: Ending) -> JobEnd
+    ensures { result ≡ legal_end demand rest ending }
+{
+    match demand {
+        Demand::Legal => JobEnd::Done,
+        Demand::Complete => match ending {
+            Ending::Open => JobEnd::Incomplete,
+            Ending::Closed if rest == 0 => JobEnd::Done,
+            Ending::Closed => JobEnd::Incomplete,
+        },
+    }
+}
+
 /// How an audit ends whose verdict is written.
-fn end_of(verdict: &Verdict) -> JobEnd
-    ensures { result ≡ verdict_end verdict.now }
+fn end_of(demand: Demand, verdict: &Verdict, ending: Ending) -> JobEnd
+    ensures { result ≡ verdict_end demand verdict.now ending }
 {
     match verdict {
-        Verdict::Legal { .. } => JobEnd::Done,
+        Verdict::Legal { rest, .. } => legal_end(demand, *rest, ending),
         Verdict::Illegal { .. } => JobEnd::IllegalTrace,
         Verdict::Malformed { .. } => JobEnd::MalformedTrace,
     }
 }
 
-/// Audits the trace that a reader gives, and writes the line of the verdict. What comes after the first fault need not be read.
+/// Audits the trace that a reader gives, writes the line of the verdict, and ends by what is demanded. What comes after the first fault
+/// need not be read.
 pub fn audit_file<R: Read, W: Write>(
     alloc: Global,
     reader: &mut LoggedReader<R>,
     writer: &mut LoggedWriter<W>,
+    demand: Demand,
 ) -> JobEnd
-    ensures ends { AuditEnds reader.old.remaining writer.old writer.new result }
+    ensures ends { AuditEnds demand reader.old.remaining writer.old writer.new result }
     ensures reads { ReadsFew READS_MAX reader.old.log reader.new.log result }
 {
     faults_stay();
-    let verdict = match audit(alloc, reader) {
-        Ok(verdict) => verdict,
+    let found = match audit(alloc, reader) {
+        Ok(found) => found,
         Err(AuditFault::Read) => return JobEnd::CannotRead,
         Err(AuditFault::NoMemory) => return JobEnd::NoMemory,
     };
-    let line = match line_of(alloc, &verdict) {
+    let line = match line_of(alloc, &found.verdict) {
         Ok(line) => line,
         Err(_) => return JobEnd::NoMemory,
     };
     match write_lines(writer, line.as_slice()) {
-        Ok(()) => end_of(&verdict),
+        Ok(()) => end_of(demand, &found.verdict, found.ending),
         Err(ended) => ended,
     }
 }

@@ -5,9 +5,11 @@ ghost use Rattle.job_core.specs.declared.telling.Telling.TheVariants as told;
 ghost use Rattle.clap.specs.Words.{app_of, found_of, first_value, fault_of, kind_of, new_app, rule_of};
 ghost use Rattle.clap.specs.declared.builder.command.Command.TheViews.{out-Command as fields_of};
 ghost use Rattle.call_types.specs.declared.limits.TheConstants.{FILE_SIZE_MAX};
-ghost use Rattle.job_core.specs.CommandLine.{Asks, Deserves, IsCapacity, IsJobOf, IsNoCapacity, IsNoNumber, IsNoRecords, IsNoStates, IsNoTelling, IsNumber, IsOutcome, IsRecords, IsStates, IsTelling, IsTold, SaysNotText, audit_app, bare_app, fdref_app, file_rule, flag_rule, form_of, line, migrate_app, name_given, option_rule, outcomes_app, replay_app, required_rule, serve_app, show_app, status_of, text_given, word_rule};
-ghost use Rattle.job_core.specs.Proved.Parsing.{GivesAll, GivesBoth, GivesFile, HaveApps, HaveRules, IsFaultOf, IsParse, RefusesNumber, migrated, served, shown, witnessed};
+ghost use Rattle.job_core.specs.declared.demand.Demand.TheVariants as demand;
+ghost use Rattle.job_core.specs.CommandLine.{Asks, Deserves, IsCapacity, IsJobOf, IsNoCapacity, IsNoNumber, IsNoRecords, IsNoStates, IsNoTelling, IsNumber, IsOutcome, IsRecords, IsStates, IsTelling, IsTold, SaysNotText, audit_app, bare_app, demand_of, fdref_app, file_rule, flag_rule, form_of, line, migrate_app, name_given, option_rule, outcomes_app, replay_app, required_rule, serve_app, show_app, status_of, text_given, word_rule};
+ghost use Rattle.job_core.specs.Proved.Parsing.{GivesAll, GivesBoth, GivesFile, HaveApps, HaveRules, IsFaultOf, IsParse, RefusesNumber, completed, migrated, served, shown, witnessed};
 
+use crate::demand::Demand;
 use crate::shown::Form;
 use crate::telling::Telling;
 use call_types::limits::{
@@ -79,9 +81,10 @@ pub enum Job {
         limits: Limits,
         trace: String,
     },
-    /// To judge the trace in this file.
+    /// To judge the trace in this file, of which so much is demanded.
     Audit {
         file: String,
+        demand: Demand,
     },
     /// To show the records of the trace in this file, in this form.
     Show {
@@ -171,8 +174,9 @@ const AUDIT_HELP: &str = "Reads a trace that 'fdref serve' wrote, or a program o
 Writes 'legal N rest B', 'illegal PLACE expected OUTCOME' or 'malformed AT'.
 Where the trace tells how many records its run may have, a record after which too
 few are left for the exits and the closing is illegal too.
-Ends with 0 where it is legal, 7 where it is illegal, 8 where it is malformed,
-4 where FILE cannot be read or output failed, 5 for want of memory.
+Ends with 0 where it is legal, 1 where it is not complete and has to be, 7 where it
+is illegal, 8 where it is malformed, 4 where FILE cannot be read or output failed, 5
+for want of memory.
 
 Example:
   fdref audit /tmp/fdref.trace";
@@ -358,7 +362,12 @@ fn audit_command<'a>(alloc: Global) -> Result<Command<'a>, AllocError>
     ensures local { IfOk result (λ c. (fields_of c).has_globals ≡ false) }
 {
     let about = "Prints whether each record of a trace is what the model gives";
-    described_command(alloc, "audit", about, AUDIT_HELP).arg(file_arg(alloc))
+    let complete = "Demand that the trace ends with the closing of its run";
+    let args = list_of(
+        alloc,
+        [flag_arg(alloc, "complete", complete), file_arg(alloc)],
+    )?;
+    described_command(alloc, "audit", about, AUDIT_HELP).args(args)
 }
 
 /// The subcommand `show`.
@@ -739,14 +748,25 @@ fn serve_job(alloc: Global, matches: &ArgMatches<'_>) -> Result<Job, JobFault>
     })
 }
 
+/// The demand that the value of `--complete` stands for.
+fn demand_of(text: Option<&str>) -> Demand
+    ensures { result ≡ demand_of (option_map (λ s. s.now) text.entry) }
+{
+    match text {
+        Some(text) if text == "true" => Demand::Complete,
+        _ => Demand::Legal,
+    }
+}
+
 /// The job that the matches of `audit` ask for, in which its file is given.
 fn audit_job(alloc: Global, matches: &ArgMatches<'_>) -> Result<Job, JobFault>
     requires { GivesFile (first_value (found_of matches.now)) }
     ensures job { IfOk result (λ job. IsJobOf (Some (codes "audit")) (first_value (found_of matches.now)) job) }
     ensures fault { IfErr result (λ fault. RefusesNumber (Some (codes "audit")) (first_value (found_of matches.now)) fault) }
 {
+    let demand = demand_of(matches.get_str("complete"));
     let file = String::from_str(alloc, text_of(matches, "file"))?;
-    Ok(Job::Audit { file })
+    Ok(Job::Audit { file, demand })
 }
 
 /// The form that the value of `--acts` stands for.
@@ -890,6 +910,9 @@ pub fn lines_read()
     ensures file { text_given (line (codes "audit" ∷ codes "t" ∷ [])) (codes "file") ≡ Some (codes "t") }
     ensures no_file { fault_of fdref_app (line (codes "audit" ∷ [])) ≡ ErrorKind.MissingRequiredArgument ∷ [] }
     ensures two_files { fault_of fdref_app (line (codes "audit" ∷ codes "t" ∷ codes "u" ∷ [])) ≡ ErrorKind.UnknownArgument ∷ [] }
+    ensures audit_alone { demand_of (text_given (line (codes "audit" ∷ codes "t" ∷ [])) (codes "complete")) ≡ demand.Legal }
+    ensures complete { (fault_of fdref_app (line completed) ≡ []) × (name_given (line completed) ≡ Some (codes "audit")) }
+    ensures demand_of_complete { (text_given (line completed) (codes "file") ≡ Some (codes "t")) × (demand_of (text_given (line completed) (codes "complete")) ≡ demand.Complete) }
     ensures show { (fault_of fdref_app (line shown) ≡ []) × (name_given (line shown) ≡ Some (codes "show")) }
     ensures acts { (text_given (line shown) (codes "file") ≡ Some (codes "t")) × (form_of (text_given (line shown) (codes "acts")) ≡ form.Acts) }
     ensures records_alone { form_of (text_given (line (codes "show" ∷ codes "t" ∷ [])) (codes "acts")) ≡ form.Records }

@@ -71,6 +71,8 @@ pub enum JobEnd {
     },
     /// A record of the trace is not what the model gives; the verdict was written.
     IllegalTrace,
+    /// The trace is legal, but it has bytes after its last whole record, or that is not the closing of its run; the verdict was written.
+    Incomplete,
     /// The trace has no header, or a frame that spells no record; the verdict was written, or the line of its migration.
     MalformedTrace,
     /// All whole records were shown, and so many bytes of one, or of the header, that is not finished are left over.
@@ -110,7 +112,7 @@ impl JobEnd {
     {
         match self {
             JobEnd::Done | JobEnd::Rest { .. } => 0,
-            JobEnd::NoneAgrees | JobEnd::NoSuchOutcome => 1,
+            JobEnd::NoneAgrees | JobEnd::NoSuchOutcome | JobEnd::Incomplete => 1,
             JobEnd::BadLine { .. } | JobEnd::TooLong => 3,
             JobEnd::BadRace { .. } | JobEnd::BadAnswer { .. } | JobEnd::NoRace => 3,
             JobEnd::CannotRead | JobEnd::CannotWrite | JobEnd::CannotListen | JobEnd::TraceFault =>
@@ -164,6 +166,9 @@ impl fmt::Display for JobEnd {
             ),
             JobEnd::TooManyStates { most } => write!(f, "too many states: more than {most}\n"),
             JobEnd::NoSuchOutcome => f.write_str("no such outcome\n"),
+            JobEnd::Incomplete => f.write_str(
+                "not complete\nexpected house close-run as the last record, and nothing after it\n",
+            ),
         }
     }
 }

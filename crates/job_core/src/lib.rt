@@ -3,6 +3,7 @@
 #![tactic(auto)]
 
 pub mod audit_file;
+pub mod demand;
 pub mod job;
 pub mod job_end;
 pub mod migrate_file;

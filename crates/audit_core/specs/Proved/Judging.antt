@@ -14,26 +14,27 @@ use Rattle.posix_model.specs.History.{empty_world, after}
 use Rattle.posix_model.specs.Reserve.{can_end}
 use Rattle.audit_core.specs.declared.judge.Judged.{Judged}
 use Rattle.audit_core.specs.declared.judge.Judged.TheVariants as judged
-use Rattle.audit_core.specs.Verdict.{BreaksAt}
+use Rattle.audit_core.specs.Verdict.{BreaksAt, ended_by}
+use Rattle.audit_core.specs.declared.verdict.Ending.TheVariants.{Open}
 use Rattle.audit_core.specs.JudgeState.{JudgeState, HasJudged}
 
 -- before the first record
 abbrev pub fresh_judge : ToldLimits → JudgeState
-fresh_judge told = record { told = told; world = empty_world; place = 0 }
+fresh_judge told = record { told = told; world = empty_world; place = 0; ending = Open }
 
 -- after what led to this world, at the same place
 abbrev pub in_world : JudgeState → World → JudgeState
-in_world j w = record { told = j.told; world = w; place = j.place }
+in_world j w = record { told = j.told; world = w; place = j.place; ending = j.ending }
 
--- after one record more, which led to this world
-abbrev pub one_more : JudgeState → World → JudgeState
-one_more j w = record { told = j.told; world = w; place = told_place (j.place + 1) }
+-- after one record more, which is about this act and led to this world
+abbrev pub one_more : JudgeState → Act → World → JudgeState
+one_more j act w = record { told = j.told; world = w; place = told_place (j.place + 1); ending = ended_by act }
 
 -- the record is what the model gives, the run can be ended after it, and the world goes on
 pub record GoesOn (old new : JudgeState) (r : Record) : Type 0 where
   pub outcome : outcome_of old.told.bounds old.world r.actor r.act ≡ Some r.outcome
   pub ends : can_end old.told.records (after old.told.bounds old.world r) (old.place + 1) ≡ true
-  pub new_is : new ≡ one_more old (after old.told.bounds old.world r)
+  pub new_is : new ≡ one_more old r.act (after old.told.bounds old.world r)
 
 -- the model gives something else or nothing
 pub record StopsAt (old new : JudgeState) (r : Record) (expected : Option Outcome) : Type 0 where

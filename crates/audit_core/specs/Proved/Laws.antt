@@ -8,13 +8,18 @@ use Rattle.frame_codec.specs.declared.trace.ToldLimits.{ToldLimits}
 use Rattle.posix_model.specs.History.{legal}
 use Rattle.posix_model.specs.Reserve.{IsLegalRun}
 use Rattle.audit_core.specs.Trace.{HaveFrames, IsAtFault}
-use Rattle.audit_core.specs.Verdict.{IsVerdict}
+use Rattle.audit_core.specs.Verdict.{IsEnding, IsVerdict}
+use Rattle.audit_core.specs.declared.verdict.Ending.{Ending}
 use Rattle.audit_core.specs.declared.verdict.Verdict.{Verdict}
 use Rattle.audit_core.specs.declared.verdict.Verdict.TheVariants.{Legal}
 
 -- bytes have one verdict
 abbrev pub OneVerdict : Type 0
 OneVerdict = (bytes : List ℕ) (v u : Verdict) → IsVerdict bytes v → IsVerdict bytes u → v ≡ u
+
+-- the records of bytes with a verdict end in one way
+abbrev pub OneEnding : Type 0
+OneEnding = (bytes : List ℕ) (v : Verdict) (e f : Ending) → IsEnding bytes v e → IsEnding bytes v f → e ≡ f
 
 -- the text of a legal run is legal, with all its records and no rest
 abbrev pub TextIsLegal : Type 0

@@ -5,7 +5,8 @@ use Rattle.frame_codec.specs.declared.decoder.Progress.{Progress}
 use Rattle.frame_codec.specs.declared.decoder.Progress.TheVariants as progress
 use Rattle.frame_codec.specs.declared.trace.ToldLimits.{ToldLimits}
 use Rattle.audit_core.specs.Proved.Judging.{fresh_judge}
-use Rattle.audit_core.specs.Verdict.{IsIllegal, IsMalformedAt, IsVerdict}
+use Rattle.audit_core.specs.Verdict.{IsFinding, IsIllegal, IsMalformedAt, IsVerdict}
+use Rattle.audit_core.specs.declared.verdict.Finding.{Finding}
 use Rattle.audit_core.specs.declared.verdict.Verdict.{Verdict}
 use Rattle.audit_core.specs.declared.verdict.Verdict.TheVariants.{Legal, Illegal, Malformed}
 use Rattle.audit_core.specs.TraceState.{BodyState, TraceState, IsJudging, IsTaking}
@@ -59,5 +60,5 @@ abbrev pub TakesPiece : List ℕ → TraceState → TraceState → Option Verdic
 TakesPiece piece old new found = (input : List ℕ) → IsTaking input old → length (input ++ piece) < 2 ^ 64 → IsFound (input ++ piece) new found
 
 -- no byte comes after those that were taken
-abbrev pub Ends : TraceState → Verdict → Type 0
-Ends t verdict = (input : List ℕ) → IsTaking input t → IsVerdict input verdict
+abbrev pub Ends : TraceState → Finding → Type 0
+Ends t found = (input : List ℕ) → IsTaking input t → IsFinding input found

@@ -65,9 +65,11 @@ fn expected_at(place: u64, expected: &Option<Outcome>) -> Said {
 fn said_of<R: Read + Drop>(alloc: Global, reader: R) -> Said {
     let mut reader = LoggedReader::new(reader);
     match audit(alloc, &mut reader) {
-        Ok(Verdict::Legal { records, rest }) => Said::Legal(records, rest),
-        Ok(Verdict::Illegal { place, expected }) => expected_at(place, &expected),
-        Ok(Verdict::Malformed { at }) => Said::Malformed(at),
+        Ok(found) => match found.verdict {
+            Verdict::Legal { records, rest } => Said::Legal(records, rest),
+            Verdict::Illegal { place, expected } => expected_at(place, &expected),
+            Verdict::Malformed { at } => Said::Malformed(at),
+        },
         Err(AuditFault::Read) => Said::ReadFault,
         Err(AuditFault::NoMemory) => Said::NoMemory,
     }

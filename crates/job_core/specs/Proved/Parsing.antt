@@ -1,5 +1,5 @@
 -- How words are read (own).
-use Rattle.std.specs.Prelude.{◌≡◌, ◌≢◌, ◌∷◌, List, [], Option, false, true, codes, is_some, ⊤}
+use Rattle.std.specs.Prelude.{◌≡◌, ◌≢◌, ◌∷◌, ◌⊎◌, List, [], Option, Some, false, true, codes, is_some, ⊤}
 use Rattle.clap.specs.Words.{App, Rule, Text, app_of, fault_of, kind_of, rule_of, subcommand_of, subcommand_rows_of}
 use Rattle.clap.specs.declared.builder.arg.Arg.{Arg}
 use Rattle.clap.specs.declared.builder.command.Command.{Command}
@@ -18,6 +18,10 @@ served = codes "serve" ∷ codes "--socket" ∷ codes "s" ∷ codes "--sessions"
 -- words that ask for the acts of a trace
 abbrev pub shown : List Text
 shown = codes "show" ∷ codes "--acts" ∷ codes "t" ∷ []
+
+-- words that ask whether a trace is complete
+abbrev pub completed : List Text
+completed = codes "audit" ∷ codes "--complete" ∷ codes "t" ∷ []
 
 -- words that ask for a migration
 abbrev pub migrated : List Text

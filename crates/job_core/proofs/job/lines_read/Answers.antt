@@ -71,6 +71,18 @@ pub returns-clause-two_files : goal.returns-clause-two_files
 unfolding clap_on_literals
 returns-clause-two_files c = refl
 
+pub returns-clause-audit_alone : goal.returns-clause-audit_alone
+unfolding clap_on_literals
+returns-clause-audit_alone c = refl
+
+pub returns-clause-complete : goal.returns-clause-complete
+unfolding clap_on_literals
+returns-clause-complete c = (refl, refl)
+
+pub returns-clause-demand_of_complete : goal.returns-clause-demand_of_complete
+unfolding clap_on_literals
+returns-clause-demand_of_complete c = (refl, refl)
+
 pub returns-clause-show : goal.returns-clause-show
 unfolding clap_on_literals
 returns-clause-show c = (refl, refl)
