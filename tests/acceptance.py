@@ -158,6 +158,8 @@ SERVE = ["serve", "--socket", "/gone/socket", "--sessions", "1", "--records", "9
 @case("complete with a value", "audit", "--complete=true", "/dev/null")
 @case("complete twice", "audit", "--complete", "--complete", "/dev/null")
 @case("complete of what is shown", "show", "--complete", "/dev/null")
+@case("acts without a witness", "outcomes", "--acts")
+@case("acts and states without a witness", "outcomes", "--states", "9", "--acts")
 @case("migrate without a file", "migrate")
 @case("migrate without a file to write", "migrate", "/dev/null")
 @case("migrate with a word too many", "migrate", "/dev/null", "/gone/a", "/gone/b")
@@ -180,6 +182,14 @@ def mistake_is_told(program: str, value: str, option: str, range_of_it: str) -> 
     fault = f"error: invalid value '{value}' for '{option}': not a number from {range_of_it}"
     text = f"{fault}\n\nUsage: fdref replay [OPTIONS]\n\nFor more information, try '--help'."
     expect(run(program, words), status=2, stderr=told(text))
+
+
+@case("text of acts without a witness")
+def missing_witness_is_told(program: str) -> None:
+    """The text that tells what `--acts` lacks, and no outcome."""
+    fault = "error: the following required arguments were not provided:\n  --witness <K>"
+    text = f"{fault}\n\nUsage: fdref outcomes [OPTIONS]\n\nFor more information, try '--help'."
+    expect(run(program, ["outcomes", "--acts"], b"join\np0 pipe\nrace\np0 close 0\n"), status=2, stderr=told(text))
 
 
 @case("version", "fdref 0.1.0", "--version")

@@ -21,8 +21,8 @@ use Rattle.clap.specs.declared.parser.matches.ValueSource.TheVariants.{CommandLi
 use Rattle.clap.specs.declared.error.Error.{Error}
 use Rattle.clap.specs.declared.error.kind.ErrorKind.TheVariants as kind
 use Rattle.clap.proofs.WalkLemmas.{first_value-rows}
-use Rattle.job_core.specs.CommandLine.{Asks, Deserves, Given, IsJobOf, IsMistake, IsOutOfRange, IsRequest, audit_app, fdref_app, file_rule, flag_rule, migrate_app, name_given, option_rule, outcomes_app, replay_app, required_rule, serve_app, show_app, text_given, word_rule}
-use Rattle.job_core.specs.Proved.Parsing.{GivesAll, GivesBoth, GivesFile, HaveApps, HaveRules, IsFaultOf, IsParse, RefusesNumber}
+use Rattle.job_core.specs.CommandLine.{Asks, AsksActsAlone, Deserves, Given, IsJobOf, IsMistake, IsOutOfRange, IsRequest, audit_app, fdref_app, file_rule, flag_rule, migrate_app, name_given, option_rule, outcomes_app, replay_app, required_rule, serve_app, show_app, text_given, word_rule}
+use Rattle.job_core.specs.Proved.Parsing.{GivesAll, GivesBoth, GivesFile, HaveApps, HaveRules, IsFaultOf, IsParse, RefusesNumber, RefusesRace}
 use Rattle.job_core.specs.declared.job.Job.{Job}
 use Rattle.job_core.specs.declared.job.JobFault.{JobFault}
 use Rattle.job_core.specs.declared.job.JobFault.TheVariants.{Usage, Shown, NoMemory}
@@ -87,9 +87,19 @@ pub refused : (words : List Text) (m inner : ArgMatches) (name : Text) (fault : 
     → subcommand_name_of m ≡ Some name → option_map (λ p. p.1) (subcommand_rows_of m) ≡ Some (rows_of (found_of inner))
     → RefusesNumber (Some name) (first_value (found_of inner)) fault → Deserves words fault
 refused words m inner name (Usage e) parse named rows h =
-    inr (parse.parsed, of_words IsOutOfRange words m inner name parse named rows h.0, h.1)
+    inr (inl (parse.parsed, of_words IsOutOfRange words m inner name parse named rows h.0, h.1))
 refused words m inner name (Shown e) parse named rows h = absurd h
 refused words m inner name NoMemory parse named rows h = tt
+
+-- what `outcomes` refuses
+pub refused_race : (words : List Text) (m inner : ArgMatches) (fault : JobFault) → IsParse words m
+    → subcommand_name_of m ≡ Some (codes "outcomes") → option_map (λ p. p.1) (subcommand_rows_of m) ≡ Some (rows_of (found_of inner))
+    → RefusesRace (first_value (found_of inner)) fault → Deserves words fault
+refused_race words m inner (Usage e) parse named rows (inl h) = refused words m inner (codes "outcomes") (Usage e) parse named rows h
+refused_race words m inner (Usage e) parse named rows (inr h) =
+    inr (inr (parse.parsed, of_words (λ n given. (n ≡ Some (codes "outcomes")) × AsksActsAlone given) words m inner (codes "outcomes") parse named rows (refl, h.0), h.1))
+refused_race words m inner (Shown e) parse named rows h = absurd h
+refused_race words m inner NoMemory parse named rows h = tt
 
 -- ---- what words without a fault give
 

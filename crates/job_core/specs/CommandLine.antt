@@ -156,9 +156,10 @@ IsNoStates text = (n : ℕ) → IsStates text n → ⊥
 abbrev pub IsOutcome : Text → ℕ → Type 0
 IsOutcome text n = IsDecimalOf text n × (n ≤ WITNESS_MAX)
 
--- what is told where this text is given to `--witness`, with each witness in this form
+-- what is told where this text is given to `--witness`, with each witness in this form; without witnesses acts are told of none
 abbrev pub IsTold : Option Text → Form → Telling → Type 0
-IsTold None how telling = telling ≡ told.Outcomes
+IsTold None form.Records telling = telling ≡ told.Outcomes
+IsTold None form.Acts telling = ⊥
 IsTold (Some text) how told.Outcomes = ⊥
 IsTold (Some text) how (told.Witness n shape) = IsOutcome text n × (shape ≡ how)
 IsTold (Some text) how (told.Witnesses shape) = (text ≡ codes "all") × (shape ≡ how)
@@ -243,6 +244,10 @@ IsOutOfRange name given = ((name ≡ Some (codes "replay")) × (IsNoRecords (giv
     ⊎ (IsNoCapacity (given (codes "pipe-capacity"))
     ⊎ IsNoTelling (given (codes "witness"))))))
 
+-- the acts of witnesses are asked for, and no witness is
+abbrev pub AsksActsAlone : Given → Type 0
+AsksActsAlone given = (given (codes "witness") ≡ None) × (form_of (given (codes "acts")) ≡ form.Acts)
+
 -- the words parse, and ask for the job
 pub record Asks (words : List Text) (job : Job) : Type 0 where
   pub parsed : fault_of fdref_app words ≡ []
@@ -261,9 +266,14 @@ abbrev pub IsBadNumber : List Text → ErrorKind → Type 0
 IsBadNumber words k = (fault_of fdref_app words ≡ []) × IsOutOfRange (name_given words) (text_given words)
     × (k ≡ kind.ValueValidation)
 
+-- the words parse, but `outcomes` is asked for acts without a witness
+abbrev pub LacksWitness : List Text → ErrorKind → Type 0
+LacksWitness words k = (fault_of fdref_app words ≡ []) × ((name_given words ≡ Some (codes "outcomes")) × AsksActsAlone (text_given words))
+    × (k ≡ kind.MissingRequiredArgument)
+
 -- the words deserve the fault, or memory ran out
 abbrev pub Deserves : List Text → JobFault → Type 0
-Deserves words (Usage e) = IsMistake words (kind_of e) ⊎ IsBadNumber words (kind_of e)
+Deserves words (Usage e) = IsMistake words (kind_of e) ⊎ (IsBadNumber words (kind_of e) ⊎ LacksWitness words (kind_of e))
 Deserves words (Shown e) = IsAmong (kind_of e) (fault_of fdref_app words) × IsRequest (kind_of e)
 Deserves words NoMemory = ⊤
 

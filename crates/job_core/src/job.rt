@@ -6,8 +6,8 @@ ghost use Rattle.clap.specs.Words.{app_of, found_of, first_value, fault_of, kind
 ghost use Rattle.clap.specs.declared.builder.command.Command.TheViews.{out-Command as fields_of};
 ghost use Rattle.call_types.specs.declared.limits.TheConstants.{FILE_SIZE_MAX};
 ghost use Rattle.job_core.specs.declared.demand.Demand.TheVariants as demand;
-ghost use Rattle.job_core.specs.CommandLine.{Asks, Deserves, IsCapacity, IsJobOf, IsNoCapacity, IsNoNumber, IsNoRecords, IsNoStates, IsNoTelling, IsNumber, IsOutcome, IsRecords, IsStates, IsTelling, IsTold, SaysNotText, audit_app, bare_app, demand_of, fdref_app, file_rule, flag_rule, form_of, line, migrate_app, name_given, option_rule, outcomes_app, replay_app, required_rule, serve_app, show_app, status_of, text_given, word_rule};
-ghost use Rattle.job_core.specs.Proved.Parsing.{GivesAll, GivesBoth, GivesFile, HaveApps, HaveRules, IsFaultOf, IsParse, RefusesNumber, completed, migrated, served, shown, witnessed};
+ghost use Rattle.job_core.specs.CommandLine.{Asks, AsksActsAlone, Deserves, IsCapacity, IsJobOf, IsNoCapacity, IsNoNumber, IsNoRecords, IsNoStates, IsNoTelling, IsNumber, IsOutcome, IsRecords, IsStates, IsTelling, IsTold, SaysNotText, audit_app, bare_app, demand_of, fdref_app, file_rule, flag_rule, form_of, line, migrate_app, name_given, option_rule, outcomes_app, replay_app, required_rule, serve_app, show_app, status_of, text_given, word_rule};
+ghost use Rattle.job_core.specs.Proved.Parsing.{GivesAll, GivesBoth, GivesFile, HaveApps, HaveRules, IsFaultOf, IsParse, IsUntold, RefusesNumber, RefusesRace, completed, migrated, served, shown, witnessed};
 
 use crate::demand::Demand;
 use crate::shown::Form;
@@ -107,7 +107,7 @@ pub enum Job {
 /// Why a command line gives no job.
 #[derive(Debug, Drop)]
 pub enum JobFault {
-    /// The words are none that the program takes, or a number is out of its range.
+    /// The words are none that the program takes, a number is out of its range, or acts are asked for without a witness.
     Usage(Error),
     /// Help or the version was asked for, and this is its text.
     Shown(Error),
@@ -420,7 +420,7 @@ fn witness_arg<'a>(alloc: Global) -> Arg<'a>
 fn outcomes_args<'a>(alloc: Global) -> Result<Vec<Arg<'a>>, AllocError>
     ensures { IfOk result (λ args. HaveRules args.items outcomes_app.top.rules) }
 {
-    let acts = "Print the acts of a witness, as lines of a script, and not its records";
+    let acts = "With --witness: print its acts, as lines of a script, and not its records";
     let args = [
         states_arg(alloc),
         capacity_arg(alloc),
@@ -531,6 +531,15 @@ fn witness_error(alloc: Global, text: &str) -> Result<Error, AllocError>
         "invalid value '{text}' for '--witness <K>': not a number from 0 to {WITNESS_MAX}, nor the word all"
     )?;
     command.error(ErrorKind::ValueValidation, message.as_str())
+}
+
+/// The error of `outcomes` that is asked for acts without a witness.
+fn acts_error(alloc: Global) -> Result<Error, AllocError>
+    ensures { IfOk result (λ e. kind_of e ≡ ErrorKind.MissingRequiredArgument) }
+{
+    let mut command = outcomes_command(alloc)?.bin_name("fdref outcomes")?;
+    let message = "the following required arguments were not provided:\n  --witness <K>";
+    command.error(ErrorKind::MissingRequiredArgument, message)
 }
 
 /// The number of records that the text of `--records` gives.
@@ -645,17 +654,29 @@ fn telling_of(text: &str, form: Form) -> Option<Telling>
     Some(Telling::Witness { number, form })
 }
 
-/// What the matches of `outcomes` ask to tell, or the text that names no outcome.
-fn given_telling<'a>(matches: &ArgMatches<'a>) -> Result<Telling, &'a str>
+/// Why `outcomes` cannot tell what it is asked for.
+#[derive(Clone, Copy)]
+enum Untold<'a> {
+    /// The text of `--witness` names no outcome.
+    NoOutcome(&'a str),
+    /// The acts of witnesses are asked for, and no witness is.
+    ActsAlone,
+}
+
+/// What the matches of `outcomes` ask to tell, or why they ask for nothing that can be told.
+fn given_telling<'a>(matches: &ArgMatches<'a>) -> Result<Telling, Untold<'a>>
     ensures telling { IfOk result (λ telling. IsTelling (first_value (found_of matches.now)) telling) }
-    ensures refused { IfErr result (λ text. IsNoTelling (first_value (found_of matches.now) (codes "witness"))) }
+    ensures refused { IfErr result (λ why. IsUntold (first_value (found_of matches.now)) why) }
 {
     let form = form_of(matches.get_str("acts"));
     match matches.get_str("witness") {
-        None => Ok(Telling::Outcomes),
+        None => match form {
+            Form::Records => Ok(Telling::Outcomes),
+            Form::Acts => Err(Untold::ActsAlone),
+        },
         Some(text) => match telling_of(text, form) {
             Some(telling) => Ok(telling),
-            None => Err(text),
+            None => Err(Untold::NoOutcome(text)),
         },
     }
 }
@@ -804,7 +825,7 @@ fn migrate_job(alloc: Global, matches: &ArgMatches<'_>) -> Result<Job, JobFault>
 /// The job that the matches of `outcomes` ask for.
 fn outcomes_job(alloc: Global, matches: &ArgMatches<'_>) -> Result<Job, JobFault>
     ensures job { IfOk result (λ job. IsJobOf (Some (codes "outcomes")) (first_value (found_of matches.now)) job) }
-    ensures fault { IfErr result (λ fault. RefusesNumber (Some (codes "outcomes")) (first_value (found_of matches.now)) fault) }
+    ensures fault { IfErr result (λ fault. RefusesRace (first_value (found_of matches.now)) fault) }
 {
     let most = match given_states(matches) {
         Ok(most) => most,
@@ -822,7 +843,16 @@ fn outcomes_job(alloc: Global, matches: &ArgMatches<'_>) -> Result<Job, JobFault
     };
     let telling = match given_telling(matches) {
         Ok(telling) => telling,
-        Err(text) => return Err(JobFault::Usage(witness_error(alloc, text)?)),
+        Err(why) => match why {
+            Untold::NoOutcome(text) => {
+                let error = witness_error(alloc, text)?;
+                return Err(JobFault::Usage(error));
+            }
+            Untold::ActsAlone => {
+                let error = acts_error(alloc)?;
+                return Err(JobFault::Usage(error));
+            }
+        },
     };
     Ok(Job::Outcomes {
         limits: limits_of(DEFAULT_RECORDS, capacity),
@@ -941,7 +971,9 @@ pub fn lines_read()
     ensures most_states { IsStates (Some (codes "100000000")) 100000000 }
     ensures no_states { IsNoStates (Some (codes "0")) }
     ensures too_many_states { IsNoStates (Some (codes "100000001")) }
-    ensures tell_outcomes { IsTold None form.Acts told.Outcomes }
+    ensures tell_outcomes { IsTold None form.Records told.Outcomes }
+    ensures tell_no_acts { (telling : Telling) → IsTold None form.Acts telling → ⊥ }
+    ensures acts_alone { (fault_of fdref_app (line (codes "outcomes" ∷ codes "--acts" ∷ [])) ≡ []) × AsksActsAlone (text_given (line (codes "outcomes" ∷ codes "--acts" ∷ []))) }
     ensures tell_all { IsTold (Some (codes "all")) form.Records (told.Witnesses form.Records) }
     ensures tell_third { IsTold (Some (codes "3")) form.Acts (told.Witness 3 form.Acts) }
     ensures tell_greatest { IsTold (Some (codes "4294967295")) form.Acts (told.Witness 4294967295 form.Acts) }

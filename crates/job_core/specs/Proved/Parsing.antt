@@ -9,7 +9,9 @@ use Rattle.clap.specs.declared.error.Error.{Error}
 use Rattle.clap.specs.declared.error.kind.ErrorKind.TheVariants as kind
 use Rattle.job_core.specs.declared.job.JobFault.{JobFault}
 use Rattle.job_core.specs.declared.job.JobFault.TheVariants.{Usage, Shown, NoMemory}
-use Rattle.job_core.specs.CommandLine.{fdref_app, Given, IsOutOfRange, IsRequest}
+use Rattle.job_core.specs.declared.job.Untold.{Untold}
+use Rattle.job_core.specs.declared.job.Untold.TheVariants as untold
+use Rattle.job_core.specs.CommandLine.{AsksActsAlone, fdref_app, Given, IsNoTelling, IsOutOfRange, IsRequest}
 
 -- words that ask for a server
 abbrev pub served : List Text
@@ -72,6 +74,18 @@ abbrev pub RefusesNumber : Option Text → Given → JobFault → Type 0
 RefusesNumber name given (Usage e) = IsOutOfRange name given × (kind_of e ≡ kind.ValueValidation)
 RefusesNumber name given (Shown e) = ⊥
 RefusesNumber name given NoMemory = ⊤
+
+-- the fault says that a number of `outcomes` is out of its range, that acts are asked for without a witness, or that memory ran out
+abbrev pub RefusesRace : Given → JobFault → Type 0
+RefusesRace given (Usage e) = (IsOutOfRange (Some (codes "outcomes")) given × (kind_of e ≡ kind.ValueValidation))
+    ⊎ (AsksActsAlone given × (kind_of e ≡ kind.MissingRequiredArgument))
+RefusesRace given (Shown e) = ⊥
+RefusesRace given NoMemory = ⊤
+
+-- what is asked to be told of a race is nothing
+abbrev pub IsUntold : Given → Untold → Type 0
+IsUntold given (untold.NoOutcome text) = IsNoTelling (given (codes "witness"))
+IsUntold given untold.ActsAlone = AsksActsAlone given
 
 -- the fault that an error of the parse is: its error, unless memory ran out
 abbrev pub IsFaultOf : Error → JobFault → Type 0

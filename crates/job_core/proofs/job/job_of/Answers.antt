@@ -1,7 +1,7 @@
 use Rattle.std.proofs.Common.{◌≡◌, map, List, false, true, refl, codes}
 use Rattle.std.proofs.lemmas.Result.{IfErr-weaker, IfOk-weaker}
 use Rattle.clap.specs.Words.{Text}
-use Rattle.job_core.proofs.Parses.{asked, audit_given, migrate_given, named, none_named, refused, serve_given, show_given}
+use Rattle.job_core.proofs.Parses.{asked, audit_given, migrate_given, named, none_named, refused, refused_race, serve_given, show_given}
 use Rattle.job_core.proofs.job.job_of.Goals as goal
 
 pub returns-in-Some-clause-job : goal.returns-in-Some-clause-job
@@ -121,7 +121,7 @@ returns-clause-fault g c =
     let words : List Text = map g.S.AsStr.text c.args.words.now in
     let outcomes = c.in-Some-subcommand_matches-5 in
     IfErr-weaker c.outcomes_job.result _ _
-    (λ fault h. refused words c.in_ok-matches.matches outcomes.outcomes.now (codes "outcomes") fault c.in_ok-matches.ensures.ok (outcomes.ensures.found.0 refl) outcomes.ensures.rows h)
+    (λ fault h. refused_race words c.in_ok-matches.matches outcomes.outcomes.now fault c.in_ok-matches.ensures.ok (outcomes.ensures.found.0 refl) outcomes.ensures.rows h)
     c.outcomes_job.ensures.fault
 
 -- the words name one of the six

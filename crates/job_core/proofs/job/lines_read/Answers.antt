@@ -83,6 +83,10 @@ pub returns-clause-demand_of_complete : goal.returns-clause-demand_of_complete
 unfolding clap_on_literals
 returns-clause-demand_of_complete c = (refl, refl)
 
+pub returns-clause-acts_alone : goal.returns-clause-acts_alone
+unfolding clap_on_literals
+returns-clause-acts_alone c = (refl, (refl, refl))
+
 pub returns-clause-show : goal.returns-clause-show
 unfolding clap_on_literals
 returns-clause-show c = (refl, refl)
