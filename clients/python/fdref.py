@@ -12,6 +12,9 @@ are methods that have the names, the arguments and the values of the functions i
 `getfl` and `setfl` are F_GETFL and F_SETFL of `fcntl`. A process makes one call at a time, so only
 one thread at a time may use it; give each process a thread of its own.
 
+A server takes as many connections as its `--sessions` says. One more connects, but nothing ever answers it; `join`
+and `attach` then raise NoPlace. Other answers are waited for without a limit, unless `process.timeout` is set.
+
 Each answer has a place in the record of the run, and `process.place` is that of the last one. A call
 that has to wait is answered more than once: first that it waits, and at last its reply. Its method
 returns with the reply. `process.waits` tells when it began to wait and how it went on, and
@@ -27,6 +30,7 @@ What a call can end in:
   - ConnectionError, where the connection is lost, or what came is no answer of the call. The process
     has ended then, as it has after a call that is broken off in any other way, by KeyboardInterrupt or
     by what `on_wait` raises;
+  - `NoAnswer`, a TimeoutError, where no answer came within `process.timeout`. The process has ended then, too;
   - OverflowError or ValueError, where an argument has no place in a request. Nothing was sent.
 
 `write_trace` and `read_trace` need no server. An emulator that has run calls of its own writes them as a
@@ -89,6 +93,9 @@ FILE_SIZES = (1_048_576, 2**40)
 # The `pid` of the record that closes a run, which no process makes.
 HOUSE = 2**32 - 1
 
+# How many seconds the first answer is waited for where no limit is given. A server that has a place answers at once.
+FIRST_ANSWER = 10.0
+
 ERRORS = (
     "EBADF EINVAL ESPIPE EFBIG EOVERFLOW ENOENT EEXIST EMLINK "
     "ENAMETOOLONG EMFILE ENFILE ENOSPC EAGAIN EPIPE ENXIO ESRCH"
@@ -118,6 +125,20 @@ class Refused(Exception):
         self.reason = reason
 
 
+class NoAnswer(TimeoutError):
+    """No answer came in time; `filename` is the path of the server."""
+
+    def __init__(self, why: str, path: str) -> None:
+        super().__init__(errno.ETIMEDOUT, why, path)
+
+
+class NoPlace(NoAnswer):
+    """The connection was made and no first answer came: the server serves as many processes as it was told to."""
+
+    def __init__(self, path: str) -> None:
+        super().__init__("no place: all sessions are taken", path)
+
+
 class Stat(NamedTuple):
     """What fstat tells. A pipe and a FIFO have the same `st_mode`, as in `os`; `kind` tells them apart. A trace has no
     `st_mode`: any will do for a record."""
@@ -129,14 +150,19 @@ class Stat(NamedTuple):
 
 
 def join(path: str | os.PathLike[str], within: float = 0) -> Process:
-    """Connects to the server at a path as a new process, without open descriptors. A server that is only starting is
-    waited for, at most `within` seconds."""
+    """Connects to the server at a path as a new process, without open descriptors.
+
+    `within` is in seconds. A server that is only starting is waited for so long, and its first answer no longer than
+    that from the call on; where it is 0 the server has to be there, and its first answer is waited for FIRST_ANSWER
+    seconds. NoPlace: the connection was made, and no answer came.
+    """
     return Process(path, b"\x01", within=within)
 
 
-def attach(path: str | os.PathLike[str], pid: int) -> Process:
-    """Connects to the server at a path as process `pid`, a child that nobody has attached yet."""
-    return Process(path, b"\x02" + _number(pid, 4), pid)
+def attach(path: str | os.PathLike[str], pid: int, within: float = 0) -> Process:
+    """Connects to the server at a path as process `pid`, a child that nobody has attached yet. `within` is that of
+    `join`."""
+    return Process(path, b"\x02" + _number(pid, 4), pid, within)
 
 
 class Process:
@@ -151,27 +177,59 @@ class Process:
         """The last call's waiting: for each answer that it waits, the place, and how many bytes it had moved."""
         self.on_wait: Callable[[int, int], Any] | None = None
         """Called with a place and a number of bytes when an answer tells that the call waits."""
+        self._path = os.fspath(path)
         self._socket = socket.socket(socket.AF_UNIX, socket.SOCK_STREAM)
         self._answers = self._socket.makefile("rb")
         try:
-            self._connect(os.fspath(path), time.monotonic() + within)
-            number = self._ask(opening)
+            number = self._begin(opening, within)
         except BaseException:
             self.exit()
             raise
         self.pid: int = number if pid is None else pid
         """The number of the process."""
 
-    def _connect(self, path: str, until: float) -> None:
-        """Connects to a path; until that time also where nobody listens there yet."""
+    @property
+    def timeout(self) -> float | None:
+        """How many seconds may pass in which nothing comes of an answer that is waited for, or in which the server
+        takes nothing of a request; None, at the beginning, where there is no limit. After that the call ends in
+        NoAnswer. Each answer that a call waits begins a new wait. A limit of 0 or less is a ValueError."""
+        return self._socket.gettimeout()
+
+    @timeout.setter
+    def timeout(self, seconds: float | None) -> None:
+        if seconds is not None and seconds <= 0:
+            raise ValueError(f"a limit of {seconds} seconds leaves no time for an answer")
+        self._socket.settimeout(seconds)
+
+    def _begin(self, opening: bytes, within: float) -> Any:
+        """Connects, and returns the value of the first answer."""
+        began = time.monotonic()
+        until = began + (within or FIRST_ANSWER)
+        self._connect(began + within, until)
+        self.timeout = max(until - time.monotonic(), 0.001)
+        try:
+            number = self._ask(opening)
+        except NoAnswer:
+            raise NoPlace(self._path) from None
+        self.timeout = None
+        return number
+
+    def _connect(self, until: float, until_placed: float) -> None:
+        """Connects; until the first time also where nobody listens there yet, and until the second one also where so
+        many others wait to be taken that the system has no room for one more."""
+        # so a full queue is told, and not waited for
+        self._socket.settimeout(FIRST_ANSWER)
         while True:
             try:
-                return self._socket.connect(path)
+                return self._socket.connect(self._path)
+            except BlockingIOError:
+                if time.monotonic() >= until_placed:
+                    raise NoPlace(self._path) from None
             except OSError as fault:
                 is_starting = isinstance(fault, FileNotFoundError | ConnectionRefusedError)
                 if not is_starting or time.monotonic() >= until:
                     if fault.errno is not None:
-                        fault.filename = path
+                        fault.filename = self._path
                     raise
             time.sleep(0.01)
 
@@ -283,7 +341,10 @@ class Process:
     def _exchange(self, request: bytes) -> Any:
         """Sends a request and returns the value of its reply, which is its last answer."""
         self.waits = []
-        self._socket.sendall(_number(len(request), 4) + request)
+        try:
+            self._socket.sendall(_number(len(request), 4) + request)
+        except TimeoutError:
+            raise self._no_answer() from None
         while True:
             answer = self._receive()
             try:
@@ -304,10 +365,17 @@ class Process:
         return self._receive_exactly(length)
 
     def _receive_exactly(self, count: int) -> bytes:
-        some = self._answers.read(count)
+        try:
+            some = self._answers.read(count)
+        except TimeoutError:
+            raise self._no_answer() from None
         if len(some) < count:
             raise ConnectionError("the server has closed the connection")
         return some
+
+    def _no_answer(self) -> NoAnswer:
+        """What tells that the limit has passed."""
+        return NoAnswer(f"no answer in {self.timeout} seconds", self._path)
 
     def _read_answer(self, answer: bytes, asked: int) -> tuple[bool, Any]:
         """Whether an answer to a request of this byte tells that the call waits, and its value."""

@@ -1,9 +1,11 @@
 """The client in clients/python and its example, against a server."""
 
+import contextlib
 import errno
 import os
 import queue
 import shlex
+import socket
 import stat
 import sys
 import threading
@@ -16,7 +18,7 @@ from support import frames
 from support.counting import Case, Failure, require, same
 from support.places import CLIENT, EXAMPLES
 from support.players import until_traced
-from support.serving import SECONDS, Listener, Server, is_listening, outcome_of, report, started
+from support.serving import A_WHILE, SECONDS, Listener, Server, is_listening, outcome_of, report, started
 
 sys.path.insert(0, str(CLIENT))
 
@@ -174,6 +176,74 @@ def broken_off(program: str) -> None:
             same("5 p0 exit = ok", until_traced(server, 6)[5])
             same(5, other.write(1, b"hello"))
         server.ended(report(2, 9, 5, 0))
+
+
+def without_a_place(program: str) -> None:
+    """A process more than the server has sessions is told so, though it is connected."""
+    with Server(program, 1) as server, joined(server) as process:
+        child = process.fork()
+        late: list[Callable[[], object]] = [
+            lambda: fdref.join(server.path, within=A_WHILE),
+            lambda: fdref.attach(server.path, child, within=A_WHILE),
+        ]
+        for call in late:
+            begun = time.monotonic()
+            raised = raises(fdref.NoPlace, call)
+            took = time.monotonic() - begun
+            wanted = (errno.ETIMEDOUT, "no place: all sessions are taken", server.path)
+            same(wanted, (raised.errno, raised.strerror, raised.filename))
+            require(A_WHILE <= took < SECONDS, f"told after {took} seconds, and {A_WHILE} were given")
+        same((None, None), (process.timeout, process.close(process.open("a", os.O_WRONLY | os.O_CREAT))))
+        process.exit()
+        server.ended(report(1, 7))
+
+
+def with_a_full_queue() -> None:
+    """So is one for which the system has not even a place in the queue of a socket."""
+    listener = Listener()
+    listener.socket.listen(0)
+    with contextlib.ExitStack() as stack:
+        stack.callback(listener.close)
+        waiting = stack.enter_context(socket.socket(socket.AF_UNIX, socket.SOCK_STREAM))
+        waiting.connect(listener.path)
+        raised = raises(fdref.NoPlace, lambda: fdref.join(listener.path, within=A_WHILE))
+        same("no place: all sessions are taken", raised.strerror)
+        # as soon as there is a place, it is taken
+        taken: list[socket.socket] = []
+
+        def accept() -> None:
+            time.sleep(A_WHILE)
+            for answer in (b"", answer_of(3, "5")):
+                taken.append(stack.enter_context(listener.socket.accept()[0]))
+                taken[-1].sendall(answer)
+
+        thread = threading.Thread(target=accept, daemon=True)
+        thread.start()
+        with fdref.join(listener.path, within=SECONDS) as process:
+            same((5, 3), (process.pid, process.place))
+        thread.join(SECONDS)
+
+
+def limited(program: str) -> None:
+    """An answer that does not come within the limit ends the process; one that comes does not."""
+    with Server(program, 2) as server, joined(server) as process:
+        same((0, 1), process.pipe())
+        with fdref.attach(server.path, process.fork()) as other:
+            process.timeout = SECONDS
+            same((SECONDS, None), (process.timeout, other.timeout))
+            process.on_wait = lambda place, moved: other.write(1, b"hello")
+            same(b"hello", process.read(0, 9))
+            process.on_wait = None
+            process.timeout = A_WHILE
+            raised = raises(fdref.NoAnswer, process.read, 0, 9)
+            wanted = (errno.ETIMEDOUT, f"no answer in {A_WHILE} seconds", server.path, [(7, 0)])
+            same(wanted, (raised.errno, raised.strerror, raised.filename, process.waits))
+            raises(ConnectionError, process.close, 0)
+            same("8 p0 exit = ok", until_traced(server, 9)[8])
+            for limit in (0, -1.0):
+                raises(ValueError, setattr, other, "timeout", limit)
+            same(5, other.write(1, b"hello"))
+        server.ended(report(2, 12, 10, 5))
 
 
 EXAMPLE = b"""\
@@ -337,6 +407,9 @@ def cases(program: str) -> Iterator[Case]:
     yield "each call of the client", partial(calls, program)
     yield "what the client raises", partial(faults, program)
     yield "a call of the client that is broken off", partial(broken_off, program)
+    yield "a server without a place", partial(without_a_place, program)
+    yield "a queue without a place", with_a_full_queue
+    yield "answers with a limit", partial(limited, program)
     yield "the example with a server of its own", partial(example, program, True)
     yield "the example with a server that is there", partial(example, program, False)
     yield "the requests of the client are those of the tests", agrees_on_requests
