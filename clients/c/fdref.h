@@ -21,7 +21,8 @@
                      of an offset that fdref does not know, a name of more than 255 bytes, more than 65,700 bytes of
                      data, or asks for 2^32 bytes or more.
      FDREF_LOST      ECONNRESET: the connection is lost. EPROTO: what came is no answer, and the connection was given
-                     up. The process has ended then, and each later call gives ENOTCONN.
+                     up. ETIMEDOUT: no answer came within the limit of fdref_answer_within, and it was given up. The
+                     process has ended then, and each later call gives ENOTCONN.
      another         The run could not record the call; the process may go on. FDREF_NO_MEMORY is ENOMEM, FDREF_RUN_FULL
                      EDQUOT, FDREF_WAITING EBUSY, FDREF_NOT_HERE ECHILD, and FDREF_FOREIGN ESTALE.
 
@@ -72,18 +73,33 @@ struct fdref_stat {
 
 struct fdref;
 
+/* How many seconds the first answer is waited for where no limit is given. A server that has a place answers at once. */
+#define FDREF_FIRST_ANSWER 10u
+
 /* Connects to the server at a path as a new process, without open descriptors. NULL: errno is EAGAIN where no process
-   can come any more, or that of a refusal, or what kept it from connecting. */
+   can come any more, or that of a refusal, or what kept it from connecting; or it is ETIMEDOUT where the connection was
+   made and no answer came within FDREF_FIRST_ANSWER seconds: the server has as many connections as its --sessions
+   says, and answers no other. */
 struct fdref *fdref_join(const char *path);
 
-/* The same; a server that is only starting is waited for, at most so many seconds. */
+/* The same; a server that is only starting is waited for, at most so many seconds, and its answer no longer than that
+   from the call on. 0 seconds: as fdref_join. */
 struct fdref *fdref_join_within(const char *path, unsigned seconds);
 
 /* Connects as a child, by the number that fork gave. NULL: also ESRCH, where it is no child still to be attached. */
 struct fdref *fdref_attach(const char *path, pid_t child);
+struct fdref *fdref_attach_within(const char *path, pid_t child, unsigned seconds);
 
-/* Ends a process, as _exit does, and frees it. Its exit is recorded when this returns, unless the connection was lost.
-   It does not change errno. */
+/* What to tell where one of these gave NULL, by its errno: "no place: all sessions are taken" of ETIMEDOUT, and of
+   another what strerror has. */
+const char *fdref_no_process(int number);
+
+/* Limits how many seconds may pass in which nothing comes of an answer that is waited for, or in which the server takes
+   nothing of a request; 0, as at the beginning, is no limit. Each answer that a call waits begins a new wait. */
+void fdref_answer_within(struct fdref *p, unsigned seconds);
+
+/* Ends a process, as _exit does, and frees it. Its exit is recorded when this returns, unless the connection was lost or
+   a limit passed. It does not change errno. */
 void fdref_exit(struct fdref *p);
 
 /* Frees a process in a child made by fork; the connection stays its parent's. It does not change errno. */
@@ -284,6 +300,7 @@ struct fdref_outcome fdref_result_flags(int result);
 #include <stdlib.h>
 #include <string.h>
 #include <sys/socket.h>
+#include <sys/time.h>
 #include <sys/un.h>
 
 /* Where a system has no such flag it has SO_NOSIGPIPE. */
@@ -699,17 +716,39 @@ static int64_t fdref_lose(struct fdref *p, int number)
     return fdref_refuse(p, FDREF_LOST, number);
 }
 
-/* Sends or receives so many bytes: whether the connection is still there. */
+/* Limits how long one recv, send or connect of a socket may take; 0 milliseconds are no limit. */
+static void fdref_limit(int socket, unsigned milliseconds)
+{
+    struct timeval limit;
+    limit.tv_sec = (time_t)(milliseconds / 1000);
+    limit.tv_usec = (suseconds_t)(milliseconds % 1000 * 1000);
+    setsockopt(socket, SOL_SOCKET, SO_RCVTIMEO, &limit, sizeof limit);
+    setsockopt(socket, SOL_SOCKET, SO_SNDTIMEO, &limit, sizeof limit);
+}
+
+/* So many seconds in milliseconds, or the most that there are. */
+static unsigned fdref_milliseconds(unsigned seconds) { return seconds < INT_MAX / 1000 ? seconds * 1000 : INT_MAX; }
+
+void fdref_answer_within(struct fdref *p, unsigned seconds)
+{
+    if (p->socket >= 0)
+        fdref_limit(p->socket, fdref_milliseconds(seconds));
+}
+
+/* Sends or receives so many bytes: 0, ETIMEDOUT where the limit has passed, or ECONNRESET where the connection is
+   lost. */
 static int fdref_move(const struct fdref *p, unsigned char *at, size_t size, int is_received)
 {
     while (size > 0) {
         ssize_t moved = is_received ? recv(p->socket, at, size, 0) : send(p->socket, at, size, FDREF_NO_SIGNAL);
+        if (moved < 0 && (errno == EAGAIN || errno == EWOULDBLOCK))
+            return ETIMEDOUT;
         if (moved == 0 || (moved < 0 && errno != EINTR))
-            return 0;
+            return ECONNRESET;
         at += moved > 0 ? moved : 0;
         size -= moved > 0 ? (size_t)moved : 0;
     }
-    return 1;
+    return 0;
 }
 
 /* What the last outcome gives; where it is no reply of the call, the connection is given up. */
@@ -754,12 +793,14 @@ static int64_t fdref_hear(struct fdref *p)
     int64_t value;
     p->refusal = FDREF_RECORDED;
     do {
-        int is_there = fdref_move(p, p->frame, 4, 1);
-        size_t size = is_there ? (size_t)fdref_number_at(p->frame, 4) : 0;
+        int fault = fdref_move(p, p->frame, 4, 1);
+        size_t size = fault == 0 ? (size_t)fdref_number_at(p->frame, 4) : 0;
         if (size > FDREF_FRAME_MOST)
-            return fdref_lose(p, EPROTO);
-        if (!is_there || !fdref_move(p, p->frame + 4, size, 1))
-            return fdref_lose(p, ECONNRESET);
+            fault = EPROTO;
+        if (fault == 0)
+            fault = fdref_move(p, p->frame + 4, size, 1);
+        if (fault != 0)
+            return fdref_lose(p, fault);
         value = fdref_take(p, size);
     } while (p->is_parked && !p->returns_when_parked);
     return value;
@@ -768,13 +809,15 @@ static int64_t fdref_hear(struct fdref *p)
 /* Sends a request, and gives what its act does. */
 static int64_t fdref_exchange(struct fdref *p, const struct fdref_payload *request, int act, uint64_t most)
 {
+    int fault = fdref_move(p, p->frame, fdref_end_frame(request), 0);
     p->act = act;
     p->most = most;
-    return fdref_move(p, p->frame, fdref_end_frame(request), 0) ? fdref_hear(p) : fdref_lose(p, ECONNRESET);
+    return fault == 0 ? fdref_hear(p) : fdref_lose(p, fault);
 }
 
-/* Connects, or gives -1. */
-static int fdref_connect(const char *path, unsigned seconds)
+/* Connects, or gives -1. A server is waited for so many milliseconds, and what is left of so many more is the limit of
+   what is received and sent. */
+static int fdref_connect(const char *path, unsigned start, unsigned answer)
 {
     struct sockaddr_un address;
     size_t size = strlen(path);
@@ -785,7 +828,7 @@ static int fdref_connect(const char *path, unsigned seconds)
         return -1;
     }
     memcpy(address.sun_path, path, size);
-    for (unsigned naps = 0;; naps++) {
+    for (unsigned waited = 0;; waited += 10) {
         int error = 1, fd = socket(AF_UNIX, SOCK_STREAM, 0);
         if (fd < 0)
             return -1;
@@ -793,25 +836,27 @@ static int fdref_connect(const char *path, unsigned seconds)
 #ifdef SO_NOSIGPIPE
         setsockopt(fd, SOL_SOCKET, SO_NOSIGPIPE, &error, sizeof error);
 #endif
+        fdref_limit(fd, answer > waited ? answer - waited : 1);
         do
             error = connect(fd, (const struct sockaddr *)&address, sizeof address) == 0 ? 0 : errno;
         while (error == EINTR);
         if (error == 0 || error == EISCONN)
             return fd;
         close(fd);
-        errno = error;
-        if ((error != ENOENT && error != ECONNREFUSED) || naps / 100 >= seconds)
+        /* so many connections wait to be taken that there is no room for one more */
+        errno = error == EAGAIN ? ETIMEDOUT : error;
+        if ((error != ENOENT && error != ECONNREFUSED) || waited >= start)
             return -1;
         poll(NULL, 0, 10);
     }
 }
 
-/* Connects, and joins or attaches. */
-static struct fdref *fdref_begin(const char *path, unsigned seconds, int act, pid_t child)
+/* Connects, and joins or attaches: a server is waited for, and the first answer, at most so many seconds from now. */
+static struct fdref *fdref_begin(const char *path, unsigned start, unsigned answer, int act, pid_t child)
 {
     struct fdref *p = (struct fdref *)calloc(1, sizeof *p);
     int64_t number = -1;
-    if (p && (p->socket = fdref_connect(path, seconds)) >= 0) {
+    if (p && (p->socket = fdref_connect(path, fdref_milliseconds(start), fdref_milliseconds(answer))) >= 0) {
         struct fdref_payload request = {p->frame + 4, 0, 0};
         fdref_put(&request, (uint64_t)act, 1);
         if (act == FDREF_ATTACH)
@@ -819,25 +864,34 @@ static struct fdref *fdref_begin(const char *path, unsigned seconds, int act, pi
         number = fdref_exchange(p, &request, act, INT_MAX);
         p->number = act == FDREF_ATTACH ? child : (pid_t)number;
     }
-    if (number >= 0)
+    if (number >= 0) {
+        fdref_answer_within(p, 0);
         return p;
+    }
     fdref_exit(p);
     return NULL;
 }
 
-struct fdref *fdref_join(const char *path) { return fdref_begin(path, 0, FDREF_JOIN, 0); }
+struct fdref *fdref_join(const char *path) { return fdref_join_within(path, 0); }
 
 struct fdref *fdref_join_within(const char *path, unsigned seconds)
 {
-    return fdref_begin(path, seconds, FDREF_JOIN, 0);
+    return fdref_begin(path, seconds, seconds > 0 ? seconds : FDREF_FIRST_ANSWER, FDREF_JOIN, 0);
 }
 
-struct fdref *fdref_attach(const char *path, pid_t child)
+struct fdref *fdref_attach(const char *path, pid_t child) { return fdref_attach_within(path, child, 0); }
+
+struct fdref *fdref_attach_within(const char *path, pid_t child, unsigned seconds)
 {
     if (child >= 0)
-        return fdref_begin(path, 0, FDREF_ATTACH, child);
+        return fdref_begin(path, seconds, seconds > 0 ? seconds : FDREF_FIRST_ANSWER, FDREF_ATTACH, child);
     errno = ESRCH;
     return NULL;
+}
+
+const char *fdref_no_process(int number)
+{
+    return number == ETIMEDOUT ? "no place: all sessions are taken" : strerror(number);
 }
 
 /* The server hangs up once the exit is recorded. */

@@ -2,14 +2,15 @@
 
    usage: driver PATH ODD
 
-   PATH is that of a server. With an ODD other than 0 the system calls of fdref.h are odd. A line of input is `join`,
-   `attach N`, `exit`, `returns N` (whether calls of the next process return when they are parked), or a call and its
-   arguments in their order in C. Flags, and where an offset begins, are the system's numbers. Names and data are x and
+   PATH is that of a server. With an ODD other than 0 the system calls of fdref.h are odd. A line of input is `join` or
+   `join SECONDS`, `attach N` or `attach N SECONDS`, `exit`, `returns N` (whether calls of the next process return when
+   they are parked), `within SECONDS` (a limit of its answers), or a call and its arguments in their order in C. Flags, and where an offset begins, are the system's numbers. Names and data are x and
    hexadecimal digits, or two digits, * and a count.
 
    Each answer is a line, `PLACE OUTCOME`. A call that has waited, and did not return when it was parked, has ` after N
    M` behind that: it was told N times to wait, and had moved M bytes. A call that leaves no record gives `- REFUSAL
-   ERRNO`, a join or attach that fails `- ERRNO`, and an exit or `returns` nothing. */
+   ERRNO`, a join or attach that fails `- ERRNO`, and with it `no place ..` on standard error where that is so, and an
+   exit, `returns` or `within` nothing. */
 
 #include <stdio.h>
 #include <stdlib.h>
@@ -141,9 +142,15 @@ static void tell(char gives, long long value, int error)
 
 static void begin(int is_join)
 {
-    process = is_join ? fdref_join_within(path, 10) : fdref_attach(path, (pid_t)number(1));
+    unsigned seconds = words[is_join ? 1 : 2] ? (unsigned)number(is_join ? 1 : 2) : 10;
+    if (is_join)
+        process = fdref_join_within(path, seconds);
+    else
+        process = words[2] ? fdref_attach_within(path, (pid_t)number(1), seconds) : fdref_attach(path, (pid_t)number(1));
     if (!process) {
         printf("- %d\n", errno);
+        if (errno == ETIMEDOUT)
+            fprintf(stderr, "%s\n", fdref_no_process(errno));
         return;
     }
     fdref_return_when_parked(process, returns);
@@ -179,6 +186,8 @@ static void take_line(void)
         process = NULL;
     } else if (is("returns")) {
         returns = small(1);
+    } else if (is("within")) {
+        fdref_answer_within(process, (unsigned)number(1));
     } else {
         make_call();
     }

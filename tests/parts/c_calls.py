@@ -2,6 +2,7 @@
 
 import os
 import re
+import select
 import socket
 import tempfile
 import threading
@@ -16,6 +17,7 @@ from support import frames, plain_model
 from support.counting import Case, require, same
 from support.frames import ERRORS, REFUSALS, framed, outcome_bytes, recorded, u32, u64
 from support.places import C_CLIENT
+from support.players import until_traced
 from support.runs import line_of
 from support.serving import A_WHILE, ALL_RECORDS, SECONDS, Client, Server, report
 
@@ -416,14 +418,83 @@ def server_is_gone(program: str, build: Build, odd: int) -> None:
             client.ends()
 
 
+# What a driver tells of each process that has no place.
+NO_PLACE = b"no place: all sessions are taken\n"
+
+
+def without_a_place(program: str, build: Build, odd: int) -> None:
+    """A process more than the server has sessions is told so within its limit, though it is connected."""
+    with Driving(program, 1, 9, build) as server:
+        client, late = server.client(odd), server.client(odd)
+        client.tells("join", "0 0")
+        client.tells("fork", "1 1")
+        begun = time.monotonic()
+        late.tells("join 1", "- ETIMEDOUT")
+        late.say("attach 1 1")
+        same("- ETIMEDOUT", late.answer())
+        took = time.monotonic() - begun
+        require(2 <= took < SECONDS, f"told after {took} seconds, and 2 were given")
+        client.tells("close 0", "2 error EBADF")
+        client.ends()
+        late.ends(2 * NO_PLACE)
+        server.ended(report(1, 6))
+
+
+def with_a_full_queue(build: Build) -> None:
+    """So is one for which the system has not even a place in the queue of a socket."""
+    told = Told(build, 0)
+    told.socket.listen(0)
+    try:
+        with socket.socket(socket.AF_UNIX, socket.SOCK_STREAM) as waiting:
+            waiting.connect(told.path)
+            told.tells("join 1", "- ETIMEDOUT")
+        told.ends(NO_PLACE)
+    finally:
+        told.vanish()
+
+
+def limited(program: str, build: Build, odd: int) -> None:
+    """An answer that does not come within the limit ends the process; one that comes does not."""
+    with Driving(program, 2, 20, build) as server:
+        reader, writer = server.client(odd), server.client(odd)
+        reader.returns(True)
+        reader.tells("join", "0 0")
+        reader.tells("pipe", "1 0 1")
+        reader.tells("fork", "2 1")
+        writer.returns(True)
+        writer.tells("attach 1", "3 ok")
+        writer.say("within 1")
+        reader.say("within 1")
+        reader.ask("read 0 5")
+        same("4 parked 0", reader.answer())
+        writer.tells("write 1 x61", "5 1")
+        same("6 x61", reader.answer())
+        reader.ask("read 0 5")
+        same("7 parked 0", reader.answer())
+        same("- lost ETIMEDOUT", reader.answer())
+        reader.tells("close 0", "- lost ENOTCONN")
+        reader.ends()
+        same("8 p0 exit = ok", until_traced(server, 9)[8])
+        writer.say("within 0")
+        writer.ask("read 0 5")
+        same("9 parked 0", writer.answer())
+        require(not select.select([writer.process.stdout], [], [], 1.5)[0], "an answer though there is no limit")
+        server.process.kill()
+        same("- lost ECONNRESET", writer.answer())
+        writer.ends()
+
+
 def served_cases(program: str, builds: Sequence[Build]) -> Iterator[Case]:
     """The client with the server."""
     for build in builds:
         yield f"the functions, {build.name}", partial(functions, program, build)
         yield f"a server full of processes, {build.name}", partial(is_full_of_processes, program, build)
         yield f"a server full of records, {build.name}", partial(is_full_of_records, program, build)
+        yield f"a queue without a place, {build.name}", partial(with_a_full_queue, build)
         for odd in (0, ODD):
             yield f"a server that ends, {named(build, odd)}", partial(server_is_gone, program, build, odd)
+            yield f"a server without a place, {named(build, odd)}", partial(without_a_place, program, build, odd)
+            yield f"answers with a limit, {named(build, odd)}", partial(limited, program, build, odd)
             yield f"each call, {named(build, odd)}", partial(makes_calls, program, build, odd, few_calls())
     yield "there is a call with each error", every_error_is_met
     yield "each error", partial(makes_calls, program, builds[0], 0, many_calls())

@@ -218,10 +218,10 @@ class Driven(Client):
         """Ends the process that the driver plays, which may begin another one."""
         self.say("exit")
 
-    def ends(self) -> None:
-        """The driver ends well, with its process."""
+    def ends(self, told: bytes = b"") -> None:
+        """The driver ends well, with its process, and has told this on standard error."""
         stdout, stderr = self.process.communicate(timeout=SECONDS)
-        same((0, b"", b""), (self.process.returncode, self.rest + stdout, stderr))
+        same((0, b"", told), (self.process.returncode, self.rest + stdout, stderr))
 
     def vanish(self) -> None:
         """Ends the driver, however it is."""
