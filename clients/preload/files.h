@@ -230,11 +230,9 @@ static int64_t fork_asked(void)
     int error;
     if (number < 0)
         return number;
-    is_joining = 1;
     child = fdref_attach(socket_path, (pid_t)number);
-    is_joining = 0;
     if (!child)
-        end_with(NO_ANSWER, "the child cannot be attached: %s", strerror(errno));
+        end_with(NO_ANSWER, "the child cannot be attached: %s", fdref_no_process(errno));
     child->socket = hidden(child->socket);
     made = system_fork();
     error = errno;

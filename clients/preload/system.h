@@ -66,25 +66,12 @@ static void find_all(void)
 #undef FOUND
 }
 
-/* A server that has all its sessions takes no further connection, and does not say so. */
-enum { PATIENCE = 10000 };
-static int is_joining;
-
-static ssize_t receive(int fd, void *bytes, size_t size, int flags)
-{
-    struct pollfd one = {fd, POLLIN, 0};
-    if (is_joining && system_poll(&one, 1, PATIENCE) == 0)
-        end_with(NO_ANSWER, "the server does not answer: it may have had all its sessions");
-    return recv(fd, bytes, size, flags);
-}
-
 /* The client calls the system, and is no part of what this library shows to a program. */
 #define open system_open
 #define close system_close
 #define write system_write
 #define fcntl system_fcntl
 #define poll(parts, count, ms) system_poll(parts, count, ms)
-#define recv receive
 #pragma GCC visibility push(hidden)
 #define FDREF_IMPLEMENTATION
 #include "../c/fdref.h"
@@ -94,7 +81,6 @@ static ssize_t receive(int fd, void *bytes, size_t size, int flags)
 #undef write
 #undef fcntl
 #undef poll
-#undef recv
 
 /* ---- how it is used, and what is told */
 

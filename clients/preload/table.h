@@ -302,9 +302,9 @@ static void take_numbers(void)
 static void join(void)
 {
     raise_limit();
-    is_joining = 1;
-    process = fdref_join_within(socket_path, 1);
-    is_joining = 0;
+    process = fdref_begin(socket_path, 1, FDREF_FIRST_ANSWER, FDREF_JOIN, 0);
+    if (!process && errno == ETIMEDOUT)
+        end_with(NO_ANSWER, "%s: %s", socket_path, fdref_no_process(errno));
     if (!process)
         end_with(NO_ANSWER, "no server at %s: %s", socket_path, strerror(errno));
     process->socket = hidden(process->socket);

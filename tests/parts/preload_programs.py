@@ -8,6 +8,7 @@ import subprocess
 import threading
 import time
 from collections.abc import Iterator, Sequence
+from concurrent.futures import ThreadPoolExecutor
 from functools import partial
 from pathlib import Path
 
@@ -26,6 +27,7 @@ from parts.preload_builds import (
     started,
 )
 from support.counting import Case, require, same
+from support.players import until_traced
 from support.running import Ran, run
 from support.serving import A_WHILE, ALL_RECORDS, SECONDS, Process, Server, outcome_of
 
@@ -218,6 +220,20 @@ def is_without_server(library: Library) -> None:
     same(Ran(NO_ANSWER, b"", told), given.ran)
 
 
+def is_without_a_place(program: str, library: Library) -> None:
+    """So it is where the server has as many processes as it takes, for a program and for a child of one."""
+    with Server(program, 1) as server, ThreadPoolExecutor() as pool:
+        listens(server)
+        asked = environment(library, [f"FDREF_SOCKET={server.path}"])
+        # each waits as long for its first answer as the library lets it
+        parent = pool.submit(run, [*asked, library.program("preload_forks")], seconds=3 * SECONDS)
+        until_traced(server, 1)
+        late = pool.submit(run, [*asked, library.program("preload_numbers"), "mixed"], seconds=3 * SECONDS)
+        told = "no place: all sessions are taken\n"
+        same(Ran(NO_ANSWER, b"", f"fdref: the child cannot be attached: {told}".encode()), parent.result())
+        same(Ran(NO_ANSWER, b"", f"fdref: {server.path}: {told}".encode()), late.result())
+
+
 def is_full(program: str, library: Library) -> None:
     """Where the run can have no more records, that is no answer."""
     with Server(program, 1, 20) as server:
@@ -277,6 +293,7 @@ def endings(program: str, library: Library) -> Iterator[Case]:
         yield f"{word}, {library.name}", partial(is_between, program, library, word)
     yield f"handlers of signals, {library.name}", partial(is_interrupted, program, library)
     yield f"no server, {library.name}", partial(is_without_server, library)
+    yield f"no place, {library.name}", partial(is_without_a_place, program, library)
     yield f"a run that is full, {library.name}", partial(is_full, program, library)
     yield f"a server that is gone, {library.name}", partial(is_lost, program, library)
 
