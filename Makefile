@@ -5,17 +5,23 @@
 #   make install PREFIX=DIR   installs program, man page, headers, client and library
 #   make uninstall PREFIX=DIR removes them
 #
-# PROGRAM names another program to be installed, as out/unproved/fdref, which './fdref build --unproved' makes.
+# PROGRAM names another program to be installed, as out/unproved/fdref, which './fdref build --unproved' makes. The client
+# in Python goes where PYTHON looks, if that is under PREFIX, and else where a Python of that PREFIX would.
 
 PREFIX = /usr/local
 DESTDIR =
 INSTALL = install
 CC = cc
 CFLAGS = -O2
+PYTHON = python3
 
 PROGRAM = crates/fdref/out/fdref
 SHIM = out/libfdref_preload.so
 TO = $(DESTDIR)$(PREFIX)
+FIND_PACKAGES = import site, sys; to = sys.argv[1]; \
+    known = [path for path in site.getsitepackages() if path.startswith(to + "/lib")]; \
+    print((known + ["%s/lib/python%d.%d/site-packages" % (to, *sys.version_info[:2])])[0])
+PACKAGES = $(shell $(PYTHON) -c '$(FIND_PACKAGES)' '$(PREFIX)')
 
 all: $(PROGRAM) $(SHIM)
 
@@ -36,13 +42,14 @@ install: all
 	$(INSTALL) -D -m 755 $(PROGRAM) $(TO)/bin/fdref
 	$(INSTALL) -D -m 644 docs/fdref.1 $(TO)/share/man/man1/fdref.1
 	$(INSTALL) -D -m 644 clients/c/fdref.h $(TO)/include/fdref.h
-	$(INSTALL) -D -m 644 clients/python/fdref.py $(TO)/share/fdref/fdref.py
+	$(INSTALL) -D -m 644 clients/python/fdref/__init__.py $(DESTDIR)$(PACKAGES)/fdref/__init__.py
+	$(INSTALL) -D -m 644 clients/python/fdref/py.typed $(DESTDIR)$(PACKAGES)/fdref/py.typed
 	$(INSTALL) -D -m 755 $(SHIM) $(TO)/lib/libfdref_preload.so
 
 uninstall:
 	rm -f $(TO)/bin/fdref $(TO)/share/man/man1/fdref.1 $(TO)/include/fdref.h
-	rm -f $(TO)/share/fdref/fdref.py $(TO)/lib/libfdref_preload.so
-	-rmdir $(TO)/share/fdref
+	rm -f $(TO)/lib/libfdref_preload.so
+	rm -rf $(DESTDIR)$(PACKAGES)/fdref
 
 clean:
 	rm -f $(SHIM)
