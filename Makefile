@@ -2,7 +2,7 @@
 #
 #   make                      proves and builds the program (./fdref build), and builds the library for LD_PRELOAD
 #   make test                 runs all tests (.ci/run)
-#   make install PREFIX=DIR   installs program, man page, headers, client and library
+#   make install PREFIX=DIR   installs program, man pages, header, clients and library, and words for bash to complete
 #   make uninstall PREFIX=DIR removes them
 #
 # PROGRAM names another program to be installed, as out/unproved/fdref, which './fdref build --unproved' makes. The client
@@ -40,15 +40,20 @@ test:
 
 install: all
 	$(INSTALL) -D -m 755 $(PROGRAM) $(TO)/bin/fdref
+	$(INSTALL) -D -m 644 tools/fdref.bash $(TO)/share/bash-completion/completions/fdref
 	$(INSTALL) -D -m 644 docs/fdref.1 $(TO)/share/man/man1/fdref.1
+	$(INSTALL) -D -m 644 docs/fdref_preload.7 $(TO)/share/man/man7/fdref_preload.7
 	$(INSTALL) -D -m 644 clients/c/fdref.h $(TO)/include/fdref.h
+	$(INSTALL) -d $(TO)/lib/pkgconfig
+	sed 's|@PREFIX@|$(PREFIX)|' clients/c/fdref.pc.in >$(TO)/lib/pkgconfig/fdref.pc
 	$(INSTALL) -D -m 644 clients/python/fdref/__init__.py $(DESTDIR)$(PACKAGES)/fdref/__init__.py
 	$(INSTALL) -D -m 644 clients/python/fdref/py.typed $(DESTDIR)$(PACKAGES)/fdref/py.typed
 	$(INSTALL) -D -m 755 $(SHIM) $(TO)/lib/libfdref_preload.so
 
 uninstall:
-	rm -f $(TO)/bin/fdref $(TO)/share/man/man1/fdref.1 $(TO)/include/fdref.h
-	rm -f $(TO)/lib/libfdref_preload.so
+	rm -f $(TO)/bin/fdref $(TO)/share/bash-completion/completions/fdref
+	rm -f $(TO)/share/man/man1/fdref.1 $(TO)/share/man/man7/fdref_preload.7
+	rm -f $(TO)/include/fdref.h $(TO)/lib/pkgconfig/fdref.pc $(TO)/lib/libfdref_preload.so
 	rm -rf $(DESTDIR)$(PACKAGES)/fdref
 
 clean:

@@ -16,8 +16,8 @@
                         `! call poll`. Where FDREF_STRICT would not tell it `-` stands for `!`: `- stream fopen /tmp/x`,
                         and `- stdio 1`, as a file of fdref comes to be at descriptor 0, 1 or 2.
 
-   Without the first two nothing is changed. Where there is no answer (no server, a run that is full, a lost connection)
-   that is told on standard error, and the program ends with status 124.
+   Without the first two nothing is changed. Where there is no answer (no server, no place at it for one more process, a
+   run that is full, a lost connection) that is told on standard error, and the program ends with status 124.
 
    Names. fdref has one folder. A name without `/`, or with only `./` before it, is asked of fdref, whatever the working
    directory is. Every other path, `.` and `..` go to the kernel, and a link or a rename between the two is EXDEV.
