@@ -68,6 +68,11 @@ def pages() -> list[str]:
     return sorted(str(file.relative_to(TOP)) for file in [README, *(TOP / "docs").rglob("*.md")])
 
 
+def notes() -> list[str]:
+    """Pages whose words are not counted with the documents: how to begin, and what has changed."""
+    return sorted(str(file.relative_to(TOP)) for file in TOP.glob("*.md") if file != README)
+
+
 def text_of(page: str) -> str:
     """What stands in a page."""
     return (TOP / page).read_text()
@@ -173,7 +178,7 @@ def main() -> int:
     count.check("words of README", partial(is_at_most, README_WORDS, words("README.md")))
     count.check("words of README and docs", partial(is_at_most, WORDS, sum(map(words, pages()))))
     known = sources()
-    for page in pages():
+    for page in [*pages(), *notes()]:
         count.check(f"width of {page}", partial(is_narrow, page, README_WIDTH if page == "README.md" else WIDTH))
         for link in links(page):
             count.check(page, partial(leads_somewhere, page, link))
