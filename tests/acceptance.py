@@ -192,9 +192,9 @@ def missing_witness_is_told(program: str) -> None:
     expect(run(program, ["outcomes", "--acts"], b"join\np0 pipe\nrace\np0 close 0\n"), status=2, stderr=told(text))
 
 
-@case("version", "fdref 0.1.0", "--version")
-@case("version of replay", "fdref-replay 0.1.0", "replay", "-V")
-@case("version of outcomes", "fdref-outcomes 0.1.0", "outcomes", "-V")
+@case("version", "fdref 0.2.0", "--version")
+@case("version of replay", "fdref-replay 0.2.0", "replay", "-V")
+@case("version of outcomes", "fdref-outcomes 0.2.0", "outcomes", "-V")
 def is_version(program: str, text: str, *words: str) -> None:
     """A text alone."""
     expect(run(program, words), stdout=told(text))
