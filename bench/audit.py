@@ -24,11 +24,9 @@ import sys
 import tempfile
 import time
 from collections.abc import Sequence
-from pathlib import Path
 from typing import NamedTuple
 
-sys.path.insert(0, str(Path(__file__).resolve().parents[1] / "tests"))
-
+import paths  # noqa: F401
 from support.frames import OLD_MAGIC, record_frame
 from support.options import absolute, add_count, add_path, is_missing
 from support.places import FDREF, SCRATCH

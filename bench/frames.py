@@ -23,10 +23,8 @@ import subprocess
 import sys
 import time
 from collections.abc import Iterator, Sequence
-from pathlib import Path
 
-sys.path.insert(0, str(Path(__file__).resolve().parents[1] / "tests"))
-
+import paths  # noqa: F401
 from support.frames import framed, u32, u64
 from support.options import absolute, is_missing
 from support.places import FRAME_TRIAL

@@ -52,10 +52,8 @@ import tempfile
 import time
 from collections.abc import Callable
 from functools import partial
-from pathlib import Path
 
-sys.path.insert(0, str(Path(__file__).resolve().parents[1] / "tests"))
-
+import paths  # noqa: F401
 from support.options import absolute
 from support.places import FDREF
 from support.plain_model import FILE_SIZE_MAX, PIPE_CAPACITY, SCRIPT_MOST

@@ -28,8 +28,7 @@ from contextlib import contextmanager
 from functools import cache, partial
 from pathlib import Path
 
-sys.path.insert(0, str(Path(__file__).resolve().parents[1] / "tests"))
-
+import paths  # noqa: F401
 from support.frames import JOIN
 from support.options import absolute, add_count, add_path, is_missing
 from support.places import FDREF

@@ -14,10 +14,8 @@ import subprocess
 import sys
 import time
 from collections.abc import Sequence
-from pathlib import Path
 
-sys.path.insert(0, str(Path(__file__).resolve().parents[1] / "tests"))
-
+import paths  # noqa: F401
 from support.frames import call_frame, session_frames
 from support.options import add_count, add_path, is_missing
 from support.places import SESSION_TRIAL

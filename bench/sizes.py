@@ -6,13 +6,11 @@ usage: bench/sizes.py
 Lines are those of the files, with comments and empty ones. Tests are tests.rt and what stands below a folder tests.
 """
 
-import sys
 from collections.abc import Callable
 from pathlib import Path
 from typing import NamedTuple
 
-sys.path.insert(0, str(Path(__file__).resolve().parents[1] / "tests"))
-
+import paths  # noqa: F401
 from support.places import CRATES, TOP
 
 

@@ -37,8 +37,6 @@ from support.rows import rows
 from support.running import Ran, run
 from support.texts import difference
 
-sys.path.insert(1, str(TOOLS))
-
 import compare
 
 SECONDS = 60

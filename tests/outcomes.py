@@ -10,7 +10,7 @@ The program is crates/fdref/out/fdref where no PATH is given.
   - Each outcome that is asked for is found alone, and what is not one is not found.
   - Each witness is an order of the race: `fdref replay` answers its acts alike, and it ends in its outcome.
   - What is no race is told by its line, with its status.
-  - N random races (150) have the outcomes of a search beside the plain model (tests/support/outcomes.py). Where they
+  - N random races (150) have the outcomes of a search beside the plain model (tools/support/outcomes.py). Where they
     have few orders, all of them are run by the model, one after another.
   - Each wrong search of tests/stand_ins/wrong_outcomes.py is found out by these random races.
 

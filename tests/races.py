@@ -37,8 +37,6 @@ from support.places import EXAMPLES, STAND_INS, TOOLS
 from support.replaying import Differs
 from support.running import CannotRun, Ran, run
 
-sys.path.insert(1, str(TOOLS))
-
 import race
 import race_kinds
 

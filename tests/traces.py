@@ -5,7 +5,7 @@ usage: tests/traces.py [--program PATH] [--seed WORD] [--runs N] [--changed N] [
                        [--only WORD]
 
 The program is crates/fdref/out/fdref where no PATH is given. What it must say of a trace is what the plain
-auditor says, tests/support/auditing.py. It is run
+auditor says, tools/support/auditing.py. It is run
 
   - on traces whose verdicts are written out here,
   - on a trace of 54 bytes, and on the same records in version 2, with each byte turned to every value, and on

@@ -34,8 +34,6 @@ from collections.abc import Callable, Iterator, Sequence
 from pathlib import Path
 from typing import NamedTuple
 
-sys.path.insert(1, str(Path(__file__).resolve().parents[1] / "tests"))
-
 from support import plain_model, walks
 from support.commands import add_capacity, add_program, capacity_words, program_of
 from support.contents import BLOCK

@@ -52,10 +52,6 @@ from pathlib import Path
 from types import FrameType, TracebackType
 from typing import NamedTuple, Self
 
-sys.path.insert(1, str(Path(__file__).resolve().parents[1] / "tests"))
-
-import compare
-from partings import Compared, Finding
 from support import plain_model
 from support.commands import add_capacity, add_program, capacity_words, program_of
 from support.counting import Failure
@@ -65,6 +61,9 @@ from support.runs import ALL_RECORDS, Line
 from support.serving import is_listening, outcome_of, serve_words, started
 from support.texts import difference
 from support.trees import Ended, run_tree
+
+import compare
+from partings import Compared, Finding
 
 SHIM = TOP / "clients" / "preload" / "fdref_preload.c"
 BUILD_SECONDS = 120

@@ -5,7 +5,7 @@ usage: tools/order.py HISTORY [--program COMMAND] [--pipe-capacity N] [--seconds
 
 HISTORY is a file, or - for the standard input. It has a line for each call, `START END pK ACT = OUTCOME`: the times
 before and after it, in nanoseconds, the call and its answer as in docs/FORMATS.md. A call that still waits at the end
-has END `-` and OUTCOME `parked ?`. tests/support/histories.py has more. An empty line stands between two histories.
+has END `-` and OUTCOME `parked ?`. tools/support/histories.py has more. An empty line stands between two histories.
 
 An order explains a history where each process makes its calls in its own order, a call that came back before another
 one began comes first, and fdref, to which the calls come one after another, gives all these answers. The order is
@@ -31,8 +31,6 @@ import argparse
 import sys
 from collections.abc import Sequence
 from pathlib import Path
-
-sys.path.insert(1, str(Path(__file__).resolve().parents[1] / "tests"))
 
 from support.commands import add_capacity, add_program, program_of
 from support.histories import BadHistory, Noted, form, history_text, read_histories

@@ -5,19 +5,16 @@ are those of tools/compare.py and some more, since a program has processes that 
 """
 
 import itertools
-import sys
 from collections.abc import Iterator
-from pathlib import Path
 from typing import NamedTuple
 
-sys.path.insert(1, str(Path(__file__).resolve().parents[1] / "tests"))
-
-import compare
 from support import plain_model
 from support.auditing import Frames, Judge, act_of
 from support.call_logs import Log, Way, call_of, log_of, read_lines, word_of
 from support.counting import require
 from support.runs import Line, line_of
+
+import compare
 
 # ---- reasons
 

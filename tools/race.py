@@ -38,8 +38,6 @@ from collections.abc import Callable, Iterator, Sequence
 from pathlib import Path
 from typing import NamedTuple
 
-sys.path.insert(1, str(Path(__file__).resolve().parents[1] / "tests"))
-
 from support import histories, ordering, outcomes, plain_model, replaying
 from support.commands import add_capacity, add_program, capacity_words, program_of
 from support.counting import Failure

@@ -5,7 +5,6 @@ import os
 import select
 import shutil
 import subprocess
-import sys
 import time
 from collections import deque
 from collections.abc import Sequence
@@ -14,11 +13,9 @@ from typing import Any, NamedTuple
 from support import plain_model
 from support.counting import Failure, require, same
 from support.frames import REFUSALS
-from support.places import C_CLIENT, C_TESTS, CLIENT, EXAMPLES
+from support.places import C_CLIENT, C_TESTS, EXAMPLES
 from support.running import run
 from support.serving import SECONDS, Client
-
-sys.path.insert(0, str(CLIENT))
 
 import fdref
 

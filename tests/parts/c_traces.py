@@ -1,7 +1,6 @@
 """Traces that are written in C, and the examples in C."""
 
 import os
-import sys
 from collections.abc import Iterator, Sequence
 from functools import partial
 from pathlib import Path
@@ -10,12 +9,9 @@ from parts import python_traces
 from parts.c_programs import Build
 from support.auditing import illegal, legal
 from support.counting import Case, require, same
-from support.places import CLIENT
 from support.players import traced
 from support.running import run
 from support.serving import Server, report
-
-sys.path.insert(0, str(CLIENT))
 
 import fdref
 

@@ -3,7 +3,6 @@
 import itertools
 import random
 import socket
-import sys
 import threading
 import time
 from collections import Counter
@@ -15,11 +14,8 @@ from parts.c_programs import Build, called, outcome_text
 from parts.garbage_answers import Exchange, Given, Hearing, exchange, pieces
 from support.counting import Case, Failure, require, same
 from support.frames import framed, recorded, u32
-from support.places import CLIENT
 from support.serving import SECONDS, Listener
 from support.sources import numbered, source
-
-sys.path.insert(0, str(CLIENT))
 
 import fdref
 

@@ -23,8 +23,6 @@ from support.serving import SECONDS
 from support.sources import changed, numbered, source
 from support.texts import difference
 
-sys.path.insert(1, str(TOOLS))
-
 import compare
 
 # The acts of a script with processes, and the most lines of one without.

@@ -6,7 +6,6 @@ import itertools
 import os
 import random
 import re
-import sys
 from collections import Counter
 from collections.abc import Callable, Iterator, Sequence
 from functools import partial
@@ -18,12 +17,9 @@ from support import plain_model
 from support.auditing import Frames, shown
 from support.counting import Case, Failure, require, same
 from support.frames import ACTS, ERRORS, TYPES, header_bytes
-from support.places import C_TESTS, CLIENT, EXAMPLES
+from support.places import C_TESTS
 from support.running import run
 from support.sources import numbered, source
-
-sys.path.insert(0, str(CLIENT))
-sys.path.insert(1, str(EXAMPLES))
 
 import fdref
 

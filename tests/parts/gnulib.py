@@ -5,7 +5,6 @@ folder. The tests are compiled against the C library at hand, without gnulib's o
 """
 
 import os
-import sys
 import tempfile
 from collections.abc import Iterator
 from functools import partial
@@ -13,10 +12,7 @@ from pathlib import Path
 from typing import NamedTuple
 
 from support.counting import Case, Failure, require, same
-from support.places import TOOLS
 from support.running import run
-
-sys.path.insert(1, str(TOOLS))
 
 import judge
 

@@ -1,16 +1,12 @@
 """Logs that are compared as tools/judge.py does: where two runs part, and for which reason."""
 
-import sys
 from collections.abc import Iterator
 from functools import partial
 from typing import NamedTuple
 
 from support.counting import Case, Failure, require, same
 from support.frames import trace_of
-from support.places import TOOLS
 from support.trees import Ended
-
-sys.path.insert(1, str(TOOLS))
 
 import judge
 

@@ -16,11 +16,9 @@ from typing import Any, NoReturn, TypeVar
 
 from support import frames
 from support.counting import Case, Failure, require, same
-from support.places import CLIENT, EXAMPLES
+from support.places import EXAMPLES
 from support.players import until_traced
 from support.serving import A_WHILE, SECONDS, Listener, Server, is_listening, outcome_of, report, started
-
-sys.path.insert(0, str(CLIENT))
 
 import fdref
 

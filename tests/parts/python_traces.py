@@ -19,8 +19,6 @@ from support.plain_model import DEFAULTS, Limits
 from support.running import Ran, run
 from support.sources import changed, numbered, source
 
-sys.path.insert(0, str(CLIENT))
-
 import fdref
 
 O_ALL = os.O_CREAT | os.O_EXCL | os.O_TRUNC | os.O_APPEND | os.O_NONBLOCK

@@ -11,8 +11,6 @@ from support.outcomes import read_race
 from support.places import EXAMPLES, STAND_INS, TOOLS
 from support.running import Ran, run
 
-sys.path.insert(1, str(TOOLS))
-
 import race
 import race_table
 

@@ -1,27 +1,14 @@
-"""What the tests, the tools and the benches share. A script in tests/ imports it as `support`.
+"""What the tests and the benches share: the package of the tools, tools/support, and some modules more.
 
-- `places`: the top folder of the tree, and the paths of the built programs
+So `support.plain_model` is tools/support/plain_model.py; tools/support/__init__.py tells what is there. Here are
+
 - `options`: the options that several scripts have, and what is said where a program is not built
-- `commands`: the command that runs fdref, as the tools take it
-- `counting`: `Count` counts checks, prints each failure and the last line; `Failure`, `require`, `same`
-- `running`: `run` runs a program with a time limit and gives its status, standard output and error
-- `texts`: where two outputs differ, and short forms of long ones
 - `rows`: the runs of tests/rows
 - `sources`: sources of random choices, each from a seed and a number that a failure tells
-- `plain_model`: the plain model of the program, with the reader and the writer of scripts
-- `walks` and `shrinking`: random scripts, and short ones that fail as a long one does
-- `runs`: the lines of a run, and a run in which calls go on by themselves
-- `frames`: the bytes of sessions and traces, written and read
-- `auditing`: a plain auditor of traces, by the plain model
-- `serving`: a server whose trace is audited, a socket for what stands in for one, and clients whose waits are bounded
 - `players`: clients that keep what they were told, and the traces of servers that run still
 - `refusing`: runs in which allocations are refused
-- `histories`: what several processes did at once, call by call, with the times
-- `ordering`: whether an order explains a history; `searching` looks for it, by states (`worlds`), by what calls touch
-  (`footprints`), by what later answers tell (`foretold`) and by what nobody looks at (`unseen`); `shortening` makes
-  short what has none; `replaying` holds an order against the program
-- `call_logs`: the logs of the library for LD_PRELOAD; `trees`: a program with all that comes of it
-- `drivers`: the drivers of tools/, which are compiled, and whose scripts leave nothing
+
+Whoever imports it can import the tools, the client in Python and the examples, too.
 
 A test is a file tests/NAME.py. The first line of its docstring says what it asks and how long it takes, and
 `python3 tests` lists it. Its `main` takes the words of the command line and gives the exit status:
@@ -33,5 +20,13 @@ A test is a file tests/NAME.py. The first line of its docstring says what it ask
     return count.end()
 
 A check raises `Failure` (by `require` or `same`) where something is wrong, and `end` prints `N passed, M failed`. No
-test imports another one. A tool or a bench puts the folder tests on `sys.path` first.
+test imports another one.
 """
+
+import sys
+from pathlib import Path
+
+TOP = Path(__file__).resolve().parents[2]
+
+__path__.append(str(TOP / "tools" / "support"))
+sys.path[1:1] = [str(TOP / folder) for folder in ("tools", "clients/python", "examples")]

@@ -22,7 +22,9 @@ def built(crate: str) -> Path:
     return CRATES / crate / "out" / crate
 
 
-FDREF = built("fdref")
+# The program; in an installation, which has the tools in share/fdref of its prefix and no crates, that beside them.
+IS_INSTALLED = not CRATES.exists()
+FDREF = TOP.parents[1] / "bin" / "fdref" if IS_INSTALLED else built("fdref")
 MEMORY_TRIAL = built("memory_trial")
 FRAME_TRIAL = built("frame_trial")
 SESSION_TRIAL = built("session_trial")

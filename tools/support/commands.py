@@ -6,7 +6,7 @@ import shlex
 import shutil
 import sys
 
-from support.places import FDREF, TOP
+from support.places import FDREF, IS_INSTALLED, TOP
 from support.plain_model import PIPE_CAPACITY, PIPE_CAPACITY_LEAST, PIPE_CAPACITY_MOST, Limits
 from support.running import CannotRun
 
@@ -15,8 +15,11 @@ UNPROVED = TOP / "out" / "unproved" / "fdref"
 
 def add_program(parser: argparse.ArgumentParser) -> None:
     """The option `--program`."""
-    text = f"fdref, or a command that takes `replay` as its next word; {FDREF.relative_to(TOP)} where none is given, "
-    text += f"or {UNPROVED.relative_to(TOP)} where that is not there"
+    text = "fdref, or a command that takes `replay` as its next word; "
+    if IS_INSTALLED:
+        text += f"{FDREF} where none is given"
+    else:
+        text += f"{FDREF.relative_to(TOP)} where none is given, or {UNPROVED.relative_to(TOP)} where that is not there"
     parser.add_argument("--program", metavar="COMMAND", help=text)
 
 
@@ -62,9 +65,11 @@ def program_of(command: str | None) -> list[str]:
 
 
 def built_here() -> str:
-    """The program that is built in this tree."""
+    """The program that is built in this tree, or installed with this tool."""
     if FDREF.exists():
         return str(FDREF)
+    if IS_INSTALLED:
+        raise CannotRun(f"no program at {FDREF}: 'make install' puts it there")
     if not UNPROVED.exists():
         ways = "'./fdref build' proves and builds it in half an hour or more, './fdref build --unproved' compiles one"
         raise CannotRun(f"no program at {FDREF}: {ways} without proof in a minute")
