@@ -2,7 +2,7 @@
 #
 #   make                      proves and builds the program (./fdref build), and builds the library for LD_PRELOAD
 #   make test                 runs all tests (.ci/run)
-#   make install PREFIX=DIR   installs program, man pages, header, clients and library, and words for bash to complete
+#   make install PREFIX=DIR   installs program, tools, man pages, header, clients and library, and what bash completes
 #   make uninstall PREFIX=DIR removes them
 #
 # PROGRAM names another program to be installed, as out/unproved/fdref, which './fdref build --unproved' makes. The client
@@ -21,7 +21,13 @@ TO = $(DESTDIR)$(PREFIX)
 FIND_PACKAGES = import site, sys; to = sys.argv[1]; \
     known = [path for path in site.getsitepackages() if path.startswith(to + "/lib")]; \
     print((known + ["%s/lib/python%d.%d/site-packages" % (to, *sys.version_info[:2])])[0])
-PACKAGES = $(shell $(PYTHON) -c '$(FIND_PACKAGES)' '$(PREFIX)')
+# asked once, and only where it is wanted
+PACKAGES = $(eval PACKAGES := $(shell $(PYTHON) -c '$(FIND_PACKAGES)' '$(PREFIX)'))$(PACKAGES)
+
+# The tools that have a name in bin, and all that they are made of or compile, in share/fdref as it is here.
+TOOLS = compare race order judge
+PARTS = $(filter-out tools/build.py, $(wildcard tools/*.py tools/*.[ch] tools/support/*.py)) clients/c/fdref.h \
+    $(wildcard clients/preload/*.[ch])
 
 all: $(PROGRAM) $(SHIM)
 
@@ -49,12 +55,21 @@ install: all
 	$(INSTALL) -D -m 644 clients/python/fdref/__init__.py $(DESTDIR)$(PACKAGES)/fdref/__init__.py
 	$(INSTALL) -D -m 644 clients/python/fdref/py.typed $(DESTDIR)$(PACKAGES)/fdref/py.typed
 	$(INSTALL) -D -m 755 $(SHIM) $(TO)/lib/libfdref_preload.so
+	for part in $(PARTS); do $(INSTALL) -D -m 644 $$part $(TO)/share/fdref/$$part || exit 1; done
+	$(INSTALL) -m 644 docs/fdref-tools.1 $(TO)/share/man/man1/fdref-tools.1
+	for tool in $(TOOLS); do \
+	    chmod 755 $(TO)/share/fdref/tools/$$tool.py && \
+	    ln -sf ../share/fdref/tools/$$tool.py $(TO)/bin/fdref-$$tool && \
+	    ln -sf fdref-tools.1 $(TO)/share/man/man1/fdref-$$tool.1 || exit 1; \
+	done
 
 uninstall:
 	rm -f $(TO)/bin/fdref $(TO)/share/bash-completion/completions/fdref
 	rm -f $(TO)/share/man/man1/fdref.1 $(TO)/share/man/man7/fdref_preload.7
 	rm -f $(TO)/include/fdref.h $(TO)/lib/pkgconfig/fdref.pc $(TO)/lib/libfdref_preload.so
-	rm -rf $(DESTDIR)$(PACKAGES)/fdref
+	rm -rf $(DESTDIR)$(PACKAGES)/fdref $(TO)/share/fdref
+	rm -f $(TO)/share/man/man1/fdref-tools.1
+	for tool in $(TOOLS); do rm -f $(TO)/bin/fdref-$$tool $(TO)/share/man/man1/fdref-$$tool.1; done
 
 clean:
 	rm -f $(SHIM)
