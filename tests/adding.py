@@ -103,7 +103,8 @@ def sources() -> dict[str, str]:
     found = {}
     for folder in (folder for pattern in SEARCHED for folder in TOP.glob(pattern)):
         for path in folder.rglob("*"):
-            if path.is_file() and path.suffix in ENDINGS:
+            # pip leaves what it built of the client in Python beside it
+            if path.is_file() and path.suffix in ENDINGS and "build" not in path.parts:
                 comment = COMMENTS.get(path.suffix)
                 text = content(path)
                 text = re.sub(comment, "", text, flags=re.DOTALL) if comment else text
