@@ -334,7 +334,7 @@ fn serve_args<'a>(alloc: Global) -> Result<Vec<Arg<'a>>, AllocError>
     let socket = "Where the Unix socket is made; nothing may be there";
     let sessions = "Connections that are accepted, 1 to 64; each is one process";
     let records = "Records that the run may have, 1 to 1000000";
-    let trace = "The file that the trace is written to; one that is there is emptied";
+    let trace = "The file for the trace, of this server alone; emptied also by a start that fails";
     let args = [
         required_arg(alloc, "socket", "PATH", socket),
         required_arg(alloc, "sessions", "N", sessions),
@@ -460,7 +460,7 @@ fn bare_command<'a>(alloc: Global) -> Command<'a>
 {
     let about = "A machine-checked reference for POSIX file descriptors";
     described_command(alloc, "fdref", about, FDREF_HELP)
-        .version("0.1.0")
+        .version("0.2.0")
         .propagate_version(true)
         .subcommand_required(true)
         .disable_help_subcommand(true)
