@@ -38,6 +38,9 @@ from support.running import Ran, run
 from support.texts import difference
 
 import compare
+from compare_lines import Asked
+from compare_reasons import is_room
+from compare_walks import class_of, random_lines, with_looks
 
 SECONDS = 60
 SEED = "acceptance"
@@ -75,9 +78,9 @@ class Bench(Driver):
 
     def asked(
         self, program: list[str] | None = None, words: Sequence[str] = (), limits: Limits = DEFAULTS
-    ) -> compare.Asked:
+    ) -> Asked:
         """The driver, and fdref or what stands in for it."""
-        return compare.Asked(program or [self.program], self.asks(*words), limits)
+        return Asked(program or [self.program], self.asks(*words), limits)
 
 
 def gives(done: Ran, lines: bytes, status: int = 0, stderr: bytes = b"") -> None:
@@ -87,7 +90,7 @@ def gives(done: Ran, lines: bytes, status: int = 0, stderr: bytes = b"") -> None
     require(done.stdout == lines, f"standard output differs in {difference(lines, done.stdout)}")
 
 
-def differs_nowhere(asked: compare.Asked, lines: list[bytes]) -> None:
+def differs_nowhere(asked: Asked, lines: list[bytes]) -> None:
     """Each difference of a script has a reason."""
     result = compare.checked(asked, lines)
     if result.unexplained:
@@ -321,7 +324,7 @@ def random_scripts(bench: Bench) -> Iterator[Case]:
     """Random scripts of each class."""
     asked = bench.asked()
     for number in range(bench.scripts):
-        lines = compare.random_lines(SEED, number, 60, compare.class_of(number, "all"))
+        lines = random_lines(SEED, number, 60, class_of(number, "all"))
         yield f"random script {number}", partial(differs_nowhere, asked, lines)
 
 
@@ -334,10 +337,10 @@ def time_tells_the_same(bench: Bench, name: str) -> None:
 @case("a system whose pipes have the room of the profile's")
 def question_marks_fit(bench: Bench) -> None:
     """What the driver cannot see is told by a `?`, and differs from nothing."""
-    asked = compare.Asked([bench.program], [sys.executable, str(STAND_INS / "settled_driver.py")])
+    asked = Asked([bench.program], [sys.executable, str(STAND_INS / "settled_driver.py")])
     require(asked.has_same_room, "the room of its pipes is not seen")
     for number in range(10):
-        differs_nowhere(asked, compare.random_lines(SEED, number, 60, "full-pipes"))
+        differs_nowhere(asked, random_lines(SEED, number, 60, "full-pipes"))
 
 
 @case("pipes of as many bytes as on Linux")
@@ -348,9 +351,9 @@ def full_pipes_are_compared(bench: Bench) -> None:
     asked = bench.asked(limits=ROOMY)
     require(asked.has_same_room and not asked.counts_bytes, "the room of its pipes is not seen")
     for number in range(20):
-        result = compare.checked(asked, compare.random_lines(SEED, number, 60, "full-pipes", ROOMY))
+        result = compare.checked(asked, random_lines(SEED, number, 60, "full-pipes", ROOMY))
         require(not result.unexplained, f"script {number}: {result.unexplained and compare.told(result.unexplained)}")
-        by_room = [it for it in result.differences if it.reason and it.reason.fits is compare.is_room]
+        by_room = [it for it in result.differences if it.reason and it.reason.fits is is_room]
         require(not by_room, f"script {number}: {by_room and compare.told(by_room[0])}")
 
 
@@ -443,7 +446,7 @@ def unchanged_is_right(bench: Bench) -> None:
     """Without a wrong rule, what stands in for fdref prints what fdref prints."""
     right, same = bench.asked(), bench.asked(rule_words("none"))
     for number in range(10):
-        lines = right.system(compare.with_looks(compare.random_lines(RULE_SEED, number, 60, "small")))
+        lines = right.system(with_looks(random_lines(RULE_SEED, number, 60, "small")))
         require(right.fdref(lines) == same.fdref(lines), f"script {number}: the model prints something else than fdref")
 
 
@@ -457,7 +460,7 @@ def is_found(bench: Bench, rule: str, text: str) -> None:
     """Random scripts find a wrong rule."""
     asked = bench.asked(rule_words(rule))
     for number in range(RULE_SCRIPTS):
-        if compare.checked(asked, compare.random_lines(RULE_SEED, number, 60, "small")).unexplained:
+        if compare.checked(asked, random_lines(RULE_SEED, number, 60, "small")).unexplained:
             return
     raise Failure(f"{RULE_SCRIPTS} scripts do not find that {text}")
 
@@ -477,9 +480,9 @@ def wrong_systems(bench: Bench) -> Iterator[Case]:
 def is_wrong_system(bench: Bench, library: str, way: str) -> None:
     """Random scripts find a system that is wrong in a way."""
     driver = ["env", f"WRONG_SYSTEM={way}", f"LD_PRELOAD={library}", *bench.asks()]
-    asked = compare.Asked([bench.program], driver)
+    asked = Asked([bench.program], driver)
     for number in range(RULE_SCRIPTS):
-        if compare.checked(asked, compare.random_lines(RULE_SEED, number, 60, "small")).unexplained:
+        if compare.checked(asked, random_lines(RULE_SEED, number, 60, "small")).unexplained:
             return
     raise Failure(f"{RULE_SCRIPTS} scripts do not find it")
 

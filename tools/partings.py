@@ -14,7 +14,9 @@ from support.call_logs import Log, Way, call_of, log_of, read_lines, word_of
 from support.counting import require
 from support.runs import Line, line_of
 
-import compare
+import compare_reasons
+from compare_lines import is_moved
+from compare_reasons import OWN, REASONS, Difference, Reason, is_append, is_pwrite_appended, process_of
 
 # ---- reasons
 
@@ -25,7 +27,7 @@ def is_front(system: str, fdref: str) -> bool:
     return bool(one and other and one[: len(other)] == other[: len(one)])
 
 
-def is_of_time(it: compare.Difference) -> bool:
+def is_of_time(it: Difference) -> bool:
     """A read of a pipe to which another process may have written before it, or not yet."""
     if not it.words("read") or not it.at or not it.at.pipe or it.world.next_number < 2:
         return False
@@ -33,9 +35,9 @@ def is_of_time(it: compare.Difference) -> bool:
     return is_dry or is_front(it.system, it.fdref)
 
 
-def is_past_size(it: compare.Difference) -> bool:
+def is_past_size(it: Difference) -> bool:
     """A write past the greatest size of a file, of which fdref takes less or nothing."""
-    if not it.words("write", "pwrite", "ftruncate") or not it.at or it.at.pipe or not compare.is_moved(it.system):
+    if not it.words("write", "pwrite", "ftruncate") or not it.at or it.at.pipe or not is_moved(it.system):
         return it.words("ftruncate") and it.gives("error EFBIG") and it.system == "ok"
     is_less = it.gives("error EFBIG") or (it.fdref.isdigit() and int(it.fdref) < int(it.system))
     return is_less and it.start(it.at) + it.count() > it.world.limits.size
@@ -43,10 +45,10 @@ def is_past_size(it: compare.Difference) -> bool:
 
 # Scripts that are compared do not meet these: one process acts at a time there, and the system has a limit of its own.
 MORE_REASONS = [
-    compare.Reason("what is read of a pipe depends on who comes first", compare.OWN, "page of read", is_of_time),
-    compare.Reason("more than 1,099,511,627,776 bytes in a file", compare.OWN, "page of write", is_past_size),
+    Reason("what is read of a pipe depends on who comes first", OWN, "page of read", is_of_time),
+    Reason("more than 1,099,511,627,776 bytes in a file", OWN, "page of write", is_past_size),
 ]
-APPENDED = next(reason for reason in compare.REASONS if reason.fits is compare.is_pwrite_appended)
+APPENDED = next(reason for reason in REASONS if reason.fits is is_pwrite_appended)
 
 
 class Parting(NamedTuple):
@@ -78,7 +80,7 @@ def shared_reads(trace: list[Line], limits: plain_model.Limits) -> set[int]:
     reads: list[tuple[int, plain_model.Pipe]] = []
     for place, line in enumerate(trace):
         act = act_of(line.act)
-        process = compare.process_of(judge.world, act)
+        process = process_of(judge.world, act)
         at = process.table.get(act.fields[0]) if process and act.word in ("read", "write") else None
         if process and at and at.pipe:
             users.setdefault((at.pipe, act.word), set()).add(process.number)
@@ -118,9 +120,9 @@ class Story:
         """The world before a place, which is none of those that were asked for already."""
         for line in self.trace[self.place : place]:
             act = act_of(line.act)
-            process = compare.process_of(self.judge.world, act)
+            process = process_of(self.judge.world, act)
             at = process.table.get(act.fields[0]) if process and act.word == "pwrite" else None
-            if at and compare.is_append(act, at):
+            if at and is_append(act, at):
                 self.appended.append(at.regular)
             self.judge.outcome_of(act)
         self.place = max(self.place, place)
@@ -131,7 +133,7 @@ class Finding(NamedTuple):
     """A parting with its reason. One that has none may follow from an earlier one."""
 
     parting: Parting
-    reason: compare.Reason | None
+    reason: Reason | None
     follows: bool
 
 
@@ -169,7 +171,7 @@ def all_partings(system: Log, fdref: Log, story: Story) -> list[Parting]:
     return sorted(found, key=lambda it: (it.place, it.way))
 
 
-def difference_of(parting: Parting, story: Story) -> compare.Difference | None:
+def difference_of(parting: Parting, story: Story) -> Difference | None:
     """A parting as a difference, which has to be one of answers to the same call."""
     world = story.world_before(parting.place)
     if not parting.is_same_call() or not parting.system or not parting.fdref:
@@ -177,20 +179,20 @@ def difference_of(parting: Parting, story: Story) -> compare.Difference | None:
     system = parting.system._replace(act=parting.fdref.act)
     before = story.trace[: parting.place]
     try:
-        return compare.Difference(len(before), [*before, system], system, parting.fdref, world)
+        return Difference(len(before), [*before, system], system, parting.fdref, world)
     except plain_model.NotAnAct:
         return None
 
 
-def reason_of(it: compare.Difference, story: Story) -> compare.Reason | None:
+def reason_of(it: Difference, story: Story) -> Reason | None:
     """The reason of a difference, if it has one. It may be by a pwrite under append before it, or by who came first."""
-    reason = compare.reason_of(it) or next((more for more in MORE_REASONS if more.fits(it)), None)
+    reason = compare_reasons.reason_of(it) or next((more for more in MORE_REASONS if more.fits(it)), None)
     is_appended = bool(it.at and not it.at.pipe and any(it.at.file is file for file in story.appended))
     by_others = APPENDED if is_appended else MORE_REASONS[0] if is_shared(it, story) else None
     return reason or by_others
 
 
-def is_shared(it: compare.Difference, story: Story) -> bool:
+def is_shared(it: Difference, story: Story) -> bool:
     """Whether it is a read of a pipe whose users are several, that gave bytes or the end on both sides."""
     outcomes = (it.system, it.fdref)
     return it.place in story.shared and all(plain_model.read_data(text.encode()) is not None for text in outcomes)

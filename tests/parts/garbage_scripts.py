@@ -23,7 +23,7 @@ from support.serving import SECONDS
 from support.sources import changed, numbered, source
 from support.texts import difference
 
-import compare
+from compare_walks import random_lines
 
 # The acts of a script with processes, and the most lines of one without.
 ACTS, LINES_MOST = 30, 40
@@ -156,7 +156,7 @@ def with_processes(pick: random.Random, seed: str, number: int) -> Script:
     """A random script that runs, bent in a few places; or only garbage."""
     if pick.random() < 0.1:
         return script_of(pick, [b"join", pick.randbytes(pick.choice([10, 1_000, 100_000]))])
-    lines = compare.random_lines(f"{seed} garbage", number, ACTS, "small")
+    lines = random_lines(f"{seed} garbage", number, ACTS, "small")
     for _ in range(pick.choice([1, 2, 3, 8])):
         at = pick.randrange(len(lines))
         how = pick.choice(["bend", "plain", "double", "leave", "swap"])

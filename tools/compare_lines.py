@@ -1,0 +1,169 @@
+"""The lines of a run of the system and of one of fdref: how both are asked for them, and which of them fit.
+
+Which of the calls that came back together was served first is not seen on a system, so their other orders are tried.
+"""
+
+import itertools
+from pathlib import Path
+
+from support.commands import capacity_words
+from support.counting import Failure
+from support.plain_model import DEFAULTS, TRANSFER_MAX, Limits
+from support.running import CannotRun, run
+from support.runs import ALL_RECORDS, Line, line_of
+
+SECONDS = 120
+ORDERS_MOST = 150
+
+
+# ---- lines of a run
+
+
+def act_of(line: Line) -> str:
+    """A line's act, as it stands in a script."""
+    word = line.act.partition(" ")[2]
+    return word if word in ("join", "close-run") else line.act
+
+
+def is_told_back(line: Line) -> bool:
+    """Whether a line tells that a call came back: no act of the script stands for it."""
+    return line.act.endswith(" resume") and line.place != "-"
+
+
+def ends_of_closing(lines: list[Line]) -> set[int]:
+    """The places of the exits that closing the run has made."""
+    unattached: set[str] = set()
+    found: set[int] = set()
+    for place, line in enumerate(lines):
+        who, _, word = line.act.partition(" ")
+        if word == "fork" and line.outcome.isdigit():
+            unattached.add(f"p{line.outcome}")
+        elif word == "attach" and line.outcome == "ok":
+            unattached.discard(who)
+        elif word == "exit" and who in unattached and line.place != "-":
+            found.add(place)
+    return found
+
+
+def moved(outcome: str) -> int:
+    """How many bytes of a write went in at once."""
+    number = outcome.removeprefix("parked ")
+    return int(number) if number.isdigit() else 0
+
+
+def is_moved(outcome: str) -> bool:
+    """Whether a write moved bytes, waits, or would wait."""
+    return outcome.isdigit() or outcome.startswith("parked") or outcome == "error EAGAIN"
+
+
+def fits(system: Line, fdref: Line, asked: "Asked") -> bool:
+    """Whether two lines fit. How much a large write moved at once is `?`: the same where a pipe has the same room, by
+    bytes, and nothing where the pipe is full to the last byte."""
+    if system.act != fdref.act:
+        return False
+    if system.outcome == "?":
+        return True
+    if not system.act:
+        totals = zip(system.outcome.split(" "), fdref.outcome.split(" "), strict=True)
+        return all(word in ("?", other) for word, other in totals)
+    if system.outcome == "parked ?":
+        is_full = fdref.outcome == "parked 0"
+        return asked.has_same_room and fdref.outcome.startswith("parked ") and (asked.counts_bytes or is_full)
+    return (system.place == "-", system.outcome) == (fdref.place == "-", fdref.outcome)
+
+
+# ---- the two that are asked
+
+
+class Asked:
+    """The driver and fdref, as they are called."""
+
+    def __init__(self, program: list[str], driver: list[str], limits: Limits = DEFAULTS) -> None:
+        self.program = program
+        self.driver = driver
+        self.limits = limits
+        self.has_same_room = self.room() == limits.capacity
+        self.counts_bytes = self.room(3_000, 3_000) == self.room()
+
+    def run(self, words: list[str], script: bytes, who: str) -> list[Line]:
+        """The lines that one of the two prints on a script."""
+        try:
+            done = run(words, script, seconds=SECONDS)
+        except (Failure, OSError) as fault:
+            raise CannotRun(f"{who}: {fault}") from None
+        if done.status != 0:
+            raise CannotRun(f"{who} ends with status {done.status}: {done.stderr.decode('ascii', 'replace').strip()}")
+        lines = [line_of(line) for line in done.stdout.decode("ascii").splitlines()]
+        if any(line.outcome == "?" for line in lines):
+            # a resume that is told as `?` may be none, so the number of records is not known
+            lines[-1] = lines[-1]._replace(outcome=lines[-1].outcome.replace(lines[-1].outcome.split(" ")[1], "?", 1))
+        return lines
+
+    def room(self, *sizes: int) -> int:
+        """How many bytes go into an empty pipe of the system by writes of these sizes and one of 65,536, or 65,536
+        where they are more."""
+        lines = [b"join", b"p0 mkfifo f", b"p0 open f r,nonblock", b"p0 open f w,nonblock"]
+        lines += [b"p0 write 1 61*%d" % size for size in (*sizes, TRANSFER_MAX)]
+        outcomes = [line.outcome for line in self.system(lines)[4:-1]]
+        return min(sum(map(moved, outcomes)), TRANSFER_MAX)
+
+    def system(self, lines: list[bytes]) -> list[Line]:
+        """The run of a script as it happened."""
+        return self.run(self.driver, b"".join(line + b"\n" for line in lines), "ask_kernel")
+
+    def fault(self, path: str) -> str:
+        """The fault of a script, as fdref tells it: its line, its column and what could stand there."""
+        try:
+            done = run([*self.program, "replay"], Path(path).read_bytes(), seconds=SECONDS)
+        except (Failure, OSError):
+            return "not a script"
+        lines = done.stderr.decode("ascii", "replace").splitlines()
+        return ", ".join(line for line in lines if line.startswith(("line ", "expected "))) or "not a script"
+
+    def fdref(self, lines: list[Line]) -> list[Line]:
+        """What fdref gives for the acts of a run."""
+        ends = ends_of_closing(lines)
+        script = "".join(act_of(line) + "\n" for place, line in enumerate(lines) if line.act and place not in ends)
+        records = min(2 * len(lines) + 200, ALL_RECORDS)
+        words = [*self.program, "replay", "--records", str(records), *capacity_words(self.limits)]
+        return self.run(words, script.encode(), "fdref")
+
+
+def first_unfit(asked: Asked, system: list[Line], fdref: list[Line], known: set[int]) -> int | None:
+    """The place of the first lines that do not fit, but for those that are known, or None."""
+    for place in range(max(len(system), len(fdref))):
+        is_there = place < min(len(system), len(fdref))
+        if place not in known and not (is_there and fits(system[place], fdref[place], asked)):
+            return place
+    return None
+
+
+def groups_before(lines: list[Line], place: int) -> list[tuple[int, int]]:
+    """Where several calls came back one after another, up to a place: the last of them first."""
+    groups: list[list[int]] = []
+    for at, line in enumerate(lines):
+        if is_told_back(line) and line.outcome != "?":
+            if groups and groups[-1][1] == at:
+                groups[-1][1] = at + 1
+            else:
+                groups.append([at, at + 1])
+    return [(first, end) for first, end in reversed(groups) if first <= place and end - first > 1]
+
+
+def in_other_order(asked: Asked, lines: list[Line], place: int, known: set[int]) -> list[Line] | None:
+    """The run with calls that came back together in an order that fdref fits further, if there is one.
+
+    Which of them the kernel served first is not seen, so each order may be the one that happened. Differences that are
+    known stay where they are.
+    """
+    tries = 0
+    for first, end in groups_before(lines, place):
+        for order in itertools.permutations(lines[first:end]):
+            tries += 1
+            if tries > ORDERS_MOST:
+                return None
+            tried = lines[:first] + list(order) + lines[end:]
+            unfit = first_unfit(asked, tried, asked.fdref(tried), known)
+            if unfit is None or unfit > max(place, end - 1):
+                return tried
+    return None

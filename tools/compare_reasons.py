@@ -1,0 +1,312 @@
+"""Why a system and fdref may differ: each reason with who decides it, the page of the standard, and the differences
+that it fits."""
+
+from collections.abc import Callable
+from typing import NamedTuple
+
+from support import plain_model, walks
+from support.plain_model import OFFSET_MAX, OPEN_MAX, PIPE_BUF, TRANSFER_MAX
+from support.runs import Line
+
+from compare_lines import act_of, is_moved, moved
+
+# Systems give a pipe memory in pages of so many bytes.
+PAGE = 4_096
+
+
+# ---- a difference
+
+
+class Difference:
+    """A line in which a system and fdref differ, with the model's world before it."""
+
+    def __init__(self, place: int, lines: list[Line], system: Line, fdref: Line, world: plain_model.World) -> None:
+        self.place = place
+        self.lines = lines
+        self.act = plain_model.read_act(act_of(system).encode()) if system.act else TOTALS
+        self.system = system.outcome
+        self.fdref = fdref.outcome
+        self.world = world
+        self.process = process_of(world, self.act)
+        self.at = self.description(self.act)
+        self.reason: Reason | None = None
+
+    def description(self, act: plain_model.Act) -> plain_model.Description | None:
+        """The open file description that a call is made on, or None."""
+        has_fd = plain_model.FIELDS.get(act.word, ())[:1] == (plain_model.read_fd,)
+        return self.process.table.get(act.fields[0]) if has_fd and self.process else None
+
+    def words(self, *words: str) -> bool:
+        """Whether it is one of these calls."""
+        return self.act.word in words
+
+    def gives(self, *outcomes: str) -> bool:
+        """Whether fdref gives one of these."""
+        return self.fdref in outcomes
+
+    def succeeds(self) -> bool:
+        """Whether the system does what fdref refuses."""
+        return not self.system.startswith("error ") and self.fdref.startswith("error ")
+
+    def are_errors(self) -> bool:
+        """Whether both end in an error."""
+        return self.system.startswith("error ") and self.fdref.startswith("error ")
+
+    def names(self) -> list[bytes]:
+        """The names that a call has."""
+        kinds = plain_model.FIELDS.get(self.act.word, ())
+        fields = zip(kinds, self.act.fields, strict=True)
+        return [value for kind, value in fields if kind is plain_model.read_name]
+
+    def flags(self) -> list[str]:
+        """The flags of an open."""
+        flags: str = self.act.fields[1]
+        return flags.split(",")
+
+    def is_on_fifo(self) -> bool:
+        """Whether its name is that of a FIFO."""
+        return walks.is_fifo(self.world.names.get(self.act.fields[0]))
+
+    def count(self) -> int:
+        """How many bytes a read or write asks for or gives."""
+        last: bytes | int = self.act.fields[-1]
+        return len(last) if isinstance(last, bytes) else last
+
+    def start(self, at: plain_model.Description) -> int:
+        """Where a read or write of a regular file begins."""
+        if self.words("pread", "pwrite"):
+            start: int = self.act.fields[1]
+            return start
+        return len(at.regular.data) if at.append and self.words("write") else at.offset
+
+    def is_settled(self) -> bool:
+        """Whether system and fdref are in the same state after it, so that the run can go on."""
+        is_look = self.words("fstat", "getfl") and not follows_append(self)
+        return self.are_errors() or is_look or self.system == "not asked"
+
+
+def process_of(world: plain_model.World, act: plain_model.Act) -> plain_model.Process | None:
+    """The process that acts, if it is live."""
+    return world.processes.get(act.actor) if isinstance(act.actor, int) else None
+
+
+# ---- what it may be
+
+
+def due(it: Difference) -> set[str]:
+    """The errors that are due of a call, in whatever order they are asked."""
+    word, at, fields = it.act.word, it.at, it.act.fields
+    wants = {"pread": "r", "read": "r", "pwrite": "w", "write": "w", "ftruncate": "w"}.get(word, "")
+    if word == "open":
+        return due_of_open(it)
+    errors = {"EBADF": not at or wants not in at.mode}
+    if word in ("pread", "pwrite"):
+        start, count = fields[1], it.count()
+        errors["ESPIPE"] = bool(at and at.pipe)
+        errors["EINVAL"] = start < 0 or count > TRANSFER_MAX or (count > 0 and start + count > OFFSET_MAX)
+        errors["EFBIG"] = word == "pwrite" and count > 0 and start >= it.world.limits.size
+    elif word == "ftruncate":
+        length = fields[1]
+        errors["EINVAL"] = length < 0 or bool(at and (at.pipe or "w" not in at.mode))
+        errors["EFBIG"] = length > it.world.limits.size
+    return {error for error, is_due in errors.items() if is_due}
+
+
+def due_of_open(it: Difference) -> set[str]:
+    """The errors that are due of an open."""
+    name, flags = it.act.fields[0], it.flags()
+    file = it.world.names.get(name)
+    is_own = has_own_name_fault(it) or has_own_flags(it)
+    errors = {
+        "EMFILE": it.process is not None and len(it.process.table) == OPEN_MAX,
+        "ENOENT": (not file and "creat" not in flags) or not name,
+        "EEXIST": bool(file) and "creat" in flags and "excl" in flags,
+        "EINVAL": is_own,
+        "ENAMETOOLONG": is_own,
+    }
+    if isinstance(file, plain_model.Fifo):
+        errors["EINVAL"] = is_own or flags[0] == "rw"
+        errors["ENXIO"] = flags[0] == "w" and "nonblock" in flags and not it.world.has_end(file.pipe, "r")
+    return {error for error, is_due in errors.items() if is_due}
+
+
+def is_order(it: Difference) -> bool:
+    """Two errors that are both due."""
+    return it.are_errors() and {it.system[6:], it.fdref[6:]} <= due(it)
+
+
+def is_append(act: plain_model.Act, at: plain_model.Description | None) -> bool:
+    """Whether an act is a pwrite under append."""
+    return act.word == "pwrite" and at is not None and at.append and not at.pipe and "w" in at.mode
+
+
+def follows_append(it: Difference) -> bool:
+    """Whether it is the fstat that looks at what a pwrite under append has done."""
+    before = plain_model.read_act(act_of(it.lines[it.place - 1]).encode()) if it.place else it.act
+    is_same = it.act.word == "fstat" and (before.actor, before.fields[:1]) == (it.act.actor, it.act.fields)
+    return is_same and is_append(before, it.at)
+
+
+def is_pwrite_appended(it: Difference) -> bool:
+    """A pwrite that a system appends."""
+    return is_append(it.act, it.at) or follows_append(it)
+
+
+def is_lseek_overflow(it: Difference) -> bool:
+    """An lseek past the greatest offset."""
+    return it.words("lseek") and it.gives("error EOVERFLOW") and it.system == "error EINVAL"
+
+
+def is_lseek_past_files(it: Difference) -> bool:
+    """An lseek past the greatest file of the file system."""
+    return it.words("lseek") and it.fdref.isdigit() and int(it.fdref) >= 2**40 and it.system == "error EINVAL"
+
+
+def is_offset_and_count(it: Difference) -> bool:
+    """A transfer that passes the greatest offset."""
+    if not it.words("read", "pread", "write", "pwrite") or not it.at or it.at.pipe or it.system != "error EINVAL":
+        return False
+    return it.count() > 0 and it.start(it.at) + it.count() > OFFSET_MAX
+
+
+def is_room(it: Difference) -> bool:
+    """A write to a pipe that has more room on the system than in the profile, or less."""
+    if not it.words("write") or not it.at or not it.at.pipe:
+        return False
+    whole, held = it.count(), len(it.at.pipe.data)
+    are_moved = all(is_moved(outcome) for outcome in (it.system, it.fdref))
+    is_less = it.system != str(whole) and held + whole > PIPE_BUF
+    return are_moved and (held + whole > it.at.pipe.capacity or is_less)
+
+
+def is_paged_room(it: Difference) -> bool:
+    """A write to a pipe for which the system has as many bytes as are asked for, but in pages of which some are not
+    full.
+
+    A write goes on in a page only where it fits there. So two pages beside each other hold more than one page together,
+    but for the first one, of which something was read; and a pipe that is about half full may have no page left.
+    """
+    if not it.words("write") or not it.at or not it.at.pipe or it.at.pipe.capacity % PAGE:
+        return False
+    if not is_moved(it.system) or not is_moved(it.fdref):
+        return False
+    held, fdref = len(it.at.pipe.data), moved(it.fdref)
+    # how many bytes of a large write have gone in is not seen on the system while it waits
+    is_less = fdref > 0 if it.system == "parked ?" else moved(it.system) < fdref
+    return is_less and held > 0 and held + it.count() > it.at.pipe.capacity // 2 - PAGE
+
+
+def is_set_while_it_waits(it: Difference) -> bool:
+    """A write that waits ends on the system with what it moved, since nonblock was set on its description meanwhile."""
+    call = it.process.waits if it.words("resume") and it.process else None
+    if not isinstance(call, plain_model.WaitingWrite) or not it.system.isdigit() or not it.fdref.startswith("part "):
+        return False
+    ends = (at for process in it.world.processes.values() for at in process.table.values() if at.pipe is call.pipe)
+    return any("w" in at.mode and at.nonblock for at in ends)
+
+
+def is_stat_of_pipe(it: Difference) -> bool:
+    """Size and links of a pipe; of a FIFO, which has names, the size alone."""
+    if not it.words("fstat") or not it.at or not it.at.pipe:
+        return False
+    system, fdref = it.system.split(" "), it.fdref.split(" ")
+    return len(system) == len(fdref) == 3 and system[0] == fdref[0] and (system[0] == "pipe" or system[2] == fdref[2])
+
+
+def has_own_name_fault(it: Difference) -> bool:
+    """Whether a name is refused that a system may take."""
+    return any(name_fault(name) in ("EINVAL", "ENAMETOOLONG") for name in it.names())
+
+
+def name_fault(name: bytes) -> str | None:
+    """The error in which a name ends, if any."""
+    try:
+        plain_model.check_name(name)
+    except plain_model.Errno as fault:
+        return str(fault)
+    return None
+
+
+def is_own_name(it: Difference) -> bool:
+    """A name that the profile does not take."""
+    return has_own_name_fault(it) and it.gives("error EINVAL", "error ENAMETOOLONG", "error ENOENT")
+
+
+def has_own_flags(it: Difference) -> bool:
+    """Whether flags are refused that a system may take."""
+    mode, *flags = it.flags()
+    return mode == "-" or ("excl" in flags and "creat" not in flags) or ("trunc" in flags and "w" not in mode)
+
+
+def is_own_flags(it: Difference) -> bool:
+    """Flags that the standard leaves undefined."""
+    return it.words("open") and it.gives("error EINVAL") and has_own_flags(it)
+
+
+def is_fifo_for_both(it: Difference) -> bool:
+    """An open of a FIFO for reading and writing."""
+    is_refused = it.words("open") and it.gives("error EINVAL") and it.flags()[0] == "rw"
+    return is_refused and it.is_on_fifo() and it.system.isdigit()
+
+
+def is_count(it: Difference) -> bool:
+    """More bytes than a call of the profile moves."""
+    is_asked = it.words("read", "pread", "write", "pwrite") and it.gives("error EINVAL") and it.count() > TRANSFER_MAX
+    return is_asked and (it.succeeds() or it.system in ("error EFBIG", "error EPIPE", "error EAGAIN"))
+
+
+def is_full(it: Difference) -> bool:
+    """More processes than the profile has."""
+    return it.words("join", "fork") and it.gives("error EAGAIN") and not it.world.is_closed and it.system.isdigit()
+
+
+# the act of the last line
+TOTALS = plain_model.Act(None, "totals")
+
+SYSTEM, OWN = "the system departs", "own"
+
+
+class Reason(NamedTuple):
+    """Why system and fdref may differ: who decides it, the page of the standard, and the differences that it fits."""
+
+    name: str
+    who: str
+    page: str
+    fits: Callable[[Difference], bool]
+
+
+# Each reason of a difference, the narrow ones first. `fits` looks at the call, its descriptor and both outcomes.
+REASONS = [
+    Reason("pwrite under O_APPEND appends", SYSTEM, "page of write (pwrite)", is_pwrite_appended),
+    Reason("lseek past the greatest offset is EINVAL, not EOVERFLOW", SYSTEM, "page of lseek", is_lseek_overflow),
+    Reason("lseek past the greatest file of the file system is EINVAL", SYSTEM, "page of lseek", is_lseek_past_files),
+    Reason("offset and count pass the greatest offset: EINVAL", SYSTEM, "pages of read and write", is_offset_and_count),
+    Reason("order of refusals, where several are due", OWN, "XSH 2.3", is_order),
+    Reason("nonblock set while a write waits", OWN, "pages of fcntl and write", is_set_while_it_waits),
+    Reason("room of a pipe that is counted in pages", OWN, "page of write", is_paged_room),
+    Reason("room of a pipe", OWN, "page of write", is_room),
+    Reason("size and links of a pipe in fstat", OWN, "page of fstat", is_stat_of_pipe),
+    Reason("names that the profile does not take", OWN, "XBD 3, Portable Filename Character Set", is_own_name),
+    Reason("flags that the standard leaves undefined", OWN, "page of open", is_own_flags),
+    Reason("a FIFO opened for both", OWN, "page of open", is_fifo_for_both),
+    Reason("more than 65,536 bytes in a call", OWN, "pages of read and write", is_count),
+    Reason("more than 8 links", OWN, "page of link", lambda it: it.gives("error EMLINK") and it.succeeds()),
+    Reason(
+        "more than 1,024 names",
+        OWN,
+        "pages of open, link and mkfifo",
+        lambda it: it.gives("error ENOSPC") and it.succeeds(),
+    ),
+    Reason(
+        "more than 1,024 descriptions",
+        OWN,
+        "pages of open and pipe",
+        lambda it: it.gives("error ENFILE") and it.succeeds(),
+    ),
+    Reason("more than 64 processes", OWN, "page of fork", is_full),
+]
+
+
+def reason_of(difference: Difference) -> Reason | None:
+    """The first reason that fits a difference."""
+    return next((reason for reason in REASONS if reason.fits(difference)), None)

@@ -1,0 +1,170 @@
+"""Scripts for a system and fdref: random ones, and the acts that look at what a script has left."""
+
+import random
+from collections.abc import Callable, Iterator
+
+from support import plain_model, walks
+from support.contents import BLOCK
+from support.plain_model import DEFAULTS, OPEN_MAX, TRANSFER_MAX, Limits
+from support.runs import Settled
+
+from compare_reasons import is_append, process_of
+
+# ---- looks
+
+
+def with_looks(lines: list[bytes], limits: Limits = DEFAULTS) -> list[bytes]:
+    """A script with acts that look at what a pwrite under append did, at calls that wait on from before a setfl and, at
+    the end, at all that is there."""
+    beside = Settled(limits)
+    looked: list[bytes] = []
+    for line in lines:
+        act = plain_model.read_act(line)
+        process = process_of(beside.world, act)
+        looked.append(line)
+        if process and act.word == "pwrite" and is_append(act, process.table.get(act.fields[0])):
+            looked.append(b"p%d fstat %d" % (process.number, act.fields[0]))
+        elif act.word == "setfl":
+            looked += [b"p%d resume" % it.number for it in beside.world.processes.values() if it.waits]
+        beside.take(act)
+    return looked + [text.encode() for text in last_looks(beside.world)]
+
+
+def last_looks(world: plain_model.World) -> list[str]:
+    """Acts that look at all that can be reached in a world, at the contents of pipes last."""
+    live = list(world.processes.values())
+    awake = [it for it in live if not it.waits]
+    looks = [f"p{it.number} attach" for it in live if not it.attached]
+    looks += [f"p{it.number} resume" for it in live if it.waits]
+    for it in awake:
+        for fd, at in sorted(it.table.items()):
+            looks.append(f"p{it.number} getfl {fd}")
+            # what fstat tells of a pipe without a name is the profile's own
+            looks += [f"p{it.number} fstat {fd}"] if at.file.kind != "pipe" else []
+            looks += [f"p{it.number} lseek {fd} 0 cur", *contents(it, fd, at.regular)] if not at.pipe else []
+    looks += [look for it in awake if len(it.table) < OPEN_MAX for look in by_name(world, it)][:200]
+    # closed before those that wait are ended, so that readers come to the end
+    looks += [
+        f"p{it.number} close {fd}" for it in awake for fd, at in sorted(it.table.items()) if at.pipe and at.mode == "w"
+    ]
+    looks += [f"p{it.number} exit" for it in live if it.waits]
+    reads = [(it.number, fd) for it in awake for fd, at in sorted(it.table.items()) if at.pipe and at.mode == "r"]
+    return looks + [f"p{number} read {fd} {count}" for number, fd in reads for count in (TRANSFER_MAX, 1)]
+
+
+def contents(process: plain_model.Process, fd: int, file: plain_model.Regular) -> list[str]:
+    """Acts that read a file through a descriptor, whatever its offset is: what was written, and the zeros before it and
+    behind it; the beginning, the middle and the end."""
+    size = len(file.data)
+    blocks = {start for number in file.data.blocks for start in range(max(number - 1, 0) * BLOCK, size, BLOCK)[:3]}
+    starts = sorted(blocks | {0, size // 2, max(size - TRANSFER_MAX, 0), size})
+    return [f"p{process.number} pread {fd} {start} {TRANSFER_MAX}" for start in starts]
+
+
+def by_name(world: plain_model.World, process: plain_model.Process) -> Iterator[str]:
+    """Acts by which a process opens each file that has a name."""
+    fd = plain_model.lowest_free(process)[0]
+    for name, file in sorted(world.names.items()):
+        if isinstance(file, plain_model.Regular):
+            yield from [f"p{process.number} open {plain_model.name_text(name)} r", f"p{process.number} fstat {fd}"]
+            yield from [*contents(process, fd, file), f"p{process.number} close {fd}"]
+
+
+# ---- random scripts
+
+
+class Walk(walks.Walk):
+    """A walk whose acts a system can follow: calls go on by themselves, and few acts reach a limit of the profile."""
+
+    def __init__(self, pick: random.Random, processes: int, fills_pipes: bool, limits: Limits) -> None:
+        self.fills_pipes = fills_pipes
+        self.processes = processes
+        super().__init__(pick, Settled(limits))
+
+    def is_odd(self) -> bool:
+        """Whether the next choice makes no sense on purpose, which is seldom."""
+        return self.pick.random() < 0.01
+
+    def walk(self, count: int) -> None:
+        """So many acts, in moods that change."""
+        self.most_live = self.processes
+        while len(self.lines) < count:
+            mood = self.pick.choice(["files", "files", "pipes", "fifos", *walks.MOODS])
+            for _ in range(self.pick.randrange(5, 25)):
+                self.act(walks.MOODS[mood])
+                if len(self.lines) >= count or (self.world.is_closed and not self.world.processes):
+                    return
+
+    def first_words(self) -> list[str]:
+        """As in each walk, and at times a setfl while somebody waits."""
+        is_waited = any(it.waits for it in self.world.processes.values())
+        return ["setfl"] if is_waited and self.pick.random() < 0.1 else super().first_words()
+
+    def descriptor(self, who: plain_model.Process, word: str) -> int | None:
+        """As in each walk, and more often one for which a call is refused.
+
+        It is an end of a broken pipe, that of a dry one under nonblock, or for calls on files alone any. The flags that
+        are set are those of a pipe at which somebody waits.
+        """
+        waited = [it.waits.pipe for it in self.world.processes.values() if it.waits]
+        wishes: dict[str, Callable[[plain_model.Description], object]] = {
+            "write": lambda at: at.pipe and at.mode == "w" and not self.world.has_end(at.pipe, "r"),
+            "read": lambda at: at.pipe and at.mode == "r" and at.nonblock and not at.pipe.data,
+            "setfl": lambda at: at.pipe in waited,
+        }
+        likely = 0.3 if word in wishes else 0.05
+        fit = [fd for fd, at in who.table.items() if word not in wishes or wishes[word](at)]
+        return self.pick.choice(fit) if fit and self.pick.random() < likely else super().descriptor(who, word)
+
+    def begin(self) -> None:
+        """The first acts."""
+        if self.processes > 1 and self.pick.random() < 0.4:
+            self.begin_with_two_ends()
+        elif self.pick.random() < 0.05:
+            self.begin_with_many_descriptors()
+        self.most_live = self.processes
+        for _ in range(self.pick.randrange(self.processes)):
+            self.act(self.pick.choice(["fork 1 attach 2", "join 1"]))
+
+    def begin_with_two_ends(self) -> None:
+        """Two processes with both ends of a pipe, or with one each, or with a read that waits."""
+        ends = ["p0 close 0", "p1 close 1"]
+        ways: list[list[str]] = [[], ends, ["p1 read 0 9"], [*ends, "p1 read 0 9"]]
+        self.say("p0 pipe", "p0 fork", "p1 attach", *self.pick.choice(ways))
+
+    def count_into(self, at: plain_model.Description) -> int:
+        """How many bytes to write: into a pipe no more than fit, unless pipes are to be filled."""
+        if not at.pipe or self.fills_pipes:
+            return super().count_into(at)
+        room = max(at.pipe.room() - 8, 0)
+        return self.pick.choice([0, *[min(count, room) for count in (1, 2, 3, 5, 8, 16, 17, 40, 100, 300)]])
+
+    def place(self, at: plain_model.Description) -> int:
+        """As in each walk, but seldom far from the beginning, since a file of many parts is slow to look at."""
+        place = super().place(at)
+        return place if place < 2**16 or self.pick.random() < 0.2 else self.pick.randrange(100)
+
+    def move(self, at: plain_model.Description) -> list[walks.Field]:
+        """A distance and what it counts from."""
+        whence = self.pick.choice(["set", "cur", "end"])
+        if self.pick.random() < 0.01:
+            return [self.pick.choice(walks.ODD_PLACES), whence]
+        base = {"set": 0, "cur": at.offset, "end": 0 if at.pipe else len(at.regular.data)}[whence]
+        return [max(self.place(at) - base, -(2**63)), whence]
+
+
+CLASSES = ["small", "full-pipes"]
+
+
+def class_of(number: int, wanted: str) -> str:
+    """The class of a random script: one of ten fills pipes, where nothing else is asked."""
+    return wanted if wanted in CLASSES else CLASSES[number % 10 == 9]
+
+
+def random_lines(seed: str, number: int, acts: int, which: str, limits: Limits = DEFAULTS) -> list[bytes]:
+    """The random script with a number of a seed, of so many acts and of a class, for a run of these limits."""
+    pick = random.Random(f"{seed} {number} {acts} {which}")
+    walk = Walk(pick, pick.randrange(1, 7), which == "full-pipes", limits)
+    walk.begin()
+    walk.walk(acts)
+    return walk.lines
