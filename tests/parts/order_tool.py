@@ -203,6 +203,8 @@ def cases(program: str) -> Iterator[Case]:
     yield "a command of several words", partial(prints, f"env {program}", GOOD, 0, GOOD_LINES)
     yield "a program that ends badly", partial(fails, "/bin/false", GOOD, 3, "status 1")
     yield "a line that is no call", partial(fails, program, f"{GOOD}\n1 2 p0 jion = 0\n", 4, "line 8: ")
+    no_answer = "line 2: pipe does not give 0; expected two descriptors, as 0 1, an error, as error EBADF, or ?\n"
+    yield "a line without an answer", partial(fails, program, GOOD.replace("= 0 1", "= 0"), 4, f"order.py: {no_answer}")
     yield "what is built", takes_what_is_built
     yield "the example", partial(answers_the_example, program)
     yield "a file", partial(reads_a_file, program)
@@ -264,13 +266,36 @@ BAD_LINES_OF_HISTORIES = [
     "3 4 p1 open a r = 0",
     "3 4 close-run = ok",
     "3 4 p0 open a r,x = 0",
+    "3 4 p0 open a r = zero",
+    "3 4 p0 open a r = x61",
+    "3 4 p0 open a r = 00",
+    "3 4 p0 open a r = -1",
+    "3 4 p0 open a r = 0 1",
+    "3 4 p0 pipe = 0",
+    "3 4 p0 read 0 9 = 1",
+    "3 4 p0 read 0 9 = x6",
+    "3 4 p0 pread 0 0 9 = ok",
+    "3 4 p0 close 0 = 0",
+    "3 4 p0 fstat 0 = regular 0",
+    "3 4 p0 fstat 0 = regular 0 one",
+    "3 4 p0 fstat 0 = file 0 1",
+    "3 4 p0 write 0 x61 = error",
+    "3 4 p0 write 0 x61 = error ebadf",
+    "3 4 p0 write 0 x61 = error 0",
+    "3 4 p0 write 0 x61 = EBADF",
+    "3 4 p0 exit = 0",
+    "3 4 p0 rename a b = still",
 ]
+# Answers of a system that no run of fdref gives: they are no faults of a line.
+ODD_ANSWERS = ["fstat 0 = other 0 1", "read 0 9 = error EISDIR", "read 0 9 = error 38", "read 0 9 = 61*70000"]
 
 
 def line_cases() -> Iterator[Case]:
     """Lines that are calls, and lines that are none."""
     for line in BAD_LINES_OF_HISTORIES:
         yield f"bad line {line}", partial(is_bad, line)
+    for call in ODD_ANSWERS:
+        yield f"an odd answer, {call}", partial(read_histories, f"1 2 p0 join = 0\n3 4 p0 {call}\n")
     yield "a call after one that waits", partial(is_bad, "3 - p0 read 0 9 = parked ?\n5 6 p0 fstat 0 = pipe 0 0", 3)
     yield "a call after an exit", partial(is_bad, "3 4 p0 exit = ok\n5 6 p0 fstat 0 = pipe 0 0", 3)
     yield "lines are read again", partial(is_read_again, [*EXPLAINED, *IMPOSSIBLE])

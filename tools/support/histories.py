@@ -30,6 +30,40 @@ FIRST_WORDS = ("join", "attach")
 
 LINE = re.compile(r"(0|[1-9]\d{0,18}) (0|[1-9]\d{0,18}|-) (p\d.*) = (\S+(?: \S+){0,2})")
 
+# An error of any system: those that the profile does not have are told too, some by their numbers.
+ERROR = r"error (?:E[A-Z0-9]+|[1-9]\d{0,9})"
+NUMBER = r"(?:0|[1-9]\d{0,18})"
+
+
+class Form(NamedTuple):
+    """What a call may give where it does not end in an error: how it is written, and what it is."""
+
+    pattern: str
+    what: str
+
+
+DESCRIPTOR = Form(NUMBER, "a descriptor")
+PROCESS = Form(NUMBER, "the number of a process")
+BYTES = Form(NUMBER, "how many bytes")
+DATA = Form(r"x(?:[0-9a-f]{2})*|[0-9a-f]{2}\*\d+", "data, as x6869 or 61*512")
+OK = Form("ok", "ok")
+# As docs/FORMATS.md has them; all other acts give ok. A system may have files of another kind.
+FORMS = {
+    "join": PROCESS,
+    "fork": PROCESS,
+    "open": DESCRIPTOR,
+    "dup": DESCRIPTOR,
+    "dup2": DESCRIPTOR,
+    "read": DATA,
+    "pread": DATA,
+    "write": BYTES,
+    "pwrite": BYTES,
+    "lseek": Form(NUMBER, "an offset"),
+    "getfl": Form(NUMBER, "the sum of the flags"),
+    "pipe": Form(f"{NUMBER} {NUMBER}", "two descriptors, as 0 1"),
+    "fstat": Form(f"(?:regular|fifo|pipe|other) {NUMBER} {NUMBER}", "regular, fifo or pipe, and size and links, as pipe 0 0"),
+}
+
 
 class Noted(NamedTuple):
     """A call of a history: when it began, when it came back, if it did, what it was, and what it gave."""
@@ -89,7 +123,17 @@ def read_line(text: str, number: int) -> Noted:
         raise BadHistory(number, f"what has not come back is `{WAITS}` or `{UNKNOWN}`")
     if end is not None and noted.outcome.startswith(("parked", "part")):
         raise BadHistory(number, "what has come back does not wait")
+    check_outcome(noted, number)
     return noted
+
+
+def check_outcome(noted: Noted, number: int) -> None:
+    """Fails where an outcome is none that the call of a line may have on any system; what could stand there is told."""
+    form = FORMS.get(noted.act.word, OK)
+    if noted.outcome in (WAITS, UNKNOWN, NOT_ASKED) or re.fullmatch(f"{form.pattern}|{ERROR}", noted.outcome):
+        return
+    expected = f"{form.what}, an error, as error EBADF, or {UNKNOWN}"
+    raise BadHistory(number, f"{noted.act.word} does not give {noted.outcome}; expected {expected}")
 
 
 def read_act(text: str, number: int) -> plain_model.Act:
