@@ -26,6 +26,8 @@ sys.path.insert(0, str(Path(__file__).resolve().parents[1] / "clients" / "python
 import fdref
 
 SECONDS = 10
+# The exit status where no server can be asked.
+NO_SERVER = 3
 TOLD: list[tuple[int, str]] = []
 
 
@@ -73,29 +75,48 @@ def show() -> None:
     print("\n".join(f"{place} {text}" for place, text in sorted(TOLD)), flush=True)
 
 
+def joined(path: str, server: subprocess.Popen[bytes], name: str) -> fdref.Process:
+    """The first process of a server that is only starting. Fails with an OSError where that ends before it serves."""
+    while server.poll() is None:
+        try:
+            return fdref.join(path, within=0.1)
+        except (FileNotFoundError, ConnectionRefusedError):
+            continue
+    raise OSError(f"{name} ended with status {server.returncode} before it served")
+
+
+def ask_own(program: Sequence[str]) -> int:
+    """Asks a server of its own, which a program starts: the exit status of that."""
+    with tempfile.TemporaryDirectory() as folder:
+        path = os.path.join(folder, "socket")
+        trace = os.path.join(folder, "trace")
+        serve = [*program, "serve", "--socket", path, "--trace", trace, "--sessions", "2", "--records", "100"]
+        with subprocess.Popen(serve) as server:
+            try:
+                with joined(path, server, program[0]) as parent:
+                    ask(path, parent)
+                return server.wait()
+            finally:
+                server.kill()
+
+
 def main(words: Sequence[str]) -> int:
-    """Asks: the exit status."""
+    """Asks: the exit status, which is 3 where there is no server."""
     parser = argparse.ArgumentParser(description="Who gets which bytes of a pipe?")
     which = parser.add_mutually_exclusive_group(required=True)
     which.add_argument("--socket", metavar="PATH", help="where a server listens")
     which.add_argument("--program", help="the program and its first words, to start a server of its own")
     args = parser.parse_args(words)
-    if args.socket:
+    try:
+        if not args.socket:
+            return ask_own(shlex.split(args.program))
         with fdref.join(args.socket) as parent:
             ask(args.socket, parent)
         return 0
-    with tempfile.TemporaryDirectory() as folder:
-        path = os.path.join(folder, "socket")
-        trace = os.path.join(folder, "trace")
-        program = shlex.split(args.program)
-        serve = [*program, "serve", "--socket", path, "--trace", trace, "--sessions", "2", "--records", "100"]
-        with subprocess.Popen(serve) as server:
-            try:
-                with fdref.join(path, within=SECONDS) as parent:
-                    ask(path, parent)
-                return server.wait()
-            finally:
-                server.kill()
+    except OSError as fault:
+        why = f"{fault.filename}: {fault.strerror}" if fault.filename else str(fault)
+        print(f"shared_pipe.py: {why}", file=sys.stderr)
+        return NO_SERVER
 
 
 if __name__ == "__main__":

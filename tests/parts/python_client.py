@@ -10,7 +10,7 @@ import stat
 import sys
 import threading
 import time
-from collections.abc import Callable, Iterator
+from collections.abc import Callable, Iterator, Sequence
 from functools import partial
 from typing import Any, NoReturn, TypeVar
 
@@ -271,6 +271,20 @@ def example(program: str, has_own_server: bool) -> None:
         server.ended(report(2, 11, 11, 11))
 
 
+# Where the example has no server, and why.
+NO_SERVER = [
+    (["--program", "false"], "false ended with status 1 before it served"),
+    (["--program", "/no/such"], "/no/such: No such file or directory"),
+    (["--socket", "/no/such"], "/no/such: No such file or directory"),
+]
+
+
+def example_has_no_server(words: Sequence[str], why: str) -> None:
+    """Where the example has no server it says why in one line, and ends with 3."""
+    ran = outcome_of(started([sys.executable, str(EXAMPLES / "shared_pipe.py"), *words]))
+    same((3, b"", f"shared_pipe.py: {why}\n".encode()), ran)
+
+
 # ---- the bytes of the client, and those of the tests
 
 # Each call of the client, and the line of a script that asks the same.
@@ -410,5 +424,7 @@ def cases(program: str) -> Iterator[Case]:
     yield "answers with a limit", partial(limited, program)
     yield "the example with a server of its own", partial(example, program, True)
     yield "the example with a server that is there", partial(example, program, False)
+    for words, why in NO_SERVER:
+        yield f"the example with {' '.join(words)}", partial(example_has_no_server, words, why)
     yield "the requests of the client are those of the tests", agrees_on_requests
     yield "the answers of the client are those of the tests", agrees_on_answers
