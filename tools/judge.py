@@ -25,7 +25,8 @@ the first that differs, after some lines before it and with its reason. The reas
 tools/compare.py, who comes first at a pipe, and the size that a file may have. With --pipe-capacity
 65536 a pipe of fdref holds as much as one of Linux. Each process is compared in the order of its own
 calls. Where a difference with a reason leaves system and fdref apart, answers that differ later may
-follow from it, and are only counted. At last fdref audits the trace of its server.
+follow from it, and are only counted. Where with fdref all processes wait for two seconds, one of them in
+a write that would go into a pipe of 65,536 bytes, they are killed. At last fdref audits the trace of its server.
 
 The processes of a program may come in another order in the next run, and where its answers depend on
 that, so may what is told of it.
@@ -52,6 +53,9 @@ from pathlib import Path
 from types import FrameType, TracebackType
 from typing import NamedTuple, Self
 
+import compare
+from partings import Compared, Finding
+from standstill import Standstill
 from support import plain_model
 from support.commands import add_capacity, add_program, capacity_words, program_of
 from support.counting import Failure
@@ -60,7 +64,7 @@ from support.running import Ran, run
 from support.runs import ALL_RECORDS, Line
 from support.serving import is_listening, outcome_of, serve_words, started
 from support.texts import difference
-from support.trees import Ended, run_tree
+from support.trees import Ended, never, run_tree
 
 import compare
 from partings import Compared, Finding
@@ -184,6 +188,8 @@ class Both(NamedTuple):
     fdref_log: bytes
     trace: bytes
     past: bytes = b""
+    # what it stood still at with fdref, if it did
+    still: str = ""
 
 
 class Job:
@@ -200,8 +206,8 @@ class Job:
         self.limits = plain_model.DEFAULTS
         self.is_strict = False
 
-    def ran(self, name: str, **more: str) -> tuple[Ended, bytes]:
-        """How the program ends in an empty folder, and the log of its calls."""
+    def ran(self, name: str, is_over: Callable[[], bool] = never, **more: str) -> tuple[Ended, bytes]:
+        """How the program ends in an empty folder, and the log of its calls. It is killed once it is over."""
         log = os.path.join(self.folder, f"{name}.log")
         Path(log).touch()
         env = environment(self.shim, log, **more)
@@ -210,7 +216,7 @@ class Job:
         os.mkdir(folder)
         try:
             with open(self.stdin, "rb") as stdin:
-                ended = run_tree(self.words, folder, env, stdin, self.seconds, limit_descriptors)
+                ended = run_tree(self.words, folder, env, stdin, self.seconds, limit_descriptors, is_over)
         except OSError as fault:
             raise CannotJudge(f"{self.words[0]}: {fault.strerror}") from None
         os.rename(folder, f"{folder}-{name}")
@@ -222,7 +228,10 @@ class Job:
         with Server(self.program, self.folder, self.sessions, self.limits) as server:
             past = Path(self.folder, "past")
             past.touch()
-            fdref, fdref_log = self.ran("fdref", FDREF_SOCKET=server.path, FDREF_PAST=str(past), **strict)
+            still = Standstill(server.trace)
+            fdref, fdref_log = self.ran(
+                "fdref", still.is_met, FDREF_SOCKET=server.path, FDREF_PAST=str(past), **strict
+            )
             server.finish()
             trace = Path(server.trace).read_bytes()
         left_out = IS_LEFT_OUT.search(fdref.stderr) if self.is_strict else None
@@ -232,7 +241,7 @@ class Job:
         if fdref.status == NOT_ASKED and said:
             raise CannotJudge(f"the server gave no answer: {said[-1].decode('utf-8', 'replace')}")
         system, system_log = self.ran("system")
-        return Both(system, fdref, system_log, fdref_log, trace, past.read_bytes())
+        return Both(system, fdref, system_log, fdref_log, trace, past.read_bytes(), still.told)
 
     def audited(self) -> str:
         """What the audit says of the trace."""
@@ -288,9 +297,9 @@ def how(ended: Ended, seconds: float) -> str:
 
 def told_ends(both: Both, seconds: float) -> list[str]:
     """How the two ended, and what they wrote otherwise."""
-    system, fdref = how(both.system, seconds), how(both.fdref, seconds)
+    system, fdref = how(both.system, seconds), both.still or how(both.fdref, seconds)
     lines = [f"both {system}"] if system == fdref else [f"system: {system}", f"fdref:  {fdref}"]
-    if both.system.status is None and both.fdref.status is None:
+    if both.system.status is None and both.fdref.status is None and not both.still:
         lines = [f"neither ended in {seconds:g} seconds: both were killed"]
     for what, one, other in (
         ("output", both.system.stdout, both.fdref.stdout),

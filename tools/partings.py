@@ -138,8 +138,9 @@ class Finding(NamedTuple):
 
 
 def partings_of(way: Way, system: list[Line], fdref: list[Line], number: int, story: Story) -> Iterator[Parting]:
-    """The partings of a process, up to the first call that only one of its runs made."""
-    place = 0
+    """The partings of a process, up to the first call that only one of its runs made. A process that fdref has not seen
+    parts after all others, since the runs were apart before it came."""
+    place = 0 if fdref else len(story.trace)
     for one, other in itertools.zip_longest(system, fdref):
         if other and other.place.isdigit():
             place = story.start_of(other)

@@ -1,14 +1,16 @@
 /* Does not end, or not with fdref, or leaves a process.
 
-   usage: judge_stays reads|fills|leaves
+   usage: judge_stays reads|fills|forks|leaves
 
    reads   reads its own empty pipe, in a child as well
    fills   writes 2,000 bytes to its own pipe, for which fdref has no room
+   forks   does so before it forks a child that reads it
    leaves  ends, and leaves a process in a session of its own */
 
 #define _POSIX_C_SOURCE 200809L
 
 #include <string.h>
+#include <sys/wait.h>
 #include <unistd.h>
 
 static char bytes[2000];
@@ -21,9 +23,13 @@ int main(int count, char **words)
         return 1;
     if (strcmp(what, "fills") == 0)
         return write(ends[1], bytes, sizeof bytes) != (ssize_t)sizeof bytes;
+    if (strcmp(what, "forks") == 0 && write(ends[1], bytes, sizeof bytes) != (ssize_t)sizeof bytes)
+        return 1;
     pid_t child = fork();
     if (child < 0)
         return 1;
+    if (strcmp(what, "forks") == 0)
+        return child > 0 ? waitpid(child, 0, 0) != child : read(ends[0], bytes, sizeof bytes) != sizeof bytes;
     if (strcmp(what, "leaves") == 0 && child > 0)
         return 0;
     if (strcmp(what, "leaves") == 0) {

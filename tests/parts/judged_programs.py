@@ -101,6 +101,12 @@ APPENDS = "reason: pwrite under O_APPEND appends (the system departs; page of wr
 ROOM = "reason: room of a pipe (own; page of write)"
 NONE = "reason: none"
 SOON = ("--seconds", "2")
+# So long that a program that is ended only then is not judged in the time of a test.
+LATE = ("--seconds", "1000")
+STILL = (
+    "stood still, and was killed: p0 write 4 00*2000, of which 1,024 bytes went in: a pipe of fdref holds 1,024 bytes "
+    "(--pipe-capacity 65536)"
+)
 NEITHER = "neither ended in 2 seconds: both were killed"
 WELL = "both ended with status 0"
 
@@ -171,14 +177,32 @@ PROGRAMS = [
         1,
         (
             "system: ended with status 0",
-            "fdref:  did not end in 2 seconds, and was killed",
+            f"fdref:  {STILL}",
             "  5 p0 pipe = 3 4",
             "system: p0 write 4 00*2000 = 2000",
             "fdref:  6 p0 write 4 00*2000 = parked 1024",
             ROOM,
         ),
-        SOON,
+        LATE,
     ),
+    Judged(
+        "stays",
+        ("forks",),
+        1,
+        (
+            f"fdref:  {STILL}",
+            "2 calls of 1 process: 3 answers differ",
+            "system: p0 write 4 00*2000 = 2000",
+            ROOM,
+            "       2 may follow from these",
+            "       0 without a reason",
+        ),
+        LATE,
+    ),
+    Judged("stays", ("forks",), 0, (WELL,), ("--pipe-capacity", "65536")),
+    # pipes of 2,000 bytes have room, and those of 1,999 have not
+    Judged("stays", ("fills",), 0, (WELL,), ("--pipe-capacity", "2000")),
+    Judged("stays", ("fills",), 1, ("system: ended with status 0", "fdref:  stood still"), ("--pipe-capacity", "1999")),
     Judged("stays", ("leaves",), 3, (NEITHER,), SOON),
 ]
 

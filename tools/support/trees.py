@@ -11,6 +11,8 @@ from typing import IO, NamedTuple
 
 PR_SET_CHILD_SUBREAPER = 36
 PAUSE = 0.005
+# How long a program runs between two questions whether it is to be killed.
+LOOK = 0.2
 # How long it may take until what was killed is gone.
 GOING = 10.0
 
@@ -98,17 +100,26 @@ class Tree:
                     os.kill(number, signal.SIGKILL)
             time.sleep(PAUSE)
 
-    def ended(self, seconds: float) -> Ended:
-        """How it ends by itself, with all that comes of it, or that it was killed after so many seconds."""
+    def ended(self, seconds: float, is_over: Callable[[], bool]) -> Ended:
+        """How it ends by itself, with all that comes of it, or that it was killed: after so many seconds, or once it is
+        over."""
         until = time.monotonic() + seconds
-        try:
-            stdout, stderr = self.process.communicate(timeout=seconds)
-        except subprocess.TimeoutExpired:
-            self.kill()
-            return Ended(None, *self.process.communicate())
-        while self.left() and time.monotonic() < until:
+        while True:
+            try:
+                stdout, stderr = self.process.communicate(timeout=min(LOOK, max(until - time.monotonic(), 0)))
+                break
+            except subprocess.TimeoutExpired:
+                if time.monotonic() >= until or is_over():
+                    self.kill()
+                    return Ended(None, *self.process.communicate())
+        while self.left() and time.monotonic() < until and not is_over():
             time.sleep(PAUSE)
         return Ended(None if self.left() else self.process.returncode, stdout, stderr)
+
+
+def never() -> bool:
+    """Nothing is over."""
+    return False
 
 
 def run_tree(
@@ -118,13 +129,14 @@ def run_tree(
     stdin: int | IO[bytes],
     seconds: float,
     before: Callable[[], None] | None = None,
+    is_over: Callable[[], bool] = never,
 ) -> Ended:
     """Runs a program in a folder, at most so many seconds, and leaves no process of it. `before` is called in it at its
-    start."""
+    start; `is_over` tells at times whether it is to be killed sooner."""
     try:
         tree = Tree(words, folder, env, stdin, before)
         try:
-            return tree.ended(seconds)
+            return tree.ended(seconds, is_over)
         finally:
             tree.kill()
     finally:
