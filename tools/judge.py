@@ -63,7 +63,7 @@ from support.places import TOP
 from support.running import Ran, run
 from support.runs import ALL_RECORDS, Line
 from support.serving import is_listening, outcome_of, serve_words, started
-from support.texts import difference
+from support.texts import difference, several
 from support.trees import Ended, never, run_tree
 
 import compare
@@ -354,9 +354,10 @@ def told(verdict: Verdict, seconds: float, before: int) -> str:
     """All that is said of a program."""
     findings = verdict.findings
     lines = told_ends(verdict.both, seconds)
-    calls, processes = verdict.compared.fdref.total(), len(verdict.compared.fdref.calls)
+    calls = several(verdict.compared.fdref.total(), "call")
+    processes = several(len(verdict.compared.fdref.calls), "process", "processes")
     differ = {0: "no answer differs", 1: "1 answer differs"}.get(len(findings), f"{len(findings)} answers differ")
-    lines.append(f"{calls} calls of {processes} {'process' if processes == 1 else 'processes'}: {differ}")
+    lines.append(f"{calls} of {processes}: {differ}")
     if findings:
         lines += told_finding(verdict.unexplained or findings[0], verdict.compared.lines, before)
     reasons = collections.Counter(it.reason for it in findings if it.reason)

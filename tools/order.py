@@ -48,6 +48,7 @@ from support.ordering import (
 )
 from support.replaying import Differs, verified
 from support.running import CannotRun
+from support.texts import several
 
 # The reason of a history that only larger pipes explain.
 BY_ROOM = "reason: room of a pipe (own; page of write)"
@@ -100,7 +101,7 @@ class Orders:
             told = [f"an order explains it where a pipe has room for {ROOMY.capacity:,} bytes"]
             return "\n".join([*told, *(f"  {line.act} = {line.outcome}" for line in lines), BY_ROOM, ""])
         if not isinstance(result, Unexplained):
-            return f"given up after {result.states} states\n" if isinstance(result, GivenUp) else ""
+            return f"given up after {several(result.states, 'state')}\n" if isinstance(result, GivenUp) else ""
         parts = ["no order explains it, nor this part of it:", indented(result.shrunk)]
         parts += ["which this call makes impossible, with those that overlap it:", indented(result.blamed)]
         return "\n".join(parts) + f"\n{result.page}\n"

@@ -14,6 +14,7 @@ from support.outcomes import Race, script_line
 from support.plain_model import Limits
 from support.replaying import replayed
 from support.running import CannotRun, run
+from support.texts import several
 
 SECONDS = 600
 # How many histories with the same answers are looked at for a reason, at most.
@@ -126,7 +127,7 @@ class Table:
         """The counts."""
         met = sum(text in self.seen for text in self.allowed)
         bare = sum(it.reason is None for it in odd)
-        text = f"{self.rounds()} rounds; outcomes: {len(self.allowed)} allowed, {met} of them seen; "
+        text = f"{several(self.rounds(), 'round')}; outcomes: {len(self.allowed)} allowed, {met} of them seen; "
         return text + f"{len(odd)} seen and not allowed, {bare} of them without a reason"
 
 

@@ -92,7 +92,7 @@ def unseen_is_told(tools: Tools) -> None:
     """What is allowed and was not seen is told; without what is not allowed the status is 0."""
     wanted = "allowed, and not seen\n       0    1 x61, ok, error EAGAIN, 1\n"
     wanted += "allowed, and seen\n       1    0 error EAGAIN, ok, error EAGAIN, 1\n"
-    wanted += "1 rounds; outcomes: 2 allowed, 1 of them seen; 0 seen and not allowed, 0 of them without a reason\n"
+    wanted += "1 round; outcomes: 2 allowed, 1 of them seen; 0 seen and not allowed, 0 of them without a reason\n"
     same(Ran(0, wanted.encode(), b""), tools.race(*made_up(tools, "seen", MADE_UP[1:2])))
 
 

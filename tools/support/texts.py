@@ -8,6 +8,11 @@ def shown(text: bytes, most: int = 60) -> str:
     return repr(text[:most])[1:] + ("..." if len(text) > most else "")
 
 
+def several(number: int, one: str, more: str = "") -> str:
+    """A number of things, as `1 call`, `2 calls` and, where the plural has another form, `2 histories`."""
+    return f"{number} {one if number == 1 else more or f'{one}s'}"
+
+
 def difference(wanted: bytes, given: bytes, names: tuple[str, str] = ("wanted", "given")) -> str:
     """The first line in which two outputs differ, which have these names."""
     for number, (one, other) in enumerate(zip(_lines(wanted), _lines(given), strict=False), 1):
