@@ -15,6 +15,7 @@ failed`, and the exit status is 1 where M is above 0.
 """
 
 import os
+import re
 import shlex
 import shutil
 import signal
@@ -403,6 +404,15 @@ def struck_acts_are_told(bench: Bench) -> None:
     status, lines = says(bench, b"join\np0 pipe\np0 write 1 61*3000\np0 write 1 62*2000\n")
     last = "       2 acts were struck and not compared: p0 write 1 61*3000; p0 write 1 62*2000"
     require((status, lines[-1]) == (0, last), f"status {status}: {lines}")
+
+
+@case("one difference")
+def one_difference_is_told(bench: Bench) -> None:
+    """One difference is not the first of several, and is counted as one."""
+    if IS_LINUX:
+        status, lines = says(bench, b"join\np0 pipe\np0 write 1 61*1025\n")
+        require(status == 0 and lines[0].endswith("told.script: a difference"), f"status {status}: {lines}")
+        require(any(re.fullmatch(r"1 script, \d+ calls, 1 difference", line) for line in lines), f"{lines}")
 
 
 @case("a capacity that is handed on")

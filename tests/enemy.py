@@ -1,7 +1,7 @@
 #!/usr/bin/env python3
 """Do audits withstand forged and endless traces, and the live server hostile clients? (half a minute)
 
-usage: tests/enemy.py [--program PATH] [--seed WORD] [--seconds N] [--runs N] [--only WORD]
+usage: tests/enemy.py [--program PATH] [--seed WORD] [--seconds N] [--runs N] [--only WORD] [--summary FILE]
 
 The program is crates/fdref/out/fdref where no PATH is given. What it must say of a trace is what the plain auditor
 says, tests/support/auditing.py. It is run
@@ -31,7 +31,6 @@ where M is above 0.
 import itertools
 import sys
 import time
-from collections import Counter
 from collections.abc import Iterable, Iterator, Sequence
 from functools import partial
 
@@ -39,15 +38,16 @@ from parts import enemy_audits, enemy_frames, enemy_growth, enemy_lies, enemy_se
 from parts.enemy_audits import is_right, judged
 from parts.written_traces import LINES, NEW_SHORT, SHORT, Named, with_byte
 from stand_ins import wrong_auditor
+from support import summaries
 from support.auditing import audited
-from support.counting import Case, Count, require, same
-from support.frames import Malformed, trace_of
+from support.counting import Case, require, same
+from support.frames import trace_of
 from support.options import ONLY, PROGRAM, SEED, asked, count_option, seconds_option
 from support.places import STAND_INS
 from support.running import ran_all
 from support.sources import source
-
-TELL_MOST = 10
+from support.summaries import SUMMARY
+from support.tallies import KindsTally
 
 # Of one seed: bent records that are audited and shown, runs of which each is told with every lie, how many of these are
 # shown of each kind, and traces that come by a pipe.
@@ -58,28 +58,6 @@ ONE_IN = 8
 FIELDS_OF_A_ROUND, RUNS_OF_A_ROUND = 250, 2
 # The greatest length of a trace that is cut at every byte.
 SMALL = 300
-
-
-class Kinds:
-    """Checks, counted by their kinds. Of all together only a few failures are told."""
-
-    def __init__(self, only: str) -> None:
-        # what is read of a wrong program may be anything
-        self.count = Count(TELL_MOST, (Malformed, LookupError))
-        self.only = only
-        self.kinds: dict[str, Count] = {}
-
-    def check(self, kind: str, cases: Iterable[Case]) -> None:
-        """Makes the checks of a kind, if it is asked for."""
-        if self.only in kind:
-            passed, failed = self.count.passed, self.count.failed
-            self.count.check_all(cases)
-            self.kinds.setdefault(kind, Count()).add(self.count.passed - passed, self.count.failed - failed)
-
-    def tell(self) -> None:
-        """Prints the counts of all kinds."""
-        for kind, count in self.kinds.items():
-            print(f"{kind}: {count.line()}", flush=True)
 
 
 # ---- traces
@@ -107,7 +85,7 @@ def some_lies(seed: str) -> dict[str, list[Named]]:
     return found
 
 
-def check_lies(kinds: Kinds, program: str, seed: str) -> None:
+def check_lies(kinds: KindsTally, program: str, seed: str) -> None:
     """The program finds lies of every kind as the plain auditor does."""
     for kind, named in some_lies(seed).items():
         kinds.check(f"lies: {kind}", judged(program, named))
@@ -117,7 +95,7 @@ def check_lies(kinds: Kinds, program: str, seed: str) -> None:
     kinds.check("lies that the plain auditor finds", one_off)
 
 
-def check_frames(kinds: Kinds, program: str, seed: str) -> None:
+def check_frames(kinds: KindsTally, program: str, seed: str) -> None:
     """Records that are bent are audited and shown as the plain auditor does."""
     for words, count in (("audit", BENT), ("show", SHOWN), ("show --acts", SHOWN)):
         kinds.check(f"bent fields: {words}", judged(program, enemy_frames.random_ones(seed, words, count), words))
@@ -129,7 +107,7 @@ def with_children(count: int) -> Named:
     return f"{count} children", trace_of([*forks, f"0 p{count} exit = ok"])
 
 
-def check_pieces(kinds: Kinds, program: str, seed: str) -> None:
+def check_pieces(kinds: KindsTally, program: str, seed: str) -> None:
     """Traces of a seed are judged rightly wherever they are cut, and however a pipe hands them over."""
     kinds.check("cuts", judged(program, enemy_audits.fronts(small_lies(seed))))
     lying = (trace for _, (_, trace) in enemy_lies.lies(seed, "piped", 1))
@@ -169,7 +147,7 @@ def wrong_auditors(seed: str) -> Iterator[Case]:
 # ---- the whole
 
 
-def check_bounded(kinds: Kinds, program: str, seed: str, runs: int, met: Counter[str]) -> None:
+def check_bounded(kinds: KindsTally, program: str, seed: str, runs: int) -> None:
     """Makes all checks once."""
     kinds.check("lengths and kinds", judged(program, enemy_frames.every_length_and_kind()))
     first = source(seed, 0).randrange(ONE_IN)
@@ -186,11 +164,11 @@ def check_bounded(kinds: Kinds, program: str, seed: str, runs: int, met: Counter
     kinds.check("pipes", enemy_audits.faults_at_once(program, SMALL_ONES[1][1], SMALL_ONES[2][1]))
     check_pieces(kinds, program, seed)
     kinds.check("long traces", enemy_growth.cases(program))
-    kinds.check("servers", enemy_server.cases(program, seed, runs, met))
+    kinds.check("servers", enemy_server.cases(program, seed, runs, kinds.met))
     kinds.check("wrong auditors", wrong_auditors(seed))
 
 
-def check_on(kinds: Kinds, program: str, seed: str, until: float, met: Counter[str]) -> None:
+def check_on(kinds: KindsTally, program: str, seed: str, until: float) -> None:
     """Goes on with other seeds up to a time."""
     fields = iter(enemy_frames.every_field())
     for number in itertools.count(1):
@@ -201,22 +179,25 @@ def check_on(kinds: Kinds, program: str, seed: str, until: float, met: Counter[s
         check_frames(kinds, program, other)
         check_lies(kinds, program, other)
         check_pieces(kinds, program, other)
-        kinds.check("servers", enemy_server.cases(program, other, RUNS_OF_A_ROUND, met))
+        kinds.check("servers", enemy_server.cases(program, other, RUNS_OF_A_ROUND, kinds.met))
 
 
 def main(words: Sequence[str]) -> int:
     """Makes all checks: the exit status."""
     about = "Gives the built program forged traces, and hostile clients."
     runs = count_option("--runs", 10, "runs of a server with enemies")
-    args = asked(words, about, PROGRAM, SEED, seconds_option("go on with other seeds for so long"), runs, ONLY)
+    seconds = seconds_option("go on with other seeds for so long")
+    args = asked(words, about, PROGRAM, SEED, seconds, runs, ONLY, SUMMARY)
     until = time.monotonic() + args.seconds
-    kinds, met = Kinds(args.only), Counter[str]()
-    check_bounded(kinds, args.program, args.seed, args.runs, met)
-    check_on(kinds, args.program, args.seed, until, met)
-    kinds.tell()
-    if met:
-        print(f"the runs of servers: {', '.join(f'{name} {count}' for name, count in met.most_common())}")
-    return kinds.count.end()
+    kinds = KindsTally(args.only)
+    check_bounded(kinds, args.program, args.seed, args.runs)
+    check_on(kinds, args.program, args.seed, until)
+    if args.summary:
+        share = summaries.Share(args.seed, 0, 0, args.only)
+        versions = summaries.versions([args.program])
+        summaries.write(args.summary, summaries.Summary("enemy.py", [share], versions, kinds.counts()))
+    print(kinds.text())
+    return kinds.status()
 
 
 if __name__ == "__main__":

@@ -487,8 +487,8 @@ def system_is_explained(bench: Bench) -> None:
     done = tool(bench, "--seconds", str(bench.seconds), "--dir", bench.names, "--driver", bench.driver, "--seed", SEED)
     require(done.status == 0, done.stdout.decode() + done.stderr.decode())
     for kind in race_kinds.KINDS:
-        require(re.search(rf"(?m)^{kind}: [1-9]\d* scripts, [1-9]", done.stdout.decode()), f"{kind} is not raced")
-    require(b" 0 without a reason\n" in done.stdout, done.said())
+        require(re.search(rf"(?m)^{kind}: [1-9]\d* scripts?, [1-9]", done.stdout.decode()), f"{kind} is not raced")
+    require(b" 0 without an order and without a reason\n" in done.stdout, done.said())
     bench.is_clean()
 
 
@@ -499,15 +499,43 @@ def example_has_orders(bench: Bench) -> None:
         require(is_explained or ordering.by_room(history), "\n".join(texts(history)))
 
 
+def made_driver(bench: Bench, name: str, *lines: str) -> str:
+    """The path of a driver that prints one history three times, whatever it is asked."""
+    driver = Path(bench.folder, name)
+    history = "".join(f"{line}\n" for line in lines)
+    driver.write_text("#!/bin/sh\ncat <<END\n" + f"{history}\n" * 3 + "END\n", encoding="ascii")
+    driver.chmod(0o755)
+    return str(driver)
+
+
+def counted_without(done: Ran) -> int:
+    """How many histories without an order are counted, where each script has three of one form, and none has one."""
+    ends = r" histories, (\d+) distinct, -?\d+ calls?, 0 with an order, (\d+) without"
+    found = re.search(rf"(?m)^names: (\d+) scripts?, (\d+){ends}$", done.stdout.decode())
+    assert found
+    scripts, counted, distinct, without = map(int, found.groups())
+    same((scripts, 3 * scripts, 3 * scripts), (distinct, counted, without))
+    return without
+
+
+def reasons_are_counted(bench: Bench) -> None:
+    """Where all histories without an order have a reason, the line of the reason has as many as that of the kind."""
+    lines = ["0 1 p0 join = 0", "2 3 p0 pipe = 0 1", "4 5 p0 write 1 61*600 = 600", "6 7 p0 write 1 62*600 = 600"]
+    done = tool(bench, "--seconds", "0.5", "--kind", "names", "--driver", made_driver(bench, "roomy", *lines))
+    last = ["room of a pipe (own) (page of write)", "       0 without an order and without a reason"]
+    same((0, [f"{counted_without(done):8} {last[0]}", last[1]]), (done.status, done.stdout.decode().splitlines()[-2:]))
+
+
 def impossible_is_told(bench: Bench) -> None:
     """A history without an order and without a reason is told, shown and kept, and is status 1."""
-    driver, kept = Path(bench.folder, "impossible"), os.path.join(bench.folder, "kept")
+    kept = os.path.join(bench.folder, "kept")
     os.mkdir(kept)
-    driver.write_text("#!/bin/sh\nprintf '0 1 p0 join = 0\\n2 3 p0 pipe = 7 8\\n4 5 p0 dup 7 = 0\\n\\n'\n")
-    driver.chmod(0o755)
-    done = tool(bench, "--seconds", "1", "--kind", "names", "--driver", str(driver), "--keep", kept, "--seed", "a")
+    driver = made_driver(bench, "impossible", "0 1 p0 join = 0", "2 3 p0 pipe = 7 8", "4 5 p0 dup 7 = 0")
+    done = tool(bench, "--seconds", "1", "--kind", "names", "--driver", driver, "--keep", kept, "--seed", "a")
     require(done.status == 1 and b"names 0 of seed a: no order explains\n" in done.stdout, done.said())
-    require(b"2 3 p0 pipe = 7 8\n" in done.stdout and b" 0 without" not in done.stdout, done.said())
+    require(b"2 3 p0 pipe = 7 8\n" in done.stdout, done.said())
+    without = counted_without(done)
+    same(f"{without:8} without an order and without a reason", done.stdout.decode().splitlines()[-1])
     same(race_kinds.script_of("names", "a", 0), Path(kept, "names-0-of-seed-a.script").read_text())
     kept_histories = histories.read_histories(Path(kept, "names-0-of-seed-a.histories").read_text())
     same("p0 pipe = 7 8", texts(kept_histories[0])[1])
@@ -536,6 +564,8 @@ def tool_cases(bench: Bench) -> Iterator[Case]:
     yield "no program", partial(tool_ends, bench, 3, ["--seconds", "1", "--program", "/no/such"])
     yield "no driver", partial(tool_ends, bench, 3, ["--seconds", "1", "--driver", "/no/such"])
     yield "impossible answers", partial(impossible_is_told, bench)
+    yield "answers that all have a reason", partial(reasons_are_counted, bench)
+    yield "a summary of a file", partial(tool_ends, bench, 2, ["a", "--summary", "s"])
     yield "the example", partial(example_has_orders, bench)
     if IS_LINUX:
         yield "SIGTERM", partial(term_leaves_nothing, bench)

@@ -1,7 +1,8 @@
 #!/usr/bin/env python3
 """Does the program print what a plain model prints, on random scripts? (a minute)
 
-usage: tests/random_runs.py [--seed S] [--scripts N] [--often WORDS] [--program PATH] [--jobs J]
+usage: tests/random_runs.py [--seed S] [--scripts N] [--first K] [--often WORDS] [--program PATH] [--jobs J]
+                            [--summary FILE]
 
 The model is tests/support/plain_model.py. It is written from docs/PROFILE.md and docs/FORMATS.md alone, so
 a difference is a fault of the program, of the model, or of the two documents.
@@ -27,14 +28,14 @@ from collections import Counter
 from collections.abc import Callable, Iterator, Sequence
 from typing import NamedTuple
 
-from support import plain_model
-from support.counting import Count
-from support.frames import ERRORS
+from support import plain_model, summaries
 from support.options import PROGRAM, SEED, Option, asked, count_option
 from support.plain_model import DEFAULTS, FIELDS, FILE_SIZE_MAX, RECORDS_DEFAULT, Limits
 from support.running import Ran, StillRunning, run
 from support.shrinking import shrunk
 from support.sources import numbered, source
+from support.summaries import SUMMARY
+from support.tallies import ScriptsTally
 from support.walks import CAPACITIES, FLAGS, NAMES, ODD_NAMES, OFTEN, flags_text, name_text, walked
 
 SECONDS = 20
@@ -44,10 +45,6 @@ SHRINK_SECONDS = 60
 KILLED = -9
 NO_CALLS = (b"attach", b"resume", b"exit")
 
-# what a run of so many scripts has to meet, each at least once
-MEETS_ALL = 4_000
-ENDS = [f"error {error}" for error in ERRORS]
-ENDS += ["parked", "part", "still", "refused RunFull", "refused NotHere", "refused Waiting", "not an act"]
 END = re.compile(rb"(?: = (error [A-Z]+|parked|part|still|refused [A-Za-z]+)|: (not an act))")
 
 
@@ -312,30 +309,27 @@ def main(words: Sequence[str]) -> int:
     """Makes all checks: the exit status."""
     about = "Runs random scripts on the built program and on a plain model."
     scripts, jobs = count_option("--scripts", 1_000, "how many"), count_option("--jobs", 1, "how many run at a time")
-    args = asked(words, about, SEED, scripts, OFTEN_OPTION, PROGRAM, jobs)
+    first = count_option("--first", 0, "the number of the first of them")
+    args = asked(words, about, SEED, scripts, first, OFTEN_OPTION, PROGRAM, jobs, SUMMARY)
     program, often = args.program, args.often
-    count = Count()
-    acts = 0
-    calls: Counter[str] = Counter()
-    ends: set[str] = set()
-    tasks: list[Task] = [(program, args.seed, number, often) for number in range(args.scripts)]
-    for number, it in enumerate(checked(tasks, args.jobs)):
-        acts += it.acts
-        calls += it.calls
-        ends |= it.ends
+    tally = ScriptsTally(often)
+    tasks: list[Task] = [(program, args.seed, args.first + at, often) for at in range(args.scripts)]
+    for task, it in zip(tasks, checked(tasks, args.jobs), strict=True):
+        tally.add(it.acts, it.calls, it.ends)
+        number = task[2]
         if it.passes:
-            count.add(1, 0)
-        elif count.failed < TELL_MOST:
-            count.fail(numbered("script", args.seed, number), difference(script_of(args.seed, number, often), program))
+            tally.count.add(1, 0)
+        elif tally.count.failed < TELL_MOST:
+            text = difference(script_of(args.seed, number, often), program)
+            tally.count.fail(numbered("script", args.seed, number), text)
         else:
-            count.fail(numbered("script", args.seed, number), "it differs")
-    print(f"{args.scripts} scripts, of which those that were run have {acts} acts, {calls.total()} of them calls")
-    for word in often:
-        print(f"{word}: {calls[word]} calls")
-    missed = [end for end in ENDS if end not in ends]
-    if missed and args.scripts >= MEETS_ALL:
-        count.fail("all scripts", f"none has met {', '.join(missed)}")
-    return count.end()
+            tally.count.fail(numbered("script", args.seed, number), "it differs")
+    if args.summary:
+        share = summaries.Share(args.seed, args.first, args.scripts, ",".join(often))
+        versions = summaries.versions([program])
+        summaries.write(args.summary, summaries.Summary("random_runs.py", [share], versions, tally.counts()))
+    print(tally.text())
+    return tally.status()
 
 
 if __name__ == "__main__":

@@ -2,7 +2,7 @@
 """Runs scripts on the system at hand and on fdref, and tells where they differ.
 
 usage: tools/compare.py SCRIPT-OR-FOLDER...
-       tools/compare.py --random N --seed S [--first K] [--acts A] [--class small|full-pipes|all]
+       tools/compare.py --random N --seed S [--first K] [--acts A] [--class small|full-pipes|all] [--summary FILE]
 
 Both take --pipe-capacity N: with as many bytes as a pipe of the system holds (65,536 on Linux) also writes that fill
 pipes are compared.
@@ -30,14 +30,17 @@ import sys
 import tempfile
 from collections.abc import Iterator, Sequence
 from pathlib import Path
+from typing import Self
 
-from support import plain_model
-from support.commands import add_capacity, add_program, program_of
+from support import plain_model, summaries
+from support.commands import add_capacity, add_program, capacity_words, program_of
 from support.drivers import compiled
 from support.plain_model import Limits
 from support.running import CannotRun
 from support.runs import ALL_RECORDS, Line
 from support.shrinking import shrunk
+from support.summaries import Counts, add_summary
+from support.texts import several
 
 from compare_lines import Asked, act_of, ends_of_closing, first_unfit, in_other_order, is_told_back
 from compare_reasons import REASONS, Difference, Reason, follows_append, reason_of
@@ -200,12 +203,24 @@ def scripts_in(paths: Sequence[str]) -> Iterator[tuple[str, list[bytes]]]:
             yield path, [line for line in Path(path).read_bytes().split(b"\n") if line]
 
 
-def told_acts(acts: list[str], of_one: str, of_more: str) -> list[str]:
-    """A line that counts acts and names the first of them."""
-    if not acts:
-        return []
-    named = "; ".join(clipped(act) for act in acts[:ACTS_TOLD]) + ("; .." if acts[ACTS_TOLD:] else "")
-    return [f"{len(acts):8} {of_more if acts[1:] else of_one}: {named}"]
+class Acts:
+    """Acts that are counted, and the first of them."""
+
+    def __init__(self, counts: Counts | None = None) -> None:
+        self.count: int = counts["count"] if counts else 0
+        self.first: list[str] = counts["first"][:ACTS_TOLD] if counts else []
+
+    def add(self, act: str) -> None:
+        """Counts an act."""
+        self.count += 1
+        self.first += [act] if len(self.first) < ACTS_TOLD else []
+
+    def told(self, of_one: str, of_more: str) -> list[str]:
+        """A line that counts them and names the first."""
+        if not self.count:
+            return []
+        named = "; ".join(map(clipped, self.first)) + ("; .." if self.count > ACTS_TOLD else "")
+        return [f"{self.count:8} {of_more if self.count > 1 else of_one}: {named}"]
 
 
 class Totals:
@@ -214,13 +229,27 @@ class Totals:
     def __init__(self) -> None:
         self.scripts = self.calls = self.unexplained = self.failed = 0
         self.by_reason: collections.Counter[str] = collections.Counter()
-        self.struck: list[str] = []
-        self.last: list[str] = []
+        self.struck = Acts()
+        self.last = Acts()
+
+    @classmethod
+    def of(cls, counts: Counts) -> Self:
+        """What other runs have counted."""
+        totals = cls()
+        acts = {name: Acts(counts[name]) for name in ("struck", "last")}
+        vars(totals).update(counts, by_reason=collections.Counter(counts["by_reason"]), **acts)
+        return totals
+
+    def counts(self) -> Counts:
+        """What is counted, for a summary."""
+        return {**vars(self), "by_reason": dict(self.by_reason), "struck": vars(self.struck), "last": vars(self.last)}
 
     def add(self, result: Checked) -> None:
         """Counts a script."""
-        self.struck += result.struck
-        self.last += [result.last] if result.last is not None else []
+        for act in result.struck:
+            self.struck.add(act)
+        if result.last is not None:
+            self.last.add(result.last)
         self.scripts += 1
         self.calls += result.calls
         self.unexplained += result.unexplained is not None
@@ -228,13 +257,13 @@ class Totals:
 
     def text(self) -> str:
         """The last lines."""
-        differences = self.by_reason.total() + self.unexplained
-        lines = [f"{self.scripts} scripts, {self.calls} calls, {differences} differences"]
+        differences = several(self.by_reason.total() + self.unexplained, "difference")
+        lines = [f"{several(self.scripts, 'script')}, {several(self.calls, 'call')}, {differences}"]
         met = [it for it in REASONS if self.by_reason[it.name]]
         lines += [f"{self.by_reason[it.name]:8} {it.name} ({it.who}; {it.page})" for it in met]
         lines += [f"{self.unexplained:8} without a reason"]
-        lines += told_acts(self.struck, "act was struck and not compared", "acts were struck and not compared")
-        lines += told_acts(self.last, "time the rest was not compared, after", "times the rest was not compared, after")
+        lines += self.struck.told("act was struck and not compared", "acts were struck and not compared")
+        lines += self.last.told("time the rest was not compared, after", "times the rest was not compared, after")
         return "\n".join(lines)
 
     def status(self) -> int:
@@ -260,7 +289,9 @@ def check_one(asked: Asked, totals: Totals, name: str, lines: list[bytes], is_ra
             kept = Path(keep) / (os.path.basename(name).replace(" ", "-") + ".script")
             kept.write_bytes(b"".join(line + b"\n" for line in lines))
     elif result.differences and not is_random:
-        print(f"{name}: the first of {len(result.differences)} differences\n{told(result.differences[0])}", flush=True)
+        count = len(result.differences)
+        what = "a difference" if count == 1 else f"the first of {count} differences"
+        print(f"{name}: {what}\n{told(result.differences[0])}", flush=True)
 
 
 def parse(words: Sequence[str]) -> argparse.Namespace:
@@ -282,7 +313,10 @@ def parse(words: Sequence[str]) -> argparse.Namespace:
     ask += "compiled for this run where it is not given"
     parser.add_argument("--ask", metavar="COMMAND", help=ask)
     parser.add_argument("--keep", metavar="DIR", help="a folder for scripts that differ without a reason")
+    add_summary(parser)
     args = parser.parse_args(words)
+    if args.paths and args.summary:
+        parser.error("only what random scripts count is added up")
     if not args.paths and args.random < 1:
         parser.error("no scripts: give files, folders, or --random N")
     for path in [*args.paths, *([args.keep] if args.keep else [])]:
@@ -296,12 +330,21 @@ def parse(words: Sequence[str]) -> argparse.Namespace:
 
 def check_all(args: argparse.Namespace, totals: Totals, driver: str) -> None:
     """Compares all scripts that are asked for."""
-    asked = Asked(program_of(args.program), shlex.split(driver), args.limits)
+    asked = Asked(args.command, shlex.split(driver), args.limits)
     for name, lines in args.scripts:
         check_one(asked, totals, name, lines, False, args.keep)
     for number in range(args.first, args.first + args.random):
         lines = random_lines(args.seed, number, args.acts, class_of(number, args.which), args.limits)
         check_one(asked, totals, f"script {number} of seed {args.seed}", lines, True, args.keep)
+
+
+def write_summary(args: argparse.Namespace, totals: Totals) -> None:
+    """Writes what was counted, where that is wanted."""
+    if args.summary:
+        of = " ".join([f"{args.acts} acts, class {args.which}", *capacity_words(args.limits)])
+        share = summaries.Share(args.seed, args.first, args.random, of)
+        versions = summaries.versions(args.command, args.ask)
+        summaries.write(args.summary, summaries.Summary("compare.py", [share], versions, totals.counts()))
 
 
 def main(words: Sequence[str]) -> int:
@@ -310,11 +353,13 @@ def main(words: Sequence[str]) -> int:
     totals = Totals()
     with tempfile.TemporaryDirectory(prefix="compare-") as folder:
         try:
+            args.command = program_of(args.program)
             check_all(args, totals, args.ask or shlex.quote(compiled("ask_kernel", "c99", folder)))
         except CannotRun as fault:
             print(f"compare.py: {fault}", file=sys.stderr)
             return 3
     print(totals.text())
+    write_summary(args, totals)
     return totals.status()
 
 

@@ -2,7 +2,7 @@
 """Races processes on the system at hand, and tells which answers no order of their calls explains.
 
 usage: tools/race.py --seconds N [--kind WORD] [--seed WORD] [--processes N] [--pipe-capacity N] [--pin] [--dir DIR]
-                     [--keep DIR]
+                     [--keep DIR] [--summary FILE]
        tools/race.py FILE [--seconds N] [--seed WORD] [--pipe-capacity N] [--pin] [--dir DIR] [--keep DIR]
 
 Random scripts of each kind (tools/race_kinds.py) are run by tools/race_kernel.c, many rounds of each: real processes
@@ -36,15 +36,17 @@ import tempfile
 import time
 from collections.abc import Callable, Iterator, Sequence
 from pathlib import Path
-from typing import NamedTuple
+from typing import NamedTuple, Self
 
-from support import histories, ordering, outcomes, plain_model, replaying
+from support import histories, ordering, outcomes, plain_model, replaying, summaries
 from support.commands import add_capacity, add_program, capacity_words, program_of
 from support.counting import Failure
 from support.drivers import compiled
 from support.histories import History, Noted
 from support.plain_model import DEFAULTS, Limits
 from support.running import CannotRun, run
+from support.summaries import Counts, add_summary
+from support.texts import several
 
 import race_kinds
 import race_table
@@ -264,8 +266,16 @@ class Counted:
 
     def __init__(self) -> None:
         self.scripts = self.histories = self.distinct = self.calls = self.given_up = 0
+        # those that no order explains: by their reasons, and those without one
         self.by_reason: collections.Counter[str] = collections.Counter()
-        self.without_reason: list[Unexplained] = []
+        self.bare = 0
+
+    @classmethod
+    def of(cls, counts: Counts) -> Self:
+        """What other runs have counted."""
+        counted = cls()
+        vars(counted).update(counts, by_reason=collections.Counter(counts["by_reason"]))
+        return counted
 
     def add(self, script: str, found: Sequence[History], distinct: int) -> None:
         """Counts the histories of a script, without the calls before each race."""
@@ -276,13 +286,48 @@ class Counted:
 
     def lines(self, kind: str) -> list[str]:
         """The counts, and those of each reason."""
-        unexplained = self.by_reason.total() + len(self.without_reason)
-        ends = [f"{self.histories - unexplained - self.given_up} explained", f"{unexplained} unexplained"]
+        without = self.by_reason.total() + self.bare
+        ends = [f"{self.histories - without - self.given_up} with an order", f"{without} without"]
         ends += [f"{self.given_up} given up"] if self.given_up else []
-        text = f"{kind}: {self.scripts} scripts, {self.histories} histories, {self.distinct} distinct, "
-        text += f"{self.calls} calls, "
+        text = f"{kind}: {several(self.scripts, 'script')}, {several(self.histories, 'history', 'histories')}, "
+        text += f"{self.distinct} distinct, {several(self.calls, 'call')}, "
         met = [reason for reason in REASONS if self.by_reason[reason.name]]
         return [text + ", ".join(ends), *(f"{self.by_reason[it.name]:8} {it.name} ({it.page})" for it in met)]
+
+
+class Tally:
+    """What is counted of the races of all kinds, and how it is told at the end."""
+
+    def __init__(self) -> None:
+        self.counted: dict[str, Counted] = {}
+
+    @classmethod
+    def of(cls, counts: Counts) -> Self:
+        """What other runs have counted. Kinds come in the order in which they are raced."""
+        tally = cls()
+        tally.counted = {kind: Counted.of(counts[kind]) for kind in race_kinds.KINDS if kind in counts}
+        return tally
+
+    def counts(self) -> Counts:
+        """What is counted, for a summary."""
+        return {kind: {**vars(it), "by_reason": dict(it.by_reason)} for kind, it in self.counted.items()}
+
+    def of_kind(self, kind: str) -> Counted:
+        """What is counted of a kind."""
+        return self.counted.setdefault(kind, Counted())
+
+    def bare(self) -> int:
+        """How many histories have neither an order nor a reason."""
+        return sum(counted.bare for counted in self.counted.values())
+
+    def text(self) -> str:
+        """The last lines: the counts of each kind, with its reasons."""
+        lines = [line for kind, counted in self.counted.items() for line in counted.lines(kind)]
+        return "\n".join([*lines, f"{self.bare():8} without an order and without a reason"])
+
+    def status(self) -> int:
+        """The exit status."""
+        return 1 if self.bare() else 0
 
 
 class Races:
@@ -292,8 +337,10 @@ class Races:
         self.asked = asked
         self.seed = seed
         self.processes = processes
-        self.counted: dict[str, Counted] = {}
+        self.tally = Tally()
         self.speeds: dict[str, float] = {}
+        # how many histories without a reason were given
+        self.told = 0
 
     def race(self, kind: str, number: int, seconds: float) -> Iterator[Unexplained]:
         """Races a script for about so long, and gives each history without an order, those with equal forms once."""
@@ -301,7 +348,7 @@ class Races:
         rounds = int(self.speeds.get(kind, ROUNDS_IN_A_SECOND) * seconds)
         start = time.monotonic()
         found = self.asked.histories(script, max(ROUNDS_LEAST, min(ROUNDS_MOST, rounds)), number + 1)
-        counted = self.counted.setdefault(kind, Counted())
+        counted = self.tally.of_kind(kind)
         forms: dict[object, list[History]] = {}
         for history in found:
             forms.setdefault(histories.form(history), []).append(history)
@@ -323,17 +370,8 @@ class Races:
             if found.reason:
                 counted.by_reason[found.reason.name] += times
             else:
-                counted.without_reason.append(found)
+                counted.bare += times
             yield found
-
-    def text(self) -> str:
-        """The last lines: the counts of each kind, with its reasons."""
-        lines = [line for kind, counted in self.counted.items() for line in counted.lines(kind)]
-        return "\n".join([*lines, f"{self.unexplained():8} without a reason"])
-
-    def unexplained(self) -> int:
-        """How many histories have neither an order nor a reason."""
-        return sum(len(counted.without_reason) for counted in self.counted.values())
 
 
 # ---- telling
@@ -385,9 +423,12 @@ def parse(words: Sequence[str]) -> argparse.Namespace:
     parser.add_argument("--driver", metavar="PATH", help=driver)
     parser.add_argument("--pin", action="store_true", help="each process has a processor of its own")
     parser.add_argument("--keep", metavar="DIR", help="a folder for histories without an order and without a reason")
+    add_summary(parser)
     args = parser.parse_args(words)
     if args.file is not None and (args.kind or args.processes is not None):
         parser.error("a FILE has its own calls and processes")
+    if args.file is not None and args.summary:
+        parser.error("what is counted of a FILE is not added up")
     if args.file is None and args.seconds is None:
         parser.error("without a FILE --seconds N is needed")
     args.kinds = [kind for kind in race_kinds.KINDS if args.kind in kind]
@@ -407,7 +448,7 @@ def race_all(args: argparse.Namespace, races: Races) -> None:
     share = min(SHARE_MOST, args.seconds / (2 * len(args.kinds)))
     for number in itertools.count():
         for kind in args.kinds:
-            if time.monotonic() > until and (number or kind in races.counted):
+            if time.monotonic() > until and (number or kind in races.tally.counted):
                 return
             for found in races.race(kind, number, min(share, max(until - time.monotonic(), 0))):
                 if not found.reason:
@@ -416,7 +457,8 @@ def race_all(args: argparse.Namespace, races: Races) -> None:
 
 def tell_and_keep(races: Races, found: Unexplained, name: str, folder: str | None) -> None:
     """Tells of a history without a reason, where not too many were told of, and keeps it where that is wanted."""
-    if races.unexplained() <= TOLD_MOST:
+    races.told += 1
+    if races.told <= TOLD_MOST:
         tell(found, name, races.asked.limits)
     if folder:
         keep_files(found, name, folder)
@@ -489,6 +531,15 @@ def asked_for(args: argparse.Namespace, folder: str) -> Asked:
     return Asked(program, [*driver, "--pin"] if args.pin else driver, args.limits)
 
 
+def write_summary(args: argparse.Namespace, races: Races) -> None:
+    """Writes what was counted, where that is wanted."""
+    if args.summary:
+        of = [*args.kinds, *([f"{args.processes} processes"] if args.processes else []), *capacity_words(args.limits)]
+        share = summaries.Share(args.seed, 0, 0, " ".join(of))
+        versions = summaries.versions(races.asked.program)
+        summaries.write(args.summary, summaries.Summary("race.py", [share], versions, races.tally.counts()))
+
+
 def end_quietly(number: int, _: object) -> None:
     """Ends this script as an exit does, so that nothing is left behind."""
     sys.exit(128 + number)
@@ -507,8 +558,9 @@ def main(words: Sequence[str]) -> int:
         except (CannotRun, replaying.Differs, histories.BadHistory) as fault:
             print(f"race.py: {fault}", file=sys.stderr)
             return 3
-    print(races.text())
-    return 1 if races.unexplained() else 0
+    print(races.tally.text())
+    write_summary(args, races)
+    return races.tally.status()
 
 
 if __name__ == "__main__":

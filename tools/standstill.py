@@ -24,7 +24,7 @@ class Standstill:
         self.is_known = False
 
     def is_met(self) -> bool:
-        """Whether the processes stand still. Each length of the trace is judged once, after it has stayed for a while."""
+        """Whether the processes stand still. Each length of the trace is judged once, after it stayed for a while."""
         size, now = os.path.getsize(self.trace), time.monotonic()
         if size != self.size:
             self.size, self.since, self.is_known = size, now, False

@@ -61,7 +61,7 @@ FORMS = {
     "lseek": Form(NUMBER, "an offset"),
     "getfl": Form(NUMBER, "the sum of the flags"),
     "pipe": Form(f"{NUMBER} {NUMBER}", "two descriptors, as 0 1"),
-    "fstat": Form(f"(?:regular|fifo|pipe|other) {NUMBER} {NUMBER}", "regular, fifo or pipe, and size and links, as pipe 0 0"),
+    "fstat": Form(f"(?:regular|fifo|pipe|other) {NUMBER} {NUMBER}", "kind, size and links, as pipe 0 0"),
 }
 
 
