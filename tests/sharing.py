@@ -129,9 +129,9 @@ def races_add_up(bench: Bench, driver: str) -> None:
 
 # ---- sums by hand
 
-SHARE = {"seed": "1", "first": 0, "scripts": 2_000, "of": ""}
+SHARE: dict[str, Any] = {"seed": "1", "first": 0, "scripts": 2_000, "of": ""}
 VERSIONS = {"fdref": {"fdref 1": 1}, "python": {"3": 1}, "system": {"S": 1}}
-SCRIPTS = {"passed": 2_000, "failed": 0, "scripts": 2_000, "acts": 9, "calls": {}, "often": []}
+SCRIPTS: dict[str, Any] = {"passed": 2_000, "failed": 0, "scripts": 2_000, "acts": 9, "calls": {}, "often": []}
 
 
 def scripts_of(bench: Bench, first: int, ends: Sequence[str]) -> str:
@@ -160,8 +160,8 @@ def all_is_met(bench: Bench) -> None:
 def struck_of(bench: Bench, first: int, acts: int, failed: int) -> str:
     """The summary of a comparison in which so many acts were struck, and so many scripts could not be run."""
     struck = {"count": acts, "first": [f"p0 close {first + at}" for at in range(min(acts, 8))]}
-    met = {"scripts": 1, "calls": 5, "unexplained": 0, "failed": failed, "by_reason": {"more than 8 links": acts}}
-    summary = {"program": "compare.py", "shares": [{**SHARE, "first": first, "scripts": 1}], "versions": VERSIONS}
+    met: dict[str, Any] = {"scripts": 1, "calls": 5, "unexplained": 0, "failed": failed, "by_reason": {"more than 8 links": acts}}
+    summary: dict[str, Any] = {"program": "compare.py", "shares": [{**SHARE, "first": first, "scripts": 1}], "versions": VERSIONS}
     return bench.written(
         f"{first}.json", {**summary, "counts": {**met, "struck": struck, "last": {"count": 0, "first": []}}}
     )

@@ -145,30 +145,30 @@ class Form(NamedTuple):
     """The form of a call: its word, and its fields in the order of frames."""
 
     word: str
-    fields: tuple[Field, ...] = ()
+    fields: tuple[Field, ...]
+
+
+# The kind of field that a reader of a line reads.
+KINDS = {
+    plain_model.read_flags: FLAGS,
+    plain_model.read_name: NAME,
+    plain_model.read_fd: FD,
+    plain_model.read_count: COUNT,
+    plain_model.read_place: PLACE,
+    plain_model.read_data: DATA,
+    plain_model.read_whence: WHENCE,
+}
+
+
+def as_in_frames(word: str, fields: tuple[Any, ...]) -> tuple[Any, ...]:
+    """The fields of a call in the order of frames: an open has its flags first. It is its own inverse."""
+    return fields[::-1] if word == "open" else fields
 
 
 # The byte of each call, and its form.
 CALLS = {
-    16: Form("open", (FLAGS, NAME)),
-    17: Form("close", (FD,)),
-    18: Form("read", (FD, COUNT)),
-    19: Form("write", (FD, DATA)),
-    20: Form("pread", (FD, PLACE, COUNT)),
-    21: Form("pwrite", (FD, PLACE, DATA)),
-    22: Form("lseek", (FD, PLACE, WHENCE)),
-    23: Form("ftruncate", (FD, PLACE)),
-    24: Form("dup", (FD,)),
-    25: Form("dup2", (FD, FD)),
-    26: Form("pipe"),
-    27: Form("mkfifo", (NAME,)),
-    28: Form("link", (NAME, NAME)),
-    29: Form("unlink", (NAME,)),
-    30: Form("fstat", (FD,)),
-    31: Form("fork"),
-    32: Form("getfl", (FD,)),
-    33: Form("setfl", (FD, FLAGS)),
-    34: Form("rename", (NAME, NAME)),
+    byte: Form(word, as_in_frames(word, tuple(KINDS[reader] for reader in form.fields)))
+    for byte, (word, form) in enumerate(plain_model.CALLS.items(), 16)
 }
 
 
@@ -185,9 +185,7 @@ def attach_frame(number: int) -> bytes:
 def call_bytes(act: plain_model.Act) -> bytes:
     """A call, as requests and records have it."""
     byte = next(byte for byte, form in CALLS.items() if form.word == act.word)
-    # an open has its flags first
-    values = act.fields[::-1] if act.word == "open" else act.fields
-    fields = zip(CALLS[byte].fields, values, strict=True)
+    fields = zip(CALLS[byte].fields, as_in_frames(act.word, act.fields), strict=True)
     return bytes([byte]) + b"".join(field.write(value) for field, value in fields)
 
 
@@ -276,10 +274,8 @@ def read_call(payload: Payload, byte: int) -> str:
     if byte not in CALLS:
         raise Malformed
     word, kinds = CALLS[byte]
-    fields = [field.read(payload) for field in kinds]
-    if word == "open":
-        fields.reverse()
-    return " ".join([word, *fields])
+    fields = tuple(field.read(payload) for field in kinds)
+    return " ".join([word, *as_in_frames(word, fields)])
 
 
 def read_request(payload: Payload, _: int) -> str:

@@ -35,33 +35,12 @@ ERROR = r"error (?:E[A-Z0-9]+|[1-9]\d{0,9})"
 NUMBER = r"(?:0|[1-9]\d{0,18})"
 
 
-class Form(NamedTuple):
-    """What a call may give where it does not end in an error: how it is written, and what it is."""
-
-    pattern: str
-    what: str
-
-
-DESCRIPTOR = Form(NUMBER, "a descriptor")
-PROCESS = Form(NUMBER, "the number of a process")
-BYTES = Form(NUMBER, "how many bytes")
-DATA = Form(r"x(?:[0-9a-f]{2})*|[0-9a-f]{2}\*\d+", "data, as x6869 or 61*512")
-OK = Form("ok", "ok")
-# As docs/FORMATS.md has them; all other acts give ok. A system may have files of another kind.
-FORMS = {
-    "join": PROCESS,
-    "fork": PROCESS,
-    "open": DESCRIPTOR,
-    "dup": DESCRIPTOR,
-    "dup2": DESCRIPTOR,
-    "read": DATA,
-    "pread": DATA,
-    "write": BYTES,
-    "pwrite": BYTES,
-    "lseek": Form(NUMBER, "an offset"),
-    "getfl": Form(NUMBER, "the sum of the flags"),
-    "pipe": Form(f"{NUMBER} {NUMBER}", "two descriptors, as 0 1"),
-    "fstat": Form(f"(?:regular|fifo|pipe|other) {NUMBER} {NUMBER}", "kind, size and links, as pipe 0 0"),
+# How what an act gives is written, where it is no number. A system may have files of another kind.
+PATTERNS = {
+    plain_model.DATA: r"x(?:[0-9a-f]{2})*|[0-9a-f]{2}\*\d+",
+    plain_model.PAIR: f"{NUMBER} {NUMBER}",
+    plain_model.STATUS: f"(?:regular|fifo|pipe|other) {NUMBER} {NUMBER}",
+    plain_model.OK: "ok",
 }
 
 
@@ -127,12 +106,20 @@ def read_line(text: str, number: int) -> Noted:
     return noted
 
 
+def given_by(word: str) -> str:
+    """What an act gives where it does not end in an error."""
+    if word in plain_model.CALLS:
+        return plain_model.CALLS[word].gives
+    return plain_model.PROCESS if word == "join" else plain_model.OK
+
+
 def check_outcome(noted: Noted, number: int) -> None:
     """Fails where an outcome is none that the call of a line may have on any system; what could stand there is told."""
-    form = FORMS.get(noted.act.word, OK)
-    if noted.outcome in (WAITS, UNKNOWN, NOT_ASKED) or re.fullmatch(f"{form.pattern}|{ERROR}", noted.outcome):
+    gives = given_by(noted.act.word)
+    pattern = f"{PATTERNS.get(gives, NUMBER)}|{ERROR}"
+    if noted.outcome in (WAITS, UNKNOWN, NOT_ASKED) or re.fullmatch(pattern, noted.outcome):
         return
-    expected = f"{form.what}, an error, as error EBADF, or {UNKNOWN}"
+    expected = f"{gives}, an error, as error EBADF, or {UNKNOWN}"
     raise BadHistory(number, f"{noted.act.word} does not give {noted.outcome}; expected {expected}")
 
 

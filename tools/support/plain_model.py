@@ -659,31 +659,50 @@ read_count = number(0, 2**32 - 1)
 read_place = number(-(2**63), 2**63 - 1)
 read_repeats = number(0, DATA_MOST)
 
-# the word of each act of a process, and the readers of its fields
-FIELDS: dict[str, tuple[Reader, ...]] = {
-    "open": (read_name, read_flags),
-    "close": (read_fd,),
-    "read": (read_fd, read_count),
-    "write": (read_fd, read_data),
-    "pread": (read_fd, read_place, read_count),
-    "pwrite": (read_fd, read_place, read_data),
-    "lseek": (read_fd, read_place, read_whence),
-    "ftruncate": (read_fd, read_place),
-    "dup": (read_fd,),
-    "dup2": (read_fd, read_fd),
-    "pipe": (),
-    "mkfifo": (read_name,),
-    "link": (read_name, read_name),
-    "unlink": (read_name,),
-    "fstat": (read_fd,),
-    "fork": (),
-    "getfl": (read_fd,),
-    "setfl": (read_fd, read_flags),
-    "rename": (read_name, read_name),
-    "attach": (),
-    "resume": (),
-    "exit": (),
+class Form(NamedTuple):
+    """The form of an act: the readers of its fields, and what it gives where it does not end in an error."""
+
+    fields: tuple[Reader, ...]
+    gives: str
+
+
+DESCRIPTOR = "a descriptor"
+PROCESS = "the number of a process"
+BYTES = "how many bytes"
+OFFSET = "an offset"
+FLAGS_SUM = "the sum of the flags"
+DATA = "data, as x6869 or 61*512"
+PAIR = "two descriptors, as 0 1"
+STATUS = "kind, size and links, as pipe 0 0"
+OK = "ok"
+
+# The table of calls, in the order of their bytes in frames, which begin with 16. What else is known of all calls is
+# taken from it; the one in clients/python/fdref.py is not, and has to agree with it.
+CALLS: dict[str, Form] = {
+    "open": Form((read_name, read_flags), DESCRIPTOR),
+    "close": Form((read_fd,), OK),
+    "read": Form((read_fd, read_count), DATA),
+    "write": Form((read_fd, read_data), BYTES),
+    "pread": Form((read_fd, read_place, read_count), DATA),
+    "pwrite": Form((read_fd, read_place, read_data), BYTES),
+    "lseek": Form((read_fd, read_place, read_whence), OFFSET),
+    "ftruncate": Form((read_fd, read_place), OK),
+    "dup": Form((read_fd,), DESCRIPTOR),
+    "dup2": Form((read_fd, read_fd), DESCRIPTOR),
+    "pipe": Form((), PAIR),
+    "mkfifo": Form((read_name,), OK),
+    "link": Form((read_name, read_name), OK),
+    "unlink": Form((read_name,), OK),
+    "fstat": Form((read_fd,), STATUS),
+    "fork": Form((), PROCESS),
+    "getfl": Form((read_fd,), FLAGS_SUM),
+    "setfl": Form((read_fd, read_flags), OK),
+    "rename": Form((read_name, read_name), OK),
 }
+
+# the word of each act of a process, and the readers of its fields
+FIELDS: dict[str, tuple[Reader, ...]] = {word: form.fields for word, form in CALLS.items()}
+FIELDS |= {"attach": (), "resume": (), "exit": ()}
 
 
 def read_actor(word: bytes) -> int | str | None:

@@ -4,7 +4,21 @@ import random
 from collections.abc import Callable, Sequence
 
 from support import plain_model
-from support.plain_model import DEFAULTS, FIELDS, FILE_SIZE_MAX, OFFSET_MAX, OPEN_MAX, TRANSFER_MAX, Limits
+from support.plain_model import (
+    DEFAULTS,
+    FIELDS,
+    FILE_SIZE_MAX,
+    OFFSET_MAX,
+    OPEN_MAX,
+    TRANSFER_MAX,
+    Limits,
+    read_count,
+    read_data,
+    read_fd,
+    read_flags,
+    read_place,
+    read_whence,
+)
 
 # A field of a line, before it is spelled.
 Field = int | str
@@ -195,17 +209,18 @@ class Walk:
             return []
         fd = self.descriptor(who, word)
         at = (None if fd is None else who.table.get(fd)) or plain_model.Description(plain_model.Regular(), "rw")
-        rest: dict[str, Callable[[], list[Field]]] = {
-            "read": lambda: [self.count_from(at)],
-            "write": lambda: [data_text(self.pick, self.count_into(at))],
-            "pread": lambda: [self.place(at), self.count(40, 300, 65_535)],
-            "pwrite": lambda: [self.place(at), data_text(self.pick, self.count(40, 300, 65_535))],
-            "lseek": lambda: self.move(at),
-            "ftruncate": lambda: [self.place(at)],
-            "dup2": lambda: [self.target()],
-            "setfl": lambda: [self.status_flags()],
+        rest: dict[tuple[plain_model.Reader, ...], Callable[[], list[Field]]] = {
+            (): list,
+            (read_count,): lambda: [self.count_from(at)],
+            (read_data,): lambda: [data_text(self.pick, self.count_into(at))],
+            (read_place, read_count): lambda: [self.place(at), self.count(40, 300, 65_535)],
+            (read_place, read_data): lambda: [self.place(at), data_text(self.pick, self.count(40, 300, 65_535))],
+            (read_place, read_whence): lambda: self.move(at),
+            (read_place,): lambda: [self.place(at)],
+            (read_fd,): lambda: [self.target()],
+            (read_flags,): lambda: [self.status_flags()],
         }
-        return [fd, *(rest[word]() if word in rest else [])]
+        return [fd, *rest[FIELDS[word][1:]]()]
 
     def target(self) -> int:
         """Where a dup2 leads."""
