@@ -42,11 +42,10 @@ from support import summaries
 from support.auditing import audited
 from support.counting import Case, require, same
 from support.frames import trace_of
-from support.options import ONLY, PROGRAM, SEED, asked, count_option, seconds_option
+from support.options import ONLY, PROGRAM, SEED, SUMMARY, asked, count_option, seconds_option
 from support.places import STAND_INS
 from support.running import ran_all
 from support.sources import source
-from support.summaries import SUMMARY
 from support.tallies import KindsTally
 
 # Of one seed: bent records that are audited and shown, runs of which each is told with every lie, how many of these are

@@ -29,12 +29,11 @@ from collections.abc import Callable, Iterator, Sequence
 from typing import NamedTuple
 
 from support import plain_model, summaries
-from support.options import PROGRAM, SEED, Option, asked, count_option
+from support.options import PROGRAM, SEED, SUMMARY, Option, asked, count_option
 from support.plain_model import DEFAULTS, FIELDS, FILE_SIZE_MAX, RECORDS_DEFAULT, Limits
 from support.running import Ran, StillRunning, run
 from support.shrinking import shrunk
 from support.sources import numbered, source
-from support.summaries import SUMMARY
 from support.tallies import ScriptsTally
 from support.walks import CAPACITIES, FLAGS, NAMES, ODD_NAMES, OFTEN, flags_text, name_text, walked
 

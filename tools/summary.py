@@ -18,9 +18,6 @@ programs, or something was run twice.
 import argparse
 import sys
 from collections.abc import Sequence
-from pathlib import Path
-
-sys.path.insert(1, str(Path(__file__).resolve().parents[1] / "tests"))
 
 from support.summaries import BadSummary, Summary, Tally, read, sum_of, write
 from support.tallies import KindsTally, ScriptsTally

@@ -5,14 +5,7 @@ So `support.plain_model` is tools/support/plain_model.py; tools/support/__init__
 - `options`: the options that several scripts have, and what is said where a program is not built
 - `rows`: the runs of tests/rows
 - `sources`: sources of random choices, each from a seed and a number that a failure tells
-- `plain_model`: the plain model of the program, with the table of calls, and the reader and the writer of scripts
 - `session_model`: the plain model of a session
-- `summaries` and `tallies`: what runs that are shared out have counted
-- `walks` and `shrinking`: random scripts, and short ones that fail as a long one does
-- `runs`: the lines of a run, and a run in which calls go on by themselves
-- `frames`: the bytes of sessions and traces, written and read
-- `auditing`: a plain auditor of traces, by the plain model
-- `serving`: a server whose trace is audited, a socket for what stands in for one, and clients whose waits are bounded
 - `players`: clients that keep what they were told, and the traces of servers that run still
 - `refusing`: runs in which allocations are refused
 

@@ -6,6 +6,7 @@ from collections.abc import Sequence
 from pathlib import Path
 from typing import Any, NamedTuple
 
+from support import summaries
 from support.counting import Count
 from support.places import FDREF, TOP
 
@@ -56,6 +57,8 @@ def seconds_option(what: str) -> Option:
 PROGRAM = path_option("--program", "the program", FDREF)
 # A word from which all random choices follow.
 SEED = Option("--seed", {"metavar": "WORD", "default": "1", "help": "any word; 1 where none is given"})
+# Where it is written what a run has counted that is shared out.
+SUMMARY = Option(summaries.WORD, dict(summaries.TOLD))
 # A word by which some parts of a test are chosen.
 ONLY = Option("--only", {"metavar": "WORD", "default": "", "help": "only the parts that have this word in their name"})
 

@@ -19,7 +19,6 @@ from pathlib import Path
 from typing import Any, NamedTuple, Protocol, Self
 
 from support.counting import Failure
-from support.options import Option
 from support.running import run
 
 # A number, texts, or more of both by their names.
@@ -83,12 +82,14 @@ class Summary(NamedTuple):
 # ---- writing
 
 
+# The option by which a script writes one, and what argparse is told of it.
+WORD = "--summary"
+TOLD = {"metavar": "FILE", "help": "writes what was counted, which tools/summary.py adds up"}
+
+
 def add_summary(parser: ArgumentParser) -> None:
     """Adds the option `--summary` to those of a tool."""
-    SUMMARY.add(parser)
-
-
-SUMMARY = Option("--summary", {"metavar": "FILE", "help": "writes what was counted, which tools/summary.py adds up"})
+    parser.add_argument(WORD, **TOLD)
 
 
 def versions(program: Sequence[str], system: str | None = None) -> dict[str, dict[str, int]]:
