@@ -38,6 +38,7 @@ PATH = re.compile(r"(?:crates|tests|tools|clients|bench|docs|examples|\.ci)/[\w.
 
 # Where limits are told: the file, how a line of it begins, and whose numbers of `call_types` stand there.
 LIMITS = TOP / "crates/call_types/src/limits.rt"
+LIBRARY = "clients/preload/"
 PROFILE, HELP, MANUAL = "docs/PROFILE.md", "crates/job_core/src/job.rt", "docs/fdref.1"
 TOLD = (
     (PROFILE, "| Descriptors of a process", "OPEN_MAX"),
@@ -60,6 +61,10 @@ TOLD = (
     (MANUAL, "bytes, from", "PIPE_CAPACITY_MIN PIPE_CAPACITY_MAX PIPE_CAPACITY"),
     ("clients/c/fdref.h", "FDREF_PIPE_CAPACITY =", "PIPE_CAPACITY PIPE_CAPACITY_MIN PIPE_CAPACITY_MAX"),
     ("clients/c/fdref.h", "#define FDREF_OLD_FILE_SIZE", "FILE_SIZE_1"),
+    (LIBRARY + "table.h", "enum { NUMBERS =", "OPEN_MAX"),
+    (LIBRARY + "bounds.h", "case _PC_PIPE_BUF", "PIPE_BUF"),
+    (LIBRARY + "bounds.h", "case _PC_NAME_MAX", "NAME_MAX"),
+    (LIBRARY + "bounds.h", "case _PC_LINK_MAX", "LINK_MAX"),
 )
 
 

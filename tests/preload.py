@@ -24,6 +24,7 @@ import tempfile
 from collections.abc import Callable, Iterator, Sequence
 
 from parts.preload_builds import Library, documented_command, libraries
+from parts.preload_functions import functions
 from parts.preload_programs import endings, left_out, programs
 from parts.preload_system import commands
 from support.counting import Case, Count, require
@@ -53,6 +54,7 @@ def parts_of(program: str, every: Sequence[Library]) -> Iterator[tuple[str, Iter
     yield "programs", with_each(programs, program, both)
     yield "ends", with_each(endings, program, both)
     yield "what is left out", with_each(left_out, program, first)
+    yield "functions", with_each(functions, program, first)
     yield "commands", with_each(commands, program, last)
 
 

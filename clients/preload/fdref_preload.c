@@ -12,16 +12,18 @@
                         are the same, with `-` in place of the place.
      FDREF_STRICT=1     What fdref leaves out is told on standard error, and the program ends with status 125.
      FDREF_PAST=FILE    Each call that is left to the system or fails with ENOSYS, as far as it is seen, is appended to
-                        FILE as a line, with its kind: `! path d/x`, `! path mkdir d`, `! program execve ./a`,
-                        `! call poll`. Where FDREF_STRICT would not tell it `-` stands for `!`: `- stream fopen /tmp/x`,
-                        and `- stdio 1`, as a file of fdref comes to be at descriptor 0, 1 or 2.
+                        FILE as a line: with the place of the last record of its process, the process, its kind, and
+                        after a tab its name: `! 6 p0 path open<tab>d/x`, `! 6 p0 program system<tab>./a`,
+                        `! 6 p0 call poll`, `! 6 p0 thread read`. Where FDREF_STRICT would not tell it `-` stands for
+                        `!`: `- 6 p0 stream fopen<tab>/tmp/x`, and `- 6 p0 stdio 1`, as a file of fdref comes to be at
+                        descriptor 0, 1 or 2.
 
    Without the first two nothing is changed. Where there is no answer (no server, no place at it for one more process, a
    run that is full, a lost connection) that is told on standard error, and the program ends with status 124.
 
    Names. fdref has one folder. A name without `/`, or with only `./` before it, is asked of fdref, whatever the working
-   directory is. Every other path, `.` and `..` go to the kernel, and a link or a rename between the two is EXDEV.
-   Folders are the kernel's, so a rename of one by a plain name is ENOENT.
+   directory is. Every other path, `.` and `..` go to the kernel, and a link or a rename between the two is EXDEV. So
+   does a plain name that fdref does not have, while the kernel has a folder of that name.
 
    Numbers are those of a native run. What is open at the start, and each file that the kernel opens for a call of this
    library, is *real*: it has the same number in the kernel, and in fdref a placeholder, which is a file without a name.
@@ -41,6 +43,12 @@
      - F_GETFL has O_LARGEFILE, too, where the kernel would tell it. F_SETFL asks with the flags that fdref knows.
      - pipe2 with O_NONBLOCK is a pipe, and a setfl of each end. ioctl with FIONBIO is a getfl and a setfl.
      - EPIPE raises SIGPIPE.
+     - dprintf formats, and is a write; what a short one left is written again, as glibc does.
+     - Of fpathconf and pathconf PIPE_BUF is 512, NAME_MAX 64, LINK_MAX 8, FILESIZEBITS 42 and NO_TRUNC 1, also in a
+       native run. sysconf, getrlimit and prlimit tell that 32 descriptors may be open, which cannot be changed.
+     - exec hands the process on to the new program, with its descriptors, where the environment that it is given loads
+       this library in the same way. A program that cannot load it, as a static one, has the real files alone. In
+       another environment, or while a call of another thread waits, exec is told, and the process ends in fdref.
      - A child is a process of fdref, over a connection of its own. It is attached before it is there. vfork is fork.
      - An exit, and _exit, is recorded before the program has ended. That of a program that a signal ends, abort too,
        comes when the server sees the connection closed, so perhaps after its parent's wait.
@@ -48,24 +56,26 @@
    What is ignored: the mode of a new file, O_NOCTTY, O_NOFOLLOW, O_SYNC and its kin, fsync, and in F_SETFL each flag
    that Linux ignores there. FD_CLOEXEC is only kept.
 
-   What is left out, so that FDREF_STRICT tells it:
-     - paths that go to the kernel, in calls that fdref has,
-     - exec is not followed: a new program joins as a new process, which has the real files alone. So do system, popen
-       and posix_spawn.
-     - of plain names: fopen, freopen, symlink, readlink, mkdir, rmdir, opendir, mknod, mkstemp, chmod, chown,
-       utimensat, chdir, and open with other flags, as O_DIRECTORY. The kernel has these. renameat2 with flags is
-       ENOSYS, so that mv does without them.
-     - of descriptors of fdref: fdopen, mmap, flock, lockf, poll, select, epoll_ctl, sendfile, copy_file_range, splice,
-       preadv, pwritev, fallocate, fchmod, fchown, futimens, an F_SETFL with O_ASYNC, O_DIRECT or O_NOATIME, and
-       commands of fcntl and ioctl that are not named here, are ENOSYS; SEEK_DATA and SEEK_HOLE are EINVAL.
-     - pipe2 with O_DIRECT: it is a pipe of the kernel.
+   What is left out, so that FDREF_STRICT tells it. tests/c/descriptor_functions.txt has each function of glibc that
+   takes a descriptor or a path, and what is done with it.
+     - Paths that go to the kernel, in calls that fdref has.
+     - Other calls with plain names, as fopen, mkdir, chmod, opendir and getxattr, and open with other flags, as
+       O_DIRECTORY. They are ENOSYS where fdref has a file of that name, and ENOTDIR under O_DIRECTORY; else the kernel
+       is asked. What lists a folder shows none of fdref's files.
+     - Other calls with descriptors of fdref, as fdopen, mmap, poll, preadv and posix_fallocate, an F_SETFL with
+       O_ASYNC, O_DIRECT or O_NOATIME, and commands of fcntl and ioctl, and limits of fpathconf, that are not named
+       here: ENOSYS. SEEK_DATA and SEEK_HOLE are EINVAL.
+     - system, popen and posix_spawn: their programs join as new processes, which have the real files alone. daemon and
+       forkpty, which fork, and renameat2 with flags are ENOSYS.
+     - pipe2 with O_DIRECT, which is a pipe of the kernel; chdir; a limit of the size of files.
+     - A thread that waits in a call for 0.1 seconds while another one makes a call: one is made at a time.
 
    What cannot be seen, and is not told: system calls that are made past the C library, and what it makes inside. So
    stdio does not reach standard output while that is a file of fdref (FDREF_PAST tells that it is), and clone is no
    fork. A bad address is no EFAULT.
 
-   Threads: one call is made at a time, so a call that waits keeps those of other threads waiting. A handler of a signal
-   may make no call of fdref while one waits: that is status 124. Signals do not end a call that waits in fdref.
+   Signals: a handler may make no call of fdref while one waits: that is status 124. Signals do not end a call that
+   waits in fdref.
 
    The kernel's hard limit of open files has to be above 64. */
 
@@ -76,13 +86,18 @@
 #define _GNU_SOURCE
 #endif
 
+#include <aio.h>
 #include <dirent.h>
 #include <dlfcn.h>
 #include <errno.h>
 #include <fcntl.h>
+#include <ftw.h>
+#include <glob.h>
 #include <limits.h>
+#include <netinet/in.h>
 #include <poll.h>
 #include <pthread.h>
+#include <sched.h>
 #include <signal.h>
 #include <spawn.h>
 #include <stdarg.h>
@@ -92,18 +107,44 @@
 #include <stdlib.h>
 #include <string.h>
 #include <sys/epoll.h>
+#include <sys/eventfd.h>
 #include <sys/file.h>
+#include <sys/inotify.h>
 #include <sys/ioctl.h>
+#include <sys/ipc.h>
 #include <sys/mman.h>
 #include <sys/resource.h>
 #include <sys/select.h>
 #include <sys/sendfile.h>
+#include <sys/signalfd.h>
 #include <sys/socket.h>
 #include <sys/stat.h>
+#include <sys/statfs.h>
+#include <sys/statvfs.h>
+#include <sys/time.h>
+#include <sys/timerfd.h>
 #include <sys/types.h>
 #include <sys/uio.h>
 #include <sys/un.h>
+#include <sys/xattr.h>
+#include <termios.h>
+#include <time.h>
 #include <unistd.h>
+#include <utime.h>
+#include <utmp.h>
+#ifdef __GLIBC__
+#include <execinfo.h>
+#include <fts.h>
+#include <mntent.h>
+#include <sys/fanotify.h>
+#include <sys/mount.h>
+#include <sys/quota.h>
+#include <sys/swap.h>
+#include <utmpx.h>
+#if __GLIBC_PREREQ(2, 36)
+#include <sys/pidfd.h>
+#endif
+#endif
 
 enum { NO_ANSWER = 124, LEFT_OUT = 125 };
 int __cxa_atexit(void (*function)(void *), void *argument, void *library);
@@ -134,33 +175,21 @@ static int numbered(int fd, int is_cloexec)
     return fd;
 }
 
-/* Whether fdref has a file of a name that is asked of it. */
-static int is_file(const char *name)
-{
-    int error = errno, is_there;
-    struct file file;
-    is_there = how == ASKED && plain(name) == name && ALONE(look_by_name(name, &file)) == 0;
-    errno = error;
-    return is_there;
-}
-
 static int open_in(int folder, const char *name, int flags, mode_t mode)
 {
     const char *rest = name;
-    enum way way = way_in(folder, &rest);
+    enum way way = way_in("open", folder, &rest);
     int is_cloexec = (flags & O_CLOEXEC) != 0;
     struct slot slot = {OURS, 0, 0, 0};
     struct fdref_act act = fdref_act_open(rest, flags & ASKED_FLAGS);
     if (way != PASS && (flags & ~(ASKED_FLAGS | IGNORED_FLAGS)) != 0) {
         leave_out("path", "open with other flags", rest);
+        if (is_file(rest))
+            return (int)fails((flags & O_DIRECTORY) != 0 ? ENOTDIR : ENOSYS);
         way = PASS;
     }
-    if (way == PASS) {
-        int fd = system_openat(folder, name, flags, mode);
-        if (fd < 0 && errno == ENOENT && (flags & O_DIRECTORY) != 0 && is_file(rest))
-            errno = ENOTDIR;
-        return numbered(fd, is_cloexec);
-    }
+    if (way == PASS)
+        return numbered(system_openat(folder, name, flags, mode), is_cloexec);
     slot.inode = inode_of_name(rest);
     if (way == ASK)
         return (int)ALONE(taken(ask(act), slot, is_cloexec));
@@ -447,6 +476,44 @@ ssize_t writev(int fd, const struct iovec *parts, int count)
     return way == PASS ? system_writev(fd, parts, count) : vector(fdref_act_write(fd, NULL, 0), parts, count, way);
 }
 
+/* ---- formatted output
+
+   The C library would write by itself, to the placeholder. As it does, what a short write left is written again. */
+
+static int print_all(int fd, char *text, int size)
+{
+    int done = 0, error;
+    ssize_t some;
+    do {
+        some = write(fd, text + done, (size_t)(size - done));
+        done += some > 0 ? (int)some : 0;
+    } while (some > 0 && done < size);
+    error = errno;
+    free(text);
+    errno = error;
+    return some < 0 ? -1 : done;
+}
+
+int vdprintf(int fd, const char *format, va_list values)
+{
+    char *text;
+    int size;
+    if (way_of(fd) == PASS)
+        return system_vdprintf(fd, format, values);
+    size = vasprintf(&text, format, values);
+    return size < 0 ? size : print_all(fd, text, size);
+}
+
+int dprintf(int fd, const char *format, ...)
+{
+    int done;
+    va_list values;
+    va_start(values, format);
+    done = vdprintf(fd, format, values);
+    va_end(values);
+    return done;
+}
+
 /* ---- the offset and the length */
 
 static int64_t seek(int fd, int64_t offset, int whence)
@@ -492,7 +559,7 @@ static int64_t cut_ours(const char *name, int64_t length)
 static int cut_name(const char *name, int64_t length)
 {
     const char *rest = name;
-    return way_of_name(&rest) == ASK ? (int)ALONE(cut_ours(rest, length)) : system_truncate(name, length);
+    return way_of_name("truncate", &rest) == ASK ? (int)ALONE(cut_ours(rest, length)) : system_truncate(name, length);
 }
 
 int truncate(const char *name, off_t length) { return cut_name(name, length); }
@@ -684,7 +751,7 @@ int pipe(int ends[2]) { return pipe2(ends, 0); }
 int mkfifoat(int folder, const char *name, mode_t mode)
 {
     const char *rest = name;
-    enum way way = way_in(folder, &rest);
+    enum way way = way_in("mkfifo", folder, &rest);
     struct fdref_act act = fdref_act_mkfifo(rest);
     if (way == ASK)
         return (int)ALONE(ask(act));
@@ -696,7 +763,7 @@ int mkfifo(const char *name, mode_t mode) { return mkfifoat(AT_FDCWD, name, mode
 int linkat(int folder, const char *name, int new_folder, const char *new_name, int flags)
 {
     const char *rest = name, *new_rest = new_name;
-    enum way way = way_in(folder, &rest), new_way = way_in(new_folder, &new_rest);
+    enum way way = way_in("link", folder, &rest), new_way = way_in("link", new_folder, &new_rest);
     struct fdref_act act = fdref_act_link(rest, new_rest);
     int is_ours = way != PASS && (flags & AT_EMPTY_PATH) == 0;
     if (is_ours && way == ASK && new_way == ASK)
@@ -713,10 +780,14 @@ int link(const char *name, const char *new_name) { return linkat(AT_FDCWD, name,
 int renameat(int folder, const char *name, int new_folder, const char *new_name)
 {
     const char *rest = name, *new_rest = new_name;
-    enum way way = way_in(folder, &rest), new_way = way_in(new_folder, &new_rest);
+    enum way way = way_in("rename", folder, &rest), new_way = way_in("rename", new_folder, &new_rest);
     struct fdref_act act = fdref_act_rename(rest, new_rest);
     if (way == ASK && new_way == ASK)
         return (int)ALONE(ask(act));
+    if (way == PASS && new_way == ASK && folder == AT_FDCWD && plain(name))
+        return is_file(new_rest) ? (int)fails(ENOTDIR) : system_renameat(folder, name, new_folder, new_name);
+    if (way == ASK && new_way == PASS && new_folder == AT_FDCWD && plain(new_name))
+        return (int)fails(is_file(rest) ? EISDIR : ENOENT);
     if (how == ASKED && (way == PASS) != (new_way == PASS))
         return (int)fails(EXDEV);
     if (way == NOTE && new_way == NOTE)
@@ -729,10 +800,12 @@ int rename(const char *name, const char *new_name) { return renameat(AT_FDCWD, n
 int unlinkat(int folder, const char *name, int flags)
 {
     const char *rest = name;
-    enum way way = way_in(folder, &rest);
+    enum way way = way_in("unlink", folder, &rest);
     struct fdref_act act = fdref_act_unlink(rest);
     if (way != PASS && (flags & AT_REMOVEDIR) != 0) {
         leave_out("path", "unlinkat of a directory", rest);
+        if (is_file(rest))
+            return (int)fails(ENOSYS);
         way = PASS;
     }
     if (way == ASK)
@@ -745,10 +818,13 @@ int unlink(const char *name) { return unlinkat(AT_FDCWD, name, 0); }
 int remove(const char *name)
 {
     const char *rest = name;
-    enum way way = way_of_name(&rest);
+    enum way way = way_of_name("remove", &rest);
     if (way == ASK)
         return (int)ALONE(ask(fdref_act_unlink(rest)));
     return way == PASS ? system_remove(name) : (int)noted(fdref_act_unlink(rest), system_remove(name));
 }
 
 #include "files.h"
+#include "bounds.h"
+#include "past.h"
+#include "further.h"

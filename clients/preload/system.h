@@ -38,6 +38,11 @@
     X(int, poll, "poll", (struct pollfd *, nfds_t, int)) \
     X(pid_t, fork, "fork", (void)) \
     X(long, sysconf, "sysconf", (int)) \
+    X(long, fpathconf, "fpathconf", (int, int)) \
+    X(long, pathconf, "pathconf", (const char *, int)) \
+    X(int, getrlimit, "getrlimit", (int, struct rlimit *)) \
+    X(int, setrlimit, "setrlimit", (int, const struct rlimit *)) \
+    X(int, vdprintf, "vdprintf", (int, const char *, va_list)) \
     X(void, _exit, "_exit", (int))
 
 #define DECLARED(type, name, symbol, parameters) static type(*system_##name) parameters;
@@ -91,10 +96,13 @@ static volatile enum how how;
 
 static struct fdref *process;
 static char socket_path[sizeof ((struct sockaddr_un *)NULL)->sun_path + 1];
-static int is_strict, log_file = -1, past_file = -1, blank = -1;
+static int is_strict, log_file = -1, past_file = -1, blank = -1, shared_file = -1;
 
-/* The number of this process in a native run, and the next one, which all processes share. */
+/* The number of this process in a native run, and the next one, which all processes share by a file in memory. */
 static uint32_t native_number, *next_number;
+
+/* Whether another thread waits in a call, so that this one may not end the process in fdref. */
+static int is_kept;
 
 /* Tells on standard error, ends the process in fdref too, and ends the program. */
 static void end_with(int status, const char *format, ...)
@@ -109,9 +117,9 @@ static void end_with(int status, const char *format, ...)
     text[size++] = '\n';
     if (system_write && system_write(2, text, size) < 0)
         size = 0;
-    if (process)
+    if (process && !is_kept)
         fdref_exit(process);
-    process = NULL;
+    process = is_kept ? process : NULL;
     for (;;)
         if (system__exit)
             system__exit(status);
@@ -119,15 +127,17 @@ static void end_with(int status, const char *format, ...)
             abort();
 }
 
-/* Notes in a line what goes past fdref: `!` where FDREF_STRICT tells it, its kind, and what of which name it is. */
+/* Notes in a line what goes past fdref: `!` where FDREF_STRICT tells it, the place of the last record of its process,
+   the process, its kind, and which call it is. After a tab stands the name that it has. */
 static void goes_past(char mark, const char *kind, const char *what, const char *of)
 {
     char text[400];
     size_t size;
     int error = errno;
-    if (how != ASKED || past_file < 0)
+    if (how != ASKED || past_file < 0 || !process)
         return;
-    size = (size_t)snprintf(text, 100, "%c %s %s%s", mark, kind, what, of && *what ? " " : "");
+    size = (size_t)snprintf(text, 150, "%c %llu p%ld %s %s%s", mark, (unsigned long long)process->place,
+                            (long)process->number, kind, what, of ? "\t" : "");
     for (; of && *of && size < sizeof text - 5; of++)
         if (*of >= ' ' && *of < 127 && *of != '%')
             text[size++] = *of;
@@ -154,11 +164,12 @@ static void leave_out(const char *kind, const char *what, const char *of)
 
 /* ---- numbers of this library's own, which are high */
 
-enum { HIGH = 1024, OWN = 16, OWN_NUMBERS = 4 };
+enum { HIGH = 1024, OWN = 16, OWN_NUMBERS = 5 };
 
 static int own_numbers(int at)
 {
-    return at == 0 ? log_file : at == 1 ? past_file : at == 2 ? blank : process ? process->socket : -1;
+    const int own[OWN_NUMBERS] = {log_file, past_file, blank, shared_file, process ? process->socket : -1};
+    return own[at];
 }
 
 static int is_own(int fd)
@@ -173,11 +184,11 @@ static int is_own(int fd)
 static struct rlimit raise_limit(void)
 {
     struct rlimit was = {0, 0}, raised;
-    getrlimit(RLIMIT_NOFILE, &was);
+    system_getrlimit(RLIMIT_NOFILE, &was);
     raised = was;
     if (was.rlim_cur < HIGH) {
         raised.rlim_cur = was.rlim_max < HIGH ? was.rlim_max : HIGH;
-        setrlimit(RLIMIT_NOFILE, &raised);
+        system_setrlimit(RLIMIT_NOFILE, &raised);
     }
     return was;
 }
@@ -187,9 +198,9 @@ static int hidden(int fd)
 {
     struct rlimit was = raise_limit(), now;
     int moved;
-    getrlimit(RLIMIT_NOFILE, &now);
+    system_getrlimit(RLIMIT_NOFILE, &now);
     moved = system_fcntl(fd, F_DUPFD_CLOEXEC, (int)(now.rlim_cur < HIGH ? now.rlim_cur : HIGH) - OWN);
-    setrlimit(RLIMIT_NOFILE, &was);
+    system_setrlimit(RLIMIT_NOFILE, &was);
     if (moved < 0)
         end_with(NO_ANSWER, "no descriptor is free: %s", strerror(errno));
     system_close(fd);
@@ -205,6 +216,8 @@ static void make_way(int to)
         past_file = hidden(past_file);
     else if (to >= 0 && to == blank)
         blank = hidden(blank);
+    else if (to >= 0 && to == shared_file)
+        shared_file = hidden(shared_file);
     else if (to >= 0 && process && to == process->socket)
         process->socket = hidden(to);
 }

@@ -8,6 +8,35 @@ static volatile int is_held;
 static int errno_before;
 static sigset_t signals_before;
 
+/* A call that another thread keeps for longer than this is told. */
+enum { KEPT_NANOSECONDS = 100000000 };
+
+/* Tells that another thread waits in a call, and so keeps this one. */
+static void tell_waiting(int act)
+{
+    goes_past('!', "thread", words[act - FDREF_OPEN], NULL);
+    is_kept = 1;
+    end_strictly("a thread that waits beside others");
+    is_kept = 0;
+}
+
+static void lock(void)
+{
+    int is_told = 0, is_locked = pthread_mutex_trylock(&mutex) == 0;
+    while (!is_locked) {
+        struct timespec until;
+        clock_gettime(CLOCK_REALTIME, &until);
+        until.tv_nsec += KEPT_NANOSECONDS;
+        until.tv_sec += until.tv_nsec / 1000000000;
+        until.tv_nsec %= 1000000000;
+        is_locked = pthread_mutex_timedlock(&mutex, &until) == 0;
+        if (!is_locked && !is_told && process && process->is_parked) {
+            is_told = 1;
+            tell_waiting(process->act);
+        }
+    }
+}
+
 /* In a native run no signal comes in between, so that nothing changes for a program with handlers. */
 static void enter(void)
 {
@@ -18,7 +47,7 @@ static void enter(void)
     sigfillset(&all);
     if (how == NATIVE)
         pthread_sigmask(SIG_BLOCK, &all, &before);
-    pthread_mutex_lock(&mutex);
+    lock();
     if (how == NATIVE)
         signals_before = before;
     owner = pthread_self();
@@ -309,8 +338,6 @@ static void join(void)
         end_with(NO_ANSWER, "no server at %s: %s", socket_path, strerror(errno));
     process->socket = hidden(process->socket);
     take_numbers();
-    __cxa_atexit(end_at_exit, NULL, NULL);
-    at_quick_exit(end_quickly);
 }
 
 static int opened_log(const char *path)
@@ -321,21 +348,108 @@ static int opened_log(const char *path)
     return hidden(fd);
 }
 
-/* A shared number, from which each process takes the next one. */
-static void share_numbers(void)
+/* Finds the shared number in its file. */
+static void map_numbers(void)
 {
-    void *shared = mmap(NULL, sizeof *next_number, PROT_READ | PROT_WRITE, MAP_SHARED | MAP_ANONYMOUS, -1, 0);
+    void *shared = mmap(NULL, sizeof *next_number, PROT_READ | PROT_WRITE, MAP_SHARED, shared_file, 0);
     if (shared == MAP_FAILED)
         end_with(NO_ANSWER, "no shared memory: %s", strerror(errno));
     next_number = (uint32_t *)shared;
+}
+
+/* A shared number, from which each process takes the next one. */
+static void share_numbers(void)
+{
+    int made = memfd_create("fdref-preload", MFD_CLOEXEC);
+    if (made < 0 || system_ftruncate(made, sizeof *next_number) != 0)
+        end_with(NO_ANSWER, "no shared memory: %s", strerror(errno));
+    shared_file = hidden(made);
+    map_numbers();
     *next_number = 1;
+}
+
+/* ---- from one program to the next
+
+   An exec hands the process on in a variable of the environment: its number in the system, its number and place in the
+   run, the descriptor of the connection or of the shared number, and the table. */
+
+static const char handed_name[] = "FDREF_HANDED=";
+enum { HANDED_MOST = 200 + NUMBERS * 30 };
+
+static int handed_file(void) { return how == ASKED ? process->socket : shared_file; }
+
+static void put_table(char *to, size_t size)
+{
+    int used = snprintf(to, size, "%s%ld %ld %llu %d", handed_name, (long)getpid(),
+                        process ? (long)process->number : (long)native_number,
+                        process ? (unsigned long long)process->place : 0, handed_file());
+    for (int fd = 0; fd < NUMBERS; fd++)
+        used += snprintf(to + used, size - (size_t)used, " %d %d %d %llx", (int)slots[fd].held, slots[fd].is_cloexec,
+                         slots[fd].is_pipe, (unsigned long long)slots[fd].inode);
+}
+
+/* Reads one number of what was handed on. */
+static long long next_of(char **at, int base) { return strtoll(*at, at, base); }
+
+/* What an exec closes is closed in fdref too. */
+static void take_slot(int fd, struct slot slot)
+{
+    int is_there = slot.held != FREE && (slot.held == OURS && how == ASKED ? !slot.is_cloexec : is_open_in_kernel(fd));
+    if (how == ASKED && slot.held != FREE && !is_there)
+        ask_aside(fdref_act_close(fd), NULL, 0);
+    if (how == ASKED && (slot.held == OURS || !is_there))
+        make_blank(fd);
+    if (is_there)
+        take(fd, slot, 0);
+}
+
+/* Goes on as the process that a program before this one was, where it is still this one. */
+static int take_over(char *at)
+{
+    long number;
+    unsigned long long place;
+    int file;
+    if (!at || next_of(&at, 10) != getpid())
+        return 0;
+    number = (long)next_of(&at, 10);
+    place = (unsigned long long)next_of(&at, 10);
+    file = (int)next_of(&at, 10);
+    system_fcntl(file, F_SETFD, FD_CLOEXEC);
+    if (how == NATIVE) {
+        native_number = (uint32_t)number;
+        shared_file = file;
+        map_numbers();
+    } else {
+        process = (struct fdref *)calloc(1, sizeof *process);
+        if (!process)
+            end_with(NO_ANSWER, "no memory for the connection");
+        process->socket = file;
+        process->number = (pid_t)number;
+        process->place = place;
+        blank = hidden(system_open("/dev/null", O_PATH | O_CLOEXEC));
+    }
+    for (int fd = 0; fd < NUMBERS; fd++) {
+        struct slot slot = {FREE, 0, 0, 0};
+        slot.held = (enum held)next_of(&at, 10);
+        slot.is_cloexec = (int)next_of(&at, 10);
+        slot.is_pipe = (int)next_of(&at, 10);
+        slot.inode = (uint64_t)next_of(&at, 16);
+        take_slot(fd, slot);
+    }
+    return 1;
+}
+
+static void end_at_last(void)
+{
+    __cxa_atexit(end_at_exit, NULL, NULL);
+    at_quick_exit(end_quickly);
 }
 
 /* Begins where that was not done yet. */
 static void prepare(void)
 {
     const char *socket_named, *log_named, *past_named, *strict;
-    int error = errno;
+    int error = errno, is_handed;
     if (how != UNKNOWN)
         return;
     find_all();
@@ -349,12 +463,16 @@ static void prepare(void)
         log_file = opened_log(log_named);
     if (how == ASKED && past_named)
         past_file = opened_log(past_named);
-    if (how == NATIVE)
-        share_numbers();
-    if (how == ASKED) {
+    if (how == ASKED)
         snprintf(socket_path, sizeof socket_path, "%s", socket_named);
+    is_handed = how != OFF && take_over(getenv("FDREF_HANDED"));
+    unsetenv("FDREF_HANDED");
+    if (how == NATIVE && !is_handed)
+        share_numbers();
+    if (how == ASKED && !is_handed)
         join();
-    }
+    if (how == ASKED)
+        end_at_last();
     errno = error;
 }
 
@@ -395,37 +513,58 @@ static const char *plain(const char *name)
 }
 
 /* A path that leads elsewhere is the kernel's. */
-static enum way way_elsewhere(const char *name)
+static enum way way_elsewhere(const char *what, const char *name)
 {
     if (name && *name)
-        goes_past('!', "path", "", name);
+        goes_past('!', "path", what, name);
     if (is_strict && how == ASKED && name && *name)
         end_with(LEFT_OUT, "the path %s is left out", name);
     return PASS;
 }
 
 /* The same of a name in a folder. */
-static enum way way_in_folder(const char *name)
+static enum way way_in_folder(const char *what, const char *name)
 {
     if (is_strict && how == ASKED && name && *name && *name != '/')
         end_with(LEFT_OUT, "%s in a folder is left out", name);
-    return way_elsewhere(name);
+    return way_elsewhere(what, name);
+}
+
+/* Whether fdref has a file of a name that is asked of it. */
+static int is_file(const char *name)
+{
+    int error = errno, is_there;
+    struct file file;
+    is_there = how == ASKED && plain(name) && ALONE(look_by_name(plain(name), &file)) == 0;
+    errno = error;
+    return is_there;
+}
+
+/* Whether a plain name is that of a folder of the kernel, and of no file of fdref. */
+static int is_folder(const char *name)
+{
+    char path[NAME_MAX + 3];
+    int error = errno, is_there = 0;
+    if (*name && snprintf(path, sizeof path, "%s/.", name) < (int)sizeof path)
+        is_there = (system_faccessat(AT_FDCWD, path, F_OK, 0) == 0 || errno == EACCES) && !is_file(name);
+    errno = error;
+    return is_there;
 }
 
 /* The way of a call with a name, from which `./` is taken. */
-static enum way way_of_name(const char **name)
+static enum way way_of_name(const char *what, const char **name)
 {
     const char *rest = plain(*name);
     prepare();
-    if (!rest || how == OFF)
-        return way_elsewhere(*name);
+    if (!rest || how == OFF || is_folder(rest))
+        return way_elsewhere(what, *name);
     *name = rest;
     return way_of_ours();
 }
 
 /* The same of a name in a folder. */
-static enum way way_in(int folder, const char **name)
+static enum way way_in(const char *what, int folder, const char **name)
 {
     prepare();
-    return folder == AT_FDCWD ? way_of_name(name) : way_in_folder(*name);
+    return folder == AT_FDCWD ? way_of_name(what, name) : way_in_folder(what, *name);
 }

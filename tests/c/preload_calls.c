@@ -1,14 +1,18 @@
-/* Makes each call that the library of clients/preload answers, and checks what it gives. It runs in an empty folder, by
-   itself or with the library, with the descriptors 0, 1 and 2 alone. It has three children. The line of each check that
+/* Makes each call that the library of clients/preload answers, and checks what it gives. It runs in an empty folder,
+   natively or asking a server, with the descriptors 0, 1 and 2 alone. It has three children. The line of each check that
    fails is printed, and the status is 1 then. */
 
 #include "preload.h"
+
+#include <stdarg.h>
 
 enum { LARGE_SIZE = 66000 };
 
 static char bytes[LARGE_SIZE], large[LARGE_SIZE];
 
 #ifdef __GLIBC__
+int __dprintf_chk(int fd, int flag, const char *format, ...);
+int __vdprintf_chk(int fd, int flag, const char *format, va_list values);
 int __open_2(const char *name, int flags);
 int __open64_2(const char *name, int flags);
 int __openat_2(int folder, const char *name, int flags);
@@ -121,6 +125,107 @@ static void errors(void)
     GIVES(write(writing, "ab", 2), 2);
     GIVES(lseek(writing, 0, SEEK_CUR), 6);
     closes(reading, writing);
+}
+
+static int print(int fd, const char *format, ...)
+{
+    int done;
+    va_list values;
+    va_start(values, format);
+    done = vdprintf(fd, format, values);
+    va_end(values);
+    return done;
+}
+
+#ifdef __GLIBC__
+static int print_checked(int fd, const char *format, ...)
+{
+    int done;
+    va_list values;
+    va_start(values, format);
+    done = __vdprintf_chk(fd, 1, format, values);
+    va_end(values);
+    return done;
+}
+#endif
+
+/* What the C library would format and write by itself. */
+static void prints(void)
+{
+    const char *none = "";
+    int fd = open("text", O_RDWR | O_CREAT, 0600), reading = open("text", O_RDONLY), ends[2];
+    GIVES(dprintf(fd, "%s %d\n", "one", 2), 6);
+    GIVES(print(fd, "%c%%", 'x'), 2);
+    GIVES(dprintf(fd, "%s", none), 0);
+#ifdef __GLIBC__
+    GIVES(__dprintf_chk(fd, 1, "%03d", 7), 3);
+    GIVES(print_checked(fd, "%s", "!"), 1);
+#endif
+    GIVES(lseek(fd, 0, SEEK_CUR), 12);
+    GIVES(pread(fd, bytes, 99, 0), 12);
+    CHECK(memcmp(bytes, "one 2\nx%007!", 12) == 0);
+    GIVES(dprintf(fd, "%70000d", 5), 70000);
+    GIVES(pread(fd, bytes, 9, 70008), 4);
+    CHECK(memcmp(bytes, "   5", 4) == 0);
+    FAILS(dprintf(reading, "x"), EBADF);
+    FAILS(dprintf(9, "%s", none), EBADF);
+    FAILS(print(-1, "x"), EBADF);
+    errno = 0;
+    GIVES(pipe(ends), 0);
+    GIVES(dprintf(ends[1], "%s", "through"), 7);
+    GIVES(read(ends[0], bytes, 9), 7);
+    CHECK(memcmp(bytes, "through", 7) == 0);
+    closes(fd, ends[1]);
+}
+
+/* What is told of limits is fdref's. */
+static void limits(void)
+{
+    int fd = open("a", O_RDONLY), ends[2];
+    GIVES(pipe(ends), 0);
+    GIVES(fpathconf(ends[1], _PC_PIPE_BUF), 512);
+    GIVES(fpathconf(fd, _PC_PIPE_BUF), 512);
+    GIVES(fpathconf(fd, _PC_NAME_MAX), 64);
+    GIVES(fpathconf(fd, _PC_LINK_MAX), 8);
+    GIVES(fpathconf(fd, _PC_FILESIZEBITS), 42);
+    GIVES(fpathconf(fd, _PC_NO_TRUNC), 1);
+    GIVES(pathconf("a", _PC_NAME_MAX), 64);
+    GIVES(pathconf("./a", _PC_PIPE_BUF), 512);
+    GIVES(pathconf(".", _PC_NAME_MAX), 64);
+    GIVES(pathconf("/dev", _PC_NAME_MAX), 255);
+    FAILS(fpathconf(9, _PC_NAME_MAX), EBADF);
+    FAILS(fpathconf(-1, _PC_PIPE_BUF), EBADF);
+    FAILS(pathconf("none", _PC_NAME_MAX), ENOENT);
+    errno = 0;
+    closes(fd, ends[1]);
+}
+
+/* A folder is the kernel's, also where its name is plain. */
+static void folders(void)
+{
+    struct stat told;
+    int fd = open("file", O_RDONLY | O_CREAT, 0600);
+    GIVES(mkdir("folder", 0700), 0);
+    GIVES(stat("folder", &told), 0);
+    CHECK(S_ISDIR(told.st_mode));
+    GIVES(access("folder", X_OK), 0);
+    GIVES(open("folder", O_RDONLY), fd + 1);
+    FAILS(open("folder", O_WRONLY | O_CREAT, 0600), EISDIR);
+    FAILS(unlink("folder"), EISDIR);
+    FAILS(rename("file", "folder"), EISDIR);
+    FAILS(rename("folder", "file"), ENOTDIR);
+    FAILS(rename("none", "folder"), ENOENT);
+    errno = 0;
+    GIVES(rename("folder", "./other"), 0);
+    FAILS(stat("folder", &told), ENOENT);
+    FAILS(chmod("none", 0600), ENOENT);
+    FAILS(readlink("none", bytes, 9), ENOENT);
+    FAILS(open("none", O_RDONLY | O_DIRECTORY), ENOENT);
+    FAILS(open("file", O_RDONLY | O_DIRECTORY), ENOTDIR);
+    errno = 0;
+    GIVES(rmdir("other"), 0);
+    GIVES(unlink("file"), 0);
+    closes(fd, fd + 1);
 }
 
 /* More than fdref moves in one call. */
@@ -459,6 +564,8 @@ int main(void)
     opens();
     moves();
     errors();
+    prints();
+    limits();
     large_transfers();
     duplicates();
     flags();
@@ -466,6 +573,7 @@ int main(void)
     names();
     renames();
     renames_between();
+    folders();
     looks();
     forks();
     further_names();

@@ -9,9 +9,11 @@
 
 #include <dirent.h>
 #include <poll.h>
+#include <pthread.h>
 #include <spawn.h>
 #include <sys/epoll.h>
 #include <sys/file.h>
+#include <sys/resource.h>
 #include <sys/select.h>
 #include <sys/sendfile.h>
 
@@ -54,6 +56,31 @@ static int wait_with_a_handler(void)
         _exit(write(pipe_ends[1], "y", 1) != 1);
     }
     return read(pipe_ends[0], bytes, 1) == 1 && bytes[0] == 'y' && status_of(child) == 0 ? 0 : 97;
+}
+
+static void *write_late(void *unused)
+{
+    usleep(100000);
+    if (write(pipe_ends[1], "z", 1) < 0)
+        _exit(98);
+    return unused;
+}
+
+/* A thread waits for what another one writes. */
+static int wait_in_a_thread(void)
+{
+    pthread_t thread;
+    if (pthread_create(&thread, NULL, write_late, NULL) != 0)
+        return 97;
+    return read(pipe_ends[0], bytes, 1) == 1 && bytes[0] == 'z' && pthread_join(thread, NULL) == 0 ? 0 : 97;
+}
+
+/* Prints what is longer than the room below the greatest size of a file. */
+static int print_past_the_end(void)
+{
+    const off_t most = (off_t)1 << 40;
+    int done = lseek(fd, most - 2, SEEK_SET) < 0 ? 0 : dprintf(fd, "%s", "word");
+    return done == -1 && lseek(fd, 0, SEEK_CUR) == most ? errno : 97;
 }
 
 /* A handler that makes a call comes again and again, at last while a read waits. */
@@ -119,10 +146,32 @@ static int between_folders(const char *word)
 
 /* ---- what is left out */
 
+static int of_limits(const char *word)
+{
+    struct rlimit numbers = {20, 20}, size = {1000, RLIM_INFINITY};
+    if (strcmp(word, "setrlimit of RLIMIT_NOFILE") == 0) return of(setrlimit(RLIMIT_NOFILE, &numbers));
+    if (strcmp(word, "setrlimit of RLIMIT_FSIZE") == 0) return of(setrlimit(RLIMIT_FSIZE, &size));
+    if (strcmp(word, "fpathconf of another limit") == 0) return of(fpathconf(fd, _PC_PATH_MAX));
+    if (strcmp(word, "pathconf of another limit") == 0) return of(pathconf("a", _PC_PATH_MAX));
+    return 99;
+}
+
+/* The limits of numbers that are told. */
+static int tell_limits(void)
+{
+    struct rlimit was = {0, 0}, now = {0, 0};
+    if (getrlimit(RLIMIT_NOFILE, &was) != 0 || prlimit(getpid(), RLIMIT_NOFILE, &was, &now) != 0)
+        return errno;
+    dprintf(1, "%d %d %d %d\n", (int)was.rlim_cur, (int)was.rlim_max, (int)now.rlim_cur, (int)now.rlim_max);
+    was.rlim_cur = 31;
+    return of(prlimit(0, RLIMIT_NOFILE, &was, NULL));
+}
+
 static int of_names(const char *word)
 {
     struct timespec times[2] = {{0, UTIME_NOW}, {0, UTIME_NOW}};
     char name[] = "nameXXXXXX", *const list[] = {NULL};
+    unsetenv("LD_PRELOAD");
     if (strcmp(word, "the path /dev/null") == 0) return of(open("/dev/null", O_RDONLY));
     if (strcmp(word, "the path /dev/none") == 0) return of(rename("a", "/dev/none"));
     if (strcmp(word, "none in a folder") == 0) return of(openat(9, "none", O_RDONLY));
@@ -153,7 +202,7 @@ static int of_names(const char *word)
     if (strcmp(word, "posix_spawn") == 0) return posix_spawn(NULL, "/no/such/program", NULL, NULL, list, list);
     if (strcmp(word, "posix_spawnp") == 0) return posix_spawnp(NULL, "/no/such/program", NULL, NULL, list, list);
     if (strcmp(word, "popen") == 0) return popen("exit 3", "r") ? 0 : errno;
-    return 99;
+    return of_limits(word);
 }
 
 static int of_descriptors(const char *word)
@@ -220,6 +269,12 @@ int main(int count, char **given)
             bytes[0] = 0;
     if (strncmp(word, "between: ", 9) == 0)
         return between_folders(word + 9);
+    if (strcmp(word, "limits") == 0)
+        return tell_limits();
+    if (strcmp(word, "beside a thread") == 0)
+        return wait_in_a_thread();
+    if (strcmp(word, "full file") == 0)
+        return print_past_the_end();
     count = end_softly(word);
     return count == 99 ? of_descriptors(word) : count;
 }

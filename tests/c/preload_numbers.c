@@ -9,6 +9,8 @@
 
 #include "preload.h"
 
+#include <sys/resource.h>
+
 static char bytes[100];
 
 /* What a descriptor leads to: n the null device, z the device of zeros, f a file with this size. */
@@ -175,7 +177,14 @@ static void take_high_numbers(void)
 static void fill(void)
 {
     int ends[2];
+    struct rlimit most;
     CHECK(getdtablesize() == 32 && sysconf(_SC_OPEN_MAX) == 32);
+    CHECK(getrlimit(RLIMIT_NOFILE, &most) == 0 && most.rlim_cur == 32);
+#ifdef __GLIBC__
+    CHECK(prlimit(0, RLIMIT_NOFILE, NULL, &most) == 0 && most.rlim_cur == 32);
+    CHECK(prlimit(getpid(), RLIMIT_NOFILE, &most, NULL) == 0);
+#endif
+    CHECK(setrlimit(RLIMIT_NOFILE, &most) == 0);
     errno = 0;
     for (int fd = 3; fd < 32; fd++)
         GIVES(open(fd % 2 ? "a" : "/dev/null", O_RDWR | O_CREAT, 0600), fd);

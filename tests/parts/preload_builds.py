@@ -43,7 +43,7 @@ class Library(NamedTuple):
         """The path of a program of tests/c, which is built where it is not there yet."""
         path = os.path.join(self.folder, f"{self.compiler}-{name}")
         if not os.path.exists(path):
-            compiles([self.compiler, "-std=c99", "-O1", *WARNINGS, str(C_TESTS / f"{name}.c"), "-o", path])
+            compiles([self.compiler, "-std=c99", "-O1", *WARNINGS, str(C_TESTS / f"{name}.c"), "-o", path, "-pthread", "-ldl"])
         return path
 
 

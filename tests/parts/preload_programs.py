@@ -35,11 +35,12 @@ from support.serving import A_WHILE, ALL_RECORDS, SECONDS, Process, Server, outc
 PROGRAMS: list[tuple[str, list[str], int, str]] = [
     ("preload_calls", [], 4, ""),
     ("preload_forks", [], 8, ""),
+    ("preload_execs", [], 2, ""),
     ("preload_numbers", ["mixed"], 1, ""),
     ("preload_numbers", ["full"], 1, "ulimit -S -n 32"),
     ("preload_numbers", ["closed"], 1, "exec <&-"),
 ]
-SAYS = {"preload_forks": b"said\n", "preload_numbers mixed": b"said\n"}
+SAYS = {"preload_forks": b"said\n", "preload_execs": b"said\n", "preload_numbers mixed": b"said\n"}
 
 # More than a trace has before the calls that a server is to see.
 MANY_BYTES = 5_000
@@ -71,16 +72,17 @@ NAMES = [
     "fopen", "freopen", "symlink", "readlink", "mkdir", "rmdir", "unlinkat of a directory", "opendir", "mkstemp",
     "mknod", "chmod", "chown", "utimensat", "chdir", "open with other flags", "pipe2 with other flags", "execve",
     "execv", "execvp", "execl", "execle", "execlp", "system", "popen", "posix_spawn", "posix_spawnp",
-    "the path /dev/null", "the path /dev/none", "none in a folder", "new in a folder",
+    "setrlimit of RLIMIT_FSIZE", "the path /dev/null", "the path /dev/none", "none in a folder", "new in a folder",
 ]  # fmt: skip
 DESCRIPTORS = [
     "fdopen", "mmap", "ioctl", "flock", "lockf", "sendfile", "copy_file_range", "splice", "preadv", "pwritev",
     "fallocate", "fchmod", "fchown", "futimens", "fcntl with other flags", "fcntl with another command",
-    "renameat2 with flags", "poll", "ppoll", "select", "pselect", "epoll_ctl",
+    "renameat2 with flags", "poll", "ppoll", "select", "pselect", "epoll_ctl", "setrlimit of RLIMIT_NOFILE",
+    "fpathconf of another limit", "pathconf of another limit",
 ]  # fmt: skip
 SEEK = "lseek by SEEK_DATA and its kin"
 # What ends a strict program before the call that it leads to is noted.
-NOTED_BY_OTHERS = ["execl", "execle", "execlp", "none in a folder", "new in a folder"]
+NOTED_BY_OTHERS = ["none in a folder", "new in a folder"]
 
 
 def both(program: str, library: Library, name: str, words: Sequence[str], sessions: int, before: str) -> None:
@@ -173,14 +175,16 @@ def leaves_out(program: str, library: Library) -> None:
             same(Ran(LEFT_OUT, b"", f"fdref: {word} is left out\n".encode()), given.ran)
             notes = Path(past).read_text(encoding="ascii").splitlines()
             os.unlink(past)
-            require(word in NOTED_BY_OTHERS or is_noted(word, notes), f"{word}: {notes}")
+            require(word in NOTED_BY_OTHERS or is_noted(word, notes, given.log), f"{word}: {notes}")
             log += given.log
         ended(server, len(words), log)
 
 
-def is_noted(word: str, notes: list[str]) -> bool:
-    """Whether the last of what was noted is this."""
-    return bool(notes) and notes[-1].startswith("! ") and word.removeprefix("the path ") in notes[-1]
+def is_noted(word: str, notes: list[str], log: list[str]) -> bool:
+    """Whether the last of what was noted is this, after the last call that is logged."""
+    place, actor = log[-1].split(" ")[:2]
+    is_last = bool(notes) and notes[-1].startswith(f"! {place} {actor} ")
+    return is_last and word.removeprefix("the path ") in notes[-1]
 
 
 def refuses(program: str, library: Library) -> None:
@@ -194,6 +198,35 @@ def refuses(program: str, library: Library) -> None:
             require(given.ran == (wanted, b"", b""), f"{word}: {given.ran.said()}")
             log += given.log
         ended(server, len(words), log)
+
+
+def tells_limits(program: str, library: Library) -> None:
+    """The limits of numbers are those of fdref, and cannot be changed."""
+    with Server(program, 1) as server:
+        given = asking(library, server, [library.program("preload_ends"), "limits"])
+        same(Ran(errno.ENOSYS, b"32 32 32 32\n", b""), given.ran)
+
+
+def prints_to_the_end(program: str, library: Library) -> None:
+    """What is printed past the greatest size of a file is written as far as it goes, and that is an error."""
+    with Server(program, 1) as server:
+        given = asking(library, server, [library.program("preload_ends"), "full file"])
+        same(Ran(errno.EFBIG, b"", b""), given.ran)
+        same(["write 3 x776f7264 = 2", "write 3 x7264 = error EFBIG"], given.of_processes()["p0"][-3:-1])
+        ended(server, 1, given.log)
+
+
+def waits_beside(program: str, library: Library) -> None:
+    """A thread that waits keeps the others, which is noted, and the end of a strict program."""
+    words = [library.program("preload_ends"), "beside a thread"]
+    with Server(program, 1) as server, empty_folder() as folder:
+        past = os.path.join(folder, "past")
+        told = b"fdref: a thread that waits beside others is left out\n"
+        given = asking(library, server, words, ["FDREF_STRICT=1", f"FDREF_PAST={past}"])
+        same(Ran(LEFT_OUT, b"", told), given.ran)
+        place = int(given.log[-1].split(" ")[0])
+        same(f"! {place + 1} p0 thread read\n", Path(past).read_text(encoding="ascii"))
+        ended(server, 1, given.log)
 
 
 def is_between(program: str, library: Library, word: str) -> None:
@@ -291,6 +324,9 @@ def endings(program: str, library: Library) -> Iterator[Case]:
         yield f"a child's {way}, {library.name}", partial(exits_first, program, library, way)
     for word in BETWEEN:
         yield f"{word}, {library.name}", partial(is_between, program, library, word)
+    yield f"limits of numbers, {library.name}", partial(tells_limits, program, library)
+    yield f"prints to the end of a file, {library.name}", partial(prints_to_the_end, program, library)
+    yield f"a thread that waits, {library.name}", partial(waits_beside, program, library)
     yield f"handlers of signals, {library.name}", partial(is_interrupted, program, library)
     yield f"no server, {library.name}", partial(is_without_server, library)
     yield f"no place, {library.name}", partial(is_without_a_place, program, library)

@@ -118,10 +118,12 @@ def command(
 
 
 def shell(program: str, library: Library) -> None:
-    """A shell writes to a file, which a program reads that it starts."""
-    with Server(program, 5) as server:
-        given = asking(library, server, ["sh", "-c", "echo x > a; echo y >> a; cat a; echo $?"])
-        same(Ran(0, b"x\ny\n0\n", b""), given.ran)
+    """A shell writes to a file, and programs that it starts read it, and write one."""
+    command = ["sh", "-c", "echo x > a; echo y >> a; cat a; echo $?; cat a > b; cat < b"]
+    with Server(program, 4) as server:
+        given = asking(library, server, command)
+        same(Ran(0, b"x\ny\n0\nx\ny\n", b""), given.ran)
+        ended(server, 4, given.log)
 
 
 COMMANDS: list[tuple[list[str], bytes, dict[str, bytes | None]]] = [
