@@ -17,8 +17,10 @@ the C library (the shim, clients/preload) makes its calls, so it need not be cha
 for this run, by $CC or cc, unless --shim names a built one. A statically linked program does not load it.
 What fdref leaves out goes past it to the system, and is not judged: paths with a slash, folders, streams
 of stdio, other programs. The shim notes what it sees of that, and it is told by kinds, each with the
-first of it; --keep has all. Under --strict it ends the program. Calls that the C library makes inside
-are not seen: so printf is lost where dup2 puts a file of fdref at descriptor 1.
+first of it; --keep has all. A difference after it is told to may follow from it: from what has the same
+name, if any, else from the last. Under --strict it ends the program. Calls that the C library makes
+inside are not seen: so printf is lost where dup2 puts a file of fdref at descriptor 1. Of threads one
+makes a call at a time, so where one waits the others do, which is told.
 
 Told is how both ended, and where they part: the first call whose answer differs and has no reason, else
 the first that differs, after some lines before it and with its reason. The reasons are those of
@@ -54,6 +56,7 @@ from types import FrameType, TracebackType
 from typing import NamedTuple, Self
 
 import compare
+import past
 from partings import Compared, Finding
 from standstill import Standstill
 from support import plain_model
@@ -83,9 +86,6 @@ NOT_ASKED = 124
 LEAVES_OUT = "uses what fdref leaves out: "
 IS_TOLD = re.compile(rb"^fdref: (.*)$", re.MULTILINE)
 IS_LEFT_OUT = re.compile(rb"^fdref: (.*) is left out$", re.MULTILINE)
-# What goes past fdref, by the kinds that the shim has for it, and what is said of one.
-PAST = {"path": "path", "stream": "stream", "program": "program", "call": "other call"}
-STDIO = "stdio"
 
 
 class CannotJudge(Exception):
@@ -226,11 +226,11 @@ class Job:
         """Runs it with fdref and on the system."""
         strict = {"FDREF_STRICT": "1"} if self.is_strict else {}
         with Server(self.program, self.folder, self.sessions, self.limits) as server:
-            past = Path(self.folder, "past")
-            past.touch()
+            noted = Path(self.folder, "past")
+            noted.touch()
             still = Standstill(server.trace)
             fdref, fdref_log = self.ran(
-                "fdref", still.is_met, FDREF_SOCKET=server.path, FDREF_PAST=str(past), **strict
+                "fdref", still.is_met, FDREF_SOCKET=server.path, FDREF_PAST=str(noted), **strict
             )
             server.finish()
             trace = Path(server.trace).read_bytes()
@@ -241,7 +241,7 @@ class Job:
         if fdref.status == NOT_ASKED and said:
             raise CannotJudge(f"the server gave no answer: {said[-1].decode('utf-8', 'replace')}")
         system, system_log = self.ran("system")
-        return Both(system, fdref, system_log, fdref_log, trace, past.read_bytes(), still.told)
+        return Both(system, fdref, system_log, fdref_log, trace, noted.read_bytes(), still.told)
 
     def audited(self) -> str:
         """What the audit says of the trace."""
@@ -266,7 +266,7 @@ class Verdict:
         self.findings, self.unexplained = self.compared.findings, self.compared.unexplained
         if not self.compared.fdref.total() and not self.compared.system.total():
             none = "made none of the calls that fdref knows, or does not load the shim, as a static program"
-            raise CannotJudge("; ".join([none, *told_past(both.past)]))
+            raise CannotJudge("; ".join([none, *past.told_past(past.past_of(both.past))]))
         count = len(self.compared.system.calls)
         if count > sessions:
             most = f"--sessions, {SESSIONS_MOST} at most"
@@ -295,8 +295,8 @@ def how(ended: Ended, seconds: float) -> str:
     return f"ended with status {ended.status}" if ended.status >= 0 else f"ended by signal {-ended.status}"
 
 
-def told_ends(both: Both, seconds: float) -> list[str]:
-    """How the two ended, and what they wrote otherwise."""
+def told_ends(both: Both, seconds: float, lines_of_fdref: list[Line]) -> list[str]:
+    """How the two ended, and what they wrote otherwise, with what that may follow from."""
     system, fdref = how(both.system, seconds), both.still or how(both.fdref, seconds)
     lines = [f"both {system}"] if system == fdref else [f"system: {system}", f"fdref:  {fdref}"]
     if both.system.status is None and both.fdref.status is None and not both.still:
@@ -307,6 +307,8 @@ def told_ends(both: Both, seconds: float) -> list[str]:
     ):
         if one != other:
             lines.append(f"standard {what} differs in {difference(one, other, ('system', 'fdref'))}")
+            cause = past.likeliest(past.past_of(both.past), frozenset())
+            lines += [compare.clipped(past.told_cause(cause, lines_of_fdref))] if cause else []
     return lines
 
 
@@ -316,56 +318,41 @@ def told_line(who: str, line: Line | None) -> str:
     return f"{who} {place}{line.act} = {line.outcome}" if line else f"{who} no further call"
 
 
-def told_finding(finding: Finding, lines: list[Line], before: int) -> list[str]:
-    """A parting, with lines before it and its reason."""
+def told_finding(finding: Finding, lines: list[Line], before: int, every: list[past.Past]) -> list[str]:
+    """A parting, with lines before it and its reason, and what went past fdref that it may follow from."""
     parting = finding.parting
     earlier = sorted((int(it.place), it) for it in lines if it.place.isdigit() and int(it.place) < parting.place)
     told = [f"  {line.place} {line.act} = {line.outcome}" for _, line in earlier[max(len(earlier) - before, 0) :]]
     told += [told_line("system:", parting.system), told_line("fdref: ", parting.fdref)]
-    return [compare.clipped(line) for line in [*told, compare.told_reason(finding.reason)]]
+    cause = past.cause_of(finding, every)
+    told += [compare.told_reason(finding.reason), *([past.told_cause(cause, lines)] if cause else [])]
+    return [compare.clipped(line) for line in told]
 
 
-def past_of(text: bytes) -> list[tuple[str, str, str]]:
-    """What went past fdref, as the shim notes it: `!` where --strict would tell it, its kind, and what it is."""
-    lines = text.decode("ascii", "replace").splitlines()
-    return [(mark, kind, what) for mark, kind, what in (line.split(" ", 2) for line in lines)]
-
-
-def told_past(text: bytes) -> list[str]:
-    """What went past fdref: how much of each kind, with the first of it, and where stdio does."""
-    met = past_of(text)
-    told = []
-    for kind, one in PAST.items():
-        what = [it[2] for it in met if it[1] == kind]
-        told += [f"{len(what)} {one}s (first {what[0]})" if what[1:] else f"1 {one} ({what[0]})"] if what else []
-    lines = [compare.clipped(f"past fdref: {', '.join(told)}")] if told else []
-    for number in sorted({what for _, kind, what in met if kind == STDIO}):
-        lines.append(f"past fdref: stdio on descriptor {number}, which is a file of fdref: it fails there")
-    return lines
-
-
-def told_strict(text: bytes) -> list[str]:
+def told_strict(every: list[past.Past]) -> list[str]:
     """Where --strict would end the program."""
-    ends = [what for mark, _, what in past_of(text) if mark == "!"]
+    ends = [it.said() for it in every if it.is_strict]
     return [compare.clipped(f"--strict ends it at {ends[0]}")] if ends else []
 
 
 def told(verdict: Verdict, seconds: float, before: int) -> str:
     """All that is said of a program."""
     findings = verdict.findings
-    lines = told_ends(verdict.both, seconds)
+    every = past.past_of(verdict.both.past)
+    lines = told_ends(verdict.both, seconds, verdict.compared.lines)
     calls = several(verdict.compared.fdref.total(), "call")
     processes = several(len(verdict.compared.fdref.calls), "process", "processes")
     differ = {0: "no answer differs", 1: "1 answer differs"}.get(len(findings), f"{len(findings)} answers differ")
     lines.append(f"{calls} of {processes}: {differ}")
     if findings:
-        lines += told_finding(verdict.unexplained or findings[0], verdict.compared.lines, before)
+        lines += told_finding(verdict.unexplained or findings[0], verdict.compared.lines, before, every)
     reasons = collections.Counter(it.reason for it in findings if it.reason)
     lines += [f"{count:8} {reason.name} ({reason.who}; {reason.page})" for reason, count in reasons.items()]
     follow = sum(it.follows for it in findings)
     lines += [f"{follow:8} may follow from these"] if follow else []
     lines += [f"{len(findings) - reasons.total() - follow:8} without a reason"] if findings else []
-    return "\n".join([*lines, *told_past(verdict.both.past), f"audit: {verdict.audit}"])
+    lines += map(compare.clipped, past.told_past(every))
+    return "\n".join([*lines, f"audit: {verdict.audit}"])
 
 
 # ---- the whole
@@ -456,7 +443,7 @@ def main(words: Sequence[str]) -> int:
                 keep(folder, args.keep)
     print(told(verdict, args.seconds, args.before))
     if verdict.status() == 1 and not args.strict:
-        print("".join(f"{line}\n" for line in told_strict(verdict.both.past)), end="")
+        print("".join(f"{line}\n" for line in told_strict(past.past_of(verdict.both.past))), end="")
     return verdict.status()
 
 

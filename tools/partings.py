@@ -130,11 +130,13 @@ class Story:
 
 
 class Finding(NamedTuple):
-    """A parting with its reason. One that has none may follow from an earlier one."""
+    """A parting with its reason, and the names that the call has to do with. One without a reason may follow from an
+    earlier one."""
 
     parting: Parting
     reason: Reason | None
     follows: bool
+    names: frozenset[str]
 
 
 def partings_of(way: Way, system: list[Line], fdref: list[Line], number: int, story: Story) -> Iterator[Parting]:
@@ -199,6 +201,19 @@ def is_shared(it: Difference, story: Story) -> bool:
     return it.place in story.shared and all(plain_model.read_data(text.encode()) is not None for text in outcomes)
 
 
+def names_of(parting: Parting, world: plain_model.World) -> frozenset[str]:
+    """The names in the calls of a parting, and those of the files that their descriptors lead to."""
+    found: set[str] = set()
+    for line in (parting.system, parting.fdref):
+        _, word, *fields = line.act.split(" ") if line else ("", "")
+        process = world.processes.get(parting.number)
+        is_number = bool(fields) and fields[0].isdigit()
+        at = process.table.get(int(fields[0])) if process and is_number else None
+        found.update(name.decode("ascii", "replace") for name, file in world.names.items() if at and at.file is file)
+        found.update(fields[: {"open": 1, "mkfifo": 1, "unlink": 1, "link": 2, "rename": 2}.get(word, 0)])
+    return frozenset(found)
+
+
 def findings_of(partings: list[Parting], story: Story) -> list[Finding]:
     """The partings with their reasons."""
     found: list[Finding] = []
@@ -206,7 +221,8 @@ def findings_of(partings: list[Parting], story: Story) -> list[Finding]:
     for parting in partings:
         difference = difference_of(parting, story)
         reason = reason_of(difference, story) if difference else None
-        found.append(Finding(parting, reason, not reason and are_apart))
+        names = names_of(parting, story.world_before(parting.place))
+        found.append(Finding(parting, reason, not reason and are_apart, names))
         are_apart = are_apart or bool(reason and difference and not difference.is_settled())
     return found
 

@@ -1,6 +1,6 @@
 /* Does what the answers of no two systems agree on.
 
-   usage: judge_strays call|answer|output|leaves-out|passes|spawns|stdio
+   usage: judge_strays call|answer|output|leaves-out|passes|spawns|stdio|streams|threads
 
    call        writes the number of its process into a file
    answer      changes a file by a system call that no library sees, and asks for the size of it
@@ -8,11 +8,14 @@
    leaves-out  makes a symbolic link, which fdref leaves out
    passes      does more that goes past fdref
    spawns      prints the number of its process, and has a shell exit
-   stdio       has a file at descriptor 1, to which it prints */
+   stdio       has a file at descriptor 1, to which it prints
+   streams     makes a file by stdio, and one by a path with a slash, and opens the first
+   threads     has a thread that waits for what another one writes */
 
 #define _GNU_SOURCE
 
 #include <fcntl.h>
+#include <pthread.h>
 #include <stdio.h>
 #include <stdlib.h>
 #include <string.h>
@@ -28,6 +31,31 @@ static int passes(int fd)
     int in = open("d/x", O_RDWR | O_CREAT, 0600);
     fcntl(fd, F_SETFL, O_ASYNC);
     return !file || fclose(file) != 0 || !is_made || close(in) != 0 || close(null) != 0;
+}
+
+static void streams(void)
+{
+    FILE *file = fopen("log", "w");
+    int made = open("./d/x", O_RDONLY);
+    if (!file || fclose(file) != 0 || made >= 0 || close(open("log", O_RDONLY)) != 0)
+        printf("no log\n");
+}
+
+static int ends[2];
+
+static void *wait(void *unused)
+{
+    char byte;
+    return read(ends[0], &byte, 1) == 1 ? unused : NULL;
+}
+
+static int threads(void)
+{
+    pthread_t thread;
+    if (pipe(ends) != 0 || pthread_create(&thread, NULL, wait, NULL) != 0)
+        return 1;
+    usleep(200000);
+    return write(ends[1], "z", 1) != 1 || pthread_join(thread, NULL) != 0;
 }
 
 int main(int count, char **words)
@@ -50,6 +78,10 @@ int main(int count, char **words)
     if (strcmp(what, "leaves-out") == 0 && symlink("a", "b") != 0)
         return 1;
     if (strcmp(what, "passes") == 0 && passes(fd) != 0)
+        return 1;
+    if (strcmp(what, "streams") == 0)
+        streams();
+    if (strcmp(what, "threads") == 0 && threads() != 0)
         return 1;
     if (strcmp(what, "stdio") == 0 && dup2(fd, 1) == 1 && printf("%s", text) > 0)
         fflush(stdout);

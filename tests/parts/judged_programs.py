@@ -42,7 +42,7 @@ class Bench:
         """The path of a program of tests/c, which is compiled where it is not there yet."""
         path = self.path(name)
         if not os.path.exists(path):
-            compiles([self.compiler, "-std=c99", "-O2", *WARNINGS, str(C_TESTS / f"{name}.c"), "-o", path])
+            compiles([self.compiler, "-std=c99", "-O2", *WARNINGS, str(C_TESTS / f"{name}.c"), "-o", path, "-pthread"])
         return path
 
     def shim(self) -> str:
@@ -160,7 +160,7 @@ PROGRAMS = [
         (
             WELL,
             "3 calls of 1 process: no answer differs",
-            "past fdref: 3 paths (first /dev/null), 1 stream (fopen /dev/null), 1 other call (fcntl with other flags)",
+            "past fdref: 3 paths (first open /dev/null), 1 stream (fopen /dev/null), 1 other call (fcntl with other flags)",
             "audit: legal",
         ),
     ),
@@ -169,6 +169,42 @@ PROGRAMS = [
         ("stdio",),
         1,
         (WELL, NONE, "past fdref: stdio on descriptor 1, which is a file of fdref: it fails there", "audit: legal"),
+    ),
+    Judged(
+        "strays",
+        ("streams",),
+        1,
+        (
+            WELL,
+            r"standard output differs in line 1: system '', fdref 'no log\n'",
+            "may follow from fopen of log (past fdref, before line 7)",
+            "5 calls of 1 process: 2 answers differ",
+            "  5 p0 open a rw,creat = 3",
+            "system: p0 open log r = 4",
+            "fdref:  7 p0 open log r = error ENOENT",
+            NONE,
+            "may follow from fopen of log (past fdref, before line 7)",
+            "past fdref: 1 path (open ./d/x), 1 stream (fopen log)",
+            "audit: legal",
+            "--strict ends it at fopen log",
+        ),
+    ),
+    Judged(
+        "strays",
+        ("threads",),
+        1,
+        (
+            "system: ended with status 0",
+            "fdref:  did not end in 2 seconds, and was killed",
+            "system: p0 write 5 x7a = 1",
+            "fdref:  7 p0 read 4 1 = parked 0",
+            NONE,
+            "may follow from a thread that waits in read (past fdref, after line 6)",
+            "past fdref: a thread waits in read, and no other one makes a call meanwhile",
+            "audit: legal",
+            "--strict ends it at a thread that waits in read",
+        ),
+        SOON,
     ),
     Judged("stays", ("reads",), 3, (NEITHER, "2 calls of 2 processes: no answer differs"), SOON),
     Judged(
