@@ -55,10 +55,6 @@ from pathlib import Path
 from types import FrameType, TracebackType
 from typing import NamedTuple, Self
 
-import compare
-import past
-from partings import Compared, Finding
-from standstill import Standstill
 from support import plain_model
 from support.commands import add_capacity, add_program, capacity_words, program_of
 from support.counting import Failure
@@ -70,7 +66,9 @@ from support.texts import difference, several
 from support.trees import Ended, never, run_tree
 
 import compare
+import past
 from partings import Compared, Finding
+from standstill import Standstill
 
 SHIM = TOP / "clients" / "preload" / "fdref_preload.c"
 BUILD_SECONDS = 120

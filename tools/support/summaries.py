@@ -84,7 +84,7 @@ class Summary(NamedTuple):
 
 # The option by which a script writes one, and what argparse is told of it.
 WORD = "--summary"
-TOLD = {"metavar": "FILE", "help": "writes what was counted, which tools/summary.py adds up"}
+TOLD: dict[str, Any] = {"metavar": "FILE", "help": "writes what was counted, which tools/summary.py adds up"}
 
 
 def add_summary(parser: ArgumentParser) -> None:
