@@ -160,11 +160,18 @@ def all_is_met(bench: Bench) -> None:
 def struck_of(bench: Bench, first: int, acts: int, failed: int) -> str:
     """The summary of a comparison in which so many acts were struck, and so many scripts could not be run."""
     struck = {"count": acts, "first": [f"p0 close {first + at}" for at in range(min(acts, 8))]}
-    met: dict[str, Any] = {"scripts": 1, "calls": 5, "unexplained": 0, "failed": failed, "by_reason": {"more than 8 links": acts}}
-    summary: dict[str, Any] = {"program": "compare.py", "shares": [{**SHARE, "first": first, "scripts": 1}], "versions": VERSIONS}
-    return bench.written(
-        f"{first}.json", {**summary, "counts": {**met, "struck": struck, "last": {"count": 0, "first": []}}}
-    )
+    counts = {
+        "scripts": 1,
+        "calls": 5,
+        "unexplained": 0,
+        "failed": failed,
+        "by_reason": {"more than 8 links": acts},
+        "struck": struck,
+        "last": {"count": 0, "first": []},
+    }
+    shares = [{**SHARE, "first": first, "scripts": 1}]
+    summary = {"program": "compare.py", "shares": shares, "versions": VERSIONS, "counts": counts}
+    return bench.written(f"{first}.json", summary)
 
 
 def struck_acts_add_up(bench: Bench) -> None:
