@@ -22,7 +22,8 @@ FIND_PACKAGES = import site, sys; to = sys.argv[1]; \
     known = [path for path in site.getsitepackages() if path.startswith(to + "/lib")]; \
     print((known + ["%s/lib/python%d.%d/site-packages" % (to, *sys.version_info[:2])])[0])
 # asked once, and only where it is wanted
-PACKAGES = $(eval PACKAGES := $(shell $(PYTHON) -c '$(FIND_PACKAGES)' '$(PREFIX)'))$(PACKAGES)
+FOUND = $(shell $(PYTHON) -c '$(FIND_PACKAGES)' '$(PREFIX)')
+PACKAGES = $(eval PACKAGES := $(or $(FOUND),$(error $(PYTHON) does not tell where it looks for packages)))$(PACKAGES)
 
 # The tools that have a name in bin, and all that they are made of or compile, in share/fdref as it is here.
 TOOLS = compare race order judge
