@@ -26,7 +26,7 @@ from support.places import CRATES
 
 LEAST = 6
 # How many pairs of places there are at the most, by the ending of their files and by what they share.
-MOST = {(".rt", "lines"): 39, (".rt", "shapes"): 202, (".antt", "lines"): 16, (".antt", "shapes"): 85}
+MOST = {(".rt", "lines"): 40, (".rt", "shapes"): 204, (".antt", "lines"): 16, (".antt", "shapes"): 88}
 
 COMMENT = {".rt": "//", ".antt": "--"}
 IMPORT = re.compile(r"(?:pub )?(?:ghost )?use |mod |pub mod |#!?\[")
