@@ -4,7 +4,7 @@
 usage: tests/enemy.py [--program PATH] [--seed WORD] [--seconds N] [--runs N] [--only WORD] [--summary FILE]
 
 The program is crates/fdref/out/fdref where no PATH is given. What it must say of a trace is what the plain auditor
-says, tests/support/auditing.py. It is run
+says, tools/support/auditing.py. It is run
 
   - on records of every kind with each length and each kind at its edges, with a byte too many, with each field at its
     edges (one in eight of these, and all of them with `--seconds`), and on random ones, as `audit` and as `show`,

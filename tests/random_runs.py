@@ -4,7 +4,7 @@
 usage: tests/random_runs.py [--seed S] [--scripts N] [--first K] [--often WORDS] [--program PATH] [--jobs J]
                             [--summary FILE]
 
-The model is tests/support/plain_model.py. It is written from docs/PROFILE.md and docs/FORMATS.md alone, so
+The model is tools/support/plain_model.py. It is written from docs/PROFILE.md and docs/FORMATS.md alone, so
 a difference is a fault of the program, of the model, or of the two documents.
 
 Of six scripts four are walks: each act is chosen beside a run of the model, with fields that mostly
