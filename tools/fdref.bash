@@ -29,7 +29,8 @@ _fdref()
         serve) options="--socket --sessions --records --trace --pipe-capacity" ;;
         show) options="--acts" ;;
         outcomes) options="--states --pipe-capacity --witness --acts" ;;
-        audit | migrate) options="" ;;
+        audit) options="--complete" ;;
+        migrate) options="" ;;
         *) return ;;
     esac
     case ${COMP_WORDS[1]} in
