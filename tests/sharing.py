@@ -127,6 +127,13 @@ def races_add_up(bench: Bench, driver: str) -> None:
     require(text.endswith(" 0 without an order and without a reason\n"), text)
 
 
+def folder_is_asked_for_first(bench: Bench) -> None:
+    """A summary that could not be written is told before anything runs."""
+    path = bench.path("no/summary.json")
+    ran = run([sys.executable, str(TOOLS / "compare.py"), "--random", "1", "--summary", path])
+    require(ran.status == 2 and f"there is no folder {bench.path('no')}".encode() in ran.stderr, ran.said())
+
+
 # ---- sums by hand
 
 SHARE: dict[str, Any] = {"seed": "1", "first": 0, "scripts": 2_000, "of": ""}
@@ -206,6 +213,7 @@ def refused_cases(bench: Bench) -> Iterator[Case]:
     yield "no such program", partial(is_refused, bench, [unknown], "of edits.py")
     yield "no counts", partial(is_refused, bench, [bare], "not the counts of race.py")
     yield "counts of other forms", partial(is_refused, bench, [whole, odd], "counts of different forms")
+    yield "the folder of a summary", partial(folder_is_asked_for_first, bench)
 
 
 # ---- the whole

@@ -26,6 +26,7 @@ import argparse
 import collections
 import os
 import shlex
+import signal
 import sys
 import tempfile
 from collections.abc import Iterator, Sequence
@@ -350,6 +351,7 @@ def write_summary(args: argparse.Namespace, totals: Totals) -> None:
 def main(words: Sequence[str]) -> int:
     """Compares what is asked for: the exit status."""
     args = parse(words)
+    signal.signal(signal.SIGINT, lambda number, _: sys.exit(128 + number))
     totals = Totals()
     with tempfile.TemporaryDirectory(prefix="compare-") as folder:
         try:

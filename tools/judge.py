@@ -428,7 +428,7 @@ def end(number: int, _: FrameType | None) -> None:
 def main(words: Sequence[str]) -> int:
     """Judges a program: the exit status."""
     args = parse(words)
-    for number in (signal.SIGTERM, signal.SIGHUP):
+    for number in (signal.SIGINT, signal.SIGTERM, signal.SIGHUP):
         signal.signal(number, end)
     with tempfile.TemporaryDirectory(prefix="judge-") as folder:
         try:

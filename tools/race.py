@@ -548,7 +548,8 @@ def end_quietly(number: int, _: object) -> None:
 def main(words: Sequence[str]) -> int:
     """Races what is asked for: the exit status."""
     args = parse(words)
-    signal.signal(signal.SIGTERM, end_quietly)
+    for number in (signal.SIGINT, signal.SIGTERM):
+        signal.signal(number, end_quietly)
     with tempfile.TemporaryDirectory(prefix="race-") as folder:
         try:
             if args.file is not None:

@@ -13,7 +13,7 @@ import json
 import os
 import platform
 import tempfile
-from argparse import ArgumentParser
+from argparse import ArgumentParser, ArgumentTypeError
 from collections.abc import Iterable, Sequence
 from pathlib import Path
 from typing import Any, NamedTuple, Protocol, Self
@@ -82,9 +82,21 @@ class Summary(NamedTuple):
 # ---- writing
 
 
+def in_folder(path: str) -> str:
+    """A path in a folder that is there, so that it is no news at the end of a night."""
+    folder = os.path.dirname(os.path.abspath(path))
+    if not os.path.isdir(folder):
+        raise ArgumentTypeError(f"there is no folder {folder}")
+    return path
+
+
 # The option by which a script writes one, and what argparse is told of it.
 WORD = "--summary"
-TOLD: dict[str, Any] = {"metavar": "FILE", "help": "writes what was counted, which tools/summary.py adds up"}
+TOLD: dict[str, Any] = {
+    "metavar": "FILE",
+    "type": in_folder,
+    "help": "writes what was counted, which tools/summary.py adds up",
+}
 
 
 def add_summary(parser: ArgumentParser) -> None:
