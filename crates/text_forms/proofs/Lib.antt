@@ -1,0 +1,9 @@
+pub mod ScriptStrings
+pub mod ScriptLines
+pub mod ScriptColumns
+pub mod ScriptCuts
+pub mod ScriptSpellings
+pub mod ScriptRoundTrip
+pub mod JsonNames
+pub mod JsonData
+pub mod JsonRows

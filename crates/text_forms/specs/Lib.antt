@@ -1,0 +1,3 @@
+pub mod Json
+pub mod Scripts
+pub mod Proved
