@@ -329,7 +329,7 @@ def is_empty(program: str, script: bytes) -> None:
 @case("far too long", b"\n" * (2 * SCRIPT_MOST))
 def is_too_long(program: str, script: bytes) -> None:
     """A script that is refused for its length."""
-    expect(replay(program, script), status=3, stderr=told("script too long"))
+    expect(replay(program, script), status=3, stderr=told(f"script too long\nexpected at most {SCRIPT_MOST} bytes"))
 
 
 @case("input in pieces")

@@ -42,6 +42,7 @@ from collections.abc import Callable, Iterator, Sequence
 from functools import partial
 
 from parts import crowds, python_client
+from support.causes import SAID, names_cause
 from support.counting import Case, Count, Failure, require, same
 from support.frames import JOIN, attach_frame, call_frame, framed, recorded, u32
 from support.options import ONLY, PROGRAM, SEED, asked, count_option
@@ -612,11 +613,6 @@ def refused(program: str, words: Sequence[str], status: int, stderr: Callable[[b
     stderr(given.stderr)
 
 
-def is_text(wanted: bytes) -> Callable[[bytes], None]:
-    """Just this text."""
-    return lambda text: require(text == wanted, f"standard error is {text!r}, wanted {wanted!r}")
-
-
 def names_fault(part: str) -> Callable[[bytes], None]:
     """A text of usage that names what is wrong, and how `serve` is used."""
 
@@ -662,7 +658,8 @@ def cannot_listen(program: str, path: str) -> None:
         trace.write(b"mine")
         trace.flush()
         words = serve_words(program, path, 1, 9, trace.name)
-        refused(program, words[1:], 4, is_text(b"cannot listen\n"))
+        cause = SAID if path else b"an empty path"
+        refused(program, words[1:], 4, lambda text: names_cause(text, b"cannot listen\n", path, cause))
         require(os.path.getsize(trace.name) == 0, "the trace is not empty")
 
 

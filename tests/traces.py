@@ -60,12 +60,13 @@ from parts.written_traces import (
 )
 from support import plain_model
 from support.auditing import Frames, audited, illegal, legal, shown
+from support.causes import is_caused
 from support.counting import FAULTS, Case, Count, require, same
 from support.frames import ERRORS, HEADER_LENGTH, MOST, OLD_MAGIC, header_bytes, trace_of, u32
 from support.options import ONLY, PROGRAM, SEED, asked, count_option
 from support.running import Ran, ran_all, run, run_by_bytes
 from support.runs import line_of
-from support.serving import A_WHILE, Server, outcome_of, serve_words, started
+from support.serving import A_WHILE, Client, Server, outcome_of, serve_words, started
 from support.sources import changed, numbered, source
 from support.texts import difference
 
@@ -350,10 +351,41 @@ def output_is_full(program: str, words: Sequence[str]) -> None:
         same(Ran(4, b"", b"cannot write\n"), run([program, *words], stdout=full))
 
 
+def cannot_read(program: str, word: str, path: str) -> None:
+    """A file that cannot be read: what the system said of it is told."""
+    is_caused(Ran(4, b"", b"cannot read\n"), path, run([program, word, path]))
+
+
+def another_server_writes(program: str) -> None:
+    """A trace that another server is writing is refused, and left as it is."""
+    with Server(program, 1) as server, tempfile.TemporaryDirectory(prefix="fdref-") as folder:
+        client = server.client()
+        client.ask("join")
+        client.gets("0 0")
+        words = serve_words(program, os.path.join(folder, "socket"), 1, 9, server.trace)
+        given = outcome_of(started(words))
+        wanted = f"cannot write\n{server.trace}: another server writes its trace there\n"
+        same(Ran(4, b"", wanted.encode()), Ran(*given))
+        client.vanish()
+        server.ended(line_of(1, 3, 0, 0), 0, b"")
+        same(legal(3, 0), run([program, "audit", server.trace]))
+
+
+def without_a_lock(program: str) -> None:
+    """Two servers may write to one device."""
+    with tempfile.TemporaryDirectory(prefix="fdref-") as folder:
+        paths = [os.path.join(folder, name) for name in ("one", "two")]
+        servers = [started(serve_words(program, path, 1, 9, os.devnull)) for path in paths]
+        for path, server in zip(paths, servers, strict=True):
+            Client(path, server).vanish()
+        for server in servers:
+            same(0, outcome_of(server).status)
+
+
 def cannot_make_trace(program: str, trace: str, folder: str) -> None:
     """A trace that cannot be made: no socket is made either."""
     path = os.path.join(folder, "socket")
-    same(Ran(4, b"", b"cannot write\n"), outcome_of(started(serve_words(program, path, 1, 9, trace))))
+    is_caused(Ran(4, b"", b"cannot write\n"), trace, outcome_of(started(serve_words(program, path, 1, 9, trace))))
     require(not os.path.exists(path), "a socket was made")
 
 
@@ -398,13 +430,15 @@ def system_cases(program: str) -> Iterator[Case]:
             yield f"help of {word}", partial(shows_help, program, word)
             bad = {"no file": gone, "a folder": folder, "a file as a folder": f"{trace}/x", "no name": ""}
             for what, path in bad.items():
-                yield f"{word} of {what}", partial(refused, program, [word, path], 4, b"cannot read\n")
+                yield f"{word} of {what}", partial(cannot_read, program, word, path)
             yield f"{word} byte by byte", partial(in_pieces, program, word, SHORT[:50])
             for end in (7, 8, 9, 23, 24, 66):
                 yield f"{word} byte by byte of version 2, {end}", partial(in_pieces, program, word, NEW_SHORT[:end])
             yield f"{word} to a full device", partial(output_is_full, program, [word, trace])
         for what, path in (("in no folder", f"{gone}/trace"), ("that is a folder", folder), ("without a name", "")):
             yield f"a trace {what}", partial(cannot_make_trace, program, path, folder)
+    yield "a trace that another server writes", partial(another_server_writes, program)
+    yield "two servers that write to one device", partial(without_a_lock, program)
     for pause in (0, A_WHILE):
         yield f"a server that is killed after {pause} seconds", partial(killed, program, pause)
 

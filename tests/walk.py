@@ -51,8 +51,8 @@ WALKS = (
         "pwrite",
         "job_core/src/replay.rt",
         "replay",
-        {"Call": "Pwrite", "Act": "Call", "ScriptAct": "Call", "FileEdit": "Bytes"},
-        Most(412, 86, 24),
+        {"Call": "Pwrite", "Act": "Call", "ScriptAct": "Call", "FileEdit": "Bytes", "Spelling": "Plain"},
+        Most(419, 86, 26),
         "read_text run_script gather_lines run_all next_act read_act pwrite_call run_next run_act start_copy "
         "start_refusal record_call decide_call decide_pwrite opened pwrite_fault puts append reserve_for shared_at "
         "bytes_moved push apply write_bytes write put_line write_record put_pwrite put_outcome write_totals "

@@ -25,9 +25,9 @@ _fdref()
         --records | --sessions | --pipe-capacity | --states) return ;;
     esac
     case ${COMP_WORDS[1]} in
-        replay) options="--records --pipe-capacity" ;;
+        replay) options="--records --pipe-capacity --text" ;;
         serve) options="--socket --sessions --records --trace --pipe-capacity" ;;
-        show) options="--acts" ;;
+        show) options="--acts --text --json" ;;
         outcomes) options="--states --pipe-capacity --witness --acts" ;;
         audit) options="--complete" ;;
         migrate) options="" ;;

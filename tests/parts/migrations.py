@@ -9,6 +9,7 @@ from pathlib import Path
 from parts.failing_disks import FAILS, FULL, INTERRUPTED, PAGE, Trouble, limited_to, small_disk
 from parts.written_traces import NEW_SHORT, SHORT, Named, changed_bytes, old_run, with_byte, written_out
 from support.auditing import Migrated, audited, migrated
+from support.causes import is_caused
 from support.counting import Case, Count, require, same
 from support.frames import MIGRATED_HEADER, OLD_MAGIC, trace_of, u32
 from support.places import SCRATCH
@@ -112,7 +113,7 @@ def check(count: Count, program: str, seed: str, most: int, stride: int) -> None
 
 def refused(program: str, old: str, new: str, wanted: Ran, left: dict[str, bytes | None]) -> None:
     """A migration that fails, after which these files have these bytes, or are not there."""
-    same(wanted, run([program, "migrate", old, new]))
+    is_caused(wanted, old if wanted == CANNOT_READ else new, run([program, "migrate", old, new]))
     for path, content in left.items():
         there = Path(path).read_bytes() if os.path.lexists(path) else None
         same((path, content), (path, there))
@@ -139,8 +140,7 @@ def paths(program: str, folder: str) -> Iterator[Case]:
     yield "an old trace without a name", case("", os.path.join(folder, "new2"), CANNOT_READ, new2=None)
     yield "a file as a folder", case(f"{old}/x", os.path.join(folder, "new3"), CANNOT_READ, new3=None)
     yield "no old trace, and a new one that is there", case(gone, there, CANNOT_READ, gone=None)
-    # it can be opened, and the new trace is made before it is read
-    yield "a folder as the old trace", case(folder, os.path.join(folder, "new4"), CANNOT_READ, new4=b"")
+    yield "a folder as the old trace", case(folder, os.path.join(folder, "new4"), CANNOT_READ, new4=None)
     yield "a new trace that is there", case(old, there, CANNOT_WRITE)
     yield "a new trace that is there, without bytes", case(old, empty, CANNOT_WRITE)
     yield "a malformed old trace, and a new one that is there", case(there, empty, CANNOT_WRITE)
@@ -157,7 +157,7 @@ def paths(program: str, folder: str) -> Iterator[Case]:
 
 def goes_astray(program: str, old: str, astray: str, nowhere: str) -> None:
     """A name that is a link is there, though it leads nowhere: nothing is made."""
-    same(CANNOT_WRITE, run([program, "migrate", old, astray]))
+    is_caused(CANNOT_WRITE, astray, run([program, "migrate", old, astray]))
     require(not os.path.lexists(nowhere), "a file was made behind the link")
 
 

@@ -12,7 +12,7 @@ from support.commands import capacity_words
 from support.counting import Case, require, same
 from support.outcomes import Explorer, Race, answer_of, printed, read_race
 from support.places import EXAMPLES
-from support.plain_model import DEFAULTS, SCRIPT_MOST, Limits
+from support.plain_model import DEFAULTS, SCRIPT_MOST, TOO_LONG, Limits
 from support.running import Ran, run
 from support.runs import Line, line_of
 
@@ -268,7 +268,7 @@ BAD_RACES = [
     ("p0 pipe\nrace\np0 pipe\n", f"line 1: {REFUSED}"),
     ("race\np0 exit\np0 opne\n", f"line 2: {NOT_A_CALL}"),
     ("p0 opne\n", f"line 1 column 4: {ACT}"),
-    ("race\n" + "\n" * SCRIPT_MOST, "script too long"),
+    ("race\n" + "\n" * SCRIPT_MOST, TOO_LONG),
 ]
 
 BAD_ANSWERS = """
@@ -283,7 +283,7 @@ def fault_cases(program: Sequence[str]) -> Iterator[Case]:
     for text, told in BAD_RACES:
         wanted = Ran(3, b"", f"{told}\n".encode())
         yield f"race {text[:40]!r}", partial(prints, program, wanted, text)
-        if told != "script too long":
+        if told != TOO_LONG:
             yield f"race {text[:40]!r}, a witness", partial(prints, program, wanted, text, "--witness", "0")
     for answer in BAD_ANSWERS.strip("\n").replace("\n", "|").split("|"):
         wanted = Ran(3, b"", f"line 3 column 14: {NO_ANSWER}\n".encode())

@@ -32,20 +32,23 @@ def with_byte(trace: bytes, at: int, value: int) -> bytes:
     return trace[:at] + bytes([value]) + trace[at + 1 :]
 
 
+# What is said of a trace without records.
+NOTHING = b"nothing to judge: the trace has no whole record\n"
+
 WRITTEN_OUT: list[tuple[str, bytes, Ran]] = [
     ("all of it", SHORT, Ran(0, b"legal 3 rest 0\n", b"")),
     ("its first 50 bytes", SHORT[:50], Ran(0, b"legal 2 rest 6\n", b"")),
     ("its first 30 bytes", SHORT[:30], Ran(0, b"legal 1 rest 4\n", b"")),
     ("another writing end", with_byte(SHORT, 43, 2), Ran(7, b"illegal 1 expected 0 1\n", b"")),
     ("another first byte", with_byte(SHORT, 0, 0), Ran(8, b"malformed 0\n", b"")),
-    ("its first 5 bytes", SHORT[:5], Ran(0, b"legal 0 rest 5\n", b"")),
-    ("nothing", b"", Ran(0, b"legal 0 rest 0\n", b"")),
-    ("its header", SHORT[:8], Ran(0, b"legal 0 rest 0\n", b"")),
+    ("its first 5 bytes", SHORT[:5], Ran(0, b"legal 0 rest 5\n", NOTHING)),
+    ("nothing", b"", Ran(0, b"legal 0 rest 0\n", NOTHING)),
+    ("its header", SHORT[:8], Ran(0, b"legal 0 rest 0\n", NOTHING)),
     ("a wrong byte in half a header", SHORT[:4] + b"X", Ran(8, b"malformed 0\n", b"")),
     ("a header of version 2 whose fields are frames", b"FDTRACE2" + SHORT[8:], Ran(8, b"malformed 0\n", b"")),
     ("a header of version 3", b"FDTRACE3" + SHORT[8:], Ran(8, b"malformed 0\n", b"")),
     ("a header of version 3 that is long", b"FDTRACE3" + NEW_SHORT[8:], Ran(8, b"malformed 0\n", b"")),
-    ("a header of version 1 and fields of version 2", SHORT[:8] + NEW_SHORT[8:], Ran(0, b"legal 0 rest 62\n", b"")),
+    ("a header of version 1 and fields of version 2", SHORT[:8] + NEW_SHORT[8:], Ran(0, b"legal 0 rest 62\n", NOTHING)),
     ("a byte more", SHORT + b"\0", Ran(0, b"legal 3 rest 1\n", b"")),
     ("a join of another process", with_byte(SHORT, 15, 1), Ran(7, b"illegal 0 expected none\n", b"")),
     ("an exit of another process", with_byte(SHORT, 51, 1), Ran(7, b"illegal 2 expected none\n", b"")),
@@ -227,7 +230,8 @@ LIMITED: list[tuple[str, int, Limits, str, str]] = [
 
 def verdict_of(text: str) -> Ran:
     """A verdict, as the program gives it."""
-    return Ran(STATUSES[text.split(" ")[0]], f"{text}\n".encode(), b"")
+    told = NOTHING if text.startswith("legal 0 ") else b""
+    return Ran(STATUSES[text.split(" ")[0]], f"{text}\n".encode(), told)
 
 
 def written_out() -> Iterator[tuple[str, bytes, Ran]]:

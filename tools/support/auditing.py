@@ -122,7 +122,8 @@ class Audit:
 
 def legal(records: int, rest: int = 0) -> Ran:
     """The verdict on a trace of so many records, all right, and so many bytes after them."""
-    return Ran(0, b"legal %d rest %d\n" % (records, rest), b"")
+    told = b"" if records else b"nothing to judge: the trace has no whole record\n"
+    return Ran(0, b"legal %d rest %d\n" % (records, rest), told)
 
 
 def illegal(place: int, wanted: str | None) -> Ran:

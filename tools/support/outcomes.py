@@ -151,7 +151,7 @@ def read_call(line: bytes, number: int) -> Call:
 def read_race(text: bytes) -> Race:
     """The race that a script is."""
     if len(text) > SCRIPT_MOST:
-        raise BadRace("script too long")
+        raise BadRace(plain_model.TOO_LONG)
     race = Race([], [])
     has_begun = False
     for number, line in enumerate(text.split(b"\n"), 1):

@@ -789,10 +789,13 @@ def act_text(act: Act) -> str:
 # ---- the whole
 
 
+TOO_LONG = f"script too long\nexpected at most {SCRIPT_MOST} bytes"
+
+
 def replay(script: bytes, records: int = RECORDS_DEFAULT, limits: Limits = DEFAULTS) -> Ran:
     """What `fdref replay --records RECORDS --pipe-capacity CAPACITY` gives for a script."""
     if len(script) > SCRIPT_MOST:
-        return Ran(3, b"", b"script too long\n")
+        return Ran(3, b"", f"{TOO_LONG}\n".encode())
     acts = []
     for place, line in enumerate(script.split(b"\n"), 1):
         try:
@@ -800,6 +803,8 @@ def replay(script: bytes, records: int = RECORDS_DEFAULT, limits: Limits = DEFAU
                 acts.append(read_act(line))
         except NotAnAct as fault:
             column, expected = fault.args
+            if line.endswith(b"\r"):
+                expected = "a line without a carriage return at its end"
             text = f"line {place} column {column}: not an act\nexpected {expected}\n"
             return Ran(3, b"", text.encode())
     run = Run(records, limits)

@@ -22,6 +22,7 @@ unknown_verdict wanted input old new end w = record { found = w.found; judged = 
 unknown_audit : (wanted : Demand) (input : Option (List ℕ)) (old new : LoggedWriterState) (end : JobEnd) → AuditEnds wanted input old new end → AuditEnds wanted None old new end
 unknown_audit wanted input old new ended.Done a = unknown_verdict wanted input old new ended.Done a
 unknown_audit wanted input old new ended.Incomplete a = unknown_verdict wanted input old new ended.Incomplete a
+unknown_audit wanted input old new ended.NothingJudged a = unknown_verdict wanted input old new ended.NothingJudged a
 unknown_audit wanted input old new ended.IllegalTrace a = unknown_verdict wanted input old new ended.IllegalTrace a
 unknown_audit wanted input old new ended.MalformedTrace a = unknown_verdict wanted input old new ended.MalformedTrace a
 unknown_audit wanted input old new ended.CannotWrite a = record { found = a.found; judged = unknown_judged input a.found a.judged; front = a.front }

@@ -70,7 +70,7 @@ pub record Surroundings : Type 1 where
 -- a script is run on the input, all that the calls of a race on it may answer is told, sessions are served and reported, or the trace in a file is
 -- judged, shown or written anew
 abbrev pub Performs : Surroundings → Job → Option (List ℕ) → LoggedWriterState → LoggedWriterState → JobEnd → Type 0
-Performs round (job.Replay limits) input old new end = ReplayEnds limits input old new end
+Performs round (job.Replay limits how) input old new end = ReplayEnds limits how input old new end
 Performs round (job.Serve socket sessions limits trace) input old new end =
     ServeEnds (round.coming_at (string_bytes socket)) (round.is_unheard (string_bytes socket)) (round.is_unmade (string_bytes trace)) limits sessions old new end
 Performs round (job.Outcomes limits most how) input old new end = OutcomesEnd limits most how input old new end

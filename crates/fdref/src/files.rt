@@ -1,14 +1,60 @@
 //! Files, by their names.
 
+use crate::causes::Causes;
 use crate::perform::Opens;
-use std::fs;
-use std::fs::File;
+use std::fs::{File, OpenOptions, TryLockError};
+use std::{fs, io};
 use trace_writer::file::FileSink;
+
+/// What the system says of a read of a folder (EISDIR).
+const IS_A_FOLDER: i32 = 21;
+
+/// Why no file is had for a trace.
+enum Unmade {
+    System(io::Error),
+    Locked,
+}
+
+impl From<io::Error> for Unmade {
+    fn from(error: io::Error) -> Unmade {
+        Unmade::System(error)
+    }
+}
 
 /// The files of the system.
 #[derive(Drop)]
 pub struct SystemFiles<'a> {
     pub rt: &'a HostRuntime,
+    pub causes: &'a Causes,
+}
+
+impl<'a> SystemFiles<'a> {
+    /// A file that can be read, and is no folder.
+    fn readable(&self, path: &str) -> io::Result<File> {
+        let file = fs::open(self.rt, path)?;
+        if file.metadata()?.is_dir() {
+            return Err(io::Error::from_raw_os_error(IS_A_FOLDER));
+        }
+        Ok(file)
+    }
+
+    /// A file for a trace. It is emptied only once it is locked, so the trace of a server that runs stays as it is. What is no file of
+    /// bytes, as `/dev/null`, is not locked.
+    fn writable(&self, path: &str) -> Result<File, Unmade> {
+        let file = OpenOptions::new()
+            .write(true)
+            .create(true)
+            .open(self.rt, path)?;
+        if file.metadata()?.is_file() {
+            match file.try_lock() {
+                Err(TryLockError::WouldBlock) => return Err(Unmade::Locked),
+                // a file system without locks
+                Ok(()) | Err(TryLockError::Error(_)) => {}
+            }
+            file.set_len(0)?;
+        }
+        Ok(file)
+    }
 }
 
 impl<'a> Opens for SystemFiles<'a> {
@@ -27,20 +73,36 @@ impl<'a> Opens for SystemFiles<'a> {
     ghost is_taken = { λ _ _. ⊤ };
 
     fn open(&self, path: &str) -> Option<File> {
-        match fs::open(self.rt, path) {
+        match self.readable(path) {
             Ok(file) => Some(file),
-            Err(_) => None,
+            Err(error) => {
+                self.causes.note(path, error);
+                None
+            }
         }
     }
 
     fn create(&self, path: &str) -> Option<FileSink> {
-        match fs::create(self.rt, path) {
+        match self.writable(path) {
             Ok(file) => Some(FileSink::new(file)),
-            Err(_) => None,
+            Err(Unmade::System(error)) => {
+                self.causes.note(path, error);
+                None
+            }
+            Err(Unmade::Locked) => {
+                self.causes.note_locked(path);
+                None
+            }
         }
     }
 
     fn create_new(&self, path: &str) -> Option<File> {
-        File::create_new(self.rt, path).ok()
+        match File::create_new(self.rt, path) {
+            Ok(file) => Some(file),
+            Err(error) => {
+                self.causes.note(path, error);
+                None
+            }
+        }
     }
 }

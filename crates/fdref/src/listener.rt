@@ -1,5 +1,6 @@
 //! Connections over a Unix socket.
 
+use crate::causes::Causes;
 use crate::perform::Listens;
 use run_core::source::{AcceptFailed, Source};
 use std::fs::Files;
@@ -59,6 +60,7 @@ impl Source for Listener {
 #[derive(Drop)]
 pub struct Sockets<'a, R> {
     pub rt: &'a R,
+    pub causes: &'a Causes,
 }
 
 impl<'a, R: Files + Net> Listens for Sockets<'a, R> {
@@ -73,6 +75,7 @@ impl<'a, R: Files + Net> Listens for Sockets<'a, R> {
     fn listen(&self, path: &str) -> Option<Listener> {
         // an empty path would be an address that the system chooses
         if path.is_empty() {
+            self.causes.note(path, io::Error::other("an empty path"));
             return None;
         }
         match UnixListener::bind(self.rt, path) {
@@ -81,7 +84,10 @@ impl<'a, R: Files + Net> Listens for Sockets<'a, R> {
                 accepted: 0,
                 failures: 0,
             }),
-            Err(_) => None,
+            Err(error) => {
+                self.causes.note(path, error);
+                None
+            }
         }
     }
 }

@@ -1,6 +1,7 @@
 //! The program `fdref`.
 #![tactic(auto)]
 
+mod causes;
 mod files;
 mod listener;
 mod perform;
@@ -11,6 +12,7 @@ ghost use Rattle.std.specs.Process.{exit_status};
 ghost use Rattle.job_core.specs.CommandLine.{status_of};
 ghost use Rattle.job_core.specs.JobEnds.{ended_status};
 
+use causes::Causes;
 use files::SystemFiles;
 use job_core::job::{Job, JobFault, job_of, not_text};
 use job_core::job_end::JobEnd;
@@ -57,32 +59,39 @@ fn code_of_fault(fault: &JobFault) -> ExitCode
     ExitCode::from(fault.status())
 }
 
-/// Says on standard error how a job ended, and ends the program.
-fn end(rt: &HostRuntime, ended: JobEnd) -> ExitCode
+/// Says on standard error how a job ended, and which path could not be used for it, and ends the program.
+fn end(rt: &HostRuntime, ended: JobEnd, causes: &Causes) -> ExitCode
     ensures { exit_status result ≡ ended_status ended }
 {
-    let _ = eprint!(rt; "{ended}");
+    let _ = eprint!(rt; "{ended}{causes}");
     code_of(ended)
 }
 
 fn main(rt: HostRuntime) -> ExitCode {
+    let causes = Causes::new(rt.alloc());
     let fault = match asked(&rt) {
         Ok(job) => {
             let ended = perform(
                 rt,
                 rt.alloc(),
-                &Sockets { rt: &rt },
-                &SystemFiles { rt: &rt },
+                &Sockets {
+                    rt: &rt,
+                    causes: &causes,
+                },
+                &SystemFiles {
+                    rt: &rt,
+                    causes: &causes,
+                },
                 rt.reader(),
                 &mut LoggedWriter::new(io::writer(&rt)),
                 job,
             );
-            return end(&rt, ended);
+            return end(&rt, ended, &causes);
         }
         Err(fault) => fault,
     };
     match (tell(&rt, &fault), &fault) {
-        (Err(_), JobFault::Shown(_)) => end(&rt, JobEnd::CannotWrite),
+        (Err(_), JobFault::Shown(_)) => end(&rt, JobEnd::CannotWrite, &causes),
         _ => code_of_fault(&fault),
     }
 }

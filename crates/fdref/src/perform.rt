@@ -229,9 +229,9 @@ pub fn perform<
     ensures { Performs (record { bytes_at = F.bytes_at files.now; is_unmade = F.is_unmade files.now; is_taken = F.is_taken files.now; coming_at = L.coming_at listens.now; is_unheard = L.is_unheard listens.now }) job (R.remaining reader) writer.old writer.new result }
 {
     match job {
-        Job::Replay { limits } => {
+        Job::Replay { limits, spelling } => {
             let mut reader = LoggedReader::new(reader);
-            replay(alloc, &mut reader, writer, limits)
+            replay(alloc, &mut reader, writer, limits, spelling)
         }
         Job::Serve {
             socket,

@@ -49,11 +49,15 @@ pub judged : (from to : LoggedReaderState) (found : Finding) → FaultStays → 
 judged from to found stays a = judged_so from to a.input found.verdict found.ending stays a.consumes a.met a.answers
 
 -- the ends of an audit whose verdict is written
-legal_written : (wanted : Demand) (rest : ℕ) (ending : Ending) (input : Option (List ℕ)) (old new : LoggedWriterState) → WritesVerdict wanted input old new (legal_end wanted rest ending)
-    → AuditEnds wanted input old new (legal_end wanted rest ending)
-legal_written demand.Legal rest ending input old new w = w
-legal_written demand.Complete rest Open input old new w = w
-legal_written demand.Complete rest Closed input old new w = go (rest == 0) w
+legal_written : (wanted : Demand) (records rest : ℕ) (ending : Ending) (input : Option (List ℕ)) (old new : LoggedWriterState) → WritesVerdict wanted input old new (legal_end wanted records rest ending)
+    → AuditEnds wanted input old new (legal_end wanted records rest ending)
+legal_written demand.Legal records rest ending input old new w = go (records == 0) w
+  where
+    go : (b : Bool) → WritesVerdict demand.Legal input old new (if b then ended.NothingJudged else ended.Done) → AuditEnds demand.Legal input old new (if b then ended.NothingJudged else ended.Done)
+    go true w = w
+    go false w = w
+legal_written demand.Complete records rest Open input old new w = w
+legal_written demand.Complete records rest Closed input old new w = go (rest == 0) w
   where
     go : (b : Bool) → WritesVerdict demand.Complete input old new (if b then ended.Done else ended.Incomplete) → AuditEnds demand.Complete input old new (if b then ended.Done else ended.Incomplete)
     go true w = w
@@ -61,7 +65,7 @@ legal_written demand.Complete rest Closed input old new w = go (rest == 0) w
 
 all_written : (wanted : Demand) (verdict : Verdict) (ending : Ending) (input : Option (List ℕ)) (old new : LoggedWriterState) → WritesVerdict wanted input old new (verdict_end wanted verdict ending)
     → AuditEnds wanted input old new (verdict_end wanted verdict ending)
-all_written wanted (Legal records rest) ending input old new w = legal_written wanted rest ending input old new w
+all_written wanted (Legal records rest) ending input old new w = legal_written wanted records rest ending input old new w
 all_written wanted (Illegal place expected) ending input old new w = w
 all_written wanted (Malformed at) ending input old new w = w
 
@@ -86,16 +90,20 @@ met_well from to (Malformed at) met = met
 pub read_well : (from to : LoggedReaderState) (found : Finding) → Audits from to (Ok found) → to.log.failed ≡ from.log.failed
 read_well from to found a = met_well from to found.verdict a.met
 
-legal_of_none : (wanted : Demand) (rest : ℕ) (ending : Ending) → legal_end wanted rest ending ≡ ended.CannotRead → ⊥
-legal_of_none demand.Legal rest ending e = cc
-legal_of_none demand.Complete rest Open e = cc
-legal_of_none demand.Complete rest Closed e = go (rest == 0) e
+legal_of_none : (wanted : Demand) (records rest : ℕ) (ending : Ending) → legal_end wanted records rest ending ≡ ended.CannotRead → ⊥
+legal_of_none demand.Legal records rest ending e = go (records == 0) e
+  where
+    go : (b : Bool) → (if b then ended.NothingJudged else ended.Done) ≡ ended.CannotRead → ⊥
+    go true e = cc
+    go false e = cc
+legal_of_none demand.Complete records rest Open e = cc
+legal_of_none demand.Complete records rest Closed e = go (rest == 0) e
   where
     go : (b : Bool) → (if b then ended.Done else ended.Incomplete) ≡ ended.CannotRead → ⊥
     go true e = cc
     go false e = cc
 
 pub verdict_of_none : (wanted : Demand) (verdict : Verdict) (ending : Ending) → verdict_end wanted verdict ending ≡ ended.CannotRead → ⊥
-verdict_of_none wanted (Legal records rest) ending e = legal_of_none wanted rest ending e
+verdict_of_none wanted (Legal records rest) ending e = legal_of_none wanted records rest ending e
 verdict_of_none wanted (Illegal place expected) ending e = cc
 verdict_of_none wanted (Malformed at) ending e = cc

@@ -21,8 +21,8 @@ use Rattle.clap.specs.declared.parser.matches.ValueSource.TheVariants.{CommandLi
 use Rattle.clap.specs.declared.error.Error.{Error}
 use Rattle.clap.specs.declared.error.kind.ErrorKind.TheVariants as kind
 use Rattle.clap.proofs.WalkLemmas.{first_value-rows}
-use Rattle.job_core.specs.CommandLine.{Asks, AsksActsAlone, Deserves, Given, IsJobOf, IsMistake, IsOutOfRange, IsRequest, audit_app, fdref_app, file_rule, flag_rule, migrate_app, name_given, option_rule, outcomes_app, replay_app, required_rule, serve_app, show_app, text_given, word_rule}
-use Rattle.job_core.specs.Proved.Parsing.{GivesAll, GivesBoth, GivesFile, HaveApps, HaveRules, IsFaultOf, IsParse, RefusesNumber, RefusesRace}
+use Rattle.job_core.specs.CommandLine.{Asks, AsksActsAlone, Deserves, Given, IsJobOf, IsMistake, IsOutOfRange, IsRequest, audit_app, fdref_app, file_rule, form_given, flag_rule, migrate_app, name_given, option_rule, outcomes_app, replay_app, required_rule, serve_app, show_app, text_given, word_rule}
+use Rattle.job_core.specs.Proved.Parsing.{GivesAll, GivesBoth, GivesFile, HaveApps, HaveRules, IsFaultOf, IsParse, RefusesForms, RefusesNumber, RefusesRace}
 use Rattle.job_core.specs.declared.job.Job.{Job}
 use Rattle.job_core.specs.declared.job.JobFault.{JobFault}
 use Rattle.job_core.specs.declared.job.JobFault.TheVariants.{Usage, Shown, NoMemory}
@@ -97,9 +97,18 @@ pub refused_race : (words : List Text) (m inner : ArgMatches) (fault : JobFault)
     → RefusesRace (first_value (found_of inner)) fault → Deserves words fault
 refused_race words m inner (Usage e) parse named rows (inl h) = refused words m inner (codes "outcomes") (Usage e) parse named rows h
 refused_race words m inner (Usage e) parse named rows (inr h) =
-    inr (inr (parse.parsed, of_words (λ n given. (n ≡ Some (codes "outcomes")) × AsksActsAlone given) words m inner (codes "outcomes") parse named rows (refl, h.0), h.1))
+    inr (inr (inl (parse.parsed, of_words (λ n given. (n ≡ Some (codes "outcomes")) × AsksActsAlone given) words m inner (codes "outcomes") parse named rows (refl, h.0), h.1)))
 refused_race words m inner (Shown e) parse named rows h = absurd h
 refused_race words m inner NoMemory parse named rows h = tt
+
+-- what `show` refuses
+pub refused_show : (words : List Text) (m inner : ArgMatches) (fault : JobFault) → IsParse words m
+    → subcommand_name_of m ≡ Some (codes "show") → option_map (λ p. p.1) (subcommand_rows_of m) ≡ Some (rows_of (found_of inner))
+    → RefusesForms (first_value (found_of inner)) fault → Deserves words fault
+refused_show words m inner (Usage e) parse named rows h =
+    inr (inr (inr (parse.parsed, of_words (λ n given. (n ≡ Some (codes "show")) × (form_given given ≡ None)) words m inner (codes "show") parse named rows (refl, h.0), h.1)))
+refused_show words m inner (Shown e) parse named rows h = absurd h
+refused_show words m inner NoMemory parse named rows h = tt
 
 -- ---- what words without a fault give
 
@@ -165,7 +174,7 @@ audit_fills : Each audit_shape.rules
 audit_fills = (flag_fills (codes "complete"), (file_fills, added_fill))
 
 show_fills : Each show_shape.rules
-show_fills = (flag_fills (codes "acts"), (file_fills, added_fill))
+show_fills = (flag_fills (codes "acts"), (flag_fills (codes "text"), (flag_fills (codes "json"), (file_fills, added_fill))))
 
 migrate_fills : Each migrate_shape.rules
 migrate_fills = (word_fills 1 (codes "in"), (word_fills 2 (codes "out"), added_fill))
@@ -219,7 +228,7 @@ show_gives : (words : List Text) → level_fault show_shape [] nothing_held word
 show_gives words e =
     let rows = rows_after show_shape.rules [] words in
     let level = level_filled show_shape show_fills [] words false [] e in
-    (none_missing show_shape.rules rows level.0 (passes _ level.2)).1.0 refl
+    (none_missing show_shape.rules rows level.0 (passes _ level.2)).1.1.1.0 refl
 
 migrate_gives : (words : List Text) → level_fault migrate_shape [] nothing_held words false [] ≡ []
     → GivesBoth (λ id. first_of id (rows_after migrate_shape.rules [] words))

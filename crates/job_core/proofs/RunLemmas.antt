@@ -1,11 +1,15 @@
 -- A run of a script as it is read: what was read so far was run, and its lines are gathered.
-use Rattle.std.proofs.Common.{◌≡◌, ℕ, List, [], ◌∷◌, ◌++◌, Option, None, Some, Result, Ok, Err, refl, ◌∙◌, ap, sym, subst}
-use Rattle.std.specs.Prelude.{IfSome}
+use Rattle.std.proofs.Common.{◌≡◌, ◌≤◌, ℕ, Bool, true, false, List, [], ◌∷◌, ◌++◌, Option, None, Some, Result, Ok, Err, length, inl, inr, refl, ◌∙◌, ap, sym, subst}
+use Rattle.std.specs.Prelude.{IfSome, nat_lt, if◌then◌else◌}
+use Rattle.std.proofs.lemmas.Bool.{cases_lt, lt-ltb, le-ltb}
 use Rattle.std.proofs.lemmas.List.{append_assoc, append-nil}
 use Rattle.std.proofs.lemmas.Grind.{flat_map-append}
 use Rattle.call_types.specs.declared.act.ScriptAct.{ScriptAct}
 use Rattle.call_types.specs.declared.limits.Limits.{Limits}
-use Rattle.script_text.specs.ReadingScripts.{script, followed}
+use Rattle.script_text.specs.ReadingScripts.{script, script_acts, followed}
+use Rattle.script_text.specs.declared.fault.Expected.{Expected}
+use Rattle.script_text.specs.declared.script.TheConstants.{SCRIPT_MAX}
+use Rattle.text_forms.specs.Scripts.{plain_script}
 use Rattle.script_text.specs.ReadingResults.{ScriptFails, NextGives}
 use Rattle.script_text.specs.declared.fault.ScriptFault.{ScriptFault}
 use Rattle.record_book.specs.Book.{BookState, new_book}
@@ -14,10 +18,13 @@ use Rattle.record_book.specs.declared.run.ScriptAnswer.{ScriptAnswer}
 use Rattle.script_text.specs.Spellings.{SpellsScript}
 use Rattle.script_text.specs.declared.fault.ScriptFault.TheVariants as faults
 use Rattle.posix_model.specs.History.{legal}
-use Rattle.logged_streams.specs.Streams.{LoggedWriterState}
-use Rattle.job_core.specs.Output.{last_line, told_line, told_lines}
-use Rattle.job_core.specs.Replay.{Refuses, ReplayEnds}
-use Rattle.job_core.specs.Proved.Running.{RunsNext, RunsOn, Gathers, RunsScript, FailsAs}
+use Rattle.logged_streams.specs.Streams.{LoggedWriterState, Writes}
+use Rattle.job_core.specs.Output.{AppendsFront, last_line, told_line, told_lines}
+use Rattle.job_core.specs.Replay.{Refuses, ReplayEnds, Spells, WritesReplay, WritesReplayFront, column_in, end_in, ends_in_return, read_in}
+use Rattle.job_core.specs.Proved.Running.{RunsNext, RunsOn, Gathers, RunsScript, RunsText, FailsTold}
+use Rattle.job_core.specs.declared.spelling.Spelling.{Spelling}
+use Rattle.job_core.specs.declared.spelling.Spelling.TheVariants as spelling
+use Rattle.job_core.proofs.ReplayLemmas.{of_input}
 use Rattle.job_core.specs.declared.job_end.JobEnd.{JobEnd}
 use Rattle.job_core.specs.declared.job_end.JobEnd.TheVariants as ended
 
@@ -102,25 +109,118 @@ output_of limits text read first book output all is_text is_new = (
 
 -- ---- what is said of it
 
+-- the law of what is spelled: it is read as that; and the law of what is read: it is spelled
+abbrev IsReadAs : Type 0
+IsReadAs = (acts : List ScriptAct) (text : List ℕ) → SpellsScript acts text → script text ≡ Ok acts
+
+abbrev IsSpelledBy : Type 0
+IsSpelledBy = (acts : List ScriptAct) (text : List ℕ) → script text ≡ Ok acts → SpellsScript acts text
+
+-- the same in each spelling
+spelled_in : (how : Spelling) (acts : List ScriptAct) (text : List ℕ) → IsReadAs → Spells how acts text → read_in how text ≡ Ok acts
+spelled_in spelling.Plain acts text law spells = law acts text spells
+spelled_in spelling.Text acts text law spells = rw (le-ltb 16777216 (length text) spells.0) (law acts (plain_script text) spells.1)
+
+-- a text that is not too long, by what is read of it
+abbrev NotTooLong : Result (List ScriptAct) ScriptFault → Type 0
+NotTooLong (Ok acts) = Unit {0}
+NotTooLong (Err (faults.BadLine line column expected)) = Unit {0}
+NotTooLong (Err faults.TooLong) = ⊥
+NotTooLong (Err faults.NoMemory) = Unit {0}
+
+short_if_read : (text : List ℕ) (read : Result (List ScriptAct) ScriptFault) → NotTooLong (if nat_lt SCRIPT_MAX (length text) then Err faults.TooLong else read) → length text ≤ SCRIPT_MAX
+short_if_read text read fine = elim (cases_lt 16777216 (length text)) [
+  | inl long ↦ absurd (rw (lt-ltb 16777216 (length text) long) at fine)
+  | inr short ↦ short
+]
+
+short_in : (how : Spelling) (text : List ℕ) → NotTooLong (read_in how text) → length text ≤ SCRIPT_MAX
+short_in spelling.Plain text fine = short_if_read text (script_acts text) fine
+short_in spelling.Text text fine = short_if_read text (script (plain_script text)) fine
+
+read_spelled : (how : Spelling) (acts : List ScriptAct) (text : List ℕ) → IsSpelledBy → read_in how text ≡ Ok acts → Spells how acts text
+read_spelled spelling.Plain acts text law is = law acts text is
+read_spelled spelling.Text acts text law is =
+    let short : length text ≤ SCRIPT_MAX = short_in spelling.Text text (subst NotTooLong (sym is) tt) in
+    (short, law acts (plain_script text) (rw (le-ltb 16777216 (length text) short) at is))
+
+-- what is read of it is not too long
+fine_by : (how : Spelling) (text : List ℕ) (fault : ScriptFault) → read_in how text ≡ Err fault → NotTooLong (Err fault) → length text ≤ SCRIPT_MAX
+fine_by how text fault is fine = short_in how text (subst NotTooLong (sym is) fine)
+
 -- an input that is read with a fault spells no acts
-refused : (input : Option (List ℕ)) (fault : ScriptFault) (text : List ℕ)
-    → ((acts : List ScriptAct) (other : List ℕ) → SpellsScript acts other → script other ≡ Ok acts) → IfSome input (λ known. script text ≡ script known)
-    → script text ≡ Err fault → IfSome input (Refuses fault)
-refused None fault text spelled same fails = tt
-refused (Some known) fault text spelled same fails =
-    let is : script known ≡ Err fault = sym same ∙ fails in
-    record { unspelled = λ acts spells. let e : script known ≡ Ok acts = spelled acts known spells in cc; fault_is = is }
+refused : (how : Spelling) (input : Option (List ℕ)) (fault : ScriptFault) (text : List ℕ) (end : JobEnd)
+    → IsReadAs → IfSome input (λ known. read_in how text ≡ read_in how known) → read_in how text ≡ Err fault → IfSome input (λ known. end ≡ end_in how known fault)
+    → IfSome input (Refuses how end)
+refused how None fault text end law same fails told = tt
+refused how (Some known) fault text end law same fails told =
+    let is : read_in how known ≡ Err fault = sym same ∙ fails in
+    record {
+      unspelled = λ acts spells. let e : read_in how known ≡ Ok acts = spelled_in how acts known law spells in cc;
+      fault = fault;
+      fault_is = is;
+      told = told;
+    }
+
+-- what is told of the text is told of the input, where it was not cut
+told_of : (how : Spelling) (input : Option (List ℕ)) (fault : ScriptFault) (text : List ℕ) → (length text ≤ SCRIPT_MAX → IfSome input (λ known. text ≡ known)) → length text ≤ SCRIPT_MAX
+    → IfSome input (λ known. end_in how text fault ≡ end_in how known fault)
+told_of how None fault text same short = tt
+told_of how (Some known) fault text same short = ap (λ (t : List ℕ). end_in how t fault) (same short)
+
+whole_if : (input : Option (List ℕ)) (text : List ℕ) → IfSome input (λ known. length text ≤ SCRIPT_MAX → text ≡ known) → length text ≤ SCRIPT_MAX → IfSome input (λ known. text ≡ known)
+whole_if None text same short = tt
+whole_if (Some known) text same short = same short
+
+-- the end of a line that has no place: it is told of the line
+line_ends : (limits : Limits) (how : Spelling) (input : Option (List ℕ)) (old : LoggedWriterState) (line column : ℕ) (expected : Expected) (b : Bool)
+    → IfSome input (Refuses how (if b then ended.BadReturn line column else ended.BadLine line column expected))
+    → ReplayEnds limits how input old old (if b then ended.BadReturn line column else ended.BadLine line column expected)
+line_ends limits how input old line column expected true refuses = (refuses, refl)
+line_ends limits how input old line column expected false refuses = (refuses, refl)
+
+known_refl : (how : Spelling) (input : Option (List ℕ)) → IfSome input (λ known. ended.TooLong ≡ end_in how known faults.TooLong)
+known_refl how None = tt
+known_refl how (Some known) = refl
 
 -- a run that was not made has written nothing
-pub fails_ends : (limits : Limits) (input : Option (List ℕ)) (old : LoggedWriterState) (text : List ℕ) (end : JobEnd)
-    → ((acts : List ScriptAct) (other : List ℕ) → SpellsScript acts other → script other ≡ Ok acts) → IfSome input (λ known. script text ≡ script known)
-    → FailsAs text end → ReplayEnds limits input old old end
-fails_ends limits input old text end spelled same (faults.NoMemory, is, fails) = subst (ReplayEnds limits input old old) (sym is) refl
-fails_ends limits input old text end spelled same (faults.TooLong, is, fails) = subst (ReplayEnds limits input old old) (sym is) (refused input faults.TooLong text spelled same fails, refl)
-fails_ends limits input old text end spelled same (faults.BadLine line column expected, is, fails) = subst (ReplayEnds limits input old old) (sym is) (refused input (faults.BadLine line column expected) text spelled same fails, refl)
+pub fails_ends : (limits : Limits) (how : Spelling) (input : Option (List ℕ)) (old : LoggedWriterState) (text : List ℕ) (end : JobEnd)
+    → IsReadAs → IfSome input (λ known. read_in how text ≡ read_in how known) → IfSome input (λ known. length text ≤ SCRIPT_MAX → text ≡ known)
+    → FailsTold how text end → ReplayEnds limits how input old old end
+fails_ends limits how input old text end law same whole (faults.NoMemory, is, fails) = subst (ReplayEnds limits how input old old) (sym is) refl
+fails_ends limits how input old text end law same whole (faults.TooLong, is, fails) =
+    subst (ReplayEnds limits how input old old) (sym is) (refused how input faults.TooLong text ended.TooLong law same fails (known_refl how input), refl)
+fails_ends limits how input old text end law same whole (faults.BadLine line column expected, is, fails) =
+    let short : length text ≤ SCRIPT_MAX = fine_by how text (faults.BadLine line column expected) fails tt in
+    let told = told_of how input (faults.BadLine line column expected) text (whole_if input text whole) short in
+    subst (ReplayEnds limits how input old old) (sym is)
+    (line_ends limits how input old line (column_in how text line column) expected (ends_in_return text line)
+    (refused how input (faults.BadLine line column expected) text (end_in how text (faults.BadLine line column expected)) law same fails told))
+
+-- the lines of a run were written
+pub done_ends : (limits : Limits) (how : Spelling) (input : Option (List ℕ)) (old new : LoggedWriterState) (text lines : List ℕ)
+    → IsSpelledBy → IfSome input (λ known. length text ≤ SCRIPT_MAX → text ≡ known) → RunsText limits how text lines → Writes old new lines → ReplayEnds limits how input old new ended.Done
+done_ends limits how input old new text lines law whole (acts, is, output, is_output, lines_are) writes =
+    let spells : Spells how acts text = read_spelled how acts text law is in
+    let short : length text ≤ SCRIPT_MAX = short_in how text (subst NotTooLong (sym is) tt) in
+    of_input input (WritesReplay limits how old new) text short whole (acts, spells, (output, is_output, subst (Writes old new) lines_are writes))
+
+-- a front of them was
+pub front_ends : (limits : Limits) (how : Spelling) (input : Option (List ℕ)) (old new : LoggedWriterState) (text lines : List ℕ) (end : JobEnd)
+    → IsSpelledBy → IfSome input (λ known. length text ≤ SCRIPT_MAX → text ≡ known) → RunsText limits how text lines → AppendsFront old new lines → end ≡ ended.CannotWrite
+    → ReplayEnds limits how input old new end
+front_ends limits how input old new text lines end law whole (acts, is, output, is_output, lines_are) front e =
+    let spells : Spells how acts text = read_spelled how acts text law is in
+    let short : length text ≤ SCRIPT_MAX = short_in how text (subst NotTooLong (sym is) tt) in
+    subst (ReplayEnds limits how input old new) (sym e)
+    (of_input input (WritesReplayFront limits how old new) text short whole (acts, spells, (output, is_output, subst (AppendsFront old new) lines_are front)))
 
 -- a fault of a script is not one of its reader
-pub fault_of_none : (text : List ℕ) (end : JobEnd) → FailsAs text end → end ≡ ended.CannotRead → ⊥
-fault_of_none text end (faults.NoMemory, is, fails) e = let bad : ended.NoMemory ≡ ended.CannotRead = sym is ∙ e in cc
-fault_of_none text end (faults.TooLong, is, fails) e = let bad : ended.TooLong ≡ ended.CannotRead = sym is ∙ e in cc
-fault_of_none text end (faults.BadLine line column expected, is, fails) e = let bad : ended.BadLine line column expected ≡ ended.CannotRead = sym is ∙ e in cc
+line_of_none : (line column : ℕ) (expected : Expected) (b : Bool) → (if b then ended.BadReturn line column else ended.BadLine line column expected) ≡ ended.CannotRead → ⊥
+line_of_none line column expected true e = cc
+line_of_none line column expected false e = cc
+
+pub fault_of_none : (how : Spelling) (text : List ℕ) (end : JobEnd) → FailsTold how text end → end ≡ ended.CannotRead → ⊥
+fault_of_none how text end (faults.NoMemory, is, fails) e = let bad : ended.NoMemory ≡ ended.CannotRead = sym is ∙ e in cc
+fault_of_none how text end (faults.TooLong, is, fails) e = let bad : ended.TooLong ≡ ended.CannotRead = sym is ∙ e in cc
+fault_of_none how text end (faults.BadLine line column expected, is, fails) e = line_of_none line (column_in how text line column) expected (ends_in_return text line) (sym is ∙ e)

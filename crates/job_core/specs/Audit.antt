@@ -26,16 +26,16 @@ verdict_line (Legal records rest) = codes "legal " ++ (decimal records ++ (codes
 verdict_line (Illegal place expected) = codes "illegal " ++ (decimal place ++ (codes " expected " ++ (expected_word expected ++ codes "\n")))
 verdict_line (Malformed at) = codes "malformed " ++ (decimal at ++ codes "\n")
 
--- how an audit of a legal trace ends, with so many bytes after its records, which end so: where completeness is demanded, the last of them
--- has to be the closing, and nothing may come after it
-abbrev pub legal_end : Demand → ℕ → Ending → JobEnd
-legal_end demand.Legal rest ending = ended.Done
-legal_end demand.Complete rest Open = ended.Incomplete
-legal_end demand.Complete rest Closed = if rest == 0 then ended.Done else ended.Incomplete
+-- how an audit of a legal trace ends, with so many whole records and so many bytes after them, where the records end so: where completeness
+-- is demanded, the last of them has to be the closing, and nothing may come after it
+abbrev pub legal_end : Demand → ℕ → ℕ → Ending → JobEnd
+legal_end demand.Legal records rest ending = if records == 0 then ended.NothingJudged else ended.Done
+legal_end demand.Complete records rest Open = ended.Incomplete
+legal_end demand.Complete records rest Closed = if rest == 0 then ended.Done else ended.Incomplete
 
 -- how an audit ends whose verdict is written
 abbrev pub verdict_end : Demand → Verdict → Ending → JobEnd
-verdict_end wanted (Legal records rest) ending = legal_end wanted rest ending
+verdict_end wanted (Legal records rest) ending = legal_end wanted records rest ending
 verdict_end wanted (Illegal place expected) ending = ended.IllegalTrace
 verdict_end wanted (Malformed at) ending = ended.MalformedTrace
 
@@ -62,6 +62,7 @@ pub record WritesVerdictFront (input : Option (List ℕ)) (old new : LoggedWrite
 abbrev pub AuditEnds : Demand → Option (List ℕ) → LoggedWriterState → LoggedWriterState → JobEnd → Type 0
 AuditEnds wanted input old new ended.Done = WritesVerdict wanted input old new ended.Done
 AuditEnds wanted input old new ended.Incomplete = WritesVerdict wanted input old new ended.Incomplete
+AuditEnds wanted input old new ended.NothingJudged = WritesVerdict wanted input old new ended.NothingJudged
 AuditEnds wanted input old new ended.IllegalTrace = WritesVerdict wanted input old new ended.IllegalTrace
 AuditEnds wanted input old new ended.MalformedTrace = WritesVerdict wanted input old new ended.MalformedTrace
 AuditEnds wanted input old new ended.CannotWrite = WritesVerdictFront input old new

@@ -1,5 +1,5 @@
 -- What the words of a command line ask of the program (own).
-use Rattle.std.specs.Prelude.{◌≡◌, ◌≤◌, ◌⊎◌, ◌∷◌, ℕ, List, [], Option, Some, None, true, codes, option_map, option_and_then, ⊤, if◌then◌else◌}
+use Rattle.std.specs.Prelude.{◌≡◌, ◌≤◌, ◌⊎◌, ◌∷◌, ℕ, Bool, List, [], Option, Some, None, true, false, codes, option_map, option_and_then, ⊤, if◌then◌else◌}
 use Rattle.std.specs.String.{string_bytes}
 use Rattle.std.specs.Str.{bytes_eq}
 use Rattle.std.specs.Str.Parse.{IsNumeral, digits_value, without_leading_plus}
@@ -15,6 +15,8 @@ use Rattle.job_core.specs.declared.job.Job.{Job}
 use Rattle.job_core.specs.declared.job.Job.TheVariants.{Replay, Serve, Audit, Show, Migrate, Outcomes}
 use Rattle.job_core.specs.declared.shown.Form.{Form}
 use Rattle.job_core.specs.declared.shown.Form.TheVariants as form
+use Rattle.job_core.specs.declared.spelling.Spelling.{Spelling}
+use Rattle.job_core.specs.declared.spelling.Spelling.TheVariants as spelling
 use Rattle.job_core.specs.declared.telling.Telling.{Telling}
 use Rattle.job_core.specs.declared.telling.Telling.TheVariants as told
 use Rattle.job_core.specs.declared.job.JobFault.{JobFault}
@@ -43,9 +45,11 @@ word_rule id = record (new_rule id) { value_names = 1; required = true }
 abbrev pub file_rule : Rule
 file_rule = word_rule (codes "file")
 
--- the subcommand `replay`, with its two options
+-- the subcommand `replay`, with its three options
 abbrev pub replay_app : App
-replay_app = with_rule (with_rule (new_app (codes "replay")) (option_rule (codes "records"))) (option_rule (codes "pipe-capacity"))
+replay_app = with_rule
+    (with_rule (with_rule (new_app (codes "replay")) (option_rule (codes "records"))) (option_rule (codes "pipe-capacity")))
+    (flag_rule (codes "text"))
 
 -- the subcommand `serve`, with its five options
 abbrev pub serve_app : App
@@ -61,9 +65,11 @@ serve_app = with_rule
 abbrev pub audit_app : App
 audit_app = with_rule (with_rule (new_app (codes "audit")) (flag_rule (codes "complete"))) file_rule
 
--- the subcommand `show`, with its one option and its file
+-- the subcommand `show`, with its three options and its file
 abbrev pub show_app : App
-show_app = with_rule (with_rule (new_app (codes "show")) (flag_rule (codes "acts"))) file_rule
+show_app = with_rule
+    (with_rule (with_rule (with_rule (new_app (codes "show")) (flag_rule (codes "acts"))) (flag_rule (codes "text"))) (flag_rule (codes "json")))
+    file_rule
 
 -- the subcommand `migrate`, with its two files
 abbrev pub migrate_app : App
@@ -159,7 +165,7 @@ IsOutcome text n = IsDecimalOf text n × (n ≤ WITNESS_MAX)
 -- what is told where this text is given to `--witness`, with each witness in this form; without witnesses acts are told of none
 abbrev pub IsTold : Option Text → Form → Telling → Type 0
 IsTold None form.Records telling = telling ≡ told.Outcomes
-IsTold None form.Acts telling = ⊥
+IsTold None other telling = ⊥
 IsTold (Some text) how told.Outcomes = ⊥
 IsTold (Some text) how (told.Witness n shape) = IsOutcome text n × (shape ≡ how)
 IsTold (Some text) how (told.Witnesses shape) = (text ≡ codes "all") × (shape ≡ how)
@@ -172,8 +178,18 @@ IsNoTelling text = (how : Form) (telling : Telling) → IsTold text how telling 
 abbrev pub Given : Type 0
 Given = Text → Option Text
 
--- the limits are those of a replay that is given so
-pub record IsReplay (given : Given) (limits : Limits) : Type 0 where
+-- an option without a value is used
+abbrev pub is_used : Option Text → Bool
+is_used None = false
+is_used (Some text) = bytes_eq text (codes "true")
+
+-- how a script is spelled: with comments and strings, where that option is used
+abbrev pub spelling_of : Option Text → Spelling
+spelling_of text = if is_used text then spelling.Text else spelling.Plain
+
+-- limits and spelling are those of a replay that is given so
+pub record IsReplay (given : Given) (limits : Limits) (how : Spelling) : Type 0 where
+  pub spelling : how ≡ spelling_of (given (codes "text"))
   pub records : IsRecords (given (codes "records")) limits.records
   pub capacity : IsCapacity (given (codes "pipe-capacity")) limits.bounds.pipe_capacity
   pub size : limits.bounds.file_size ≡ FILE_SIZE_MAX
@@ -187,15 +203,28 @@ pub record IsServe (given : Given) (path : Text) (count : ℕ) (limits : Limits)
   pub size : limits.bounds.file_size ≡ FILE_SIZE_MAX
   pub trace : given (codes "trace") ≡ Some file
 
--- the form in which a trace is shown: its acts, where that option is used
+-- the form of witnesses: acts, where that option is used
 abbrev pub form_of : Option Text → Form
-form_of None = form.Records
-form_of (Some text) = if bytes_eq text (codes "true") then form.Acts else form.Records
+form_of text = if is_used text then form.Acts else form.Records
+
+-- the form in which a trace is shown, by whether acts, strings and objects are asked for; objects go with neither of the others
+abbrev pub shown_form : Bool → Bool → Bool → Option Form
+shown_form false false false = Some form.Records
+shown_form true false false = Some form.Acts
+shown_form false true false = Some form.RecordsInText
+shown_form true true false = Some form.ActsInText
+shown_form false false true = Some form.Objects
+shown_form true false true = None
+shown_form false true true = None
+shown_form true true true = None
+
+-- the form that is given so, if there is one
+abbrev pub form_given : Given → Option Form
+form_given given = shown_form (is_used (given (codes "acts"))) (is_used (given (codes "text"))) (is_used (given (codes "json")))
 
 -- what is demanded of a trace that is audited: that it is complete, where that option is used
 abbrev pub demand_of : Option Text → Demand
-demand_of None = demand.Legal
-demand_of (Some text) = if bytes_eq text (codes "true") then demand.Complete else demand.Legal
+demand_of text = if is_used text then demand.Complete else demand.Legal
 
 -- path and demand are those of a trace that is to be audited
 pub record IsAudit (given : Given) (path : Text) (wanted : Demand) : Type 0 where
@@ -205,7 +234,7 @@ pub record IsAudit (given : Given) (path : Text) (wanted : Demand) : Type 0 wher
 -- path and form are those of a trace that is to be shown
 pub record IsShow (given : Given) (path : Text) (how : Form) : Type 0 where
   pub file : given (codes "file") ≡ Some path
-  pub form : how ≡ form_of (given (codes "acts"))
+  pub form : form_given given ≡ Some how
 
 -- paths of a trace that is read and of the one that is made, as they are given
 pub record IsMigrate (given : Given) (old new : Text) : Type 0 where
@@ -226,7 +255,7 @@ pub record IsOutcomes (given : Given) (limits : Limits) (most : ℕ) (telling : 
 
 -- the job is the one that the subcommand of this name asks for
 abbrev pub IsJobOf : Option Text → Given → Job → Type 0
-IsJobOf name given (Replay limits) = (name ≡ Some (codes "replay")) × IsReplay given limits
+IsJobOf name given (Replay limits how) = (name ≡ Some (codes "replay")) × IsReplay given limits how
 IsJobOf name given (Serve path count limits file) = (name ≡ Some (codes "serve")) × IsServe given (string_bytes path) count limits (string_bytes file)
 IsJobOf name given (Audit path wanted) = (name ≡ Some (codes "audit")) × IsAudit given (string_bytes path) wanted
 IsJobOf name given (Show path how) = (name ≡ Some (codes "show")) × IsShow given (string_bytes path) how
@@ -271,9 +300,14 @@ abbrev pub LacksWitness : List Text → ErrorKind → Type 0
 LacksWitness words k = (fault_of fdref_app words ≡ []) × ((name_given words ≡ Some (codes "outcomes")) × AsksActsAlone (text_given words))
     × (k ≡ kind.MissingRequiredArgument)
 
+-- the words parse, but `show` is asked for objects and for another form too
+abbrev pub MixesForms : List Text → ErrorKind → Type 0
+MixesForms words k = (fault_of fdref_app words ≡ []) × ((name_given words ≡ Some (codes "show")) × (form_given (text_given words) ≡ None))
+    × (k ≡ kind.ArgumentConflict)
+
 -- the words deserve the fault, or memory ran out
 abbrev pub Deserves : List Text → JobFault → Type 0
-Deserves words (Usage e) = IsMistake words (kind_of e) ⊎ (IsBadNumber words (kind_of e) ⊎ LacksWitness words (kind_of e))
+Deserves words (Usage e) = IsMistake words (kind_of e) ⊎ (IsBadNumber words (kind_of e) ⊎ (LacksWitness words (kind_of e) ⊎ MixesForms words (kind_of e)))
 Deserves words (Shown e) = IsAmong (kind_of e) (fault_of fdref_app words) × IsRequest (kind_of e)
 Deserves words NoMemory = ⊤
 

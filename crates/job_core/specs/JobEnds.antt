@@ -30,6 +30,8 @@ ended_status (ended.TooManyStates most) = 9
 ended_status ended.NoneAgrees = 1
 ended_status ended.NoSuchOutcome = 1
 ended_status ended.Incomplete = 1
+ended_status ended.NothingJudged = 0
+ended_status (ended.BadReturn line column) = 3
 
 -- why a line of a race cannot stand where it does, and what can (own)
 abbrev pub unfit_text : Unfit → List ℕ
@@ -43,7 +45,9 @@ abbrev pub ended_text : JobEnd → List ℕ
 ended_text ended.Done = []
 ended_text (ended.BadLine line column expected) =
     codes "line " ++ (decimal line ++ (codes " column " ++ (decimal column ++ (codes ": not an act\nexpected " ++ (expected_text expected ++ codes "\n")))))
-ended_text ended.TooLong = codes "script too long\n"
+ended_text (ended.BadReturn line column) =
+    codes "line " ++ (decimal line ++ (codes " column " ++ (decimal column ++ codes ": not an act\nexpected a line without a carriage return at its end\n")))
+ended_text ended.TooLong = codes "script too long\nexpected at most 16777216 bytes\n"
 ended_text ended.CannotRead = codes "cannot read\n"
 ended_text ended.CannotWrite = codes "cannot write\n"
 ended_text ended.NoMemory = codes "no memory\n"
@@ -64,3 +68,4 @@ ended_text (ended.TooManyStates most) = codes "too many states: more than " ++ (
 ended_text ended.NoneAgrees = []
 ended_text ended.NoSuchOutcome = codes "no such outcome\n"
 ended_text ended.Incomplete = codes "not complete\nexpected house close-run as the last record, and nothing after it\n"
+ended_text ended.NothingJudged = codes "nothing to judge: the trace has no whole record\n"

@@ -1,5 +1,5 @@
 -- What a replay writes, and what its end says (own).
-use Rattle.std.specs.Prelude.{◌≡◌, ℕ, List, [], ◌++◌, Option, Err, IfSome}
+use Rattle.std.specs.Prelude.{◌≡◌, ◌==◌, ℕ, ◌-◌, ◌≤◌, nat_lt, Bool, false, List, [], ◌∷◌, ◌++◌, Option, Result, Ok, Err, IfSome, length, if◌then◌else◌}
 use Rattle.call_types.specs.declared.act.ScriptAct.{ScriptAct}
 use Rattle.call_types.specs.declared.limits.Limits.{Limits}
 use Rattle.logged_streams.specs.Streams.{LoggedWriterState, Writes}
@@ -8,12 +8,41 @@ use Rattle.script_text.specs.Spellings.{SpellsScript}
 use Rattle.script_text.specs.ReadingScripts.{script}
 use Rattle.script_text.specs.declared.fault.ScriptFault.{ScriptFault}
 use Rattle.script_text.specs.declared.fault.ScriptFault.TheVariants as faults
+use Rattle.script_text.specs.declared.script.TheConstants.{SCRIPT_MAX}
+use Rattle.text_forms.specs.Scripts.{plain_script, source_column, strung}
+use Rattle.text_forms.specs.declared.scripts.Lines.TheVariants as lines
 use Rattle.record_book.specs.Book.{BookState, new_book}
 use Rattle.record_book.specs.Runs.{RunTells, Seats}
 use Rattle.record_book.specs.declared.run.ScriptAnswer.{ScriptAnswer}
 use Rattle.job_core.specs.Output.{AppendsFront, last_line, told_lines}
 use Rattle.job_core.specs.declared.job_end.JobEnd.{JobEnd}
 use Rattle.job_core.specs.declared.job_end.JobEnd.TheVariants as ended
+use Rattle.job_core.specs.declared.spelling.Spelling.{Spelling}
+use Rattle.job_core.specs.declared.spelling.Spelling.TheVariants as spelling
+
+-- ---- how a script and its lines are spelled
+
+-- acts are spelled by a text in this spelling; one with comments and strings spells what the plain script for which it stands spells
+abbrev pub Spells : Spelling → List ScriptAct → List ℕ → Type 0
+Spells spelling.Plain acts text = SpellsScript acts text
+Spells spelling.Text acts text = (length text ≤ SCRIPT_MAX) × SpellsScript acts (plain_script text)
+
+-- what is read of a text in this spelling: its acts, or its first fault
+abbrev pub read_in : Spelling → List ℕ → Result (List ScriptAct) ScriptFault
+read_in spelling.Plain text = script text
+read_in spelling.Text text = if nat_lt SCRIPT_MAX (length text) then Err faults.TooLong else script (plain_script text)
+
+-- lines as they are written in this spelling
+abbrev pub lines_in : Spelling → List ℕ → List ℕ
+lines_in spelling.Plain output = output
+lines_in spelling.Text output = strung lines.Records output
+
+-- the column in the text of a byte of the plain script
+abbrev pub column_in : Spelling → List ℕ → ℕ → ℕ → ℕ
+column_in spelling.Plain text line column = column
+column_in spelling.Text text line column = source_column text line column
+
+-- ---- what was written
 
 -- the output is the lines of what is told of the acts in a new book, and the line of totals; the book's records are a run of
 -- the model
@@ -25,13 +54,23 @@ pub record IsOutput (limits : Limits) (acts : List ScriptAct) (output : List ℕ
   pub is_legal : legal limits.bounds book.history
   pub output_is : output ≡ told_lines told ++ last_line book
 
--- such an output was written, and nothing else
-abbrev pub RunsActs : Limits → List ScriptAct → LoggedWriterState → LoggedWriterState → Type 0
-RunsActs limits acts old new = (output : List ℕ) × IsOutput limits acts output × Writes old new output
+-- such an output was written in this spelling, and nothing else
+abbrev pub RunsActs : Limits → Spelling → List ScriptAct → LoggedWriterState → LoggedWriterState → Type 0
+RunsActs limits how acts old new = (output : List ℕ) × IsOutput limits acts output × Writes old new (lines_in how output)
 
 -- a front of such an output was written, and nothing else
-abbrev pub WritesPartly : Limits → List ScriptAct → LoggedWriterState → LoggedWriterState → Type 0
-WritesPartly limits acts old new = (output : List ℕ) × IsOutput limits acts output × AppendsFront old new output
+abbrev pub WritesPartly : Limits → Spelling → List ScriptAct → LoggedWriterState → LoggedWriterState → Type 0
+WritesPartly limits how acts old new = (output : List ℕ) × IsOutput limits acts output × AppendsFront old new (lines_in how output)
+
+-- the text is a script, and the output of its acts was written, and nothing else
+abbrev pub WritesReplay : Limits → Spelling → LoggedWriterState → LoggedWriterState → List ℕ → Type 0
+WritesReplay limits how old new text = (acts : List ScriptAct) × Spells how acts text × RunsActs limits how acts old new
+
+-- the text is a script, and a front of the output of its acts was written, and nothing else
+abbrev pub WritesReplayFront : Limits → Spelling → LoggedWriterState → LoggedWriterState → List ℕ → Type 0
+WritesReplayFront limits how old new text = (acts : List ScriptAct) × Spells how acts text × WritesPartly limits how acts old new
+
+-- ---- what is told of a fault
 
 -- the end that a fault of a script is
 abbrev pub end_of_fault : ScriptFault → JobEnd
@@ -39,33 +78,50 @@ end_of_fault (faults.BadLine line column expected) = ended.BadLine line column e
 end_of_fault faults.TooLong = ended.TooLong
 end_of_fault faults.NoMemory = ended.NoMemory
 
--- the text is a script, and the output of its acts was written, and nothing else
-abbrev pub WritesReplay : Limits → LoggedWriterState → LoggedWriterState → List ℕ → Type 0
-WritesReplay limits old new text = (acts : List ScriptAct) × SpellsScript acts text × RunsActs limits acts old new
+-- the byte before the next end of a line, where the byte before these is this one
+abbrev pub last_of_line : ℕ → List ℕ → ℕ
+last_of_line last [] = last
+last_of_line last (byte ∷ bytes) = if byte == 10 then last else last_of_line byte bytes
 
--- the text is a script, and a front of the output of its acts was written, and nothing else
-abbrev pub WritesReplayFront : Limits → LoggedWriterState → LoggedWriterState → List ℕ → Type 0
-WritesReplayFront limits old new text = (acts : List ScriptAct) × SpellsScript acts text × WritesPartly limits acts old new
+-- the last byte of a line of a text, which has so many lines before it; 0 for none
+abbrev pub last_byte : List ℕ → ℕ → ℕ
+last_byte [] before = 0
+last_byte (byte ∷ bytes) before =
+    if before == 0 then last_of_line 0 (byte ∷ bytes) else last_byte bytes (if byte == 10 then before - 1 else before)
+
+-- a line, counted from 1, ends in a carriage return
+abbrev pub ends_in_return : List ℕ → ℕ → Bool
+ends_in_return text line = last_byte text (line - 1) == 13
+
+-- the end that a fault of a text is: its column is that in the text, and of a line that ends in a carriage return that is told
+abbrev pub end_in : Spelling → List ℕ → ScriptFault → JobEnd
+end_in how text (faults.BadLine line column expected) =
+    if ends_in_return text line then ended.BadReturn line (column_in how text line column) else ended.BadLine line (column_in how text line column) expected
+end_in how text faults.TooLong = ended.TooLong
+end_in how text faults.NoMemory = ended.NoMemory
 
 -- the text is no script
-abbrev pub IsNoScript : List ℕ → Type 0
-IsNoScript text = (acts : List ScriptAct) → SpellsScript acts text → ⊥
+abbrev pub IsNoScript : Spelling → List ℕ → Type 0
+IsNoScript how text = (acts : List ScriptAct) → Spells how acts text → ⊥
 
--- the text is no script, by this fault
-pub record Refuses (fault : ScriptFault) (text : List ℕ) : Type 0 where
-  pub unspelled : IsNoScript text
-  pub fault_is : script text ≡ Err fault
+-- the text is no script, by a fault that is told so
+pub record Refuses (how : Spelling) (end : JobEnd) (text : List ℕ) : Type 0 where
+  pub unspelled : IsNoScript how text
+  pub fault : ScriptFault
+  pub fault_is : read_in how text ≡ Err fault
+  pub told : end ≡ end_in how text fault
 
 -- this holds of a text, which is the input where that is known
 abbrev pub OfInput : Option (List ℕ) → (List ℕ → Type 0) → Type 0
 OfInput input P = (text : List ℕ) × IfSome input (λ known. text ≡ known) × P text
 
 -- what the end says of the input, where that is known, and of what was written
-abbrev pub ReplayEnds : Limits → Option (List ℕ) → LoggedWriterState → LoggedWriterState → JobEnd → Type 0
-ReplayEnds limits input old new ended.Done = OfInput input (WritesReplay limits old new)
-ReplayEnds limits input old new (ended.BadLine line column expected) = IfSome input (Refuses (faults.BadLine line column expected)) × (new ≡ old)
-ReplayEnds limits input old new ended.TooLong = IfSome input (Refuses faults.TooLong) × (new ≡ old)
-ReplayEnds limits input old new ended.CannotRead = new ≡ old
-ReplayEnds limits input old new ended.CannotWrite = OfInput input (WritesReplayFront limits old new)
-ReplayEnds limits input old new ended.NoMemory = new ≡ old
-ReplayEnds limits input old new other = ⊥
+abbrev pub ReplayEnds : Limits → Spelling → Option (List ℕ) → LoggedWriterState → LoggedWriterState → JobEnd → Type 0
+ReplayEnds limits how input old new ended.Done = OfInput input (WritesReplay limits how old new)
+ReplayEnds limits how input old new (ended.BadLine line column expected) = IfSome input (Refuses how (ended.BadLine line column expected)) × (new ≡ old)
+ReplayEnds limits how input old new (ended.BadReturn line column) = IfSome input (Refuses how (ended.BadReturn line column)) × (new ≡ old)
+ReplayEnds limits how input old new ended.TooLong = IfSome input (Refuses how ended.TooLong) × (new ≡ old)
+ReplayEnds limits how input old new ended.CannotRead = new ≡ old
+ReplayEnds limits how input old new ended.CannotWrite = OfInput input (WritesReplayFront limits how old new)
+ReplayEnds limits how input old new ended.NoMemory = new ≡ old
+ReplayEnds limits how input old new other = ⊥

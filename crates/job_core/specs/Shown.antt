@@ -11,6 +11,9 @@ use Rattle.call_types.specs.declared.outcome.Outcome.TheVariants as outcomes
 use Rattle.call_types.specs.declared.outcome.Reply.TheVariants as replies
 use Rattle.call_types.specs.declared.limits.TheConstants.{PROCESSES_MAX}
 use Rattle.script_text.specs.Lines.{act_line, record_line}
+use Rattle.text_forms.specs.Json.{json_line}
+use Rattle.text_forms.specs.Scripts.{strung}
+use Rattle.text_forms.specs.declared.scripts.Lines.TheVariants as lines
 use Rattle.job_core.specs.declared.shown.Form.{Form}
 use Rattle.job_core.specs.declared.shown.Form.TheVariants as forms
 
@@ -89,6 +92,9 @@ asked_line children r = if is_exit r.act && is_child children r.actor then [] el
 abbrev pub line_in : Form → ℕ → List ℕ → Record → List ℕ
 line_in forms.Records place children r = record_line place r
 line_in forms.Acts place children r = asked_line children r
+line_in forms.RecordsInText place children r = strung lines.Records (record_line place r)
+line_in forms.ActsInText place children r = strung lines.Acts (asked_line children r)
+line_in forms.Objects place children r = json_line place r
 
 -- the lines of the next record
 abbrev pub line_from : LinesState → Record → List ℕ

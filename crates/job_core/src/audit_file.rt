@@ -54,11 +54,12 @@ fn line_of(alloc: Global, verdict: &Verdict) -> Result<Vec<u8>, AllocError>
     }
 }
 
-/// How an audit of a legal trace ends, with so many bytes after its records, which end so.
-fn legal_end(demand: Demand, rest: u64, ending: Ending) -> JobEnd
-    ensures { result ≡ legal_end demand rest ending }
+/// How an audit of a legal trace ends, with so many whole records and so many bytes after them, where the records end so.
+fn legal_end(demand: Demand, records: u64, rest: u64, ending: Ending) -> JobEnd
+    ensures { result ≡ legal_end demand records rest ending }
 {
     match demand {
+        Demand::Legal if records == 0 => JobEnd::NothingJudged,
         Demand::Legal => JobEnd::Done,
         Demand::Complete => match ending {
             Ending::Open => JobEnd::Incomplete,
@@ -73,7 +74,7 @@ fn end_of(demand: Demand, verdict: &Verdict, ending: Ending) -> JobEnd
     ensures { result ≡ verdict_end demand verdict.now ending }
 {
     match verdict {
-        Verdict::Legal { rest, .. } => legal_end(demand, *rest, ending),
+        Verdict::Legal { records, rest } => legal_end(demand, *records, *rest, ending),
         Verdict::Illegal { .. } => JobEnd::IllegalTrace,
         Verdict::Malformed { .. } => JobEnd::MalformedTrace,
     }

@@ -1,16 +1,18 @@
 //! What the words of a command line ask for.
 ghost use Rattle.std.specs.Prelude.{◌≡◌, ◌≤◌, ℕ, ◌∷◌, ◌++◌, [], IfOk, IfErr, IfSome, IsOkAnd, OnOk, map, codes, is_some, option_map, true, false};
 ghost use Rattle.job_core.specs.declared.shown.Form.TheVariants as form;
+ghost use Rattle.job_core.specs.declared.spelling.Spelling.TheVariants as spelling;
 ghost use Rattle.job_core.specs.declared.telling.Telling.TheVariants as told;
 ghost use Rattle.clap.specs.Words.{app_of, found_of, first_value, fault_of, kind_of, new_app, rule_of};
 ghost use Rattle.clap.specs.declared.builder.command.Command.TheViews.{out-Command as fields_of};
 ghost use Rattle.call_types.specs.declared.limits.TheConstants.{FILE_SIZE_MAX};
 ghost use Rattle.job_core.specs.declared.demand.Demand.TheVariants as demand;
-ghost use Rattle.job_core.specs.CommandLine.{Asks, AsksActsAlone, Deserves, IsCapacity, IsJobOf, IsNoCapacity, IsNoNumber, IsNoRecords, IsNoStates, IsNoTelling, IsNumber, IsOutcome, IsRecords, IsStates, IsTelling, IsTold, SaysNotText, audit_app, bare_app, demand_of, fdref_app, file_rule, flag_rule, form_of, line, migrate_app, name_given, option_rule, outcomes_app, replay_app, required_rule, serve_app, show_app, status_of, text_given, word_rule};
-ghost use Rattle.job_core.specs.Proved.Parsing.{GivesAll, GivesBoth, GivesFile, HaveApps, HaveRules, IsFaultOf, IsParse, IsUntold, RefusesNumber, RefusesRace, completed, migrated, served, shown, witnessed};
+ghost use Rattle.job_core.specs.CommandLine.{Asks, AsksActsAlone, Deserves, IsCapacity, IsJobOf, IsNoCapacity, IsNoNumber, IsNoRecords, IsNoStates, IsNoTelling, IsNumber, IsOutcome, IsRecords, IsStates, IsTelling, IsTold, SaysNotText, audit_app, bare_app, demand_of, fdref_app, file_rule, flag_rule, form_given, form_of, is_used, line, migrate_app, name_given, option_rule, outcomes_app, replay_app, required_rule, serve_app, show_app, spelling_of, status_of, text_given, word_rule};
+ghost use Rattle.job_core.specs.Proved.Parsing.{GivesAll, GivesBoth, GivesFile, HaveApps, HaveRules, IsFaultOf, IsParse, IsUntold, RefusesForms, RefusesNumber, RefusesRace, completed, migrated, mixed, served, shown, witnessed};
 
 use crate::demand::Demand;
 use crate::shown::Form;
+use crate::spelling::Spelling;
 use crate::telling::Telling;
 use call_types::limits::{
     Limits, PIPE_CAPACITY, PIPE_CAPACITY_MAX, PIPE_CAPACITY_MIN, RECORDS_MAX,
@@ -70,9 +72,10 @@ const STATES_RANGE: Range = Range {
 /// What the program is asked to do.
 #[derive(Debug, Drop)]
 pub enum Job {
-    /// To run the script on standard input.
+    /// To run the script on standard input, which is spelled so.
     Replay {
         limits: Limits,
+        spelling: Spelling,
     },
     /// To serve so many sessions, 1 to 64, over a Unix socket that it makes at this path, and to write their trace to this file.
     Serve {
@@ -107,7 +110,8 @@ pub enum Job {
 /// Why a command line gives no job.
 #[derive(Debug, Drop)]
 pub enum JobFault {
-    /// The words are none that the program takes, a number is out of its range, or acts are asked for without a witness.
+    /// The words are none that the program takes, a number is out of its range, acts are asked for without a witness, or objects and
+    /// another form.
     Usage(Error),
     /// Help or the version was asked for, and this is its text.
     Shown(Error),
@@ -317,13 +321,26 @@ fn capacity_arg<'a>(alloc: Global) -> Arg<'a>
     option_arg(alloc, "pipe-capacity", "N").help(help)
 }
 
+/// The options of `replay`.
+fn replay_args<'a>(alloc: Global) -> Result<Vec<Arg<'a>>, AllocError>
+    ensures { IfOk result (λ args. HaveRules args.items replay_app.top.rules) }
+{
+    let text = "Read comments after # and data as \"hello\\n\", and print such data so";
+    let args = [
+        records_arg(alloc),
+        capacity_arg(alloc),
+        flag_arg(alloc, "text", text),
+    ];
+    list_of(alloc, args)
+}
+
 /// The subcommand `replay`.
 fn replay_command<'a>(alloc: Global) -> Result<Command<'a>, AllocError>
     ensures app { IfOk result (λ c. app_of c ≡ replay_app) }
     ensures local { IfOk result (λ c. (fields_of c).has_globals ≡ false) }
 {
     let about = "Runs the script on standard input and prints a line for each record";
-    let args = list_of(alloc, [records_arg(alloc), capacity_arg(alloc)])?;
+    let args = replay_args(alloc)?;
     described_command(alloc, "replay", about, REPLAY_HELP).args(args)
 }
 
@@ -370,14 +387,29 @@ fn audit_command<'a>(alloc: Global) -> Result<Command<'a>, AllocError>
     described_command(alloc, "audit", about, AUDIT_HELP).args(args)
 }
 
+/// The options of `show`, and its file.
+fn show_args<'a>(alloc: Global) -> Result<Vec<Arg<'a>>, AllocError>
+    ensures { IfOk result (λ args. HaveRules args.items show_app.top.rules) }
+{
+    let acts = "Print the lines of a script that asks for the same acts";
+    let text = "Print data of printable bytes as strings, such as \"hello\\n\"";
+    let json = "Print a JSON object for each record, by itself alone";
+    let args = [
+        flag_arg(alloc, "acts", acts),
+        flag_arg(alloc, "text", text),
+        flag_arg(alloc, "json", json),
+        file_arg(alloc),
+    ];
+    list_of(alloc, args)
+}
+
 /// The subcommand `show`.
 fn show_command<'a>(alloc: Global) -> Result<Command<'a>, AllocError>
     ensures app { IfOk result (λ c. app_of c ≡ show_app) }
     ensures local { IfOk result (λ c. (fields_of c).has_globals ≡ false) }
 {
     let about = "Prints a line for each record of a trace, and judges none";
-    let acts = "Print the lines of a script that asks for the same acts";
-    let args = list_of(alloc, [flag_arg(alloc, "acts", acts), file_arg(alloc)])?;
+    let args = show_args(alloc)?;
     described_command(alloc, "show", about, SHOW_HELP).args(args)
 }
 
@@ -668,13 +700,11 @@ fn given_telling<'a>(matches: &ArgMatches<'a>) -> Result<Telling, Untold<'a>>
     ensures telling { IfOk result (λ telling. IsTelling (first_value (found_of matches.now)) telling) }
     ensures refused { IfErr result (λ why. IsUntold (first_value (found_of matches.now)) why) }
 {
-    let form = form_of(matches.get_str("acts"));
+    let acts = matches.get_str("acts");
     match matches.get_str("witness") {
-        None => match form {
-            Form::Records => Ok(Telling::Outcomes),
-            Form::Acts => Err(Untold::ActsAlone),
-        },
-        Some(text) => match telling_of(text, form) {
+        None if is_used(acts) => Err(Untold::ActsAlone),
+        None => Ok(Telling::Outcomes),
+        Some(text) => match telling_of(text, form_of(acts)) {
             Some(telling) => Ok(telling),
             None => Err(Untold::NoOutcome(text)),
         },
@@ -689,6 +719,27 @@ fn fault_of_parse(error: Error) -> JobFault
         ErrorKind::OutOfMemory => JobFault::NoMemory,
         ErrorKind::DisplayHelp | ErrorKind::DisplayVersion => JobFault::Shown(error),
         _ => JobFault::Usage(error),
+    }
+}
+
+/// Whether an option without a value is used, by its value.
+fn is_used(text: Option<&str>) -> bool
+    ensures { result ≡ is_used (option_map (λ s. s.now) text.entry) }
+{
+    match text {
+        Some(text) => text == "true",
+        None => false,
+    }
+}
+
+/// The spelling that the value of `--text` stands for.
+fn spelling_of(text: Option<&str>) -> Spelling
+    ensures { result ≡ spelling_of (option_map (λ s. s.now) text.entry) }
+{
+    if is_used(text) {
+        Spelling::Text
+    } else {
+        Spelling::Plain
     }
 }
 
@@ -716,6 +767,7 @@ fn replay_job(alloc: Global, matches: &ArgMatches<'_>) -> Result<Job, JobFault>
     };
     Ok(Job::Replay {
         limits: limits_of(records, capacity),
+        spelling: spelling_of(matches.get_str("text")),
     })
 }
 
@@ -773,9 +825,10 @@ fn serve_job(alloc: Global, matches: &ArgMatches<'_>) -> Result<Job, JobFault>
 fn demand_of(text: Option<&str>) -> Demand
     ensures { result ≡ demand_of (option_map (λ s. s.now) text.entry) }
 {
-    match text {
-        Some(text) if text == "true" => Demand::Complete,
-        _ => Demand::Legal,
+    if is_used(text) {
+        Demand::Complete
+    } else {
+        Demand::Legal
     }
 }
 
@@ -790,23 +843,56 @@ fn audit_job(alloc: Global, matches: &ArgMatches<'_>) -> Result<Job, JobFault>
     Ok(Job::Audit { file, demand })
 }
 
-/// The form that the value of `--acts` stands for.
+/// The form of witnesses for which the value of `--acts` stands.
 fn form_of(text: Option<&str>) -> Form
     ensures { result ≡ form_of (option_map (λ s. s.now) text.entry) }
 {
-    match text {
-        Some(text) if text == "true" => Form::Acts,
-        _ => Form::Records,
+    if is_used(text) {
+        Form::Acts
+    } else {
+        Form::Records
     }
+}
+
+/// The form in which the matches of `show` ask for a trace, if there is one.
+fn form_given(matches: &ArgMatches<'_>) -> Option<Form>
+    ensures { result ≡ form_given (first_value (found_of matches.now)) }
+{
+    let acts = is_used(matches.get_str("acts"));
+    let text = is_used(matches.get_str("text"));
+    let json = is_used(matches.get_str("json"));
+    match (acts, text, json) {
+        (false, false, false) => Some(Form::Records),
+        (true, false, false) => Some(Form::Acts),
+        (false, true, false) => Some(Form::RecordsInText),
+        (true, true, false) => Some(Form::ActsInText),
+        (false, false, true) => Some(Form::Objects),
+        (_, _, true) => None,
+    }
+}
+
+/// The error of `show` that is asked for objects and for another form too.
+fn forms_error(alloc: Global) -> Result<Error, AllocError>
+    ensures { IfOk result (λ e. kind_of e ≡ ErrorKind.ArgumentConflict) }
+{
+    let mut command = show_command(alloc)?.bin_name("fdref show")?;
+    let message = "the argument '--json' cannot be used with '--acts' or '--text'";
+    command.error(ErrorKind::ArgumentConflict, message)
 }
 
 /// The job that the matches of `show` ask for, in which its file is given.
 fn show_job(alloc: Global, matches: &ArgMatches<'_>) -> Result<Job, JobFault>
     requires { GivesFile (first_value (found_of matches.now)) }
     ensures job { IfOk result (λ job. IsJobOf (Some (codes "show")) (first_value (found_of matches.now)) job) }
-    ensures fault { IfErr result (λ fault. RefusesNumber (Some (codes "show")) (first_value (found_of matches.now)) fault) }
+    ensures fault { IfErr result (λ fault. RefusesForms (first_value (found_of matches.now)) fault) }
 {
-    let form = form_of(matches.get_str("acts"));
+    let form = match form_given(matches) {
+        Some(form) => form,
+        None => {
+            let error = forms_error(alloc)?;
+            return Err(JobFault::Usage(error));
+        }
+    };
     let file = String::from_str(alloc, text_of(matches, "file"))?;
     Ok(Job::Show { file, form })
 }
@@ -944,8 +1030,13 @@ pub fn lines_read()
     ensures complete { (fault_of fdref_app (line completed) ≡ []) × (name_given (line completed) ≡ Some (codes "audit")) }
     ensures demand_of_complete { (text_given (line completed) (codes "file") ≡ Some (codes "t")) × (demand_of (text_given (line completed) (codes "complete")) ≡ demand.Complete) }
     ensures show { (fault_of fdref_app (line shown) ≡ []) × (name_given (line shown) ≡ Some (codes "show")) }
-    ensures acts { (text_given (line shown) (codes "file") ≡ Some (codes "t")) × (form_of (text_given (line shown) (codes "acts")) ≡ form.Acts) }
-    ensures records_alone { form_of (text_given (line (codes "show" ∷ codes "t" ∷ [])) (codes "acts")) ≡ form.Records }
+    ensures acts { (text_given (line shown) (codes "file") ≡ Some (codes "t")) × (form_given (text_given (line shown)) ≡ Some form.Acts) }
+    ensures records_alone { form_given (text_given (line (codes "show" ∷ codes "t" ∷ []))) ≡ Some form.Records }
+    ensures objects { (fault_of fdref_app (line (codes "show" ∷ codes "--json" ∷ codes "t" ∷ [])) ≡ []) × (form_given (text_given (line (codes "show" ∷ codes "--json" ∷ codes "t" ∷ []))) ≡ Some form.Objects) }
+    ensures acts_in_text { form_given (text_given (line (codes "show" ∷ codes "--text" ∷ codes "--acts" ∷ codes "t" ∷ []))) ≡ Some form.ActsInText }
+    ensures mixed_forms { (fault_of fdref_app (line mixed) ≡ []) × (form_given (text_given (line mixed)) ≡ None) }
+    ensures in_text { (fault_of fdref_app (line (codes "replay" ∷ codes "--text" ∷ [])) ≡ []) × (spelling_of (text_given (line (codes "replay" ∷ codes "--text" ∷ [])) (codes "text")) ≡ spelling.Text) }
+    ensures plainly { spelling_of (text_given (line (codes "replay" ∷ [])) (codes "text")) ≡ spelling.Plain }
     ensures migrate { (fault_of fdref_app (line migrated) ≡ []) × (name_given (line migrated) ≡ Some (codes "migrate")) }
     ensures both_files { (text_given (line migrated) (codes "in") ≡ Some (codes "t")) × (text_given (line migrated) (codes "out") ≡ Some (codes "u")) }
     ensures one_word { fault_of fdref_app (line (codes "migrate" ∷ codes "t" ∷ [])) ≡ ErrorKind.MissingRequiredArgument ∷ [] }

@@ -48,6 +48,11 @@ pub enum JobEnd {
         column: usize,
         expected: Expected,
     },
+    /// The same of a line that ends in a carriage return.
+    BadReturn {
+        line: usize,
+        column: usize,
+    },
     /// The script has more than 16,777,216 bytes. Nothing was run or written.
     TooLong,
     /// The input failed, or could not be opened. Of a trace that is shown, lines may have been written, and of one that is
@@ -73,6 +78,8 @@ pub enum JobEnd {
     IllegalTrace,
     /// The trace is legal, but it has bytes after its last whole record, or that is not the closing of its run; the verdict was written.
     Incomplete,
+    /// The trace is legal, since it has no whole record; the verdict was written.
+    NothingJudged,
     /// The trace has no header, or a frame that spells no record; the verdict was written, or the line of its migration.
     MalformedTrace,
     /// All whole records were shown, and so many bytes of one, or of the header, that is not finished are left over.
@@ -111,9 +118,9 @@ impl JobEnd {
         ensures { result ≡ ended_status self }
     {
         match self {
-            JobEnd::Done | JobEnd::Rest { .. } => 0,
+            JobEnd::Done | JobEnd::NothingJudged | JobEnd::Rest { .. } => 0,
             JobEnd::NoneAgrees | JobEnd::NoSuchOutcome | JobEnd::Incomplete => 1,
-            JobEnd::BadLine { .. } | JobEnd::TooLong => 3,
+            JobEnd::BadLine { .. } | JobEnd::BadReturn { .. } | JobEnd::TooLong => 3,
             JobEnd::BadRace { .. } | JobEnd::BadAnswer { .. } | JobEnd::NoRace => 3,
             JobEnd::CannotRead | JobEnd::CannotWrite | JobEnd::CannotListen | JobEnd::TraceFault =>
                 4,
@@ -145,7 +152,11 @@ impl fmt::Display for JobEnd {
                 f,
                 "line {line} column {column}: not an act\nexpected {expected}\n"
             ),
-            JobEnd::TooLong => f.write_str("script too long\n"),
+            JobEnd::BadReturn { line, column } => write!(
+                f,
+                "line {line} column {column}: not an act\nexpected a line without a carriage return at its end\n"
+            ),
+            JobEnd::TooLong => f.write_str("script too long\nexpected at most 16777216 bytes\n"),
             JobEnd::CannotRead => f.write_str("cannot read\n"),
             JobEnd::CannotWrite => f.write_str("cannot write\n"),
             JobEnd::NoMemory => f.write_str("no memory\n"),
@@ -168,6 +179,9 @@ impl fmt::Display for JobEnd {
             JobEnd::NoSuchOutcome => f.write_str("no such outcome\n"),
             JobEnd::Incomplete => f.write_str(
                 "not complete\nexpected house close-run as the last record, and nothing after it\n",
+            ),
+            JobEnd::NothingJudged => f.write_str(
+                "nothing to judge: the trace has no whole record\n",
             ),
         }
     }

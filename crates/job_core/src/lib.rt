@@ -12,4 +12,5 @@ pub mod output;
 pub mod replay;
 pub mod show;
 pub mod shown;
+pub mod spelling;
 pub mod telling;

@@ -1,16 +1,19 @@
 //! One run of a script: its bytes in, its lines out.
 ghost use Rattle.std.specs.Prelude.{◌≡◌, ◌+◌, ◌≤◌, [], ◌++◌, Ok, length, IfOk, IfErr, IfSome, OnOk};
 ghost use Rattle.script_text.specs.Races.{race_script};
-ghost use Rattle.script_text.specs.ReadingScripts.{script};
 ghost use Rattle.script_text.specs.ReadingResults.{ScriptFails};
 ghost use Rattle.script_text.specs.declared.script.TheConstants.{SCRIPT_MAX};
 ghost use Rattle.job_core.specs.Reads.{ReadsFew};
-ghost use Rattle.job_core.specs.Replay.{ReplayEnds};
+ghost use Rattle.job_core.specs.Replay.{ReplayEnds, column_in, end_in, end_of_fault, ends_in_return, last_byte, last_of_line, read_in};
 ghost use Rattle.job_core.specs.Proved.Reading.{FailsToRead};
-ghost use Rattle.job_core.specs.Proved.Running.{Gathers, RunsNext, RunsOn, RunsScript, FailsAs, FailsReading};
+ghost use Rattle.job_core.specs.Proved.Running.{Gathers, RunsNext, RunsOn, RunsScript, RunsText, FailsAs, FailsReading, FailsTold};
+ghost use Rattle.job_core.specs.declared.spelling.Spelling.{Spelling};
+ghost use Rattle.job_core.specs.declared.spelling.Spelling.TheVariants as spelling;
+ghost use Rattle.script_text.specs.declared.fault.ScriptFault.{ScriptFault};
 
 use crate::job_end::JobEnd;
 use crate::output::{put_line, write_lines};
+use crate::spelling::Spelling;
 use byte_ledger::ledgers::{Blanks, Ledgers};
 use call_types::act::ScriptAct;
 use call_types::limits::Limits;
@@ -29,6 +32,7 @@ use std::alloc::{AllocError, Global};
 use std::io::{Read, Write};
 use std::marker::Brand;
 use std::mem::forget;
+use text_forms::scripts::{Lines, plain_script, source_column, write_strung};
 
 /// How often a script is read. A reader that is not at its end by then has failed.
 pub const READS_MAX: u32 = 1_048_576;
@@ -85,7 +89,7 @@ pub(crate) fn read_text<R: Read>(
 ) -> Result<Vec<u8>, JobEnd>
     ensures few { reader.new.log.calls ≤ reader.old.log.calls + READS_MAX }
     ensures few_interrupted { reader.new.log.interruptions ≤ INTERRUPTIONS_MAX }
-    ensures text { IfOk result (λ text. IfSome reader.old.remaining (λ input. script text.items ≡ script input)) }
+    ensures text { (how : Spelling) → IfOk result (λ text. IfSome reader.old.remaining (λ input. read_in how text.items ≡ read_in how input)) }
     ensures whole { IfOk result (λ text. IfSome reader.old.remaining (λ input. length text.items ≤ SCRIPT_MAX → text.items ≡ input)) }
     ensures race { IfOk result (λ text. IfSome reader.old.remaining (λ input. race_script text.items ≡ race_script input)) }
     ensures sound { OnOk result (reader.new.log.failed ≡ reader.old.log.failed) }
@@ -198,6 +202,117 @@ fn run_script<L: Ledgers>(
     leaked_if_ok(book, gathered)
 }
 
+/// Runs the script for which a text with comments and strings stands, and gathers its output, with strings too.
+fn run_text(alloc: Global, limits: Limits, text: &[u8]) -> Result<Vec<u8>, JobEnd>
+    ensures lines { IfOk result (λ lines. RunsText limits spelling.Text text.now lines.items) }
+    ensures fault { IfErr result (λ ended. FailsReading (read_in spelling.Text text.now) ended) }
+{
+    if text.len() > SCRIPT_MAX {
+        return Err(JobEnd::TooLong);
+    }
+    let plain = plain_script(alloc, text)?;
+    let lines = run_script::<Brand>(alloc, limits, Blanks::new(), plain.as_slice())?;
+    let mut strung = Vec::with_capacity(alloc, lines.len())?;
+    write_strung(&mut strung, Lines::Records, lines.as_slice())?;
+    Ok(strung)
+}
+
+/// The last byte of a line of a text, which has so many lines before it; 0 for none.
+fn last_byte(text: &[u8], before: usize) -> u8
+    ensures { result ≡ last_byte text.now before }
+{
+    let mut rest = text;
+    let mut left = before;
+    while let Some((byte, more)) = rest.split_first() {
+        if left == 0 {
+            return last_of_line(rest);
+        }
+        if *byte == b'\n' {
+            left -= 1;
+        }
+        rest = more;
+    }
+    0
+}
+
+/// The byte before the next end of a line; 0 for none.
+fn last_of_line(text: &[u8]) -> u8
+    ensures { result ≡ last_of_line 0 text.now }
+{
+    let mut rest = text;
+    let mut last = 0;
+    while let Some((byte, more)) = rest.split_first() {
+        if *byte == b'\n' {
+            return last;
+        }
+        last = *byte;
+        rest = more;
+    }
+    last
+}
+
+/// Whether a line of a text, counted from 1, ends in a carriage return.
+fn ends_in_return(text: &[u8], line: usize) -> bool
+    ensures { result ≡ ends_in_return text.now line }
+{
+    last_byte(text, line.saturating_sub(1)) == b'\r'
+}
+
+/// The column in a text of a byte of the plain script.
+fn column_in(how: Spelling, text: &[u8], line: usize, column: usize) -> usize
+    ensures { result ≡ column_in how text.now line column }
+{
+    match how {
+        Spelling::Plain => column,
+        Spelling::Text => source_column(text, line, column),
+    }
+}
+
+/// How a job ends where the plain script of a text ends it so.
+fn end_in(how: Spelling, text: &[u8], found: JobEnd) -> JobEnd
+    ensures { (fault : ScriptFault) → found ≡ end_of_fault fault → result ≡ end_in how text.now fault }
+{
+    let JobEnd::BadLine {
+        line,
+        column,
+        expected,
+    } = found
+    else {
+        return found;
+    };
+    let column = column_in(how, text, line, column);
+    if ends_in_return(text, line) {
+        return JobEnd::BadReturn { line, column };
+    }
+    JobEnd::BadLine {
+        line,
+        column,
+        expected,
+    }
+}
+
+/// Runs the acts of a script that is spelled so in a new book, and gathers its output in the same spelling.
+fn run_spelled(alloc: Global, limits: Limits, how: Spelling, text: &[u8]) -> Result<Vec<u8>, JobEnd>
+    ensures lines { IfOk result (λ lines. RunsText limits how text.now lines.items) }
+    ensures fault { IfErr result (λ ended. FailsReading (read_in how text.now) ended) }
+{
+    match how {
+        Spelling::Plain => run_script::<Brand>(alloc, limits, Blanks::new(), text),
+        Spelling::Text => run_text(alloc, limits, text),
+    }
+}
+
+/// Runs the acts of a script that is spelled so in a new book, and gathers its output in the same spelling. A fault is told of the text.
+fn run_in(alloc: Global, limits: Limits, how: Spelling, text: &[u8]) -> Result<Vec<u8>, JobEnd>
+    ensures lines { IfOk result (λ lines. RunsText limits how text.now lines.items) }
+    ensures fault { IfErr result (λ ended. FailsTold how text.now ended) }
+{
+    match run_spelled(alloc, limits, how, text) {
+        Ok(lines) => Ok(lines),
+        Err(found) => Err(end_in(how, text, found)),
+    }
+}
+
 /// Reads a script, runs its acts in their order in a new book, and writes a line for each record and each act that is
 /// not recorded, and a line of totals. Nothing is written before the whole script is read and run. The book and the seats of
 /// the run are leaked: it is meant for a program that ends then, and is to be called once in a process.
@@ -206,8 +321,9 @@ pub fn replay<R: Read, W: Write>(
     reader: &mut LoggedReader<R>,
     writer: &mut LoggedWriter<W>,
     limits: Limits,
+    how: Spelling,
 ) -> JobEnd
-    ensures ends { ReplayEnds limits reader.old.remaining writer.old writer.new result }
+    ensures ends { ReplayEnds limits how reader.old.remaining writer.old writer.new result }
     ensures reads { ReadsFew READS_MAX reader.old.log reader.new.log result }
 {
     spelled_scripts_are_read();
@@ -216,7 +332,7 @@ pub fn replay<R: Read, W: Write>(
         Ok(text) => text,
         Err(ended) => return ended,
     };
-    let lines = match run_script::<Brand>(alloc, limits, Blanks::new(), text.as_slice()) {
+    let lines = match run_in(alloc, limits, how, text.as_slice()) {
         Ok(lines) => lines,
         Err(ended) => return ended,
     };

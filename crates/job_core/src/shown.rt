@@ -1,8 +1,11 @@
-//! The records of a trace as lines, in either of two forms.
+//! The records of a trace as lines, in one of several forms.
 
 ghost use Rattle.std.specs.Prelude.{◌≡◌, ◌+◌, ◌<◌, ◌^◌, ◌++◌, length, OnOk};
 ghost use Rattle.job_core.specs.Shown.{asked_line, children_after, first_lines, forked, is_done, is_exit, is_left, is_other, line_from, lines_from, next_lines, number_of, with_child, without};
 ghost use Rattle.job_core.specs.ShownState.{lines_after};
+ghost use Rattle.script_text.specs.Lines.{record_line};
+ghost use Rattle.text_forms.specs.Scripts.{strung};
+ghost use Rattle.text_forms.specs.declared.scripts.Lines.TheVariants as lines;
 
 use call_types::act::{Act, Record};
 use call_types::call::Call;
@@ -11,6 +14,9 @@ use call_types::outcome::{Outcome, Reply};
 use script_text::lines::{write_act, write_record};
 use std::alloc::{AllocError, Global};
 use std::marker::Model;
+use text_forms::json::write_json;
+use text_forms::scripts;
+use text_forms::scripts::write_strung;
 
 /// In which form the records of a trace are shown.
 #[derive(Clone, Copy, Debug, PartialEq, Eq)]
@@ -19,6 +25,12 @@ pub enum Form {
     Records,
     /// The lines of a script that asks for the same acts.
     Acts,
+    /// The lines of `Records`, with data of printable bytes as strings.
+    RecordsInText,
+    /// The lines of `Acts`, with data of printable bytes as strings.
+    ActsInText,
+    /// A JSON object for each record.
+    Objects,
 }
 
 /// The number that a reply tells.
@@ -129,6 +141,8 @@ pub(crate) struct Lines {
     place: u64,
     /// The processes that a fork made and that are not attached yet.
     children: Vec<u64>,
+    /// The lines of a record before strings stand in them.
+    plain: Vec<u8>,
 }
 
 impl Model for Lines {
@@ -148,7 +162,28 @@ impl Lines {
             form,
             place: 0,
             children: Vec::new(alloc),
+            plain: Vec::new(alloc),
         }
+    }
+
+    /// Appends the line of the next record, with its place and its outcome, and data of printable bytes as a string.
+    fn put_record_in_text(&mut self, out: &mut Vec<u8>, told: &Record) -> Result<(), AllocError>
+        ensures same { self.new ≡ self.old }
+        ensures text { OnOk result (out.new.items ≡ out.old.items ++ strung lines.Records (record_line self.old.place told.now)) }
+    {
+        self.plain.clear();
+        write_record(&mut self.plain, self.place, told)?;
+        write_strung(out, scripts::Lines::Records, self.plain.as_slice())
+    }
+
+    /// Appends the line of a script that asks for what the next record tells, with data of printable bytes as a string.
+    fn put_asked_in_text(&mut self, out: &mut Vec<u8>, told: &Record) -> Result<(), AllocError>
+        ensures same { self.new ≡ self.old }
+        ensures text { OnOk result (out.new.items ≡ out.old.items ++ strung lines.Acts (asked_line self.old.children told.now)) }
+    {
+        self.plain.clear();
+        put_asked(&mut self.plain, self.children.as_slice(), told)?;
+        write_strung(out, scripts::Lines::Acts, self.plain.as_slice())
     }
 
     /// Appends the lines of the next record.
@@ -160,6 +195,9 @@ impl Lines {
         match self.form {
             Form::Records => write_record(out, self.place, told)?,
             Form::Acts => put_asked(out, self.children.as_slice(), told)?,
+            Form::RecordsInText => self.put_record_in_text(out, told)?,
+            Form::ActsInText => self.put_asked_in_text(out, told)?,
+            Form::Objects => write_json(out, self.place, told)?,
         }
         note(&mut self.children, told)?;
         self.place += 1;

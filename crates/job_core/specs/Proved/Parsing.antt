@@ -1,5 +1,5 @@
 -- How words are read (own).
-use Rattle.std.specs.Prelude.{◌≡◌, ◌≢◌, ◌∷◌, ◌⊎◌, List, [], Option, Some, false, true, codes, is_some, ⊤}
+use Rattle.std.specs.Prelude.{◌≡◌, ◌≢◌, ◌∷◌, ◌⊎◌, List, [], Option, None, Some, false, true, codes, is_some, ⊤}
 use Rattle.clap.specs.Words.{App, Rule, Text, app_of, fault_of, kind_of, rule_of, subcommand_of, subcommand_rows_of}
 use Rattle.clap.specs.declared.builder.arg.Arg.{Arg}
 use Rattle.clap.specs.declared.builder.command.Command.{Command}
@@ -11,7 +11,7 @@ use Rattle.job_core.specs.declared.job.JobFault.{JobFault}
 use Rattle.job_core.specs.declared.job.JobFault.TheVariants.{Usage, Shown, NoMemory}
 use Rattle.job_core.specs.declared.job.Untold.{Untold}
 use Rattle.job_core.specs.declared.job.Untold.TheVariants as untold
-use Rattle.job_core.specs.CommandLine.{AsksActsAlone, fdref_app, Given, IsNoTelling, IsOutOfRange, IsRequest}
+use Rattle.job_core.specs.CommandLine.{AsksActsAlone, fdref_app, form_given, Given, IsNoTelling, IsOutOfRange, IsRequest}
 
 -- words that ask for a server
 abbrev pub served : List Text
@@ -20,6 +20,10 @@ served = codes "serve" ∷ codes "--socket" ∷ codes "s" ∷ codes "--sessions"
 -- words that ask for the acts of a trace
 abbrev pub shown : List Text
 shown = codes "show" ∷ codes "--acts" ∷ codes "t" ∷ []
+
+-- words that ask for objects and for acts
+abbrev pub mixed : List Text
+mixed = codes "show" ∷ codes "--json" ∷ codes "--acts" ∷ codes "t" ∷ []
 
 -- words that ask whether a trace is complete
 abbrev pub completed : List Text
@@ -81,6 +85,12 @@ RefusesRace given (Usage e) = (IsOutOfRange (Some (codes "outcomes")) given × (
     ⊎ (AsksActsAlone given × (kind_of e ≡ kind.MissingRequiredArgument))
 RefusesRace given (Shown e) = ⊥
 RefusesRace given NoMemory = ⊤
+
+-- the fault says that `show` is asked for objects and for another form too, or that memory ran out
+abbrev pub RefusesForms : Given → JobFault → Type 0
+RefusesForms given (Usage e) = (form_given given ≡ None) × (kind_of e ≡ kind.ArgumentConflict)
+RefusesForms given (Shown e) = ⊥
+RefusesForms given NoMemory = ⊤
 
 -- what is asked to be told of a race is nothing
 abbrev pub IsUntold : Given → Untold → Type 0

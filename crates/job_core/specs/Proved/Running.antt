@@ -11,7 +11,8 @@ use Rattle.record_book.specs.Runs.{RunTells, GoesOn, Seats}
 use Rattle.record_book.specs.declared.run.ScriptAnswer.{ScriptAnswer}
 use Rattle.job_core.specs.Output.{last_line, told_line, told_lines}
 use Rattle.job_core.specs.declared.job_end.JobEnd.{JobEnd}
-use Rattle.job_core.specs.Replay.{IsOutput, end_of_fault}
+use Rattle.job_core.specs.declared.spelling.Spelling.{Spelling}
+use Rattle.job_core.specs.Replay.{IsOutput, end_in, end_of_fault, lines_in, read_in}
 
 -- one act more was run, and its lines stand after the others
 pub record RunsNext (old new : BookState) (seats after : Seats) (act : ScriptAct) (lines more : List ℕ) : Type 0 where
@@ -51,3 +52,11 @@ FailsReading read end = (fault : ScriptFault) × (end ≡ end_of_fault fault) ×
 -- the same of a text
 abbrev pub FailsAs : List ℕ → JobEnd → Type 0
 FailsAs text end = FailsReading (script text) end
+
+-- the text is a script in this spelling, and these are the lines of its acts
+abbrev pub RunsText : Limits → Spelling → List ℕ → List ℕ → Type 0
+RunsText limits how text written = (acts : List ScriptAct) × (read_in how text ≡ Ok acts) × (output : List ℕ) × IsOutput limits acts output × (written ≡ lines_in how output)
+
+-- the end tells why it gave none
+abbrev pub FailsTold : Spelling → List ℕ → JobEnd → Type 0
+FailsTold how text end = (fault : ScriptFault) × (end ≡ end_in how text fault) × ScriptFails fault (read_in how text)

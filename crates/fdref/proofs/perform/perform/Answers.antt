@@ -6,7 +6,7 @@ use Rattle.fdref.proofs.perform.perform.Goals as goal
 
 pub returns-in-Replay : goal.returns-in-Replay
 returns-in-Replay g c =
-    rw c.in-Replay.is (subst (λ (r : LoggedReaderState). ReplayEnds c.in-Replay.limits r.remaining c.args.writer.now c.replay.new.writer c.replay.result) c.new-reader.ensures c.replay.ensures.ends)
+    rw c.in-Replay.is (subst (λ (r : LoggedReaderState). ReplayEnds c.in-Replay.limits c.in-Replay.spelling r.remaining c.args.writer.now c.replay.new.writer c.replay.result) c.new-reader.ensures c.replay.ensures.ends)
 
 pub returns-in-Outcomes : goal.returns-in-Outcomes
 returns-in-Outcomes g c =

@@ -1,7 +1,7 @@
 use Rattle.std.proofs.Common.{◌≡◌, map, List, false, true, refl, codes}
 use Rattle.std.proofs.lemmas.Result.{IfErr-weaker, IfOk-weaker}
 use Rattle.clap.specs.Words.{Text}
-use Rattle.job_core.proofs.Parses.{asked, audit_given, migrate_given, named, none_named, refused, refused_race, serve_given, show_given}
+use Rattle.job_core.proofs.Parses.{asked, audit_given, migrate_given, named, none_named, refused, refused_race, refused_show, serve_given, show_given}
 use Rattle.job_core.proofs.job.job_of.Goals as goal
 
 pub returns-in-Some-clause-job : goal.returns-in-Some-clause-job
@@ -83,7 +83,7 @@ returns-in-Some-subcommand_matches-3-clause-fault g c =
     let words : List Text = map g.S.AsStr.text c.args.words.now in
     let show = c.in-Some-subcommand_matches-3 in
     IfErr-weaker c.show_job.result _ _
-    (λ fault h. refused words c.in_ok-matches.matches show.show.now (codes "show") fault c.in_ok-matches.ensures.ok (show.ensures.found.0 refl) show.ensures.rows h)
+    (λ fault h. refused_show words c.in_ok-matches.matches show.show.now fault c.in_ok-matches.ensures.ok (show.ensures.found.0 refl) show.ensures.rows h)
     c.show_job.ensures.fault
 
 pub migrate_job-requires : goal.migrate_job-requires

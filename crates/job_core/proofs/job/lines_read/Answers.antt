@@ -154,3 +154,23 @@ returns-clause-acts_of_witness c = refl
 pub returns-clause-file_of_outcomes : goal.returns-clause-file_of_outcomes
 unfolding clap_on_literals
 returns-clause-file_of_outcomes c = refl
+
+pub returns-clause-objects : goal.returns-clause-objects
+unfolding clap_on_literals
+returns-clause-objects c = (refl, refl)
+
+pub returns-clause-acts_in_text : goal.returns-clause-acts_in_text
+unfolding clap_on_literals
+returns-clause-acts_in_text c = refl
+
+pub returns-clause-mixed_forms : goal.returns-clause-mixed_forms
+unfolding clap_on_literals
+returns-clause-mixed_forms c = (refl, refl)
+
+pub returns-clause-in_text : goal.returns-clause-in_text
+unfolding clap_on_literals
+returns-clause-in_text c = (refl, refl)
+
+pub returns-clause-plainly : goal.returns-clause-plainly
+unfolding clap_on_literals
+returns-clause-plainly c = refl

@@ -1,20 +1,11 @@
-use Rattle.std.proofs.Common.{[], ◌∷◌, sym, subst}
 use Rattle.std.proofs.lemmas.Result.{IfOk-weaker}
-use Rattle.job_core.specs.CommandLine.{replay_app}
-use Rattle.job_core.specs.Proved.Parsing.{HaveRules}
 use Rattle.job_core.proofs.Parses.{all_added_app, all_added_local}
 use Rattle.job_core.proofs.job.replay_command.Goals as goal
 
 pub returns-clause-app : goal.returns-clause-app
 returns-clause-app c =
-    let all : HaveRules (c.records_arg.result ∷ c.capacity_arg.result ∷ []) replay_app.top.rules =
-    (c.records_arg.ensures.rule, c.records_arg.ensures.local, (c.capacity_arg.ensures.rule, c.capacity_arg.ensures.local, tt)) in
-    let have = subst (λ l. HaveRules l replay_app.top.rules) (sym c.in_ok-args.ensures) all in
-    IfOk-weaker c.args-2.result _ _ (λ r added. all_added_app _ _ _ r _ have added c.described_command.ensures.app) c.args-2.ensures
+    IfOk-weaker c.args-2.result _ _ (λ r added. all_added_app _ _ _ r _ c.in_ok-args.ensures added c.described_command.ensures.app) c.args-2.ensures
 
 pub returns-clause-local : goal.returns-clause-local
 returns-clause-local c =
-    let all : HaveRules (c.records_arg.result ∷ c.capacity_arg.result ∷ []) replay_app.top.rules =
-    (c.records_arg.ensures.rule, c.records_arg.ensures.local, (c.capacity_arg.ensures.rule, c.capacity_arg.ensures.local, tt)) in
-    let have = subst (λ l. HaveRules l replay_app.top.rules) (sym c.in_ok-args.ensures) all in
-    IfOk-weaker c.args-2.result _ _ (λ r added. all_added_local _ _ _ r have added c.described_command.ensures.local) c.args-2.ensures
+    IfOk-weaker c.args-2.result _ _ (λ r added. all_added_local _ _ _ r c.in_ok-args.ensures added c.described_command.ensures.local) c.args-2.ensures

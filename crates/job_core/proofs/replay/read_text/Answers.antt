@@ -4,9 +4,9 @@ use Rattle.job_core.proofs.ReplayLemmas as laws
 use Rattle.job_core.proofs.replay.read_text.Goals as goal
 
 pub returns-in-AtEnd-clause-text : goal.returns-in-AtEnd-clause-text
-returns-in-AtEnd-clause-text g c =
+returns-in-AtEnd-clause-text g c how =
     let r = c.in-AtEnd.ensures.reads in
-    laws.script_of c.args.reader.now.remaining c.read_all.new.taker.bytes.items (laws.text_read c.args.reader.now.remaining c.read_all.new.reader.remaining c.read_all.new.taker.bytes.items r.input r.consumes r.ends.0 r.ends.2)
+    laws.read_of how c.args.reader.now.remaining c.read_all.new.taker.bytes.items (laws.text_read c.args.reader.now.remaining c.read_all.new.reader.remaining c.read_all.new.taker.bytes.items r.input r.consumes r.ends.0 r.ends.2)
 
 pub returns-in-AtEnd-clause-whole : goal.returns-in-AtEnd-clause-whole
 returns-in-AtEnd-clause-whole g c =
@@ -20,9 +20,9 @@ pub returns-in-CannotRead-clause-fault : goal.returns-in-CannotRead-clause-fault
 returns-in-CannotRead-clause-fault g c = inl (refl, c.in-CannotRead.ensures.reads.ends.0)
 
 pub returns-in-TooLong-clause-text : goal.returns-in-TooLong-clause-text
-returns-in-TooLong-clause-text g c =
+returns-in-TooLong-clause-text g c how =
     let r = rw c.in-TooLong.is at c.in-Told.ensures.reads in
-    laws.script_of_front c.args.reader.now.remaining c.read_all.new.reader.remaining c.read_all.new.taker.bytes.items r.input r.consumes r.ends.1.0 r.ends.1.1
+    laws.read_of_front how c.args.reader.now.remaining c.read_all.new.reader.remaining c.read_all.new.taker.bytes.items r.input r.consumes r.ends.1.0 r.ends.1.1
 
 pub returns-in-TooLong-clause-whole : goal.returns-in-TooLong-clause-whole
 returns-in-TooLong-clause-whole g c =

@@ -1,0 +1,79 @@
+//! What the system said where a path could not be opened, made or listened on.
+
+use std::alloc::Global;
+use std::cell::RefCell;
+use std::{fmt, io};
+
+/// Why a path could not be used.
+#[derive(Clone, Copy, Drop)]
+enum Why {
+    /// The system said so.
+    System(io::Error),
+    /// Another server has locked the file, and writes its trace there.
+    Locked,
+}
+
+/// A path, and why it could not be used.
+#[derive(Drop)]
+struct Cause {
+    path: String,
+    why: Why,
+}
+
+/// The last path that could not be used, if there is one, for the line after that of how a job ended. Where memory runs out for it,
+/// there is none.
+#[derive(Drop)]
+pub struct Causes {
+    alloc: Global,
+    last: RefCell<Option<Cause>>,
+}
+
+impl Causes {
+    /// No path was refused yet.
+    pub fn new(alloc: Global) -> Self {
+        Causes {
+            alloc,
+            last: RefCell::new(None),
+        }
+    }
+
+    /// Notes what the system said of a path.
+    pub fn note(&self, path: &str, error: io::Error) {
+        self.put(path, Why::System(error));
+    }
+
+    /// Notes that another server has locked the file at a path.
+    pub fn note_locked(&self, path: &str) {
+        self.put(path, Why::Locked);
+    }
+
+    fn put(&self, path: &str, why: Why) {
+        let Ok(path) = String::from_str(self.alloc, path) else {
+            return;
+        };
+        let _before = self.last.try_replace(Some(Cause { path, why }));
+    }
+}
+
+impl fmt::Display for Causes {
+    fn fmt<W: fmt::Write>(&self, f: &mut fmt::Formatter<W>) -> fmt::Result {
+        let Ok(last) = self.last.try_borrow() else {
+            return Ok(());
+        };
+        match &*last {
+            Some(
+                Cause {
+                    path,
+                    why: Why::System(error),
+                },
+            ) => write!(f, "{path}: {error}\n"),
+            Some(
+                Cause {
+                    path,
+                    why: Why::Locked,
+                },
+            ) => write!(f, "{path}: another server writes its trace there\n"),
+            None => Ok(()),
+        }
+    }
+}

@@ -1,0 +1,22 @@
+"""The second line of standard error, which says why a path could not be used."""
+
+import os
+import re
+
+from support.counting import require, same
+from support.running import Ran
+
+# What a system says: its text, and its number.
+SAID = rb"[A-Z][^\n]* \(os error [0-9]+\)"
+
+
+def names_cause(text: bytes, wanted: bytes, path: str, cause: bytes = SAID) -> None:
+    """A text is the line that is wanted, and after it a line that names this path and what was said of it."""
+    want = re.escape(wanted) + re.escape(os.fsencode(path)) + b": " + cause + b"\n"
+    require(re.fullmatch(want, text), f"standard error is {text!r}, wanted {wanted!r} and a line for {path}")
+
+
+def is_caused(wanted: Ran, path: str, given: Ran) -> None:
+    """A run ended as is wanted, and a line more says what the system said of this path."""
+    names_cause(given.stderr, wanted.stderr, path)
+    same(wanted, given._replace(stderr=wanted.stderr))
