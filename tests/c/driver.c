@@ -9,7 +9,7 @@
 
    Each answer is a line, `PLACE OUTCOME`. A call that has waited, and did not return when it was parked, has ` after N
    M` behind that: it was told N times to wait, and had moved M bytes. A call that leaves no record gives `- REFUSAL
-   ERRNO`, a join or attach that fails `- ERRNO`, and with it `no place ..` on standard error where that is so, and an
+   ERRNO`, a join or attach that fails `- ERRNO`, and with it `no answer ..` on standard error where that is so, and an
    exit, `returns` or `within` nothing. */
 
 #include <stdio.h>

@@ -262,7 +262,7 @@ def is_without_a_place(program: str, library: Library) -> None:
         parent = pool.submit(run, [*asked, library.program("preload_forks")], seconds=3 * SECONDS)
         until_traced(server, 1)
         late = pool.submit(run, [*asked, library.program("preload_numbers"), "mixed"], seconds=3 * SECONDS)
-        told = "no place: all sessions are taken\n"
+        told = "no answer: all sessions are taken, or no fdref listens there\n"
         same(Ran(NO_ANSWER, b"", f"fdref: the child cannot be attached: {told}".encode()), parent.result())
         same(Ran(NO_ANSWER, b"", f"fdref: {server.path}: {told}".encode()), late.result())
 

@@ -176,6 +176,10 @@ def broken_off(program: str) -> None:
         server.ended(report(2, 9, 5, 0))
 
 
+# What is told where the connection is made and no answer comes, whoever listens.
+NO_PLACE = "no answer: all sessions are taken, or no fdref listens there"
+
+
 def without_a_place(program: str) -> None:
     """A process more than the server has sessions is told so, though it is connected."""
     with Server(program, 1) as server, joined(server) as process:
@@ -188,7 +192,7 @@ def without_a_place(program: str) -> None:
             begun = time.monotonic()
             raised = raises(fdref.NoPlace, call)
             took = time.monotonic() - begun
-            wanted = (errno.ETIMEDOUT, "no place: all sessions are taken", server.path)
+            wanted = (errno.ETIMEDOUT, NO_PLACE, server.path)
             same(wanted, (raised.errno, raised.strerror, raised.filename))
             require(A_WHILE <= took < SECONDS, f"told after {took} seconds, and {A_WHILE} were given")
         same((None, None), (process.timeout, process.close(process.open("a", os.O_WRONLY | os.O_CREAT))))
@@ -205,7 +209,7 @@ def with_a_full_queue() -> None:
         waiting = stack.enter_context(socket.socket(socket.AF_UNIX, socket.SOCK_STREAM))
         waiting.connect(listener.path)
         raised = raises(fdref.NoPlace, lambda: fdref.join(listener.path, within=A_WHILE))
-        same("no place: all sessions are taken", raised.strerror)
+        same(NO_PLACE, raised.strerror)
         # as soon as there is a place, it is taken
         taken: list[socket.socket] = []
 
@@ -220,6 +224,15 @@ def with_a_full_queue() -> None:
         with fdref.join(listener.path, within=SECONDS) as process:
             same((5, 3), (process.pid, process.place))
         thread.join(SECONDS)
+
+
+def with_another_server() -> None:
+    """Where what listens is no fdref, and says nothing, the same is told, which is true of it too."""
+    listener = Listener()
+    listener.socket.listen(1)
+    with contextlib.closing(listener):
+        raised = raises(fdref.NoPlace, lambda: fdref.join(listener.path, within=A_WHILE))
+        same((NO_PLACE, listener.path), (raised.strerror, raised.filename))
 
 
 def limited(program: str) -> None:
@@ -421,6 +434,7 @@ def cases(program: str) -> Iterator[Case]:
     yield "a call of the client that is broken off", partial(broken_off, program)
     yield "a server without a place", partial(without_a_place, program)
     yield "a queue without a place", with_a_full_queue
+    yield "another server", with_another_server
     yield "answers with a limit", partial(limited, program)
     yield "the example with a server of its own", partial(example, program, True)
     yield "the example with a server that is there", partial(example, program, False)

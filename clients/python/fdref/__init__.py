@@ -133,10 +133,11 @@ class NoAnswer(TimeoutError):
 
 
 class NoPlace(NoAnswer):
-    """The connection was made and no first answer came: the server serves as many processes as it was told to."""
+    """The connection was made and no first answer came: the server serves as many processes as it was told to, or it is
+    no fdref."""
 
     def __init__(self, path: str) -> None:
-        super().__init__("no place: all sessions are taken", path)
+        super().__init__("no answer: all sessions are taken, or no fdref listens there", path)
 
 
 class Stat(NamedTuple):
