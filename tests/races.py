@@ -560,6 +560,7 @@ def tool_cases(bench: Bench) -> Iterator[Case]:
     for words in (["a", "--kind", "names"], ["a", "--processes", "3"]):
         yield f"words {words}", partial(tool_ends, bench, 2, words)
     yield "no time", partial(tool_ends, bench, 2, [])
+    yield "states without a file", partial(tool_ends, bench, 2, ["--seconds", "1", "--states", "9"])
     yield "no file", partial(tool_ends, bench, 3, ["/no/such"])
     yield "no program", partial(tool_ends, bench, 3, ["--seconds", "1", "--program", "/no/such"])
     yield "no driver", partial(tool_ends, bench, 3, ["--seconds", "1", "--driver", "/no/such"])

@@ -3,7 +3,7 @@
 
 usage: tools/race.py --seconds N [--kind WORD] [--seed WORD] [--processes N] [--pipe-capacity N] [--pin] [--dir DIR]
                      [--keep DIR] [--summary FILE]
-       tools/race.py FILE [--seconds N] [--seed WORD] [--pipe-capacity N] [--pin] [--dir DIR] [--keep DIR]
+       tools/race.py FILE [--seconds N] [--seed WORD] [--pipe-capacity N] [--states N] [--pin] [--dir DIR] [--keep DIR]
 
 Random scripts of each kind (tools/race_kinds.py) are run by tools/race_kernel.c, many rounds of each: real processes
 make their calls at once, at full speed. XSH 2.9.7 asks that calls on regular files are atomic to each other, so there
@@ -18,7 +18,7 @@ of the system. The last lines count histories by kind and by reason.
 With a FILE, which is a race for `fdref outcomes`, the system runs that for N seconds (5), and a table is printed: what
 was seen and is not allowed, with its reason, then what is allowed and was not seen, and then the rest. Each line has
 how often an outcome was seen, its number in `fdref outcomes`, and the answers; the last one counts them. What FILE asks
-for is left out.
+for is left out. Where `fdref outcomes` tells that there are too many states, --states N lets it go on to N.
 
 Exit status: 0 where all that no order explains has a reason, 1 where something has none, 2 for wrong words, 3 where a
 script could not be run. docs/KERNELS.md has more.
@@ -419,6 +419,8 @@ def parse(words: Sequence[str]) -> argparse.Namespace:
     parser.add_argument("--dir", metavar="DIR", help="where the files are made; else in $TMPDIR or /tmp")
     add_program(parser)
     add_capacity(parser)
+    states = "of a FILE: how many states `fdref outcomes` may meet, as many as that says where no number is given"
+    parser.add_argument("--states", type=int, metavar="N", help=states)
     driver = "tools/race_kernel.c, as it was compiled; compiled for this run where it is not given"
     parser.add_argument("--driver", metavar="PATH", help=driver)
     parser.add_argument("--pin", action="store_true", help="each process has a processor of its own")
@@ -431,6 +433,8 @@ def parse(words: Sequence[str]) -> argparse.Namespace:
         parser.error("what is counted of a FILE is not added up")
     if args.file is None and args.seconds is None:
         parser.error("without a FILE --seconds N is needed")
+    if args.file is None and args.states is not None:
+        parser.error("--states N is for a FILE")
     args.kinds = [kind for kind in race_kinds.KINDS if args.kind in kind]
     if not args.kinds:
         parser.error(f"no kind has {args.kind} in its name: there are {', '.join(race_kinds.KINDS)}")
@@ -495,7 +499,8 @@ def race_file(args: argparse.Namespace, asked: Asked) -> int:
     race = race_in(args.file)
     script = race.text()
     program = [asked.program] if isinstance(asked.program, str) else asked.program
-    table = race_table.Table(race, race_table.allowed_by(program, race, capacity_words(asked.limits)))
+    states = [] if args.states is None else ["--states", str(args.states)]
+    table = race_table.Table(race, race_table.allowed_by(program, race, [*capacity_words(asked.limits), *states]))
     first: History | None = None
     for found in raced(asked, script, args.seed, FILE_SECONDS if args.seconds is None else args.seconds):
         first = first or found[0]

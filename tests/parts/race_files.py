@@ -103,6 +103,14 @@ def setup_is_told(tools: Tools) -> None:
     require(done.status == 0 and done.stdout.startswith(first), done.said())
 
 
+def states_are_passed_on(tools: Tools) -> None:
+    """With too few states fdref gives up, and with enough it tells what is allowed."""
+    words = made_up(tools, "states", MADE_UP[1:2])
+    few = tools.race(*words, "--states", "2")
+    require(few.status == 3 and b"too many states: more than 2" in few.stderr, few.said())
+    same(tools.race(*words), tools.race(*words, "--states", "100"))
+
+
 def wrong_fdref_is_told(tools: Tools) -> None:
     """An outcome that an order explains, and fdref does not tell, is a fault of fdref."""
     program = f"{sys.executable} {STAND_INS / 'wrong_outcomes.py'} last-never-first"
@@ -123,6 +131,7 @@ def tool_cases(tools: Tools) -> Iterator[Case]:
     yield "the table", partial(table_is_told, tools)
     yield "what was not seen", partial(unseen_is_told, tools)
     yield "before the race", partial(setup_is_told, tools)
+    yield "too many states", partial(states_are_passed_on, tools)
     yield "a wrong fdref", partial(wrong_fdref_is_told, tools)
     for text, told in (
         ("join\n", "no race"),
