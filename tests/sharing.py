@@ -203,16 +203,24 @@ def refused_cases(bench: Bench) -> Iterator[Case]:
     other = struck_of(bench, 5_000, 1, 0)
     unknown = bench.written("unknown", {"program": "edits.py", "shares": [], "versions": {}, "counts": {}})
     bare = bench.written("bare", {"program": "race.py", "shares": [], "versions": {}, "counts": {"names": {}}})
-    odd = bench.written("odd", {"program": "random_runs.py", "shares": [], "versions": {}, "counts": {"acts": "one"}})
-    yield "a file twice", partial(is_refused, bench, [whole, whole], "counted twice: seed 1 scripts 0 to 1999")
-    yield "a script twice", partial(is_refused, bench, [whole, later], "scripts 1999 to 3998")
-    yield "two programs", partial(is_refused, bench, [whole, other], "of different programs")
+    lacking = bench.written("lacking", {"program": "race.py", "shares": [], "counts": {}})
+    share = bench.written("share", {"program": "race.py", "shares": [{"seed": 1}], "versions": {}, "counts": {}})
+    counts = {**SCRIPTS, "acts": "one", "ends": {}}
+    odd = bench.written("odd", {"program": "random_runs.py", "shares": [], "versions": {}, "counts": counts})
+    twice = f"{whole}: counted twice: seed 1 scripts 0 to 1999, and in {whole} seed 1"
+    yield "a file twice", partial(is_refused, bench, [whole, whole], twice)
+    again = f"{later}: counted twice: seed 1 scripts 1999 to 3998, and in {whole} seed 1 scripts 0 to 1999"
+    yield "a script twice", partial(is_refused, bench, [whole, later], again)
+    yield "two programs", partial(is_refused, bench, [whole, other], f"{other}: of different programs")
     yield "no file", partial(is_refused, bench, [bench.path("none")], "none: No such file")
     yield "too few files", partial(is_refused, bench, ["--files", "2", whole], "1 file, and there have to be 2")
     yield "no summary", partial(is_refused, bench, [bench.written("list", [])], "no summary")
-    yield "no such program", partial(is_refused, bench, [unknown], "of edits.py")
-    yield "no counts", partial(is_refused, bench, [bare], "not the counts of race.py")
-    yield "counts of other forms", partial(is_refused, bench, [whole, odd], "counts of different forms")
+    yield "no such program", partial(is_refused, bench, [unknown], f"{unknown}: of edits.py")
+    missing = f"{bare}: not the counts of race.py: scripts is missing"
+    yield "no counts", partial(is_refused, bench, [bare], missing)
+    yield "no versions", partial(is_refused, bench, [lacking], f"{lacking}: no summary: versions is missing")
+    yield "no seed", partial(is_refused, bench, [share], f"{share}: no summary: seed is no text")
+    yield "counts of other forms", partial(is_refused, bench, [odd, whole], "counts of different forms")
     yield "the folder of a summary", partial(folder_is_asked_for_first, bench)
 
 

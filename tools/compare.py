@@ -238,7 +238,8 @@ class Totals:
         """What other runs have counted."""
         totals = cls()
         acts = {name: Acts(counts[name]) for name in ("struck", "last")}
-        vars(totals).update(counts, by_reason=collections.Counter(counts["by_reason"]), **acts)
+        named = {name: counts[name] for name in vars(totals)}
+        vars(totals).update(named, by_reason=collections.Counter(counts["by_reason"]), **acts)
         return totals
 
     def counts(self) -> Counts:

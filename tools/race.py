@@ -274,7 +274,8 @@ class Counted:
     def of(cls, counts: Counts) -> Self:
         """What other runs have counted."""
         counted = cls()
-        vars(counted).update(counts, by_reason=collections.Counter(counts["by_reason"]))
+        named = {name: counts[name] for name in vars(counted)}
+        vars(counted).update(named, by_reason=collections.Counter(counts["by_reason"]))
         return counted
 
     def add(self, script: str, found: Sequence[History], distinct: int) -> None:

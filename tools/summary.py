@@ -34,14 +34,24 @@ TALLIES: dict[str, type[Tally]] = {
 }
 
 
-def tally_of(summary: Summary) -> Tally:
-    """What the program of a summary counts."""
+def tally_of(path: str, summary: Summary) -> Tally:
+    """What the program of a summary counts, which is that of a file."""
     if summary.program not in TALLIES:
-        raise BadSummary(f"of {summary.program}, which has none")
+        raise BadSummary(f"{path}: of {summary.program}, which has none")
     try:
         return TALLIES[summary.program].of(summary.counts)
-    except (KeyError, TypeError, ValueError) as fault:
-        raise BadSummary(f"not the counts of {summary.program}: {type(fault).__name__} {fault}") from None
+    except KeyError as fault:
+        raise BadSummary(f"{path}: not the counts of {summary.program}: {fault.args[0]} is missing") from None
+    except (AttributeError, TypeError, ValueError):
+        raise BadSummary(f"{path}: not the counts of {summary.program}: they are of another form") from None
+
+
+def summed(paths: Sequence[str]) -> Summary:
+    """The sum of what is in these files, each of which has what its program counts."""
+    every = [(path, read(path)) for path in paths]
+    for path, summary in every:
+        tally_of(path, summary)
+    return sum_of(every)
 
 
 def told_versions(summary: Summary) -> list[str]:
@@ -67,8 +77,8 @@ def main(words: Sequence[str]) -> int:
     try:
         if args.count is not None and len(args.files) != args.count:
             raise BadSummary(f"{several(len(args.files), 'file')}, and there have to be {args.count}")
-        summary = sum_of([read(path) for path in args.files])
-        tally = tally_of(summary)
+        summary = summed(args.files)
+        tally = tally_of("the sum", summary)
         if args.into:
             write(args.into, summary)
     except (BadSummary, OSError) as fault:

@@ -14,7 +14,7 @@ import os
 import platform
 import tempfile
 from argparse import ArgumentParser, ArgumentTypeError
-from collections.abc import Iterable, Sequence
+from collections.abc import Iterable, Mapping, Sequence
 from pathlib import Path
 from typing import Any, NamedTuple, Protocol, Self
 
@@ -128,16 +128,34 @@ def write(path: str, summary: Summary) -> None:
 # ---- reading
 
 
+# What is said of a value of each type, and the types of what a summary and a share have.
+KINDS: dict[type, str] = {str: "text", int: "number", list: "list", dict: "object"}
+OF_SUMMARY: dict[str, type] = {"program": str, "shares": list, "versions": dict, "counts": dict}
+OF_SHARE: dict[str, type] = {"seed": str, "first": int, "scripts": int, "of": str}
+
+
+def values_of(found: Any, wanted: Mapping[str, type]) -> list[Any]:
+    """The values of these names in an object, where each is there and has its type."""
+    if not isinstance(found, dict):
+        raise BadSummary("no object")
+    for name, kind in wanted.items():
+        if name not in found:
+            raise BadSummary(f"{name} is missing")
+        if not isinstance(found[name], kind):
+            raise BadSummary(f"{name} is no {KINDS[kind]}")
+    return [found[name] for name in wanted]
+
+
 def read(path: str) -> Summary:
     """The summary in a file."""
     try:
         found = json.loads(Path(path).read_text(encoding="ascii"))
-        shares = [Share(**share) for share in found["shares"]]
-        return Summary(found["program"], shares, found["versions"], found["counts"])
+        program, shares, versions, counts = values_of(found, OF_SUMMARY)
+        return Summary(program, [Share(*values_of(share, OF_SHARE)) for share in shares], versions, counts)
     except OSError as fault:
         raise BadSummary(f"{path}: {fault.strerror}") from None
-    except (ValueError, KeyError, TypeError) as fault:
-        raise BadSummary(f"{path}: no summary: {type(fault).__name__} {fault}") from None
+    except (ValueError, BadSummary) as fault:
+        raise BadSummary(f"{path}: no summary: {fault}") from None
 
 
 # ---- adding
@@ -152,30 +170,39 @@ def added(one: Any, other: Any) -> Any:
     raise BadSummary(f"counts of different forms: {one!r} and {other!r}")
 
 
-def in_order(summaries: Iterable[Summary]) -> list[Summary]:
+# A summary, and the path of its file.
+Read = tuple[str, Summary]
+
+
+def in_order(every: Iterable[Read]) -> list[Read]:
     """Summaries in the order in which one run makes their scripts."""
-    return sorted(summaries, key=lambda it: [(share.seed, share.first) for share in it.shares])
+    return sorted(every, key=lambda it: [(share.seed, share.first) for share in it[1].shares])
 
 
-def check_shares(shares: Sequence[Share]) -> None:
-    """Fails where something was run twice."""
-    ordered = sorted(shares, key=lambda it: (it.seed, it.of, it.first))
-    for one, other in zip(ordered, ordered[1:], strict=False):
+def check_shares(every: Iterable[Read]) -> None:
+    """Fails where something was run twice, and names the files."""
+    shares = [(share, path) for path, summary in every for share in summary.shares]
+    ordered = sorted(shares, key=lambda it: (it[0].seed, it[0].of, it[0].first))
+    for (one, path), (other, other_path) in zip(ordered, ordered[1:], strict=False):
         if one.is_met(other):
-            raise BadSummary(f"counted twice: {one.text()}, and {other.text()}")
+            raise BadSummary(f"{other_path}: counted twice: {other.text()}, and in {path} {one.text()}")
 
 
-def sum_of(summaries: Sequence[Summary]) -> Summary:
+def both(one: Summary, path: str, other: Summary) -> Summary:
+    """Two summaries in one, of which the other is that of a file."""
+    if one.program != other.program:
+        raise BadSummary(f"{path}: of different programs: {other.program}, and {one.program} in other files")
+    try:
+        versions, counts = added(one.versions, other.versions), added(one.counts, other.counts)
+    except BadSummary as fault:
+        raise BadSummary(f"{path}: beside other files: {fault}") from None
+    return Summary(one.program, one.shares + other.shares, versions, counts)
+
+
+def sum_of(every: Sequence[Read]) -> Summary:
     """The summary of one run that makes what several have made."""
-    first, *others = in_order(summaries)
-    for it in others:
-        if it.program != first.program:
-            raise BadSummary(f"of different programs: {first.program} and {it.program}")
-        first = Summary(
-            first.program,
-            first.shares + it.shares,
-            added(first.versions, it.versions),
-            added(first.counts, it.counts),
-        )
-    check_shares(first.shares)
-    return first
+    (_, summary), *others = in_order(every)
+    for path, other in others:
+        summary = both(summary, path, other)
+    check_shares(every)
+    return summary
