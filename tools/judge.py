@@ -258,7 +258,8 @@ class Verdict:
         self.both = both
         self.audit = audit
         try:
-            self.compared = Compared(both.system_log, both.fdref_log, both.trace, both.system.status is None)
+            is_killed, has_ended = both.system.status is None, both.fdref.status is not None
+            self.compared = Compared(both.system_log, both.fdref_log, both.trace, is_killed, has_ended)
         except Failure as fault:
             raise CannotJudge(str(fault)) from None
         self.findings, self.unexplained = self.compared.findings, self.compared.unexplained

@@ -89,6 +89,11 @@ def shared_reads(trace: list[Line], limits: plain_model.Limits) -> set[int]:
     return {place for place, pipe in reads if any(len(users.get((pipe, word), ())) > 1 for word in ("read", "write"))}
 
 
+def is_at_the_end(line: Line) -> bool:
+    """Whether a record may be there because all processes of a run were killed."""
+    return word_of(line) in ("exit", "resume", "close-run")
+
+
 class Story:
     """What fdref recorded, with the model beside it."""
 
@@ -115,6 +120,13 @@ class Story:
             return None
         call = self.trace[self.start_of(own[-1])]
         return call._replace(outcome=f"parked {own[-1].outcome.split(' ')[1]}")
+
+    def is_cut_off(self, number: int, has_ended: bool) -> bool:
+        """Whether a process that still waits exited before the end of the run, as by a signal: the run has ended by
+        itself, or others made calls after that."""
+        exits = [place for place, line in enumerate(self.trace) if line.act == f"p{number} exit"]
+        later = self.trace[exits[0] :] if exits else []
+        return bool(later) and (has_ended or not all(map(is_at_the_end, later)))
 
     def world_before(self, place: int) -> plain_model.World:
         """The world before a place, which is none of those that were asked for already."""
@@ -154,13 +166,14 @@ def partings_of(way: Way, system: list[Line], fdref: list[Line], number: int, st
             return
 
 
-def add_waits(system: Log, fdref: Log, story: Story, is_killed: bool) -> None:
-    """Adds to the log of fdref the calls that got no answer to the end. Where the system was killed it may have made
-    the same call."""
+def add_waits(system: Log, fdref: Log, story: Story, is_killed: bool, has_ended: bool) -> None:
+    """Adds to the log of fdref the calls that got no answer to the end. Where the system was killed, or a signal ended
+    the process in it, the system may have made the same call, which has no line there."""
     for way, number in fdref.numbers.items():
         calls = fdref.calls[way]
         call = story.waits(number)
-        is_further = not is_killed or len(system.calls.get(way, [])) > len(calls)
+        is_open = is_killed or story.is_cut_off(number, has_ended)
+        is_further = not is_open or len(system.calls.get(way, [])) > len(calls)
         if call and is_further and not any(line.place == call.place for line in calls[-1:]):
             calls.append(call)
 
@@ -240,15 +253,16 @@ def check_places(lines: list[Line], trace: list[Line]) -> None:
 
 
 class Compared:
-    """Two logs, which are compared: what is found, and the first finding that has no reason and follows from none."""
+    """Two logs, which are compared: what is found, and the first finding that has no reason and follows from none. The
+    run on the system may have been killed, and the one with fdref may have ended by itself."""
 
-    def __init__(self, system: bytes, fdref: bytes, trace: bytes, is_killed: bool) -> None:
+    def __init__(self, system: bytes, fdref: bytes, trace: bytes, is_killed: bool, has_ended: bool) -> None:
         self.lines = read_lines(fdref)
         self.system, self.fdref = log_of(read_lines(system)), log_of(self.lines)
         frames = Frames(trace)
         records = [line_of(text) for text in frames.lines]
         check_places(self.lines, records)
         story = Story(records, frames.header.limits if frames.header else plain_model.DEFAULTS)
-        add_waits(self.system, self.fdref, story, is_killed)
+        add_waits(self.system, self.fdref, story, is_killed, has_ended)
         self.findings = findings_of(all_partings(self.system, self.fdref, story), story)
         self.unexplained = next((it for it in self.findings if not it.reason and not it.follows), None)

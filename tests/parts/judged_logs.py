@@ -229,6 +229,32 @@ LOGS = [
         fdref_ends=KILLED,
     ),
     Logs(
+        "a child that a signal ends while it reads",
+        "p0 pipe = 0 1; p0 fork = 1; p0 close 0 = ok",
+        A_PIPE + "4 p1 read 0 1 = parked 0; 5 p1 exit = ok; 6 p0 close 0 = ok; 7 p0 exit = ok; 8 house close-run = ok",
+        [],
+    ),
+    Logs(
+        "a child that a signal ends while it reads, before all are killed",
+        "p0 pipe = 0 1; p0 fork = 1; p0 close 0 = ok",
+        A_PIPE + "4 p1 read 0 1 = parked 0; 5 p1 exit = ok; 6 p0 close 0 = ok; 7 p0 exit = ok; 8 house close-run = ok",
+        [],
+        fdref_ends=KILLED,
+    ),
+    Logs(
+        "a child that a signal ends while it writes, for which the system has room",
+        "p0 pipe = 0 1; p0 fork = 1; p1 write 1 61*2000 = 2000",
+        A_PIPE + "4 p1 write 1 61*2000 = parked 1024; 5 p1 exit = ok; 6 p0 exit = ok; 7 house close-run = ok",
+        ["p1 write 1 61*2000: 2000, parked 1024: room of a pipe"],
+    ),
+    Logs(
+        "a call more that waits until all are killed",
+        "p0 pipe = 0 1",
+        "0 p0 join = 0; 1 p0 pipe = 0 1; 2 p0 read 0 1 = parked 0; 3 p0 exit = ok; 4 house close-run = ok",
+        ["p0 read 0 1: no call, parked 0: none"],
+        fdref_ends=KILLED,
+    ),
+    Logs(
         "a call that the profile does not have the number for, and one that is no act",
         "p0 close 7 = error EIO; p0 open a/b r = 3",
         "0 p0 join = 0; 1 p0 close 7 = error EBADF; 2 p0 open a/b r = error EINVAL",
@@ -253,7 +279,7 @@ def logged(lines: list[str]) -> list[str]:
             calls[who] = act
         elif act == "resume":
             told.append(f"{place} {who} {calls[who]} = {outcome}")
-        elif act.split(" ")[0] not in ("join", "attach"):
+        elif act.split(" ")[0] not in ("join", "attach", "exit", "close-run"):
             told.append(line)
     return told
 
