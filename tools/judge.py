@@ -36,7 +36,7 @@ that, so may what is told of it.
 Exit status: 0 where both ended by themselves, with the same status, standard output and standard error,
 each answer that differs has a reason or may follow from one that has, and the audit finds the trace legal,
 whatever went past fdref; 1 where one of these is not so; 2 for wrong words; 3 where the program could not
-be run or compared, or ended with neither.
+be run or compared, ended with neither, or crashed with both, as by a bad address.
 """
 
 import argparse
@@ -84,6 +84,21 @@ NOT_ASKED = 124
 LEAVES_OUT = "uses what fdref leaves out: "
 IS_TOLD = re.compile(rb"^fdref: (.*)$", re.MULTILINE)
 IS_LEFT_OUT = re.compile(rb"^fdref: (.*) is left out$", re.MULTILINE)
+
+
+# Signals of a crash, which is told also where it ends both runs: a bad address crashes the shim in each of them.
+CRASHES = {
+    int(number): number.name
+    for number in (
+        signal.SIGSEGV,
+        signal.SIGBUS,
+        signal.SIGILL,
+        signal.SIGFPE,
+        signal.SIGABRT,
+        signal.SIGTRAP,
+        signal.SIGSYS,
+    )
+}
 
 
 class CannotJudge(Exception):
@@ -279,12 +294,18 @@ class Verdict:
         """The exit status."""
         if self.unexplained or not self.audit.startswith("legal "):
             return 1
-        if not self.has_ended():
+        if not self.has_ended() or crash_of(self.both):
             return 3
         return 0 if self.both.system == self.both.fdref else 1
 
 
 # ---- telling
+
+
+def crash_of(both: Both) -> str:
+    """The signal of a crash, which ended the program in both runs, or nothing."""
+    status = both.system.status
+    return CRASHES.get(-status, "") if status is not None and status == both.fdref.status else ""
 
 
 def how(ended: Ended, seconds: float) -> str:
@@ -300,6 +321,9 @@ def told_ends(both: Both, seconds: float, lines_of_fdref: list[Line]) -> list[st
     lines = [f"both {system}"] if system == fdref else [f"system: {system}", f"fdref:  {fdref}"]
     if both.system.status is None and both.fdref.status is None and not both.still:
         lines = [f"neither ended in {seconds:g} seconds: both were killed"]
+    crash = crash_of(both)
+    why = ": with the shim a bad address is no EFAULT" if crash in ("SIGSEGV", "SIGBUS") else ""
+    lines += [f"a crash ({crash}) is no agreement{why}"] if crash else []
     for what, one, other in (
         ("output", both.system.stdout, both.fdref.stdout),
         ("error", both.system.stderr, both.fdref.stderr),

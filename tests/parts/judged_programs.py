@@ -109,6 +109,7 @@ STILL = (
 )
 NEITHER = "neither ended in 2 seconds: both were killed"
 WELL = "both ended with status 0"
+BAD_ADDRESS = "a crash (SIGSEGV) is no agreement: with the shim a bad address is no EFAULT"
 
 PROGRAMS = [
     Judged("agrees", ("word",), 0, (WELL, "18 calls of 1 process: no answer differs", "audit: legal")),
@@ -206,6 +207,10 @@ PROGRAMS = [
         ),
         SOON,
     ),
+    Judged("signals", ("kills",), 0, (WELL, "4 calls of 2 processes: no answer differs", "audit: legal")),
+    Judged("signals", ("address",), 3, ("both ended by signal 11", BAD_ADDRESS, "1 call of 1 process")),
+    Judged("signals", ("aborts",), 3, ("both ended by signal 6", "a crash (SIGABRT) is no agreement", "1 call")),
+    Judged("signals", ("stops",), 0, ("both ended by signal 15", "1 call of 1 process: no answer differs")),
     Judged("stays", ("reads",), 3, (NEITHER, "2 calls of 2 processes: no answer differs"), SOON),
     Judged(
         "stays",
