@@ -43,6 +43,7 @@
      - F_GETFL has O_LARGEFILE, too, where the kernel would tell it. F_SETFL asks with the flags that fdref knows.
      - pipe2 with O_NONBLOCK is a pipe, and a setfl of each end. ioctl with FIONBIO is a getfl and a setfl.
      - EPIPE raises SIGPIPE.
+     - fclose of a standard stream closes its descriptor, which is not logged, also in a native run.
      - dprintf formats, and is a write; what a short one left is written again, as glibc does.
      - Of fpathconf and pathconf PIPE_BUF is 512, NAME_MAX 64, LINK_MAX 8, FILESIZEBITS 42 and NO_TRUNC 1, also in a
        native run. sysconf, getrlimit and prlimit tell that 32 descriptors may be open, which cannot be changed.
@@ -301,6 +302,16 @@ int close_range(unsigned first, unsigned last, int flags)
 
 void closefrom(int first) { close_range(first < 0 ? 0 : (unsigned)first, UINT_MAX, 0); }
 
+/* A file of fdref that stdio closes, as programs do with standard output at their end. The close is not logged, since
+   the C library makes it natively. */
+static int64_t close_stream(int fd)
+{
+    make_blank(fd);
+    ask_aside(fdref_act_close(fd), NULL, 0);
+    set_free(fd);
+    return 0;
+}
+
 int fclose(FILE *file)
 {
     int error = errno, fd = fileno(file), done;
@@ -308,14 +319,14 @@ int fclose(FILE *file)
     prepare();
     errno = error;
     done = system_fclose(file);
-    if (fd < 0 || fd >= NUMBERS || how != ASKED)
+    if (fd < 0 || fd >= NUMBERS)
         return done;
-    if (way == PASS)
+    if (how == NATIVE)
+        set_free(fd);
+    else if (how == ASKED && way == PASS)
         ALONE(close_real(fd));
-    else if (slots[fd].held == OURS) {
-        make_blank(fd);
-        ALONE(close_ours(fd));
-    }
+    else if (how == ASKED && slots[fd].held == OURS)
+        ALONE(close_stream(fd));
     return done;
 }
 

@@ -1,6 +1,6 @@
 /* Does what the answers of no two systems agree on.
 
-   usage: judge_strays call|answer|output|leaves-out|passes|spawns|stdio|streams|threads
+   usage: judge_strays call|answer|output|leaves-out|passes|spawns|stdio|closes|streams|threads
 
    call        writes the number of its process into a file
    answer      changes a file by a system call that no library sees, and asks for the size of it
@@ -9,6 +9,7 @@
    passes      does more that goes past fdref
    spawns      prints the number of its process, and has a shell exit
    stdio       has a file at descriptor 1, to which it prints
+   closes      has a file at descriptor 1, and closes standard output before it opens another one
    streams     makes a file by stdio, and one by a path with a slash, and opens the first
    threads     has a thread that waits for what another one writes */
 
@@ -82,6 +83,8 @@ int main(int count, char **words)
     if (strcmp(what, "streams") == 0)
         streams();
     if (strcmp(what, "threads") == 0 && threads() != 0)
+        return 1;
+    if (strcmp(what, "closes") == 0 && (dup2(fd, 1) != 1 || fclose(stdout) != 0 || open("b", O_CREAT, 0600) != 1))
         return 1;
     if (strcmp(what, "stdio") == 0 && dup2(fd, 1) == 1 && printf("%s", text) > 0)
         fflush(stdout);
