@@ -1,7 +1,7 @@
 """What went past fdref, as the shim notes it, and what a difference may follow from.
 
-A line is `! 6 p0 stream fopen`, and after a tab the name that the call has, if any. `!` stands where --strict would
-tell it, else `-`. The place is that of the last record of its process before.
+A line is `! 6 p0 stream fopen`, and after a tab the name that the call has, if any, or the descriptor of fdref of a
+`call`. `!` stands where --strict would tell it, else `-`. The place is that of the last record of its process before.
 """
 
 from typing import NamedTuple
@@ -10,8 +10,8 @@ from partings import Finding
 from support.runs import Line
 
 # The kinds that are counted, and what is said of one.
-COUNTED = {"path": "path", "stream": "stream", "program": "program", "call": "other call"}
-STDIO, THREAD = "stdio", "thread"
+CALL, STDIO, THREAD = "call", "stdio", "thread"
+COUNTED = {"path": "path", "stream": "stream", "program": "program", CALL: "other call"}
 
 
 class Past(NamedTuple):
@@ -25,8 +25,10 @@ class Past(NamedTuple):
     name: str
 
     def said(self, between: str = " ") -> str:
-        """The call with its name, or what it is where it is none."""
+        """The call with its name or descriptor, or what it is where it is none."""
         said = {STDIO: f"stdio on descriptor {self.call}", THREAD: f"a thread that waits in {self.call}"}
+        if self.kind == CALL and self.name.isdigit():
+            return f"{self.call} on descriptor {self.name}"
         return said.get(self.kind) or (f"{self.call}{between}{self.name}" if self.name else self.call)
 
     def weight(self, names: frozenset[str]) -> tuple[bool, bool, bool, bool]:

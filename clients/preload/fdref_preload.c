@@ -14,7 +14,7 @@
      FDREF_PAST=FILE    Each call that is left to the system or fails with ENOSYS, as far as it is seen, is appended to
                         FILE as a line: with the place of the last record of its process, the process, its kind, and
                         after a tab its name: `! 6 p0 path open<tab>d/x`, `! 6 p0 program system<tab>./a`,
-                        `! 6 p0 call poll`, `! 6 p0 thread read`. Where FDREF_STRICT would not tell it `-` stands for
+                        `! 6 p0 thread read`. In `! 6 p0 call poll<tab>3` it is a descriptor of fdref. Where FDREF_STRICT would not tell it `-` stands for
                         `!`: `- 6 p0 stream fopen<tab>/tmp/x`, and `- 6 p0 stdio 1`, as a file of fdref comes to be at
                         descriptor 0, 1 or 2.
 
@@ -69,6 +69,8 @@
      - system, popen and posix_spawn: their programs join as new processes, which have the real files alone. daemon and
        forkpty, which fork, and renameat2 with flags are ENOSYS.
      - pipe2 with O_DIRECT, which is a pipe of the kernel; chdir; a limit of the size of files.
+     - syscall by the numbers of calls that fdref has, and of their kin: with a descriptor or a file of fdref ENOSYS, and
+       else the kernel's.
      - A thread that waits in a call for 0.1 seconds while another one makes a call: one is made at a time.
 
    What cannot be seen, and is not told: system calls that are made past the C library, and what it makes inside. So
@@ -122,6 +124,7 @@
 #include <sys/stat.h>
 #include <sys/statfs.h>
 #include <sys/statvfs.h>
+#include <sys/syscall.h>
 #include <sys/time.h>
 #include <sys/timerfd.h>
 #include <sys/types.h>
@@ -533,7 +536,7 @@ static int64_t seek(int fd, int64_t offset, int whence)
     struct fdref_act act = fdref_act_lseek(fd, offset, whence);
     int is_known = whence == SEEK_SET || whence == SEEK_CUR || whence == SEEK_END;
     if (way == ASK && !is_known)
-        leave_out("call", "lseek by SEEK_DATA and its kin", NULL);
+        leave_out_at("lseek by SEEK_DATA and its kin", fd);
     if (way == ASK)
         return ALONE(ask_most(act, NULL, INT64_MAX));
     return way == NOTE && is_known ? noted(act, system_lseek(fd, offset, whence)) : system_lseek(fd, offset, whence);
@@ -838,4 +841,5 @@ int remove(const char *name)
 #include "files.h"
 #include "bounds.h"
 #include "past.h"
+#include "raw.h"
 #include "further.h"

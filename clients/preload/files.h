@@ -97,7 +97,7 @@ static int refuse(int fd, const char *what)
 {
     if (slot_of(fd).held == FREE)
         return (int)fails(EBADF);
-    leave_out("call", what, NULL);
+    leave_out_at(what, fd);
     return (int)fails(ENOSYS);
 }
 

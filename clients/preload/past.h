@@ -1,7 +1,23 @@
 /* past.h: a part of fdref_preload.c. What fdref leaves out, as far as a call of the C library shows it: that is told.
    tests/c/descriptor_functions.txt has all functions with a descriptor or a path, and what is done with each. */
 
-static int is_ours(int fd) { return how == ASKED && slot_of(fd).held == OURS; }
+/* The descriptor of fdref that was found last, or -1, so that it is told of a call. */
+static __thread int ours = -1;
+
+static int is_ours(int fd)
+{
+    int is_found = how == ASKED && slot_of(fd).held == OURS;
+    ours = is_found ? fd : ours;
+    return is_found;
+}
+
+/* Tells a call with the descriptor of fdref that was found last. */
+static int leave_out_ours(const char *what)
+{
+    leave_out_at(what, ours);
+    return 1;
+}
+
 static int is_plain(const char *name) { return how == ASKED && plain(name) != NULL; }
 static int is_plain_in(int folder, const char *name) { return folder == AT_FDCWD && is_plain(name); }
 
@@ -100,12 +116,12 @@ static int fails_with(const char *kind, const char *what, const char *path, int 
 /* The same of a name in a folder, or of the file of a descriptor itself. */
 #define NAMES_IN(type, name, parameters, words, folder, path) \
     PASSES_OR_FAILS(type, name, parameters, words, \
-                    is_itself(folder, path) ? (leave_out("call", #name, NULL), 1) \
+                    is_itself(folder, path) ? leave_out_ours(#name) \
                                             : fails_with("path", #name, path, is_plain_in(folder, path)), -1)
 
 /* A call that is told, and fails with this value, where this holds. */
 #define FAILS(type, name, parameters, words, holds, value) \
-    PASSES_OR_FAILS(type, name, parameters, words, (holds) ? (leave_out("call", #name, NULL), 1) : 0, value)
+    PASSES_OR_FAILS(type, name, parameters, words, (ours = -1, (holds)) ? leave_out_ours(#name) : 0, value)
 
 /* ---- with names */
 
@@ -153,7 +169,7 @@ NAMES(ssize_t, llistxattr, (const char *path, char *to, size_t size), (path, to,
 NAMES(int, removexattr, (const char *path, const char *name), (path, name), "path", path, -1)
 NAMES(int, lremovexattr, (const char *path, const char *name), (path, name), "path", path, -1)
 PASSES_OR_FAILS(int, inotify_add_watch, (int fd, const char *path, uint32_t mask), (fd, path, mask),
-                is_ours(fd) ? (leave_out("call", "inotify_add_watch", NULL), 1)
+                is_ours(fd) ? leave_out_ours("inotify_add_watch")
                             : fails_with("path", "inotify_add_watch", path, is_plain(path)), -1)
 
 /* What makes a file by a pattern of names has the system's folder alone. */

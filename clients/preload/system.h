@@ -162,6 +162,14 @@ static void leave_out(const char *kind, const char *what, const char *of)
     end_strictly(what);
 }
 
+/* The same of a call with a descriptor of fdref, which stands in place of a name; -1 is none. */
+static void leave_out_at(const char *what, int fd)
+{
+    char number[12];
+    snprintf(number, sizeof number, "%d", fd);
+    leave_out("call", what, fd >= 0 ? number : NULL);
+}
+
 /* ---- numbers of this library's own, which are high */
 
 enum { HIGH = 1024, OWN = 16, OWN_NUMBERS = 5 };

@@ -16,6 +16,7 @@
 #include <sys/resource.h>
 #include <sys/select.h>
 #include <sys/sendfile.h>
+#include <sys/syscall.h>
 
 static char bytes[10];
 static int fd, pipe_ends[2];
@@ -167,6 +168,17 @@ static int tell_limits(void)
     return of(prlimit(0, RLIMIT_NOFILE, &was, NULL));
 }
 
+/* Calls by their numbers, with what fdref has and with what it has not. */
+static int of_numbers(const char *word)
+{
+    if (strcmp(word, "syscall of openat") == 0) return of(syscall(SYS_openat, AT_FDCWD, "none", O_RDONLY));
+    if (strcmp(word, "syscall of pipe2") == 0) return of(syscall(SYS_pipe2, pipe_ends, 0));
+    if (strcmp(word, "syscall of fstat") == 0) return of(syscall(SYS_fstat, fd, bytes));
+    if (strcmp(word, "syscall of dup3") == 0) return of(syscall(SYS_dup3, 1, fd, 0));
+    if (strcmp(word, "syscall of unlinkat") == 0) return of(syscall(SYS_unlinkat, AT_FDCWD, "a", 0));
+    return of_limits(word);
+}
+
 static int of_names(const char *word)
 {
     struct timespec times[2] = {{0, UTIME_NOW}, {0, UTIME_NOW}};
@@ -202,7 +214,7 @@ static int of_names(const char *word)
     if (strcmp(word, "posix_spawn") == 0) return posix_spawn(NULL, "/no/such/program", NULL, NULL, list, list);
     if (strcmp(word, "posix_spawnp") == 0) return posix_spawnp(NULL, "/no/such/program", NULL, NULL, list, list);
     if (strcmp(word, "popen") == 0) return popen("exit 3", "r") ? 0 : errno;
-    return of_limits(word);
+    return of_numbers(word);
 }
 
 static int of_descriptors(const char *word)

@@ -144,7 +144,15 @@ PROGRAMS = [
         "strays",
         ("answer",),
         1,
-        (WELL, "system: p0 fstat 3 = regular 3 1", "fdref:  6 p0 fstat 3 = regular 0 1", NONE),
+        (
+            WELL,
+            "system: p0 fstat 3 = regular 3 1",
+            "fdref:  6 p0 fstat 3 = regular 0 1",
+            NONE,
+            "may follow from syscall of write on descriptor 3 (past fdref, before line 6)",
+            "past fdref: 1 other call (syscall of write on descriptor 3)",
+            "--strict ends it at syscall of write on descriptor 3",
+        ),
         ("--before", "0"),
     ),
     Judged("strays", ("output",), 1, (WELL, "3 calls of 1 process: no answer differs")),
@@ -161,7 +169,8 @@ PROGRAMS = [
         (
             WELL,
             "3 calls of 1 process: no answer differs",
-            "past fdref: 3 paths (first open /dev/null), 1 stream (fopen /dev/null), 1 other call (fcntl with other flags)",
+            "past fdref: 3 paths (first open /dev/null), 1 stream (fopen /dev/null), "
+            "1 other call (fcntl with other flags on descriptor 3)",
             "audit: legal",
         ),
     ),

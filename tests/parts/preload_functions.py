@@ -33,8 +33,8 @@ NOT_PATHS = set(
     __tty __user __ut_host __ut_line __ut_name __value __version __with __words""".split()
 )
 
-# These run programs: preload_programs.py has them.
-PROGRAMS = re.compile(r"posix_spawnp?|system|popen")
+# These run programs, or make another call: preload_programs.py has them.
+ELSEWHERE = re.compile(r"posix_spawnp?|system|popen|syscall")
 # No header has these.
 LETTERS = {"__xmknod": ["4n4b"], "__xmknodat": ["4wn4b"]}
 # These make a file of the system, or look for a free name there, and do not fail.
@@ -127,7 +127,7 @@ def letters_of(name: str, every: dict[str, Function]) -> list[str]:
 def told(library: Library) -> dict[str, list[str]]:
     """The functions that are told, and how each is called."""
     every = of_headers(library)
-    names = [name for name, verdict in table().items() if verdict == TOLD and not PROGRAMS.fullmatch(name)]
+    names = [name for name, verdict in table().items() if verdict == TOLD and not ELSEWHERE.fullmatch(name)]
     return {name: letters_of(name, every) for name in names if name in exported(library.built())}
 
 

@@ -72,13 +72,14 @@ NAMES = [
     "fopen", "freopen", "symlink", "readlink", "mkdir", "rmdir", "unlinkat of a directory", "opendir", "mkstemp",
     "mknod", "chmod", "chown", "utimensat", "chdir", "open with other flags", "pipe2 with other flags", "execve",
     "execv", "execvp", "execl", "execle", "execlp", "system", "popen", "posix_spawn", "posix_spawnp",
-    "setrlimit of RLIMIT_FSIZE", "the path /dev/null", "the path /dev/none", "none in a folder", "new in a folder",
+    "syscall of openat", "syscall of pipe2", "setrlimit of RLIMIT_FSIZE", "the path /dev/null", "the path /dev/none", "none in a folder", "new in a folder",
 ]  # fmt: skip
 DESCRIPTORS = [
     "fdopen", "mmap", "ioctl", "flock", "lockf", "sendfile", "copy_file_range", "splice", "preadv", "pwritev",
     "fallocate", "fchmod", "fchown", "futimens", "fcntl with other flags", "fcntl with another command",
     "renameat2 with flags", "poll", "ppoll", "select", "pselect", "epoll_ctl", "setrlimit of RLIMIT_NOFILE",
-    "fpathconf of another limit", "pathconf of another limit",
+    "fpathconf of another limit", "pathconf of another limit", "syscall of fstat", "syscall of dup3",
+    "syscall of unlinkat",
 ]  # fmt: skip
 SEEK = "lseek by SEEK_DATA and its kin"
 # What ends a strict program before the call that it leads to is noted.

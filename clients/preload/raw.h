@@ -1,0 +1,133 @@
+/* raw.h: a part of fdref_preload.c. System calls that a program makes by their numbers, through syscall. */
+
+/* A call that fdref has, or one of its kin: which of its words are descriptors, a bit for each, which one is a path, or
+   NO_PATH, and whether the word before that is a folder. A call with neither gives descriptors, or a process. */
+enum { NO_PATH = -1, MOST_WORDS = 6 };
+struct raw {
+    long number;
+    const char *name;
+    unsigned descriptors;
+    int path, is_in;
+};
+
+#define BY_FD(name, descriptors) {SYS_##name, #name, descriptors, NO_PATH, 0},
+#define BY_PATH(name) {SYS_##name, #name, 0, 0, 0},
+#define IN_FOLDER(name) {SYS_##name, #name, 0, 1, 1},
+#define BY_NEITHER(name) {SYS_##name, #name, 0, NO_PATH, 0},
+
+static const struct raw raws[] = {
+    BY_FD(close, 1) BY_FD(read, 1) BY_FD(write, 1) BY_FD(pread64, 1) BY_FD(pwrite64, 1) BY_FD(readv, 1)
+    BY_FD(writev, 1) BY_FD(preadv, 1) BY_FD(pwritev, 1) BY_FD(dup, 1) BY_FD(dup3, 3) BY_FD(ioctl, 1)
+    BY_FD(fsync, 1) BY_FD(fdatasync, 1) BY_FD(splice, 5) BY_FD(tee, 3) BY_FD(fallocate, 1)
+    IN_FOLDER(openat) IN_FOLDER(mknodat) IN_FOLDER(linkat) IN_FOLDER(unlinkat) IN_FOLDER(faccessat)
+    IN_FOLDER(execveat)
+    BY_PATH(truncate) BY_PATH(execve)
+    BY_NEITHER(pipe2) BY_NEITHER(clone)
+#ifdef SYS_open
+    BY_PATH(open) BY_PATH(creat) BY_PATH(link) BY_PATH(unlink) BY_PATH(rename) BY_PATH(mknod) BY_PATH(access)
+    BY_FD(dup2, 3) BY_NEITHER(pipe) BY_NEITHER(fork) BY_NEITHER(vfork)
+#endif
+#ifdef SYS_stat
+    BY_PATH(stat) BY_PATH(lstat)
+#endif
+#ifdef SYS_fstat
+    BY_FD(fstat, 1)
+#endif
+#ifdef SYS_newfstatat
+    IN_FOLDER(newfstatat)
+#endif
+#ifdef SYS_fstatat64
+    IN_FOLDER(fstatat64)
+#endif
+#ifdef SYS_statx
+    IN_FOLDER(statx)
+#endif
+#ifdef SYS_lseek
+    BY_FD(lseek, 1)
+#endif
+#ifdef SYS__llseek
+    BY_FD(_llseek, 1)
+#endif
+#ifdef SYS_fcntl
+    BY_FD(fcntl, 1)
+#endif
+#ifdef SYS_fcntl64
+    BY_FD(fcntl64, 1)
+#endif
+#ifdef SYS_ftruncate
+    BY_FD(ftruncate, 1)
+#endif
+#ifdef SYS_ftruncate64
+    BY_FD(ftruncate64, 1)
+#endif
+#ifdef SYS_sendfile
+    BY_FD(sendfile, 3)
+#endif
+#ifdef SYS_copy_file_range
+    BY_FD(copy_file_range, 5)
+#endif
+#ifdef SYS_renameat
+    IN_FOLDER(renameat)
+#endif
+#ifdef SYS_renameat2
+    IN_FOLDER(renameat2)
+#endif
+#ifdef SYS_openat2
+    IN_FOLDER(openat2)
+#endif
+#ifdef SYS_clone3
+    BY_NEITHER(clone3)
+#endif
+};
+
+static const struct raw *raw_of(long number)
+{
+    size_t at = 0, count = sizeof raws / sizeof *raws;
+    while (at < count && raws[at].number != number)
+        at++;
+    return at < count ? raws + at : NULL;
+}
+
+static const char *path_of(const struct raw *raw, const long *given)
+{
+    return raw->path == NO_PATH ? NULL : (const char *)(uintptr_t)given[raw->path];
+}
+
+/* Whether a call is told: one with a descriptor of fdref, with a path, or with neither. */
+static int is_told(const struct raw *raw, const long *given)
+{
+    for (int at = 0; at < MOST_WORDS; at++)
+        if ((raw->descriptors >> at & 1) && is_ours((int)given[at]))
+            return 1;
+    return raw->descriptors == 0;
+}
+
+/* Tells a call, and whether it is one with a file that fdref has, which the kernel would not find. */
+static int fails_raw(const struct raw *raw, const long *given)
+{
+    const char *path = path_of(raw, given);
+    char what[40];
+    snprintf(what, sizeof what, "syscall of %s", raw->name);
+    if (raw->descriptors != 0)
+        return leave_out_ours(what);
+    leave_out("call", what, path);
+    return path && (!raw->is_in || (int)given[0] == AT_FDCWD) && is_file(path);
+}
+
+long syscall(long number, ...)
+{
+    static long (*next)(long, ...);
+    const struct raw *raw = raw_of(number);
+    long given[MOST_WORDS];
+    va_list values;
+    va_start(values, number);
+    for (int at = 0; at < MOST_WORDS; at++)
+        given[at] = va_arg(values, long);
+    va_end(values);
+    prepare();
+    ours = -1;
+    if (how == ASKED && raw && is_told(raw, given) && fails_raw(raw, given))
+        return (long)fails(ENOSYS);
+    find(&next, "syscall");
+    return next(number, given[0], given[1], given[2], given[3], given[4], given[5]);
+}
