@@ -26,9 +26,11 @@ Told is how both ended, and where they part: the first call whose answer differs
 the first that differs, after some lines before it and with its reason. The reasons are those of
 tools/compare.py, who comes first at a pipe, and the size that a file may have. With --pipe-capacity
 65536 a pipe of fdref holds as much as one of Linux. Each process is compared in the order of its own
-calls. Where a difference with a reason leaves system and fdref apart, answers that differ later may
-follow from it, and are only counted. Where with fdref all processes wait for two seconds, one of them in
-a write that would go into a pipe of 65,536 bytes, they are killed. At last fdref audits the trace of its server.
+calls. A program that is started by system, popen or posix_spawn has not the descriptors of fdref, and is
+not compared, which is told. Where a difference with a reason leaves system and fdref apart, answers that
+differ later may follow from it, and are only counted. Where with fdref all processes wait for two
+seconds, one of them in a write that would go into a pipe of 65,536 bytes, they are killed. At last fdref
+audits the trace of its server.
 
 The processes of a program may come in another order in the next run, and where its answers depend on
 that, so may what is told of it.
@@ -56,6 +58,7 @@ from types import FrameType, TracebackType
 from typing import NamedTuple, Self
 
 from support import plain_model
+from support.call_logs import Log
 from support.commands import add_capacity, add_program, capacity_words, program_of
 from support.counting import Failure
 from support.places import TOP
@@ -280,11 +283,11 @@ class Verdict:
         self.findings, self.unexplained = self.compared.findings, self.compared.unexplained
         if not self.compared.fdref.total() and not self.compared.system.total():
             none = "made none of the calls that fdref knows, or does not load the shim, as a static program"
-            raise CannotJudge("; ".join([none, *past.told_past(past.past_of(both.past))]))
-        count = len(self.compared.system.calls)
-        if count > sessions:
+            told = told_started(self.compared.started) + past.told_past(past.past_of(both.past))
+            raise CannotJudge("; ".join([none, *told]))
+        if self.compared.processes > sessions:
             most = f"--sessions, {SESSIONS_MOST} at most"
-            raise CannotJudge(f"has {count} processes, and the server takes {sessions} ({most})")
+            raise CannotJudge(f"has {self.compared.processes} processes, and the server takes {sessions} ({most})")
 
     def has_ended(self) -> bool:
         """Whether it ended by itself with either of the two."""
@@ -335,6 +338,12 @@ def told_ends(both: Both, seconds: float, lines_of_fdref: list[Line]) -> list[st
     return lines
 
 
+def told_started(started: Log) -> list[str]:
+    """What was not compared: the calls of the programs that it starts."""
+    calls, programs = several(started.total(), "call"), several(started.programs(), "program")
+    return [f"not compared: {calls} of {programs} that it starts, by system or posix_spawn"] if started.calls else []
+
+
 def told_line(who: str, line: Line | None) -> str:
     """One side of a parting."""
     place = f"{line.place} " if line and line.place.isdigit() else ""
@@ -374,7 +383,7 @@ def told(verdict: Verdict, seconds: float, before: int) -> str:
     follow = sum(it.follows for it in findings)
     lines += [f"{follow:8} may follow from these"] if follow else []
     lines += [f"{len(findings) - reasons.total() - follow:8} without a reason"] if findings else []
-    lines += map(compare.clipped, past.told_past(every))
+    lines += map(compare.clipped, told_started(verdict.compared.started) + past.told_past(every))
     return "\n".join([*lines, f"audit: {verdict.audit}"])
 
 

@@ -258,7 +258,11 @@ class Compared:
 
     def __init__(self, system: bytes, fdref: bytes, trace: bytes, is_killed: bool, has_ended: bool) -> None:
         self.lines = read_lines(fdref)
-        self.system, self.fdref = log_of(read_lines(system)), log_of(self.lines)
+        on_system, with_fdref = log_of(read_lines(system)), log_of(self.lines)
+        self.processes = len(on_system.calls)
+        # a program that is started has other descriptors, and comes in no order of its own: it is not compared
+        self.started = with_fdref.of_started()
+        self.system, self.fdref = on_system.of_first(), with_fdref.of_first()
         frames = Frames(trace)
         records = [line_of(text) for text in frames.lines]
         check_places(self.lines, records)

@@ -14,9 +14,9 @@
      FDREF_PAST=FILE    Each call that is left to the system or fails with ENOSYS, as far as it is seen, is appended to
                         FILE as a line: with the place of the last record of its process, the process, its kind, and
                         after a tab its name: `! 6 p0 path open<tab>d/x`, `! 6 p0 program system<tab>./a`,
-                        `! 6 p0 thread read`. In `! 6 p0 call poll<tab>3` it is a descriptor of fdref. Where FDREF_STRICT would not tell it `-` stands for
-                        `!`: `- 6 p0 stream fopen<tab>/tmp/x`, and `- 6 p0 stdio 1`, as a file of fdref comes to be at
-                        descriptor 0, 1 or 2.
+                        `! 6 p0 thread read`. In `! 6 p0 call poll<tab>3` it is a descriptor of fdref. Where
+                        FDREF_STRICT would not tell it `-` stands for `!`: `- 6 p0 stream fopen<tab>/tmp/x`, and
+                        `- 6 p0 stdio 1`, as a file of fdref comes to be at descriptor 0, 1 or 2.
 
    Without the first two nothing is changed. Where there is no answer (no server, no place at it for one more process, a
    run that is full, a lost connection) that is told on standard error, and the program ends with status 124.
@@ -66,11 +66,12 @@
      - Other calls with descriptors of fdref, as fdopen, mmap, poll, preadv and posix_fallocate, an F_SETFL with
        O_ASYNC, O_DIRECT or O_NOATIME, and commands of fcntl and ioctl, and limits of fpathconf, that are not named
        here: ENOSYS. SEEK_DATA and SEEK_HOLE are EINVAL.
-     - system, popen and posix_spawn: their programs join as new processes, which have the real files alone. daemon and
-       forkpty, which fork, and renameat2 with flags are ENOSYS.
+     - system, popen and posix_spawn: their programs join as new processes, which have the real files alone. In a
+       native run their numbers are made of those that the system has. daemon and forkpty, which fork, and renameat2
+       with flags are ENOSYS.
      - pipe2 with O_DIRECT, which is a pipe of the kernel; chdir; a limit of the size of files.
-     - syscall by the numbers of calls that fdref has, and of their kin: with a descriptor or a file of fdref ENOSYS, and
-       else the kernel's.
+     - syscall by the numbers of calls that fdref has, and of their kin: with a descriptor or a file of fdref it is
+       ENOSYS, and else the kernel's.
      - A thread that waits in a call for 0.1 seconds while another one makes a call: one is made at a time.
 
    What cannot be seen, and is not told: system calls that are made past the C library, and what it makes inside. So

@@ -368,6 +368,19 @@ static void share_numbers(void)
     *next_number = 1;
 }
 
+/* The first process of a native run is 0. A program that another one has started, as by system, has numbers of its own,
+   which begin at NATIVE_MOST times that of its process in the system. */
+enum { NATIVE_MOST = 1000 };
+
+static void begin_natively(void)
+{
+    share_numbers();
+    if (getenv("FDREF_BEGUN")) {
+        native_number = (uint32_t)getpid() * NATIVE_MOST;
+        *next_number = native_number + 1;
+    }
+}
+
 /* ---- from one program to the next
 
    An exec hands the process on in a variable of the environment: its number in the system, its number and place in the
@@ -468,7 +481,9 @@ static void prepare(void)
     is_handed = how != OFF && take_over(getenv("FDREF_HANDED"));
     unsetenv("FDREF_HANDED");
     if (how == NATIVE && !is_handed)
-        share_numbers();
+        begin_natively();
+    if (how == NATIVE)
+        setenv("FDREF_BEGUN", "1", 1);
     if (how == ASKED && !is_handed)
         join();
     if (how == ASKED)

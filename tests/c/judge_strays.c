@@ -1,6 +1,6 @@
 /* Does what the answers of no two systems agree on.
 
-   usage: judge_strays call|answer|output|leaves-out|passes|spawns|stdio|closes|streams|threads
+   usage: judge_strays call|answer|output|leaves-out|passes|spawns|starts|stdio|closes|streams|threads
 
    call        writes the number of its process into a file
    answer      changes a file by a system call that no library sees, and asks for the size of it
@@ -8,6 +8,7 @@
    leaves-out  makes a symbolic link, which fdref leaves out
    passes      does more that goes past fdref
    spawns      prints the number of its process, and has a shell exit
+   starts      has programs read its file and make others, by system and popen
    stdio       has a file at descriptor 1, to which it prints
    closes      has a file at descriptor 1, and closes standard output before it opens another one
    streams     makes a file by stdio, and one by a path with a slash, and opens the first
@@ -40,6 +41,13 @@ static void streams(void)
     int made = open("./d/x", O_RDONLY);
     if (!file || fclose(file) != 0 || made >= 0 || close(open("log", O_RDONLY)) != 0)
         printf("no log\n");
+}
+
+/* The file is open here, so natively the programs have one descriptor more that is taken. */
+static int starts(int fd)
+{
+    FILE *input = write(fd, "text", 4) == 4 && system("read line <a; echo $line >b") == 0 ? popen("cat >c", "w") : NULL;
+    return !input || fputs("text", input) < 0 || pclose(input) != 0;
 }
 
 static int ends[2];
@@ -75,6 +83,8 @@ int main(int count, char **words)
     if (strcmp(what, "output") == 0 || strcmp(what, "spawns") == 0)
         printf("%s", text);
     if (strcmp(what, "spawns") == 0 && system("exit 3") == 0)
+        return 1;
+    if (strcmp(what, "starts") == 0 && starts(fd) != 0)
         return 1;
     if (strcmp(what, "leaves-out") == 0 && symlink("a", "b") != 0)
         return 1;

@@ -44,6 +44,14 @@ LOGS = [
         [],
     ),
     Logs(
+        "programs that it starts, with other descriptors, which have children",
+        "p0 close 7 = error EBADF; p5000 open a r = 4; p5000 fork = 5001; p9000 open b r = 4; p5001 close 4 = ok; "
+        "p0 close 8 = error EBADF",
+        "0 p0 join = 0; 1 p0 close 7 = error EBADF; 2 p1 join = 1; 3 p2 join = 2; 4 p2 open b r,creat = 0; "
+        "5 p1 fork = 3; 6 p0 close 8 = error EBADF",
+        [],
+    ),
+    Logs(
         "a child whose line comes before its parent's",
         "p1 close 7 = ok; p0 fork = 1",
         "0 p0 join = 0; 1 p0 fork = 1; 2 p1 attach = ok; 3 p1 close 7 = error EBADF",

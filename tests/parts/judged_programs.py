@@ -180,6 +180,19 @@ PROGRAMS = [
         1,
         (WELL, NONE, "past fdref: stdio on descriptor 1, which is a file of fdref: it fails there", "audit: legal"),
     ),
+    Judged(
+        "strays",
+        ("starts",),
+        0,
+        (
+            WELL,
+            "4 calls of 1 process: no answer differs",
+            "not compared: ",
+            "past fdref: ",
+            "past fdref: stdio on descriptor 1",
+            "audit: legal",
+        ),
+    ),
     Judged("strays", ("closes",), 0, (WELL, "5 calls of 1 process: no answer differs")),
     Judged(
         "strays",

@@ -72,7 +72,8 @@ NAMES = [
     "fopen", "freopen", "symlink", "readlink", "mkdir", "rmdir", "unlinkat of a directory", "opendir", "mkstemp",
     "mknod", "chmod", "chown", "utimensat", "chdir", "open with other flags", "pipe2 with other flags", "execve",
     "execv", "execvp", "execl", "execle", "execlp", "system", "popen", "posix_spawn", "posix_spawnp",
-    "syscall of openat", "syscall of pipe2", "setrlimit of RLIMIT_FSIZE", "the path /dev/null", "the path /dev/none", "none in a folder", "new in a folder",
+    "syscall of openat", "syscall of pipe2", "setrlimit of RLIMIT_FSIZE", "the path /dev/null", "the path /dev/none",
+    "none in a folder", "new in a folder",
 ]  # fmt: skip
 DESCRIPTORS = [
     "fdopen", "mmap", "ioctl", "flock", "lockf", "sendfile", "copy_file_range", "splice", "preadv", "pwritev",

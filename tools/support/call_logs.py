@@ -8,8 +8,10 @@ from typing import NamedTuple
 from support.counting import Failure
 from support.runs import Line, line_of
 
-# A process by its way from the first one: which child of which child it is.
+# A process by its way from the first one of its program: which child of which child it is. The program that is run has
+# the ways from 0 on, and those that were started otherwise than by a fork have the ways from 1, 2 .. on.
 Way = tuple[int, ...]
+FIRST = 0
 
 
 def read_lines(text: bytes) -> list[Line]:
@@ -33,7 +35,8 @@ def ways_of(lines: list[Line]) -> dict[int, Way]:
     children = {int(line.outcome) for line in forks}
     # a child may be logged before the fork that made it
     roots = [number for number in dict.fromkeys(line.number() for line in lines) if number not in children]
-    ways: dict[int, Way] = {number: (at,) for at, number in enumerate(roots)}
+    ways: dict[int, Way] = {FIRST: (0,)} if FIRST in roots else {}
+    ways |= {number: (at,) for at, number in enumerate((it for it in roots if it != FIRST), 1)}
     counts: dict[int, int] = {}
     waiting = forks
     while waiting:
@@ -56,6 +59,22 @@ class Log(NamedTuple):
     def total(self) -> int:
         """How many calls there are."""
         return sum(map(len, self.calls.values()))
+
+    def of_first(self) -> "Log":
+        """The part of it that is of the program that is run."""
+        return self.of_ways([way for way in self.calls if way[0] == 0])
+
+    def of_started(self) -> "Log":
+        """The part of it that is of the programs that it starts."""
+        return self.of_ways([way for way in self.calls if way[0] != 0])
+
+    def of_ways(self, ways: list[Way]) -> "Log":
+        """The part of it that is of these processes."""
+        return Log({way: self.calls[way] for way in ways}, {way: self.numbers[way] for way in ways})
+
+    def programs(self) -> int:
+        """How many programs there are."""
+        return len({way[0] for way in self.calls})
 
 
 def log_of(lines: list[Line]) -> Log:
