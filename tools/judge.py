@@ -29,8 +29,8 @@ tools/compare.py, who comes first at a pipe, and the size that a file may have. 
 calls. A program that is started by system, popen or posix_spawn has not the descriptors of fdref, and is
 not compared, which is told. Where a difference with a reason leaves system and fdref apart, answers that
 differ later may follow from it, and are only counted. Where with fdref all processes wait for two
-seconds, one of them in a write that would go into a pipe of 65,536 bytes, they are killed. At last fdref
-audits the trace of its server.
+seconds, one of them in a write that would go into a pipe of 65,536 bytes, they are killed; a parent may
+wait for a child meanwhile. At last fdref audits the trace of its server.
 
 The processes of a program may come in another order in the next run, and where its answers depend on
 that, so may what is told of it.
@@ -53,6 +53,7 @@ import sys
 import tempfile
 import time
 from collections.abc import Callable, Sequence
+from functools import partial
 from pathlib import Path
 from types import FrameType, TracebackType
 from typing import NamedTuple, Self
@@ -71,7 +72,7 @@ from support.trees import Ended, never, run_tree
 import compare
 import past
 from partings import Compared, Finding
-from standstill import Standstill
+from standstill import Standstill, parents_that_wait
 
 SHIM = TOP / "clients" / "preload" / "fdref_preload.c"
 BUILD_SECONDS = 120
@@ -244,7 +245,7 @@ class Job:
         with Server(self.program, self.folder, self.sessions, self.limits) as server:
             noted = Path(self.folder, "past")
             noted.touch()
-            still = Standstill(server.trace)
+            still = Standstill(server.trace, partial(parents_that_wait, server.process.pid))
             fdref, fdref_log = self.ran(
                 "fdref", still.is_met, FDREF_SOCKET=server.path, FDREF_PAST=str(noted), **strict
             )

@@ -113,6 +113,11 @@ class Story:
             place = next(at for at in range(place - 1, -1, -1) if self.trace[at].act.startswith(who))
         return place
 
+    def end_of(self, number: int) -> int:
+        """The place of the exit of a process, or of the end of the trace."""
+        ends = [place for place, line in enumerate(self.trace) if line.act == f"p{number} exit"]
+        return ends[0] if ends else len(self.trace)
+
     def waits(self, number: int) -> Line | None:
         """The call that a process still waits in at the end, or waited in when it exited, if any."""
         own = [line for line in self.trace if line.act.startswith(f"p{number} ") and word_of(line) != "exit"]
@@ -124,8 +129,7 @@ class Story:
     def is_cut_off(self, number: int, has_ended: bool) -> bool:
         """Whether a process that still waits exited before the end of the run, as by a signal: the run has ended by
         itself, or others made calls after that."""
-        exits = [place for place, line in enumerate(self.trace) if line.act == f"p{number} exit"]
-        later = self.trace[exits[0] :] if exits else []
+        later = self.trace[self.end_of(number) :]
         return bool(later) and (has_ended or not all(map(is_at_the_end, later)))
 
     def world_before(self, place: int) -> plain_model.World:
@@ -152,12 +156,15 @@ class Finding(NamedTuple):
 
 
 def partings_of(way: Way, system: list[Line], fdref: list[Line], number: int, story: Story) -> Iterator[Parting]:
-    """The partings of a process, up to the first call that only one of its runs made. A process that fdref has not seen
-    parts after all others, since the runs were apart before it came."""
+    """The partings of a process, up to the first call that only one of its runs made. Where that is the system's it is at
+    the end of the process with fdref. A process that fdref has not seen parts after all others, since the runs were apart
+    before it came."""
     place = 0 if fdref else len(story.trace)
     for one, other in itertools.zip_longest(system, fdref):
         if other and other.place.isdigit():
             place = story.start_of(other)
+        elif not other:
+            place = story.end_of(number)
         if agrees(one, other):
             continue
         parting = Parting(place, way, number, one, other)

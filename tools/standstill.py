@@ -1,23 +1,41 @@
 """Whether a program stands still with fdref and would go on with the system: all its processes wait in calls, one of
-them in a write for which a pipe of fdref is too small."""
+them in a write for which a pipe of fdref is too small. A parent may wait for the end of its children instead."""
 
+import contextlib
 import os
 import time
+from collections.abc import Callable
 from pathlib import Path
 
 from support.auditing import Frames, Judge, act_of
 from support.plain_model import DEFAULTS, PIPE_CAPACITY_MOST, Process, WaitingWrite, World
 from support.runs import Line, line_of
+from support.trees import children_of, parents
 
 # How long no record may come before the processes are looked at.
 STILL_SECONDS = 2.0
+# Where a process sleeps in the system that waits for a child to end.
+WAITS_FOR_A_CHILD = "do_wait"
+
+
+def parents_that_wait(server: int) -> int:
+    """How many processes below this one wait for the end of a child, but for those of a server; 0 where the system does
+    not tell it."""
+    by_parent = parents()
+    others = {server} | children_of({server}, by_parent)
+    found = 0
+    for number in children_of({os.getpid()}, by_parent) - others:
+        with contextlib.suppress(OSError):
+            found += Path("/proc", str(number), "wchan").read_text(encoding="ascii") == WAITS_FOR_A_CHILD
+    return found
 
 
 class Standstill:
     """Looks at the trace of a server that runs; `told` says what its processes stand still at, once they do."""
 
-    def __init__(self, trace: str) -> None:
+    def __init__(self, trace: str, waiting_parents: Callable[[], int]) -> None:
         self.trace = trace
+        self.waiting_parents = waiting_parents
         self.told = ""
         self.size = -1
         self.since = 0.0
@@ -30,22 +48,24 @@ class Standstill:
             self.size, self.since, self.is_known = size, now, False
         elif not self.is_known and now - self.since >= STILL_SECONDS:
             self.is_known = True
-            self.told = told(Path(self.trace).read_bytes())
+            self.told = told(Path(self.trace).read_bytes(), self.waiting_parents)
         return bool(self.told)
 
 
-def told(trace: bytes) -> str:
-    """What the processes of a trace stand still at, or nothing where they may go on."""
+def told(trace: bytes, waiting_parents: Callable[[], int]) -> str:
+    """What the processes of a trace stand still at, or nothing where they may go on: one is in no call, and is no parent
+    that waits for a child."""
     frames = Frames(trace)
     judge = Judge(frames.header.limits if frames.header else DEFAULTS)
     lines = [line_of(text) for text in frames.lines]
     for line in lines:
         judge.outcome_of(act_of(line.act))
     live = judge.world.processes.values()
-    if not all(it.attached and it.waits and not it.waits.is_ready(judge.world) for it in live):
-        return ""
+    going = [it for it in live if not (it.attached and it.waits and not it.waits.is_ready(judge.world))]
     small = next((it for it in live if is_for_want_of_room(it, judge.world)), None)
-    return told_write(small, lines, judge.world) if small else ""
+    if not small or any(it.waits for it in going) or (going and waiting_parents() < len(going)):
+        return ""
+    return told_write(small, lines, judge.world)
 
 
 def is_for_want_of_room(process: Process, world: World) -> bool:

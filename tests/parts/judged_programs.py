@@ -263,6 +263,20 @@ PROGRAMS = [
         ),
         LATE,
     ),
+    Judged(
+        "stays",
+        ("waits",),
+        1,
+        (
+            "system: ended with status 0",
+            f"fdref:  {STILL.replace('p0', 'p1')}",
+            "system: p1 write 4 00*2000 = 2000",
+            "fdref:  8 p1 write 4 00*2000 = parked 1024",
+            ROOM,
+        ),
+        LATE,
+    ),
+    Judged("stays", ("waits",), 0, (WELL,), ("--pipe-capacity", "65536")),
     Judged("stays", ("forks",), 0, (WELL,), ("--pipe-capacity", "65536")),
     # pipes of 2,000 bytes have room, and those of 1,999 have not
     Judged("stays", ("fills",), 0, (WELL,), ("--pipe-capacity", "2000")),
