@@ -282,9 +282,10 @@ class Verdict:
         except Failure as fault:
             raise CannotJudge(str(fault)) from None
         self.findings, self.unexplained = self.compared.findings, self.compared.unexplained
+        self.past = past.with_names(past.past_of(both.past), self.compared.records, self.compared.limits)
         if not self.compared.fdref.total() and not self.compared.system.total():
             none = "made none of the calls that fdref knows, or does not load the shim, as a static program"
-            told = told_started(self.compared.started) + past.told_past(past.past_of(both.past))
+            told = told_started(self.compared.started) + past.told_past(self.past)
             raise CannotJudge("; ".join([none, *told]))
         if self.compared.processes > sessions:
             most = f"--sessions, {SESSIONS_MOST} at most"
@@ -319,7 +320,7 @@ def how(ended: Ended, seconds: float) -> str:
     return f"ended with status {ended.status}" if ended.status >= 0 else f"ended by signal {-ended.status}"
 
 
-def told_ends(both: Both, seconds: float, lines_of_fdref: list[Line]) -> list[str]:
+def told_ends(both: Both, seconds: float, lines_of_fdref: list[Line], every: list[past.Past]) -> list[str]:
     """How the two ended, and what they wrote otherwise, with what that may follow from."""
     system, fdref = how(both.system, seconds), both.still or how(both.fdref, seconds)
     lines = [f"both {system}"] if system == fdref else [f"system: {system}", f"fdref:  {fdref}"]
@@ -328,13 +329,13 @@ def told_ends(both: Both, seconds: float, lines_of_fdref: list[Line]) -> list[st
     crash = crash_of(both)
     why = ": with the shim a bad address is no EFAULT" if crash in ("SIGSEGV", "SIGBUS") else ""
     lines += [f"a crash ({crash}) is no agreement{why}"] if crash else []
-    for what, one, other in (
-        ("output", both.system.stdout, both.fdref.stdout),
-        ("error", both.system.stderr, both.fdref.stderr),
+    for what, descriptor, one, other in (
+        ("output", "1", both.system.stdout, both.fdref.stdout),
+        ("error", "2", both.system.stderr, both.fdref.stderr),
     ):
         if one != other:
             lines.append(f"standard {what} differs in {difference(one, other, ('system', 'fdref'))}")
-            cause = past.likeliest(past.past_of(both.past), frozenset())
+            cause = past.cause_of_output(descriptor, every)
             lines += [compare.clipped(past.told_cause(cause, lines_of_fdref))] if cause else []
     return lines
 
@@ -371,8 +372,8 @@ def told_strict(every: list[past.Past]) -> list[str]:
 def told(verdict: Verdict, seconds: float, before: int) -> str:
     """All that is said of a program."""
     findings = verdict.findings
-    every = past.past_of(verdict.both.past)
-    lines = told_ends(verdict.both, seconds, verdict.compared.lines)
+    every = verdict.past
+    lines = told_ends(verdict.both, seconds, verdict.compared.lines, every)
     calls = several(verdict.compared.fdref.total(), "call")
     processes = several(len(verdict.compared.fdref.calls), "process", "processes")
     differ = {0: "no answer differs", 1: "1 answer differs"}.get(len(findings), f"{len(findings)} answers differ")
@@ -476,7 +477,7 @@ def main(words: Sequence[str]) -> int:
                 keep(folder, args.keep)
     print(told(verdict, args.seconds, args.before))
     if verdict.status() == 1 and not args.strict:
-        print("".join(f"{line}\n" for line in told_strict(past.past_of(verdict.both.past))), end="")
+        print("".join(f"{line}\n" for line in told_strict(verdict.past)), end="")
     return verdict.status()
 
 

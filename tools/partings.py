@@ -156,9 +156,9 @@ class Finding(NamedTuple):
 
 
 def partings_of(way: Way, system: list[Line], fdref: list[Line], number: int, story: Story) -> Iterator[Parting]:
-    """The partings of a process, up to the first call that only one of its runs made. Where that is the system's it is at
-    the end of the process with fdref. A process that fdref has not seen parts after all others, since the runs were apart
-    before it came."""
+    """The partings of a process, up to the first call that only one of its runs made. Where that is the system's it is
+    at the end of the process with fdref. A process that fdref has not seen parts after all others, since the runs were
+    apart before it came."""
     place = 0 if fdref else len(story.trace)
     for one, other in itertools.zip_longest(system, fdref):
         if other and other.place.isdigit():
@@ -221,15 +221,19 @@ def is_shared(it: Difference, story: Story) -> bool:
     return it.place in story.shared and all(plain_model.read_data(text.encode()) is not None for text in outcomes)
 
 
+def names_behind(world: plain_model.World, number: int, fd: str) -> set[str]:
+    """The names of the file that a descriptor of a process leads to, if it is one."""
+    process = world.processes.get(number)
+    at = process.table.get(int(fd)) if process and fd.isdigit() else None
+    return {name.decode("ascii", "replace") for name, file in world.names.items() if at and at.file is file}
+
+
 def names_of(parting: Parting, world: plain_model.World) -> frozenset[str]:
     """The names in the calls of a parting, and those of the files that their descriptors lead to."""
     found: set[str] = set()
     for line in (parting.system, parting.fdref):
         _, word, *fields = line.act.split(" ") if line else ("", "")
-        process = world.processes.get(parting.number)
-        is_number = bool(fields) and fields[0].isdigit()
-        at = process.table.get(int(fields[0])) if process and is_number else None
-        found.update(name.decode("ascii", "replace") for name, file in world.names.items() if at and at.file is file)
+        found |= names_behind(world, parting.number, fields[0]) if fields else set()
         found.update(fields[: {"open": 1, "mkfifo": 1, "unlink": 1, "link": 2, "rename": 2}.get(word, 0)])
     return frozenset(found)
 
@@ -271,9 +275,10 @@ class Compared:
         self.started = with_fdref.of_started()
         self.system, self.fdref = on_system.of_first(), with_fdref.of_first()
         frames = Frames(trace)
-        records = [line_of(text) for text in frames.lines]
-        check_places(self.lines, records)
-        story = Story(records, frames.header.limits if frames.header else plain_model.DEFAULTS)
+        self.records = [line_of(text) for text in frames.lines]
+        self.limits = frames.header.limits if frames.header else plain_model.DEFAULTS
+        check_places(self.lines, self.records)
+        story = Story(self.records, self.limits)
         add_waits(self.system, self.fdref, story, is_killed, has_ended)
         self.findings = findings_of(all_partings(self.system, self.fdref, story), story)
         self.unexplained = next((it for it in self.findings if not it.reason and not it.follows), None)

@@ -4,14 +4,29 @@ A line is `! 6 p0 stream fopen`, and after a tab the name that the call has, if 
 `call`. `!` stands where --strict would tell it, else `-`. The place is that of the last record of its process before.
 """
 
+import re
 from typing import NamedTuple
 
-from partings import Finding
+from partings import Finding, Parting, names_behind
+from support.auditing import Judge, act_of
+from support.plain_model import Limits
 from support.runs import Line
 
 # The kinds that are counted, and what is said of one.
-CALL, STDIO, THREAD = "call", "stdio", "thread"
-COUNTED = {"path": "path", "stream": "stream", "program": "program", CALL: "other call"}
+CALL, STDIO, THREAD, PROGRAM, STREAM, PATH = "call", "stdio", "thread", "program", "stream", "path"
+COUNTED = {PATH: "path", STREAM: "stream", PROGRAM: "program", CALL: "other call"}
+
+# Calls that change nothing, and tell a program nothing else than natively, or nothing that it goes by.
+LOOKS = re.compile(
+    r"(?:syscall of )?_*(?:[lf]?stat\w*|newfstatat|f?access(?:at)?|eaccess|euidaccess|f?pathconf.*|realpath\w*"
+    r"|readlink\w*|canonicalize_file_name|[lf]?getxattr|f?l?listxattr|ftok|name_to_handle_at|isfdtype"
+    r"|posix_fadvise(?:64)?|readahead|sync_file_range|syncfs|fsync|fdatasync)"
+)
+# Calls that list a folder, in which the files of fdref are missing; by which names lead to another folder; and which
+# take a descriptor that natively is one of a low number.
+LISTS = re.compile(r"opendir|scandir\w*|glob(?:64)?|n?ftw(?:64)?|fts\w*_open|getdents64|getdirentries\w*")
+MOVES = re.compile(r"f?chdir|chroot")
+TAKES = re.compile(r"opendir|mko?stemps?(?:64)?|fts\w*_open|syscall of pipe2?")
 
 
 class Past(NamedTuple):
@@ -23,6 +38,8 @@ class Past(NamedTuple):
     kind: str
     call: str
     name: str
+    # those of its path, or of the file behind its descriptor then
+    names: frozenset[str] = frozenset()
 
     def said(self, between: str = " ") -> str:
         """The call with its name or descriptor, or what it is where it is none."""
@@ -31,10 +48,48 @@ class Past(NamedTuple):
             return f"{self.call} on descriptor {self.name}"
         return said.get(self.kind) or (f"{self.call}{between}{self.name}" if self.name else self.call)
 
-    def weight(self, names: frozenset[str]) -> tuple[bool, bool, bool, bool]:
-        """The greater the likelier it is that a difference in a call with these names follows from it."""
-        is_same_name = self.name.rpartition("/")[2] in names
-        return is_same_name, self.is_strict, self.kind != "path", not self.name.startswith("/")
+    def descriptor(self) -> str:
+        """The descriptor of fdref that it is with, or nothing."""
+        return self.call if self.kind == STDIO else self.name if self.kind == CALL and self.name.isdigit() else ""
+
+    def tells_otherwise(self) -> bool:
+        """Whether a program may be told something else than natively: it fails with fdref, or lists what is there."""
+        is_plain = self.kind == STREAM and self.is_strict
+        return self.kind in (STDIO, CALL, THREAD, PROGRAM) or is_plain or bool(LISTS.fullmatch(self.call))
+
+    def may_cause(self, finding: Finding) -> bool:
+        """Whether a call may have another answer, or be another call, because of it."""
+        parting = finding.parting
+        if self.kind in (THREAD, PROGRAM):
+            return True
+        if LOOKS.fullmatch(self.call):
+            return False
+        if self.names & finding.names or is_at(parting, self.descriptor()) or MOVES.fullmatch(self.call):
+            return True
+        if gives_number(parting):
+            return self.kind == STREAM or bool(TAKES.fullmatch(self.call))
+        return not parting.is_same_call() and self.tells_otherwise()
+
+    def weight(self, names: frozenset[str], descriptor: str) -> tuple[bool, ...]:
+        """The greater the likelier it is that something follows from it that has to do with these names, and with a
+        descriptor."""
+        is_same = bool(self.names & names), bool(descriptor) and self.descriptor() == descriptor
+        return *is_same, self.kind == STDIO and not names, self.is_strict, self.kind != PATH, self.name[:1] != "/"
+
+
+def is_at(parting: Parting, descriptor: str) -> bool:
+    """Whether a call of a parting is one with this descriptor."""
+    acts = [line.act.split(" ") for line in (parting.system, parting.fdref) if line]
+    return bool(descriptor) and any(act[2:3] == [descriptor] for act in acts)
+
+
+def gives_number(parting: Parting) -> bool:
+    """Whether a call gave one descriptor on the system and another one with fdref."""
+    if not parting.is_same_call() or not parting.system or not parting.fdref:
+        return False
+    _, word, *_ = parting.fdref.act.split(" ")
+    both = parting.system.outcome + parting.fdref.outcome
+    return word in ("open", "dup", "dup2", "pipe") and both.replace(" ", "").isdigit()
 
 
 def past_of(text: bytes) -> list[Past]:
@@ -59,16 +114,38 @@ def told_cause(one: Past, lines: list[Line]) -> str:
     return f"may follow from {one.said(' of ')} (past fdref, {told_place(one, lines)})"
 
 
-def likeliest(every: list[Past], names: frozenset[str]) -> Past | None:
-    """The one that has most to do with names, and of these the last."""
-    return max(enumerate(every), key=lambda it: (it[1].weight(names), it[0]))[1] if every else None
+def with_names(every: list[Past], records: list[Line], limits: Limits) -> list[Past]:
+    """The same, with the names of what each has to do with, by the records of a run."""
+    judge, done = Judge(limits), 0
+    found = list(every)
+    for at, one in sorted(enumerate(every), key=lambda it: it[1].place):
+        for line in records[done : one.place + 1]:
+            judge.outcome_of(act_of(line.act))
+        done = max(done, one.place + 1)
+        names = names_behind(judge.world, one.number, one.descriptor()) or {one.name.rpartition("/")[2]} - {""}
+        found[at] = one._replace(names=frozenset(names))
+    return found
 
 
 def cause_of(finding: Finding, every: list[Past]) -> Past | None:
-    """What a finding may follow from. Where fdref has no call that is all that there was."""
+    """What a finding may follow from: what has most to do with its names, and of these the last. Where fdref has no
+    call that is any that there was."""
     parting = finding.parting
     before = [it for it in every if it.place < parting.place or it.kind == THREAD or not parting.fdref]
-    return likeliest(before, finding.names)
+    acts = [line.act.split(" ") for line in (parting.system, parting.fdref) if line]
+    descriptor = acts[0][2] if acts[0][2:] and acts[0][2].isdigit() else ""
+    return last_of([it for it in before if it.may_cause(finding)], finding.names, descriptor)
+
+
+def cause_of_output(descriptor: str, every: list[Past]) -> Past | None:
+    """What it may follow from that something else was written to a descriptor."""
+    likely = [it for it in every if it.tells_otherwise() and not LOOKS.fullmatch(it.call)]
+    return last_of(likely, frozenset(), descriptor)
+
+
+def last_of(every: list[Past], names: frozenset[str], descriptor: str) -> Past | None:
+    """The one that has most to do with these names and this descriptor, and of these the last."""
+    return max(enumerate(every), key=lambda it: (it[1].weight(names, descriptor), it[0]))[1] if every else None
 
 
 def told_past(every: list[Past]) -> list[str]:

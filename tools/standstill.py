@@ -53,8 +53,8 @@ class Standstill:
 
 
 def told(trace: bytes, waiting_parents: Callable[[], int]) -> str:
-    """What the processes of a trace stand still at, or nothing where they may go on: one is in no call, and is no parent
-    that waits for a child."""
+    """What the processes of a trace stand still at, or nothing where they may go on: one is in no call, and is no
+    parent that waits for a child."""
     frames = Frames(trace)
     judge = Judge(frames.header.limits if frames.header else DEFAULTS)
     lines = [line_of(text) for text in frames.lines]

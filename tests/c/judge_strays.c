@@ -9,7 +9,7 @@
    passes      does more that goes past fdref
    spawns      prints the number of its process, and has a shell exit
    starts      has programs read its file and make others, by system and popen
-   stdio       has a file at descriptor 1, to which it prints
+   stdio       has a file at descriptor 1, to which it prints, and looks at files before and after that
    closes      has a file at descriptor 1, and closes standard output before it opens another one
    streams     makes a file by stdio, and one by a path with a slash, and opens the first
    threads     has a thread that waits for what another one writes */
@@ -96,7 +96,10 @@ int main(int count, char **words)
         return 1;
     if (strcmp(what, "closes") == 0 && (dup2(fd, 1) != 1 || fclose(stdout) != 0 || open("b", O_CREAT, 0600) != 1))
         return 1;
-    if (strcmp(what, "stdio") == 0 && dup2(fd, 1) == 1 && printf("%s", text) > 0)
+    if (strcmp(what, "stdio") == 0 && dup2(fd, 1) == 1 && stat("/", &told) == 0 && printf("%s", text) > 0) {
+        posix_fadvise(fd, 0, 0, POSIX_FADV_NORMAL);
         fflush(stdout);
+        posix_fadvise(fd, 0, 0, POSIX_FADV_NORMAL);
+    }
     return fstat(fd, &told) || close(fd);
 }

@@ -325,6 +325,47 @@ def are_found(logs: Logs) -> None:
     same(wanted, verdict.status())
 
 
+class Causes(NamedTuple):
+    """What went past fdref before an answer that differs, of a call with descriptor 0, which is `a`, and what is told
+    that it may follow from."""
+
+    name: str
+    past: str
+    told: str
+
+
+CAUSES = [
+    Causes("the same path", "! 1 p0 path truncate\td/a; ! 1 p0 path unlink\td/b", "truncate of d/a"),
+    Causes("another path", "! 1 p0 path truncate\td/b; - 1 p0 stream fopen\t/tmp/x", ""),
+    Causes("the same descriptor", "! 1 p0 call fallocate\t0; ! 1 p0 call fallocate\t5", "fallocate on descriptor 0"),
+    Causes("another descriptor of the same file", "! 2 p0 call mmap\t1", "mmap on descriptor 1"),
+    Causes("another descriptor", "! 1 p0 call fallocate\t5", ""),
+    Causes("a path that is looked at", "! 1 p0 path stat\td/a", ""),
+    Causes("what only looks", "! 1 p0 call posix_fadvise\t0; ! 1 p0 call syscall of fstat\t0", ""),
+    Causes("stdio on the same file", "- 2 p0 stdio 1; ! 2 p0 call posix_fadvise\t0", "stdio on descriptor 1"),
+    Causes("stdio on another file", "- 3 p0 stdio 2", ""),
+    Causes("a program", "! 1 p0 program system\tb; ! 1 p0 path stat\td/a", "system of b"),
+]
+
+
+def is_blamed(causes: Causes) -> None:
+    """Just what can change the answer is told to be what it may follow from."""
+    lines = "p0 open a rw,creat = 0; p0 dup 0 = 1; p0 open b rw,creat = 2; p0 fstat 0 = regular {} 1"
+    fdref = "0 p0 join = 0; 1 " + "; ".join(f"{at} {line}" for at, line in enumerate(lines.split("; "), 1))[2:]
+    trace = lines_of(fdref.format(0))
+    both = judge.Both(
+        WELL,
+        WELL,
+        as_bytes([f"- {line}" for line in lines_of(lines.format(5))]),
+        as_bytes(logged(trace)),
+        trace_of(trace),
+        as_bytes(lines_of(causes.past)),
+    )
+    said = judge.told(judge.Verdict(both, f"legal {len(trace)} rest 0"), 60, 0).splitlines()
+    told = [line.partition(" from ")[2].partition(" (past")[0] for line in said if line.startswith("may follow ")]
+    same([causes.told] if causes.told else [], told)
+
+
 def is_unlike(log: str) -> None:
     """A log of fdref that is not that of the trace is compared with nothing."""
     trace = lines_of("0 p0 join = 0; 1 p0 pipe = 0 1; 2 p0 read 0 1 = parked 0")
@@ -355,3 +396,5 @@ def cases() -> Iterator[Case]:
     for log in ("3 p0 pipe = 2 3", "1 p0 pipe = 1 2", "1 p0 dup 0 = 0 1", "2 p0 read 0 1 = x"):
         yield f"a log with {log}", partial(is_unlike, log)
     yield "a circle of forks", is_circular
+    for causes in CAUSES:
+        yield f"blamed: {causes.name}", partial(is_blamed, causes)

@@ -178,7 +178,15 @@ PROGRAMS = [
         "strays",
         ("stdio",),
         1,
-        (WELL, NONE, "past fdref: stdio on descriptor 1, which is a file of fdref: it fails there", "audit: legal"),
+        (
+            WELL,
+            "system: p0 fstat 3",
+            NONE,
+            "may follow from stdio on descriptor 1 (past fdref, before line 7)",
+            "past fdref: 1 path (stat /), 2 other calls (first posix_fadvise on descriptor 3)",
+            "past fdref: stdio on descriptor 1, which is a file of fdref: it fails there",
+            "audit: legal",
+        ),
     ),
     Judged(
         "strays",
