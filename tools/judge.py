@@ -20,7 +20,7 @@ of stdio, other programs. The shim notes what it sees of that, and it is told by
 first of it; --keep has all. A difference after it is told to may follow from it: from what has the same
 name, if any, else from the last. Under --strict it ends the program. Calls that the C library makes
 inside are not seen: so printf is lost where dup2 puts a file of fdref at descriptor 1. Of threads one
-makes a call at a time, so where one waits the others do, which is told.
+makes a call at a time, so where one waits the others do, which is told at once on standard error.
 
 Told is how both ended, and where they part: the first call whose answer differs and has no reason, else
 the first that differs, after some lines before it and with its reason. The reasons are those of
@@ -209,6 +209,30 @@ class Both(NamedTuple):
     still: str = ""
 
 
+class Looker:
+    """Looks at a program while it runs with fdref, and tells as soon as threads wait for another one, once."""
+
+    def __init__(self, still: Standstill, noted: Path) -> None:
+        self.still = still
+        self.noted = noted
+        self.size = 0
+        self.is_told = False
+
+    def is_over(self) -> bool:
+        """Whether the program is to be killed."""
+        size = self.noted.stat().st_size
+        if not self.is_told and size != self.size:
+            self.size = size
+            self.tell()
+        return self.still.is_met()
+
+    def tell(self) -> None:
+        """Tells the first thread that waits, if one is noted."""
+        for told in past.told_threads(past.past_of(self.noted.read_bytes()))[:1]:
+            self.is_told = True
+            print(f"judge.py: {told}", file=sys.stderr, flush=True)
+
+
 class Job:
     """A program that is to be judged, and how."""
 
@@ -247,7 +271,7 @@ class Job:
             noted.touch()
             still = Standstill(server.trace, partial(parents_that_wait, server.process.pid))
             fdref, fdref_log = self.ran(
-                "fdref", still.is_met, FDREF_SOCKET=server.path, FDREF_PAST=str(noted), **strict
+                "fdref", Looker(still, noted).is_over, FDREF_SOCKET=server.path, FDREF_PAST=str(noted), **strict
             )
             server.finish()
             trace = Path(server.trace).read_bytes()

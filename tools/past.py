@@ -157,6 +157,11 @@ def told_past(every: list[Past]) -> list[str]:
     lines = [f"past fdref: {', '.join(told)}"] if told else []
     for number in sorted({it.call for it in every if it.kind == STDIO}):
         lines.append(f"past fdref: stdio on descriptor {number}, which is a file of fdref: it fails there")
-    for call in sorted({it.call for it in every if it.kind == THREAD}):
-        lines.append(f"past fdref: a thread waits in {call}, and no other one makes a call meanwhile")
+    lines += [f"past fdref: {it}" for it in told_threads(every)]
     return lines
+
+
+def told_threads(every: list[Past]) -> list[str]:
+    """In which calls a thread waited while others could make none."""
+    calls = sorted({it.call for it in every if it.kind == THREAD})
+    return [f"a thread waits in {call}, and no other one makes a call meanwhile" for call in calls]

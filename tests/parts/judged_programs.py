@@ -1,6 +1,7 @@
 """Programs of tests/c that are judged by tools/judge.py: what it says of each, and that nothing is left."""
 
 import os
+import select
 import shlex
 import signal
 import subprocess
@@ -87,13 +88,15 @@ class Bench:
 
 
 class Judged(NamedTuple):
-    """A program with its words, and what is said of it: the status, and lines that begin so, in this order."""
+    """A program with its words, and what is said of it: the status, lines that begin so, in this order, and what stands
+    on standard error."""
 
     name: str
     words: tuple[str, ...]
     status: int
     lines: tuple[str, ...]
     options: tuple[str, ...] = ()
+    stderr: bytes = b""
 
 
 APPENDS = "reason: pwrite under O_APPEND appends (the system departs; page of write (pwrite))"
@@ -109,6 +112,7 @@ STILL = (
 )
 NEITHER = "neither ended in 2 seconds: both were killed"
 WELL = "both ended with status 0"
+THREAD = b"judge.py: a thread waits in read, and no other one makes a call meanwhile\n"
 BAD_ADDRESS = "a crash (SIGSEGV) is no agreement: with the shim a bad address is no EFAULT"
 
 PROGRAMS = [
@@ -237,6 +241,7 @@ PROGRAMS = [
             "--strict ends it at a thread that waits in read",
         ),
         SOON,
+        THREAD,
     ),
     Judged("signals", ("kills",), 0, (WELL, "4 calls of 2 processes: no answer differs", "audit: legal")),
     Judged("signals", ("address",), 3, ("both ended by signal 11", BAD_ADDRESS, "1 call of 1 process")),
@@ -297,7 +302,7 @@ def is_said(bench: Bench, judged: Judged) -> None:
     """Just this is said of a program."""
     program = bench.compiled(f"judge_{judged.name}")
     ran = bench.judged("--shim", bench.shim(), *judged.options, program, *judged.words)
-    same((judged.status, b""), (ran.status, ran.stderr))
+    same((judged.status, judged.stderr), (ran.status, ran.stderr))
     lines = ran.stdout.decode("ascii").splitlines()
     rest = iter(lines)
     for start in judged.lines:
@@ -309,6 +314,7 @@ def cases(bench: Bench) -> Iterator[Case]:
     """Each program."""
     for judged in PROGRAMS:
         yield " ".join(["judge_" + judged.name, *judged.words]), partial(is_said, bench, judged)
+    yield "a thread that waits, at once", partial(tells_at_once, bench)
     yield "what is kept, and standard input", partial(is_kept, bench)
     yield "what --strict would tell", partial(tells_of_strict, bench)
     yield "an option after the program", partial(tells_astray, bench)
@@ -329,6 +335,17 @@ def is_kept(bench: Bench) -> None:
         require(data in Path(into, name).read_text(encoding="ascii"), f"{name} has no write of the line")
     audit = run([bench.program, "audit", os.path.join(into, "trace")])
     same((0, b""), (audit.status, audit.stderr))
+
+
+def tells_at_once(bench: Bench) -> None:
+    """That threads wait for another one is told while they do."""
+    command = [*bench.command(), "--shim", bench.shim(), *LATE, bench.compiled("judge_strays"), "threads"]
+    with subprocess.Popen(command, stdout=subprocess.DEVNULL, stderr=subprocess.PIPE) as judge:
+        assert judge.stderr
+        told = judge.stderr.readline() if select.select([judge.stderr], [], [], SECONDS)[0] else b""
+        judge.terminate()
+        same((THREAD, b"", 128 + signal.SIGTERM), (told, judge.stderr.read(), judge.wait(SECONDS)))
+    bench.is_clean()
 
 
 def tells_astray(bench: Bench) -> None:
