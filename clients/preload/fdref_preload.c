@@ -37,8 +37,8 @@
      - stat of a name is an open for reading and writing, an fstat and a close. A name that is there and cannot be
        opened so is a FIFO; it is told to have 1 link and no bytes. statx and access are the same, and truncate has an
        ftruncate in between. None of these is logged, also in a native run. They are EMFILE where no descriptor is free.
-     - st_ino comes of the name by which a file was opened, so links of one file differ, and a file that is renamed has
-       the number of its new name. Modes are 0644, times 0.
+     - st_ino is a number that the file has got by its first name, which goes with it to others. It is the same in all
+       processes that come of one by fork and exec; a program of system has its own. Modes are 0644, times 0.
      - F_DUPFD is a dup2 to the lowest free descriptor from its argument on.
      - F_GETFL has O_LARGEFILE, too, where the kernel would tell it. F_SETFL asks with the flags that fdref knows.
      - pipe2 with O_NONBLOCK is a pipe, and a setfl of each end. ioctl with FIONBIO is a getfl and a setfl.
@@ -155,6 +155,7 @@ enum { NO_ANSWER = 124, LEFT_OUT = 125 };
 int __cxa_atexit(void (*function)(void *), void *argument, void *library);
 
 #include "system.h"
+#include "shared.h"
 #include "table.h"
 
 /* ---- open */
@@ -195,7 +196,7 @@ static int open_in(int folder, const char *name, int flags, mode_t mode)
     }
     if (way == PASS)
         return numbered(system_openat(folder, name, flags, mode), is_cloexec);
-    slot.inode = inode_of_name(rest);
+    slot.inode = way == ASK ? inode_of_name(rest) : 0;
     if (way == ASK)
         return (int)ALONE(taken(ask(act), slot, is_cloexec));
     return (int)taken(noted(act, system_openat(folder, name, flags, mode)), slot, is_cloexec);
@@ -763,6 +764,28 @@ int pipe(int ends[2]) { return pipe2(ends, 0); }
 
 /* ---- names */
 
+/* A call with names that came to an end, after which another name leads to the file. */
+static int64_t after_move(int64_t done, const char *name, const char *new_name)
+{
+    if (done == 0)
+        name_moves(name, new_name);
+    return done;
+}
+
+static int64_t after_link(int64_t done, const char *name, const char *new_name)
+{
+    if (done == 0)
+        name_is_linked(name, new_name);
+    return done;
+}
+
+static int64_t after_unlink(int64_t done, const char *name)
+{
+    if (done == 0)
+        name_goes(name);
+    return done;
+}
+
 int mkfifoat(int folder, const char *name, mode_t mode)
 {
     const char *rest = name;
@@ -782,7 +805,7 @@ int linkat(int folder, const char *name, int new_folder, const char *new_name, i
     struct fdref_act act = fdref_act_link(rest, new_rest);
     int is_ours = way != PASS && (flags & AT_EMPTY_PATH) == 0;
     if (is_ours && way == ASK && new_way == ASK)
-        return (int)ALONE(ask(act));
+        return (int)ALONE(after_link(ask(act), rest, new_rest));
     if (how == ASKED && is_ours != (new_way != PASS))
         return (int)fails(EXDEV);
     if (is_ours && new_way == NOTE)
@@ -798,7 +821,7 @@ int renameat(int folder, const char *name, int new_folder, const char *new_name)
     enum way way = way_in("rename", folder, &rest), new_way = way_in("rename", new_folder, &new_rest);
     struct fdref_act act = fdref_act_rename(rest, new_rest);
     if (way == ASK && new_way == ASK)
-        return (int)ALONE(ask(act));
+        return (int)ALONE(after_move(ask(act), rest, new_rest));
     if (way == PASS && new_way == ASK && folder == AT_FDCWD && plain(name))
         return is_file(new_rest) ? (int)fails(ENOTDIR) : system_renameat(folder, name, new_folder, new_name);
     if (way == ASK && new_way == PASS && new_folder == AT_FDCWD && plain(new_name))
@@ -824,7 +847,7 @@ int unlinkat(int folder, const char *name, int flags)
         way = PASS;
     }
     if (way == ASK)
-        return (int)ALONE(ask(act));
+        return (int)ALONE(after_unlink(ask(act), rest));
     return way == PASS ? system_unlinkat(folder, name, flags) : (int)noted(act, system_unlinkat(folder, name, flags));
 }
 
@@ -835,7 +858,7 @@ int remove(const char *name)
     const char *rest = name;
     enum way way = way_of_name("remove", &rest);
     if (way == ASK)
-        return (int)ALONE(ask(fdref_act_unlink(rest)));
+        return (int)ALONE(after_unlink(ask(fdref_act_unlink(rest)), rest));
     return way == PASS ? system_remove(name) : (int)noted(fdref_act_unlink(rest), system_remove(name));
 }
 

@@ -239,12 +239,12 @@ static int64_t fork_asked(void)
 
 static pid_t fork_natively(void)
 {
-    uint32_t number = __atomic_fetch_add(next_number, 1, __ATOMIC_SEQ_CST);
+    uint32_t number = __atomic_fetch_add(&shared->next_number, 1, __ATOMIC_SEQ_CST);
     pid_t made = system_fork();
     if (made == 0)
         native_number = number;
     if (made < 0)
-        __atomic_fetch_sub(next_number, 1, __ATOMIC_SEQ_CST);
+        __atomic_fetch_sub(&shared->next_number, 1, __ATOMIC_SEQ_CST);
     return made == 0 ? 0 : (pid_t)ALONE(note(fdref_act_fork(), fdref_number(number), made));
 }
 

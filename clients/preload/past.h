@@ -381,22 +381,21 @@ static int run_in(const struct program *program, char *const list[], char *const
 static int run(struct program program, char *const list[], char *const env[])
 {
     char handed[HANDED_MOST], **with;
-    int file, error;
+    int error;
     prepare();
     if (!program.is_sought && is_file(program.path)) {
         leave_out("program", program.what, program.path);
         return (int)fails(ENOSYS);
     }
     with = handing(env, handed, sizeof handed);
-    file = with ? handed_file() : -1;
     if (with)
-        system_fcntl(file, F_SETFD, 0);
+        hand_files(0);
     else if (how == ASKED)
         leave_out("program", program.what, program.path);
     run_in(&program, list, with ? with : env);
     error = errno;
     if (with)
-        system_fcntl(file, F_SETFD, FD_CLOEXEC);
+        hand_files(FD_CLOEXEC);
     free(with);
     return (int)fails(error);
 }

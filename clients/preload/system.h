@@ -98,8 +98,8 @@ static struct fdref *process;
 static char socket_path[sizeof ((struct sockaddr_un *)NULL)->sun_path + 1];
 static int is_strict, log_file = -1, past_file = -1, blank = -1, shared_file = -1;
 
-/* The number of this process in a native run, and the next one, which all processes share by a file in memory. */
-static uint32_t native_number, *next_number;
+/* The number of this process in a native run. */
+static uint32_t native_number;
 
 /* Whether another thread waits in a call, so that this one may not end the process in fdref. */
 static int is_kept;

@@ -130,15 +130,7 @@ static void set_free(int fd)
     take(fd, slot, 0);
 }
 
-/* Files have numbers by the names that they were opened by, and pipes of their own. */
-static uint64_t inode_of_name(const char *name)
-{
-    uint64_t hash = UINT64_C(14695981039346656037);
-    for (; *name; name++)
-        hash = (hash ^ (unsigned char)*name) * UINT64_C(1099511628211);
-    return (hash & INT32_MAX) + 1;
-}
-
+/* Pipes have numbers of their own, above those of files. */
 static uint64_t inode_of_pipe(void)
 {
     static uint32_t pipes;
@@ -337,6 +329,7 @@ static void join(void)
     if (!process)
         end_with(NO_ANSWER, "no server at %s: %s", socket_path, strerror(errno));
     process->socket = hidden(process->socket);
+    begin_sharing();
     take_numbers();
 }
 
@@ -348,54 +341,40 @@ static int opened_log(const char *path)
     return hidden(fd);
 }
 
-/* Finds the shared number in its file. */
-static void map_numbers(void)
-{
-    void *shared = mmap(NULL, sizeof *next_number, PROT_READ | PROT_WRITE, MAP_SHARED, shared_file, 0);
-    if (shared == MAP_FAILED)
-        end_with(NO_ANSWER, "no shared memory: %s", strerror(errno));
-    next_number = (uint32_t *)shared;
-}
-
-/* A shared number, from which each process takes the next one. */
-static void share_numbers(void)
-{
-    int made = memfd_create("fdref-preload", MFD_CLOEXEC);
-    if (made < 0 || system_ftruncate(made, sizeof *next_number) != 0)
-        end_with(NO_ANSWER, "no shared memory: %s", strerror(errno));
-    shared_file = hidden(made);
-    map_numbers();
-    *next_number = 1;
-}
-
 /* The first process of a native run is 0. A program that another one has started, as by system, has numbers of its own,
    which begin at NATIVE_MOST times that of its process in the system. */
 enum { NATIVE_MOST = 1000 };
 
 static void begin_natively(void)
 {
-    share_numbers();
+    begin_sharing();
     if (getenv("FDREF_BEGUN")) {
         native_number = (uint32_t)getpid() * NATIVE_MOST;
-        *next_number = native_number + 1;
+        shared->next_number = native_number + 1;
     }
 }
 
 /* ---- from one program to the next
 
    An exec hands the process on in a variable of the environment: its number in the system, its number and place in the
-   run, the descriptor of the connection or of the shared number, and the table. */
+   run, the descriptors of the connection, or -1, and of what is shared, and the table. */
 
 static const char handed_name[] = "FDREF_HANDED=";
 enum { HANDED_MOST = 200 + NUMBERS * 30 };
 
-static int handed_file(void) { return how == ASKED ? process->socket : shared_file; }
+/* Lets an exec keep what is handed on, or close it. */
+static void hand_files(int flags)
+{
+    system_fcntl(shared_file, F_SETFD, flags);
+    if (process)
+        system_fcntl(process->socket, F_SETFD, flags);
+}
 
 static void put_table(char *to, size_t size)
 {
-    int used = snprintf(to, size, "%s%ld %ld %llu %d", handed_name, (long)getpid(),
+    int used = snprintf(to, size, "%s%ld %ld %llu %d %d", handed_name, (long)getpid(),
                         process ? (long)process->number : (long)native_number,
-                        process ? (unsigned long long)process->place : 0, handed_file());
+                        process ? (unsigned long long)process->place : 0, process ? process->socket : -1, shared_file);
     for (int fd = 0; fd < NUMBERS; fd++)
         used += snprintf(to + used, size - (size_t)used, " %d %d %d %llx", (int)slots[fd].held, slots[fd].is_cloexec,
                          slots[fd].is_pipe, (unsigned long long)slots[fd].inode);
@@ -421,26 +400,26 @@ static int take_over(char *at)
 {
     long number;
     unsigned long long place;
-    int file;
+    int connection;
     if (!at || next_of(&at, 10) != getpid())
         return 0;
     number = (long)next_of(&at, 10);
     place = (unsigned long long)next_of(&at, 10);
-    file = (int)next_of(&at, 10);
-    system_fcntl(file, F_SETFD, FD_CLOEXEC);
+    connection = (int)next_of(&at, 10);
+    shared_file = (int)next_of(&at, 10);
+    map_shared();
     if (how == NATIVE) {
         native_number = (uint32_t)number;
-        shared_file = file;
-        map_numbers();
     } else {
         process = (struct fdref *)calloc(1, sizeof *process);
         if (!process)
             end_with(NO_ANSWER, "no memory for the connection");
-        process->socket = file;
+        process->socket = connection;
         process->number = (pid_t)number;
         process->place = place;
         blank = hidden(system_open("/dev/null", O_PATH | O_CLOEXEC));
     }
+    hand_files(FD_CLOEXEC);
     for (int fd = 0; fd < NUMBERS; fd++) {
         struct slot slot = {FREE, 0, 0, 0};
         slot.held = (enum held)next_of(&at, 10);

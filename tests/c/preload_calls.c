@@ -558,6 +558,43 @@ static void further_names(void)
 #endif
 }
 
+/* The number of a file by its name. */
+static ino_t number_of(const char *name)
+{
+    struct stat told;
+    return stat(name, &told) == 0 ? told.st_ino : 0;
+}
+
+/* A file keeps its number under other names, and another file does not get it while it is there. */
+static void numbers(void)
+{
+    struct stat told;
+    pid_t child;
+    int fd = open("n", O_RDWR | O_CREAT, 0600);
+    GIVES(fstat(fd, &told), 0);
+    GIVES(rename("n", "o"), 0);
+    CHECK(number_of("o") == told.st_ino);
+    GIVES(close(open("n", O_RDWR | O_CREAT, 0600)), 0);
+    CHECK(number_of("n") != 0 && number_of("n") != told.st_ino);
+    GIVES(link("o", "p"), 0);
+    GIVES(rename("o", "p"), 0);
+    CHECK(number_of("o") == told.st_ino && number_of("p") == told.st_ino);
+    GIVES(rename("n", "o"), 0);
+    CHECK(number_of("o") != told.st_ino && number_of("p") == told.st_ino);
+    GIVES(unlink("o"), 0);
+    child = fork();
+    if (child == 0)
+        _exit(number_of("p") != told.st_ino || rename("p", "q") != 0 || link("q", "r") != 0);
+    CHECK(status_of(child) == 0);
+    CHECK(number_of("q") == told.st_ino && number_of("r") == told.st_ino && number_of("p") == 0);
+    errno = 0;
+    GIVES(close(open("p", O_RDWR | O_CREAT, 0600)), 0);
+    CHECK(number_of("p") != told.st_ino);
+    GIVES(fstat(fd, &told), 0);
+    CHECK(number_of("r") == told.st_ino);
+    GIVES(close(fd), 0);
+}
+
 int main(void)
 {
     errno = 0;
@@ -577,5 +614,6 @@ int main(void)
     looks();
     forks();
     further_names();
+    numbers();
     return failures > 0;
 }

@@ -16,7 +16,7 @@ static char bytes[99];
 /* What each program finds: the file with its offset, the pipe, a file of the kernel, and no more. */
 static void finds(int step)
 {
-    struct stat told;
+    struct stat told, by_name;
     errno = 0;
     GIVES(lseek(A_FILE, 0, SEEK_CUR), step);
     GIVES(write(A_FILE, "x", 1), 1);
@@ -30,6 +30,7 @@ static void finds(int step)
     FAILS(execve("/no/such/program", environ, environ), ENOENT);
     errno = 0;
     CHECK(fstat(A_FILE, &told) == 0 && S_ISREG(told.st_mode) && told.st_size == step + 1);
+    CHECK(stat("a", &by_name) == 0 && by_name.st_ino == told.st_ino);
 }
 
 /* What the next one does not find. */
@@ -62,7 +63,8 @@ static void begin(void)
 {
     int ends[2];
     errno = 0;
-    GIVES(open("a", O_RDWR | O_CREAT | O_APPEND, 0600), A_FILE);
+    GIVES(open("b", O_RDWR | O_CREAT | O_APPEND, 0600), A_FILE);
+    GIVES(rename("b", "a"), 0);
     GIVES(pipe(ends), 0);
     GIVES(open("/dev/null", O_RDWR), CLOSED);
     GIVES(fcntl(CLOSED, F_DUPFD, 0), NOTHING);

@@ -33,7 +33,7 @@ from support.serving import A_WHILE, ALL_RECORDS, SECONDS, Process, Server, outc
 
 # A program, its words, how many processes it is, and what a shell does before.
 PROGRAMS: list[tuple[str, list[str], int, str]] = [
-    ("preload_calls", [], 4, ""),
+    ("preload_calls", [], 5, ""),
     ("preload_forks", [], 8, ""),
     ("preload_execs", [], 2, ""),
     ("preload_numbers", ["mixed"], 1, ""),

@@ -1,0 +1,104 @@
+/* shared.h: a part of fdref_preload.c. What the processes of a run share, by a file in memory: the next number of a
+   native run, and the numbers of files, which st_ino tells. */
+
+/* A name, by its hash, or 0 where no name has this place yet; the number of its file, or 0 where the name has got none
+   since it went; and how often it went. */
+struct named {
+    uint64_t hash, inode, times;
+};
+enum { NAMED_MOST = 4096 };
+struct shared {
+    uint32_t next_number;
+    struct named named[NAMED_MOST];
+};
+static struct shared *shared;
+
+/* Finds what is shared in its file. */
+static void map_shared(void)
+{
+    void *found = mmap(NULL, sizeof *shared, PROT_READ | PROT_WRITE, MAP_SHARED, shared_file, 0);
+    if (found == MAP_FAILED)
+        end_with(NO_ANSWER, "no shared memory: %s", strerror(errno));
+    shared = (struct shared *)found;
+}
+
+/* Makes the file, which is zeros, for a first process and all that come of it. */
+static void begin_sharing(void)
+{
+    int made = memfd_create("fdref-preload", MFD_CLOEXEC);
+    if (made < 0 || system_ftruncate(made, sizeof *shared) != 0)
+        end_with(NO_ANSWER, "no shared memory: %s", strerror(errno));
+    shared_file = hidden(made);
+    map_shared();
+    shared->next_number = 1;
+}
+
+/* ---- the numbers of files
+
+   A name gives its file a number when it is first met, one that no other name gives. The number goes with the file to
+   its next name. Each step is one that other processes may see, or not yet. */
+
+static uint64_t hash_of(const char *name)
+{
+    uint64_t hash = UINT64_C(14695981039346656037);
+    for (; *name; name++)
+        hash = (hash ^ (unsigned char)*name) * UINT64_C(1099511628211);
+    return hash | 1;
+}
+
+/* Where a name is kept, or NULL where there are too many. */
+static struct named *named_of(const char *name)
+{
+    uint64_t hash = hash_of(name);
+    for (int tries = 0; tries < NAMED_MOST; tries++) {
+        struct named *at = &shared->named[(hash + (uint64_t)tries) % NAMED_MOST];
+        uint64_t none = 0;
+        if (__atomic_compare_exchange_n(&at->hash, &none, hash, 0, __ATOMIC_SEQ_CST, __ATOMIC_SEQ_CST) || none == hash)
+            return at;
+    }
+    return NULL;
+}
+
+/* The number that a name gives to a file for the first time, or after it went so often. */
+static uint64_t number_of_name(const char *name, uint64_t times)
+{
+    return (((hash_of(name) >> 1) + times * UINT64_C(0x9e3779b97f4a7c15)) & INT32_MAX) + 1;
+}
+
+static uint64_t inode_of_name(const char *name)
+{
+    struct named *at = named_of(name);
+    uint64_t found = 0, made;
+    if (!at)
+        return number_of_name(name, 0);
+    made = number_of_name(name, __atomic_load_n(&at->times, __ATOMIC_SEQ_CST));
+    __atomic_compare_exchange_n(&at->inode, &found, made, 0, __ATOMIC_SEQ_CST, __ATOMIC_SEQ_CST);
+    return found ? found : made;
+}
+
+/* A name leads to no file any more. */
+static void name_goes(const char *name)
+{
+    struct named *at = named_of(name);
+    if (!at)
+        return;
+    __atomic_fetch_add(&at->times, 1, __ATOMIC_SEQ_CST);
+    __atomic_store_n(&at->inode, 0, __ATOMIC_SEQ_CST);
+}
+
+/* A new name leads to the file of another one. */
+static void name_is_linked(const char *name, const char *new_name)
+{
+    struct named *at = named_of(new_name);
+    if (at)
+        __atomic_store_n(&at->inode, inode_of_name(name), __ATOMIC_SEQ_CST);
+}
+
+/* The same, and that name leads to it no more, unless both did before. */
+static void name_moves(const char *name, const char *new_name)
+{
+    if (inode_of_name(name) == inode_of_name(new_name))
+        return;
+    name_is_linked(name, new_name);
+    name_goes(name);
+}
