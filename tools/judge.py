@@ -72,7 +72,7 @@ from support.trees import Ended, never, run_tree
 import compare
 import past
 from partings import Compared, Finding
-from standstill import Standstill, parents_that_wait
+from standstill import Standstill, seen_beside
 
 SHIM = TOP / "clients" / "preload" / "fdref_preload.c"
 BUILD_SECONDS = 120
@@ -269,7 +269,7 @@ class Job:
         with Server(self.program, self.folder, self.sessions, self.limits) as server:
             noted = Path(self.folder, "past")
             noted.touch()
-            still = Standstill(server.trace, partial(parents_that_wait, server.process.pid))
+            still = Standstill(server.trace, partial(seen_beside, server.process.pid))
             fdref, fdref_log = self.ran(
                 "fdref", Looker(still, noted).is_over, FDREF_SOCKET=server.path, FDREF_PAST=str(noted), **strict
             )

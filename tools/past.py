@@ -64,7 +64,9 @@ class Past(NamedTuple):
             return True
         if LOOKS.fullmatch(self.call):
             return False
-        if self.names & finding.names or is_at(parting, self.descriptor()) or MOVES.fullmatch(self.call):
+        if self.names & finding.names or is_at(parting, self.descriptor()):
+            return True
+        if finding.names and MOVES.fullmatch(self.call):
             return True
         if gives_number(parting):
             return self.kind == STREAM or bool(TAKES.fullmatch(self.call))
@@ -122,7 +124,8 @@ def with_names(every: list[Past], records: list[Line], limits: Limits) -> list[P
         for line in records[done : one.place + 1]:
             judge.outcome_of(act_of(line.act))
         done = max(done, one.place + 1)
-        names = names_behind(judge.world, one.number, one.descriptor()) or {one.name.rpartition("/")[2]} - {""}
+        by_name = {one.name.rpartition("/")[2]} - {""}
+        names = names_behind(judge.world, one.number, one.descriptor()) if one.descriptor() else by_name
         found[at] = one._replace(names=frozenset(names))
     return found
 

@@ -6,6 +6,7 @@ import os
 import time
 from collections.abc import Callable
 from pathlib import Path
+from typing import NamedTuple
 
 from support.auditing import Frames, Judge, act_of
 from support.plain_model import DEFAULTS, PIPE_CAPACITY_MOST, Process, WaitingWrite, World
@@ -18,24 +19,32 @@ STILL_SECONDS = 2.0
 WAITS_FOR_A_CHILD = "do_wait"
 
 
-def parents_that_wait(server: int) -> int:
-    """How many processes below this one wait for the end of a child, but for those of a server; 0 where the system does
-    not tell it."""
+class Seen(NamedTuple):
+    """How many processes the system has of a program, and how many of them wait for the end of a child."""
+
+    live: int
+    waiting: int
+
+
+def seen_beside(server: int) -> Seen:
+    """What the system tells of the processes below this one, but for those of a server, and those that have ended."""
     by_parent = parents()
-    others = {server} | children_of({server}, by_parent)
-    found = 0
-    for number in children_of({os.getpid()}, by_parent) - others:
+    live = waiting = 0
+    for number in children_of({os.getpid()}, by_parent) - {server} - children_of({server}, by_parent):
         with contextlib.suppress(OSError):
-            found += Path("/proc", str(number), "wchan").read_text(encoding="ascii") == WAITS_FOR_A_CHILD
-    return found
+            process = Path("/proc", str(number))
+            # the state follows the name, which is in brackets
+            live += not process.joinpath("stat").read_bytes().rpartition(b")")[2].startswith(b" Z")
+            waiting += process.joinpath("wchan").read_text(encoding="ascii") == WAITS_FOR_A_CHILD
+    return Seen(live, waiting)
 
 
 class Standstill:
     """Looks at the trace of a server that runs; `told` says what its processes stand still at, once they do."""
 
-    def __init__(self, trace: str, waiting_parents: Callable[[], int]) -> None:
+    def __init__(self, trace: str, look: Callable[[], Seen]) -> None:
         self.trace = trace
-        self.waiting_parents = waiting_parents
+        self.look = look
         self.told = ""
         self.size = -1
         self.since = 0.0
@@ -48,13 +57,13 @@ class Standstill:
             self.size, self.since, self.is_known = size, now, False
         elif not self.is_known and now - self.since >= STILL_SECONDS:
             self.is_known = True
-            self.told = told(Path(self.trace).read_bytes(), self.waiting_parents)
+            self.told = told(Path(self.trace).read_bytes(), self.look)
         return bool(self.told)
 
 
-def told(trace: bytes, waiting_parents: Callable[[], int]) -> str:
+def told(trace: bytes, look: Callable[[], Seen]) -> str:
     """What the processes of a trace stand still at, or nothing where they may go on: one is in no call, and is no
-    parent that waits for a child."""
+    parent that waits for a child, or there is one that fdref does not know."""
     frames = Frames(trace)
     judge = Judge(frames.header.limits if frames.header else DEFAULTS)
     lines = [line_of(text) for text in frames.lines]
@@ -63,7 +72,7 @@ def told(trace: bytes, waiting_parents: Callable[[], int]) -> str:
     live = judge.world.processes.values()
     going = [it for it in live if not (it.attached and it.waits and not it.waits.is_ready(judge.world))]
     small = next((it for it in live if is_for_want_of_room(it, judge.world)), None)
-    if not small or any(it.waits for it in going) or (going and waiting_parents() < len(going)):
+    if not small or any(it.waits for it in going) or (going and look() != Seen(len(live), len(going))):
         return ""
     return told_write(small, lines, judge.world)
 

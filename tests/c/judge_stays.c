@@ -1,11 +1,12 @@
 /* Does not end, or not with fdref, or leaves a process.
 
-   usage: judge_stays reads|fills|forks|waits|leaves
+   usage: judge_stays reads|fills|forks|waits|sleeps|leaves
 
    reads   reads its own empty pipe, in a child as well
    fills   writes 2,000 bytes to its own pipe, for which fdref has no room
    forks   does so before it forks a child that reads it
    waits   has a child that does so, and reads once that has ended
+   sleeps  has a child that does so, and reads after three seconds
    leaves  ends, and leaves a process in a session of its own */
 
 #define _POSIX_C_SOURCE 200809L
@@ -29,8 +30,10 @@ int main(int count, char **words)
     pid_t child = fork();
     if (child < 0)
         return 1;
-    if (strcmp(what, "waits") == 0 && child == 0)
+    if ((strcmp(what, "waits") == 0 || strcmp(what, "sleeps") == 0) && child == 0)
         return write(ends[1], bytes, sizeof bytes) != (ssize_t)sizeof bytes;
+    if (strcmp(what, "sleeps") == 0)
+        return sleep(3) != 0 || read(ends[0], bytes, 1) != 1 || waitpid(child, 0, 0) != child;
     if (strcmp(what, "waits") == 0)
         return waitpid(child, 0, 0) != child || read(ends[0], bytes, sizeof bytes) != (ssize_t)sizeof bytes;
     if (strcmp(what, "forks") == 0)

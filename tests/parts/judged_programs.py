@@ -290,6 +290,7 @@ PROGRAMS = [
         LATE,
     ),
     Judged("stays", ("waits",), 0, (WELL,), ("--pipe-capacity", "65536")),
+    Judged("stays", ("sleeps",), 0, (WELL, "4 calls of 2 processes: no answer differs"), ("--pipe-capacity", "1999")),
     Judged("stays", ("forks",), 0, (WELL,), ("--pipe-capacity", "65536")),
     # pipes of 2,000 bytes have room, and those of 1,999 have not
     Judged("stays", ("fills",), 0, (WELL,), ("--pipe-capacity", "2000")),
