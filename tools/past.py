@@ -9,6 +9,7 @@ from typing import NamedTuple
 
 from partings import Finding, Parting, names_behind
 from support.auditing import Judge, act_of
+from support.footprints import CHANGE_DESCRIPTORS
 from support.plain_model import Limits
 from support.runs import Line
 
@@ -91,7 +92,7 @@ def gives_number(parting: Parting) -> bool:
         return False
     _, word, *_ = parting.fdref.act.split(" ")
     both = parting.system.outcome + parting.fdref.outcome
-    return word in ("open", "dup", "dup2", "pipe") and both.replace(" ", "").isdigit()
+    return word in CHANGE_DESCRIPTORS and both.replace(" ", "").isdigit()
 
 
 def past_of(text: bytes) -> list[Past]:
