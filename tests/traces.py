@@ -66,7 +66,7 @@ from support.frames import ERRORS, HEADER_LENGTH, MOST, OLD_MAGIC, header_bytes,
 from support.options import ONLY, PROGRAM, SEED, asked, count_option
 from support.running import Ran, ran_all, run, run_by_bytes
 from support.runs import line_of
-from support.serving import A_WHILE, Client, Server, outcome_of, serve_words, started
+from support.serving import A_WHILE, Client, Server, outcome_of, report, serve_words, started
 from support.sources import changed, numbered, source
 from support.texts import difference
 
@@ -367,19 +367,19 @@ def another_server_writes(program: str) -> None:
         wanted = f"cannot write\n{server.trace}: another server writes its trace there\n"
         same(Ran(4, b"", wanted.encode()), Ran(*given))
         client.vanish()
-        server.ended(line_of(1, 3, 0, 0), 0, b"")
+        server.ended(report(1, 3), 0, b"")
         same(legal(3, 0), run([program, "audit", server.trace]))
 
 
 def without_a_lock(program: str) -> None:
-    """Two servers may write to one device."""
+    """Two servers may write to one device, though it cannot be synced."""
     with tempfile.TemporaryDirectory(prefix="fdref-") as folder:
         paths = [os.path.join(folder, name) for name in ("one", "two")]
         servers = [started(serve_words(program, path, 1, 9, os.devnull)) for path in paths]
         for path, server in zip(paths, servers, strict=True):
             Client(path, server).vanish()
         for server in servers:
-            same(0, outcome_of(server).status)
+            same(Ran(4, report(1, 1), b"trace fault\n"), Ran(*outcome_of(server)))
 
 
 def cannot_make_trace(program: str, trace: str, folder: str) -> None:

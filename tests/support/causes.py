@@ -6,8 +6,8 @@ import re
 from support.counting import require, same
 from support.running import Ran
 
-# What a system says: its text, and its number.
-SAID = rb"[A-Z][^\n]* \(os error [0-9]+\)"
+# What a system says: its text, and its number; or why it was not even asked.
+SAID = rb"(?:[A-Z][^\n]* \(os error [0-9]+\)|path must be shorter than SUN_LEN)"
 
 
 def names_cause(text: bytes, wanted: bytes, path: str, cause: bytes = SAID) -> None:
