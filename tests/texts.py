@@ -280,6 +280,19 @@ def random_cases(program: str, seed: str, count: int) -> Iterator[Case]:
         yield numbered("script", seed, number), partial(random_case, program, seed, number)
 
 
+def hashed(program: str) -> None:
+    """A name that begins with a hash: in acts that are to be read again it is spelled otherwise."""
+    lines = ["0 p0 join = 0", "1 p0 open #a#b rw,creat = error EINVAL", "2 p0 link #a#b # = error EINVAL"]
+    acts = b"join\np0 open %23a#b rw,creat\np0 link %23a#b %23\n"
+    with tempfile.NamedTemporaryFile(prefix="fdref-") as file:
+        file.write(trace_of(lines))
+        file.flush()
+        same(acts, run([program, "show", "--acts", "--text", file.name]).stdout)
+        same("\n".join(lines) + "\n", run([program, "show", "--text", file.name]).stdout.decode())
+    wanted = "\n".join(lines) + "\nrecords 3 in 0 out 0\n"
+    same(wanted, run([program, "replay", "--text"], acts).stdout.decode())
+
+
 # ---- the whole
 
 
@@ -290,6 +303,7 @@ def main(words: Sequence[str]) -> int:
     parts = [
         ("what is written out", written_out(args.program)),
         ("what is told", told(args.program)),
+        ("names", [("that begin with a hash", partial(hashed, args.program))]),
         ("random scripts", random_cases(args.program, args.seed, args.scripts)),
     ]
     return Count(TELL_MOST).parts(parts, args.only)

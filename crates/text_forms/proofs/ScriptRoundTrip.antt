@@ -1,14 +1,15 @@
 -- A line of acts that is shown with a string stands for itself.
-use Rattle.std.proofs.Common.{◌≡◌, ℕ, ◌-◌, Bool, true, false, cond, eqb, ltb, ◌&&◌, List, [], ◌∷◌, ◌++◌, length, take, drop, Option, Some, None, refl, ap, sym, ◌∙◌, subst, append_assoc, length-append, arith}
+use Rattle.std.proofs.Common.{◌≡◌, ℕ, ◌-◌, Bool, true, false, cond, eqb, ltb, ◌&&◌, List, [], ◌∷◌, ◌++◌, length, take, drop, Option, Some, None, refl, ap, sym, ◌∙◌, subst, append_assoc, length-append, arith, codes, if◌then◌else◌, ◌==◌}
 use Rattle.std.specs.List.{flat_map}
-use Rattle.std.proofs.lemmas.Bool.{and_parts, eqb-true}
+use Rattle.std.proofs.lemmas.Bool.{and_parts, eqb-true, or_parts}
 use Rattle.std.proofs.lemmas.List.{take_at}
 use Rattle.text_forms.specs.declared.scripts.Lines.TheVariants as kinds
 use Rattle.text_forms.specs.declared.scripts.marks.Sought.TheVariants as sought
-use Rattle.text_forms.specs.Scripts.{quote, spelled, inside, paired, ends_word, is_text_word, begins_with, hash, then_from, from_first, data_part, ahead_of, opened, string_in, front_length, string_word, after_string, uncommented, plain_with, plain_line, strung_with, strung_line, no_marks}
-use Rattle.text_forms.proofs.ScriptCuts.{data_cut, text_cut, end_unmarked, front_unmarked, no_mark_found, no_comment, no_hash}
+use Rattle.text_forms.specs.Scripts.{quote, spelled, inside, paired, ends_word, is_text_word, begins_with, hash, then_from, from_first, data_part, ahead_of, opened, string_in, front_length, string_word, after_string, uncommented, plain_with, plain_line, strung_with, strung_line, unhashed, no_marks}
+use Rattle.text_forms.proofs.ScriptCuts.{data_cut, text_cut, end_unmarked, front_unmarked, no_mark_found, no_comment, no_hash, unmarked}
 use Rattle.text_forms.proofs.ScriptSpellings.{paired_back, string_back}
 use Rattle.script_text.specs.Lines.{hex_pair}
+use Rattle.script_text.specs.Reading.{space}
 
 -- ---- a line without a string
 
@@ -74,7 +75,7 @@ word_of (c ∷ cs) h =
 abbrev pub string_of : List ℕ → List ℕ
 string_of digits = flat_map spelled (paired digits).0 ++ quote ∷ (paired digits).1
 
-shown_at : (front digits : List ℕ) → strung_with (Some (120 ∷ digits)) (front ++ 120 ∷ digits) ≡ front ++ quote ∷ string_of digits
+shown_at : (front digits : List ℕ) → strung_with kinds.Acts (Some (120 ∷ digits)) (front ++ 120 ∷ digits) ≡ front ++ quote ∷ string_of digits
 shown_at front digits = rw (ahead_at front (120 ∷ digits)) (simp append_assoc)
 
 plain_again : (front part digits : List ℕ) → no_marks (front ++ 120 ∷ digits) ≡ true → ends_word (paired digits).1 ≡ true
@@ -96,7 +97,7 @@ plain_again front part digits free e place mark =
     ∙ ap (λ (xs : List ℕ). front ++ 120 ∷ xs) (sym back.0)
 
 shown_part : (line part word : List ℕ) → no_marks line ≡ true → data_part kinds.Acts line ≡ Some part → from_first sought.TextWord true part ≡ Some word
-    → plain_line (strung_with (Some word) line) ≡ line
+    → plain_line (strung_with kinds.Acts (Some word) line) ≡ line
 shown_part line part word free place text =
     let k = data_cut line part place in
     let t = text_cut true part word (end_unmarked k.front part (subst (λ (xs : List ℕ). no_marks xs ≡ true) k.is free)) text in
@@ -109,20 +110,32 @@ shown_part line part word free place text =
     = ap (λ (xs : List ℕ). data_part kinds.Acts xs) (append_assoc k.front t.front other) ∙ k.again (t.front ++ other) in
     let free_now = subst (λ (xs : List ℕ). no_marks xs ≡ true) is free in
     let again = plain_again front (t.front ++ other) w.digits free_now w.ends there (t.again (string_of w.digits)) in
-    let shown : strung_with (Some word) line ≡ front ++ other
-    = ap (λ (xs : List ℕ). strung_with (Some word) xs) is
-    ∙ ap (λ (xs : List ℕ). strung_with (Some xs) (front ++ 120 ∷ w.digits)) w.is ∙ shown_at front w.digits in
+    let shown : strung_with kinds.Acts (Some word) line ≡ front ++ other
+    = ap (λ (xs : List ℕ). strung_with kinds.Acts (Some word) xs) is
+    ∙ ap (λ (xs : List ℕ). strung_with kinds.Acts (Some xs) (front ++ 120 ∷ w.digits)) w.is ∙ shown_at front w.digits in
     ap plain_line shown ∙ again ∙ sym is
+
+-- nothing is spelled otherwise where there is no #
+one_hashed : (begins is_hash : Bool) (c : ℕ) (cs rest : List ℕ) → is_hash ≡ false → rest ≡ cs → (if begins && is_hash then codes "%23" else c ∷ []) ++ rest ≡ c ∷ cs
+one_hashed true true c cs rest free same = cc
+one_hashed true false c cs rest free same = ap (λ (xs : List ℕ). c ∷ xs) same
+one_hashed false is_hash c cs rest free same = ap (λ (xs : List ℕ). c ∷ xs) same
+
+nothing_hashed : (begins : Bool) (line : List ℕ) → no_marks line ≡ true → unhashed begins line ≡ line
+nothing_hashed begins [] free = refl
+nothing_hashed begins (c ∷ cs) free =
+    let f = unmarked c cs free in
+    one_hashed begins (c == hash) c cs (unhashed (c == space) cs) (or_parts (c == hash) (c == quote) f.0).0 (nothing_hashed (c == space) cs f.1)
 
 shown_word : (line part : List ℕ) (word : Option (List ℕ)) → no_marks line ≡ true → data_part kinds.Acts line ≡ Some part
     → from_first sought.TextWord true part ≡ word
-    → plain_line (strung_with word line) ≡ line
-shown_word line part None free place text = free_line line free
+    → plain_line (strung_with kinds.Acts word line) ≡ line
+shown_word line part None free place text = ap plain_line (nothing_hashed true line free) ∙ free_line line free
 shown_word line part (Some word) free place text = shown_part line part word free place text
 
 shown_data : (line : List ℕ) (part : Option (List ℕ)) → no_marks line ≡ true → data_part kinds.Acts line ≡ part
-    → plain_line (strung_with (then_from part (from_first sought.TextWord true)) line) ≡ line
-shown_data line None free place = free_line line free
+    → plain_line (strung_with kinds.Acts (then_from part (from_first sought.TextWord true)) line) ≡ line
+shown_data line None free place = ap plain_line (nothing_hashed true line free) ∙ free_line line free
 shown_data line (Some part) free place = shown_word line part (from_first sought.TextWord true part) free place refl
 
 pub shown_again : (line : List ℕ) → no_marks line ≡ true → plain_line (strung_line kinds.Acts line) ≡ line

@@ -120,17 +120,17 @@ abbrev pub after_word : List ℕ → Option (List ℕ)
 after_word [] = None
 after_word (c ∷ cs) = if c == space then Some cs else after_word cs
 
--- whether a call of data stands here, and a space after it
+-- whether the word of a call that gives or takes data, or of its resume, stands here, and a space after it
 abbrev pub opens_data : List ℕ → Bool
 opens_data left =
     starts_with nat_eq left (codes "write ") || starts_with nat_eq left (codes "pwrite ") || starts_with nat_eq left (codes "read ")
     || starts_with nat_eq left (codes "pread ") || starts_with nat_eq left (codes "resume ")
 
--- what stands after a call of data
+-- what stands after such a word
 abbrev pub after_call : List ℕ → Option (List ℕ)
 after_call left = if opens_data left then after_word left else None
 
--- what stands after the second word of a line of acts, or the third one of a line of records, where that is a call of data
+-- what stands after the second word of a line of acts, or the third one of a line of records, where that is such a word
 abbrev pub data_part : Lines → List ℕ → Option (List ℕ)
 data_part kinds.Acts line = then_from (after_word line) after_call
 data_part kinds.Records line = then_from (then_from (after_word line) after_word) after_call
@@ -224,15 +224,25 @@ source_column text line column = line_column (slice_index_or ([] ∷ slice_split
 
 -- ---- lines with strings
 
+-- a line in which a # with which a word begins is spelled by its digits, as in a NAME; whether a word begins in front is told
+abbrev pub unhashed : Bool → List ℕ → List ℕ
+unhashed begins [] = []
+unhashed begins (c ∷ cs) = (if begins && c == hash then codes "%23" else c ∷ []) ++ unhashed (c == space) cs
+
+-- a plain line without data that a string can spell: of one of acts no word is taken for a comment
+abbrev pub without_string : Lines → List ℕ → List ℕ
+without_string kinds.Acts line = unhashed true line
+without_string kinds.Records line = line
+
 -- a line in which the word that begins there is spelled as a string
-abbrev pub strung_with : Option (List ℕ) → List ℕ → List ℕ
-strung_with None line = line
-strung_with (Some word) line =
+abbrev pub strung_with : Lines → Option (List ℕ) → List ℕ → List ℕ
+strung_with kind None line = without_string kind line
+strung_with kind (Some word) line =
     ahead_of word line ++ codes "\"" ++ flat_map spelled (paired (drop 1 word)).0 ++ codes "\"" ++ (paired (drop 1 word)).1
 
--- a plain line, with the first word at a data place that a string can spell as that string
+-- a plain line, with the first word of data that a string can spell as that string; of acts it can be read again
 abbrev pub strung_line : Lines → List ℕ → List ℕ
-strung_line kind line = strung_with (then_from (data_part kind line) (from_first sought.TextWord true)) line
+strung_line kind line = strung_with kind (then_from (data_part kind line) (from_first sought.TextWord true)) line
 
 -- a plain text, each line so
 abbrev pub strung : Lines → List ℕ → List ℕ

@@ -4,7 +4,7 @@
 ghost use Rattle.std.specs.Prelude.{true, ◌≡◌, ◌≤◌, ◌<◌, ◌+◌, ◌-◌, ◌*◌, ◌++◌, ◌==◌, length, IfOk, IfSome, OnOk, slice_index_or, List, [], ◌∷◌, ℕ};
 ghost use Rattle.std.specs.Option.{option_map, option_copied};
 ghost use Rattle.std.specs.List.{slice_split, slice_get, position};
-ghost use Rattle.text_forms.specs.Scripts.{plain_line, plain_script, after_string, line_column, source_column, then_from, data_part, from_first, strung_line, strung, is_feed, no_marks};
+ghost use Rattle.text_forms.specs.Scripts.{plain_line, plain_script, after_string, line_column, source_column, then_from, data_part, from_first, strung_line, strung, unhashed, without_string, is_feed, no_marks};
 ghost use Rattle.text_forms.specs.Proved.Scripts.{first_line};
 
 use crate::scripts::marks::{Sought, data_part, from_first, uncommented};
@@ -79,7 +79,7 @@ fn put_plain(out: &mut Vec<u8>, text: &[u8]) -> Result<(), AllocError>
 }
 
 /// The plain script that a script stands for, line by line: without comments, and with digits in place of strings. No line is refused. A
-/// quote that begins no string stays as it is, and the reader of scripts tells the fault at its word. Fails only where memory runs out.
+/// quote that begins no string stays as it is, so that the reader of scripts meets it. Fails only where memory runs out.
 pub fn plain_script(alloc: Global, text: &[u8]) -> Result<Vec<u8>, AllocError>
     ensures { IfOk result (λ plain. plain.items ≡ plain_script text.now) }
 {
@@ -151,12 +151,40 @@ fn text_word(kind: Lines, line: &[u8]) -> Option<&[u8]>
     from_first(Sought::TextWord, data_part(kind, line)?)
 }
 
+/// Appends a line of acts in which no word is taken for a comment: a `#` with which a name begins is `%23`.
+fn put_unhashed(out: &mut Vec<u8>, line: &[u8]) -> Result<(), AllocError>
+    ensures { OnOk result (out.new.items ≡ out.old.items ++ unhashed true line.now) }
+{
+    let mut begins = true;
+    let mut left = line;
+    while let Some((byte, rest)) = left.split_first() {
+        if begins && *byte == b'#' {
+            out.extend_from_slice(b"%23")?;
+        } else {
+            out.push(*byte)?;
+        }
+        begins = *byte == b' ';
+        left = rest;
+    }
+    Ok(())
+}
+
+/// Appends a plain line without data that a string can spell.
+fn put_without_string(out: &mut Vec<u8>, kind: Lines, line: &[u8]) -> Result<(), AllocError>
+    ensures { OnOk result (out.new.items ≡ out.old.items ++ without_string kind line.now) }
+{
+    match kind {
+        Lines::Acts => put_unhashed(out, line),
+        Lines::Records => out.extend_from_slice(line),
+    }
+}
+
 /// Appends a plain line, with the first word of data that a string can spell as one.
 fn put_strung_line(out: &mut Vec<u8>, kind: Lines, line: &[u8]) -> Result<(), AllocError>
     ensures { OnOk result (out.new.items ≡ out.old.items ++ strung_line kind line.now) }
 {
     let Some(word) = text_word(kind, line) else {
-        return out.extend_from_slice(line);
+        return put_without_string(out, kind, line);
     };
     out.extend_from_slice(&line[..line.len() - word.len()])?;
     out.push(b'"')?;
@@ -165,8 +193,8 @@ fn put_strung_line(out: &mut Vec<u8>, kind: Lines, line: &[u8]) -> Result<(), Al
     out.extend_from_slice(after)
 }
 
-/// Appends a text of plain lines. In each line the first word of data that a string can spell is written as one. Where memory runs out,
-/// a part of the text may stand in `out`.
+/// Appends a text of plain lines. In each line the first word of data of the form `x6869` that a string can spell is written as one. In
+/// lines of acts no name is left that begins with `#`. Where memory runs out, a part of the text may stand in `out`.
 pub fn write_strung(out: &mut Vec<u8>, kind: Lines, text: &[u8]) -> Result<(), AllocError>
     ensures { OnOk result (out.new.items ≡ out.old.items ++ strung kind text.now) }
 {

@@ -72,7 +72,7 @@ fn after_word(bytes: &[u8]) -> Option<&[u8]>
     None
 }
 
-/// Whether a call of data stands here, and a space after it.
+/// Whether the word of a call that gives or takes data, or of its resume, stands here, and a space after it.
 fn opens_data(left: &[u8]) -> bool
     ensures { result ≡ opens_data left.now }
 {
@@ -83,7 +83,7 @@ fn opens_data(left: &[u8]) -> bool
         || left.starts_with(b"resume ")
 }
 
-/// What stands after a call of data.
+/// What stands after such a word.
 fn after_call(left: &[u8]) -> Option<&[u8]>
     ensures value { option_copied result ≡ after_call left.now }
     ensures within { IfSome result (λ rest. length rest.now ≤ length left.now) }
@@ -95,7 +95,7 @@ fn after_call(left: &[u8]) -> Option<&[u8]>
     }
 }
 
-/// What stands from the first data place of a line on.
+/// What stands after such a word, where a line has it in the place of its call.
 pub(crate) fn data_part(kind: Lines, line: &[u8]) -> Option<&[u8]>
     ensures value { option_copied result ≡ data_part kind line.now }
     ensures within { IfSome result (λ left. length left.now ≤ length line.now) }
