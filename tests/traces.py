@@ -364,7 +364,7 @@ def another_server_writes(program: str) -> None:
         client.gets("0 0")
         words = serve_words(program, os.path.join(folder, "socket"), 1, 9, server.trace)
         given = outcome_of(started(words))
-        wanted = f"cannot write\n{server.trace}: another server writes its trace there\n"
+        wanted = f"cannot write\n{server.trace}: another server may be writing its trace there: it is locked\n"
         same(Ran(4, b"", wanted.encode()), Ran(*given))
         client.vanish()
         server.ended(report(1, 3), 0, b"")

@@ -9,7 +9,7 @@ use std::{fmt, io};
 enum Why {
     /// The system said so.
     System(io::Error),
-    /// Another server has locked the file, and writes its trace there.
+    /// Another process has locked the file, as a server does that writes its trace there.
     Locked,
 }
 
@@ -20,8 +20,8 @@ struct Cause {
     why: Why,
 }
 
-/// The last path that could not be used, if there is one, for the line after that of how a job ended. Where memory runs out for it,
-/// there is none.
+/// The last path that could not be used, if there is one, for the line after that of how a job ended. One for which memory runs out is
+/// not noted.
 #[derive(Drop)]
 pub struct Causes {
     alloc: Global,
@@ -42,7 +42,7 @@ impl Causes {
         self.put(path, Why::System(error));
     }
 
-    /// Notes that another server has locked the file at a path.
+    /// Notes that another process has locked the file at a path.
     pub fn note_locked(&self, path: &str) {
         self.put(path, Why::Locked);
     }
@@ -72,7 +72,10 @@ impl fmt::Display for Causes {
                     path,
                     why: Why::Locked,
                 },
-            ) => write!(f, "{path}: another server writes its trace there\n"),
+            ) => write!(
+                f,
+                "{path}: another server may be writing its trace there: it is locked\n"
+            ),
             None => Ok(()),
         }
     }

@@ -6,8 +6,8 @@ use std::fs::{File, OpenOptions, TryLockError};
 use std::{fs, io};
 use trace_writer::file::FileSink;
 
-/// What the system says of a read of a folder (EISDIR).
-const IS_A_FOLDER: i32 = 21;
+/// What Linux says of a read of a directory.
+const EISDIR: i32 = 21;
 
 /// Why no file is had for a trace.
 enum Unmade {
@@ -29,17 +29,17 @@ pub struct SystemFiles<'a> {
 }
 
 impl<'a> SystemFiles<'a> {
-    /// A file that can be read, and is no folder.
+    /// A file that can be read, and is no directory.
     fn readable(&self, path: &str) -> io::Result<File> {
         let file = fs::open(self.rt, path)?;
         if file.metadata()?.is_dir() {
-            return Err(io::Error::from_raw_os_error(IS_A_FOLDER));
+            return Err(io::Error::from_raw_os_error(EISDIR));
         }
         Ok(file)
     }
 
-    /// A file for a trace. It is emptied only once it is locked, so the trace of a server that runs stays as it is. What is no file of
-    /// bytes, as `/dev/null`, is not locked.
+    /// A file for a trace. Where the file system has locks it is emptied only once it is locked, so the trace of a server that runs stays
+    /// as it is. What is no file of bytes, as `/dev/null`, is not locked.
     fn writable(&self, path: &str) -> Result<File, Unmade> {
         let file = OpenOptions::new()
             .write(true)

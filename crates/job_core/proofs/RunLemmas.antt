@@ -174,8 +174,8 @@ whole_if (Some known) text same short = same short
 
 -- the end of a line that has no place: it is told of the line
 line_ends : (limits : Limits) (how : Spelling) (input : Option (List ℕ)) (old : LoggedWriterState) (line column : ℕ) (expected : Expected) (b : Bool)
-    → IfSome input (Refuses how (if b then ended.BadReturn line column else ended.BadLine line column expected))
-    → ReplayEnds limits how input old old (if b then ended.BadReturn line column else ended.BadLine line column expected)
+    → IfSome input (Refuses how (if b then ended.CarriageReturn line column else ended.BadLine line column expected))
+    → ReplayEnds limits how input old old (if b then ended.CarriageReturn line column else ended.BadLine line column expected)
 line_ends limits how input old line column expected true refuses = (refuses, refl)
 line_ends limits how input old line column expected false refuses = (refuses, refl)
 
@@ -216,7 +216,7 @@ front_ends limits how input old new text lines end law whole (acts, is, output, 
     (of_input input (WritesReplayFront limits how old new) text short whole (acts, spells, (output, is_output, subst (AppendsFront old new) lines_are front)))
 
 -- a fault of a script is not one of its reader
-line_of_none : (line column : ℕ) (expected : Expected) (b : Bool) → (if b then ended.BadReturn line column else ended.BadLine line column expected) ≡ ended.CannotRead → ⊥
+line_of_none : (line column : ℕ) (expected : Expected) (b : Bool) → (if b then ended.CarriageReturn line column else ended.BadLine line column expected) ≡ ended.CannotRead → ⊥
 line_of_none line column expected true e = cc
 line_of_none line column expected false e = cc
 

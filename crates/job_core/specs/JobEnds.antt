@@ -31,7 +31,7 @@ ended_status ended.NoneAgrees = 1
 ended_status ended.NoSuchOutcome = 1
 ended_status ended.Incomplete = 1
 ended_status ended.NothingJudged = 0
-ended_status (ended.BadReturn line column) = 3
+ended_status (ended.CarriageReturn line column) = 3
 
 -- why a line of a race cannot stand where it does, and what can (own)
 abbrev pub unfit_text : Unfit → List ℕ
@@ -45,7 +45,7 @@ abbrev pub ended_text : JobEnd → List ℕ
 ended_text ended.Done = []
 ended_text (ended.BadLine line column expected) =
     codes "line " ++ (decimal line ++ (codes " column " ++ (decimal column ++ (codes ": not an act\nexpected " ++ (expected_text expected ++ codes "\n")))))
-ended_text (ended.BadReturn line column) =
+ended_text (ended.CarriageReturn line column) =
     codes "line " ++ (decimal line ++ (codes " column " ++ (decimal column ++ codes ": not an act\nexpected a line without a carriage return at its end\n")))
 ended_text ended.TooLong = codes "script too long\nexpected at most 16777216 bytes\n"
 ended_text ended.CannotRead = codes "cannot read\n"

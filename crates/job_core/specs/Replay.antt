@@ -96,7 +96,7 @@ ends_in_return text line = last_byte text (line - 1) == 13
 -- the end that a fault of a text is: its column is that in the text, and of a line that ends in a carriage return that is told
 abbrev pub end_in : Spelling → List ℕ → ScriptFault → JobEnd
 end_in how text (faults.BadLine line column expected) =
-    if ends_in_return text line then ended.BadReturn line (column_in how text line column) else ended.BadLine line (column_in how text line column) expected
+    if ends_in_return text line then ended.CarriageReturn line (column_in how text line column) else ended.BadLine line (column_in how text line column) expected
 end_in how text faults.TooLong = ended.TooLong
 end_in how text faults.NoMemory = ended.NoMemory
 
@@ -119,7 +119,7 @@ OfInput input P = (text : List ℕ) × IfSome input (λ known. text ≡ known) �
 abbrev pub ReplayEnds : Limits → Spelling → Option (List ℕ) → LoggedWriterState → LoggedWriterState → JobEnd → Type 0
 ReplayEnds limits how input old new ended.Done = OfInput input (WritesReplay limits how old new)
 ReplayEnds limits how input old new (ended.BadLine line column expected) = IfSome input (Refuses how (ended.BadLine line column expected)) × (new ≡ old)
-ReplayEnds limits how input old new (ended.BadReturn line column) = IfSome input (Refuses how (ended.BadReturn line column)) × (new ≡ old)
+ReplayEnds limits how input old new (ended.CarriageReturn line column) = IfSome input (Refuses how (ended.CarriageReturn line column)) × (new ≡ old)
 ReplayEnds limits how input old new ended.TooLong = IfSome input (Refuses how ended.TooLong) × (new ≡ old)
 ReplayEnds limits how input old new ended.CannotRead = new ≡ old
 ReplayEnds limits how input old new ended.CannotWrite = OfInput input (WritesReplayFront limits how old new)

@@ -187,7 +187,7 @@ Example:
 
 /// The same of `show`.
 const SHOW_HELP: &str = "Reads a trace that 'fdref serve' wrote, or a program of your own.
-Writes 'PLACE pN ACT = OUTCOME' for each record, or the act alone, and on
+Writes 'PLACE pN ACT = OUTCOME' for each record, the act alone or an object, and on
 standard error how many bytes are left over.
 Ends with 0 at its end, 8 where it is malformed, 4 where FILE cannot be read or
 output failed, 5 for want of memory.
@@ -393,7 +393,7 @@ fn show_args<'a>(alloc: Global) -> Result<Vec<Arg<'a>>, AllocError>
 {
     let acts = "Print the lines of a script that asks for the same acts";
     let text = "Print data of printable bytes as strings, such as \"hello\\n\"";
-    let json = "Print a JSON object for each record, by itself alone";
+    let json = "Print a JSON object for each record; not with --acts or --text";
     let args = [
         flag_arg(alloc, "acts", acts),
         flag_arg(alloc, "text", text),

@@ -48,12 +48,12 @@ pub enum JobEnd {
         column: usize,
         expected: Expected,
     },
-    /// The same of a line that ends in a carriage return.
-    BadReturn {
+    /// The same of a line that ends in a carriage return, in place of what is expected.
+    CarriageReturn {
         line: usize,
         column: usize,
     },
-    /// The script has more than 16,777,216 bytes. Nothing was run or written.
+    /// The script has more than 16,777,216 bytes, as it is given or with digits in place of strings. Nothing was run or written.
     TooLong,
     /// The input failed, or could not be opened. Of a trace that is shown, lines may have been written, and of one that is
     /// migrated, bytes; else nothing was run or written.
@@ -120,7 +120,7 @@ impl JobEnd {
         match self {
             JobEnd::Done | JobEnd::NothingJudged | JobEnd::Rest { .. } => 0,
             JobEnd::NoneAgrees | JobEnd::NoSuchOutcome | JobEnd::Incomplete => 1,
-            JobEnd::BadLine { .. } | JobEnd::BadReturn { .. } | JobEnd::TooLong => 3,
+            JobEnd::BadLine { .. } | JobEnd::CarriageReturn { .. } | JobEnd::TooLong => 3,
             JobEnd::BadRace { .. } | JobEnd::BadAnswer { .. } | JobEnd::NoRace => 3,
             JobEnd::CannotRead | JobEnd::CannotWrite | JobEnd::CannotListen | JobEnd::TraceFault =>
                 4,
@@ -152,7 +152,7 @@ impl fmt::Display for JobEnd {
                 f,
                 "line {line} column {column}: not an act\nexpected {expected}\n"
             ),
-            JobEnd::BadReturn { line, column } => write!(
+            JobEnd::CarriageReturn { line, column } => write!(
                 f,
                 "line {line} column {column}: not an act\nexpected a line without a carriage return at its end\n"
             ),

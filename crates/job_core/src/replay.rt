@@ -282,7 +282,7 @@ fn end_in(how: Spelling, text: &[u8], found: JobEnd) -> JobEnd
     };
     let column = column_in(how, text, line, column);
     if ends_in_return(text, line) {
-        return JobEnd::BadReturn { line, column };
+        return JobEnd::CarriageReturn { line, column };
     }
     JobEnd::BadLine {
         line,
@@ -313,8 +313,8 @@ fn run_in(alloc: Global, limits: Limits, how: Spelling, text: &[u8]) -> Result<V
     }
 }
 
-/// Reads a script, runs its acts in their order in a new book, and writes a line for each record and each act that is
-/// not recorded, and a line of totals. Nothing is written before the whole script is read and run. The book and the seats of
+/// Reads a script that is spelled so, runs its acts in their order in a new book, and writes a line for each record and each act that is
+/// not recorded, and a line of totals, in the same spelling. Nothing is written before the whole script is read and run. The book and the seats of
 /// the run are leaked: it is meant for a program that ends then, and is to be called once in a process.
 pub fn replay<R: Read, W: Write>(
     alloc: Global,
