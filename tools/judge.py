@@ -18,7 +18,7 @@ for this run, by $CC or cc, unless --shim names a built one. A statically linked
 What fdref leaves out goes past it to the system, and is not judged: paths with a slash, folders, streams
 of stdio, other programs. The shim notes what it sees of that, and it is told by kinds, each with the
 first of it; --keep has all. A difference after it is told to may follow from it: from what has the same
-name, if any, else from the last. Under --strict it ends the program. Calls that the C library makes
+name, if any, else from the last; one of what is written to a stream, from the first. Under --strict it ends the program. Calls that the C library makes
 inside are not seen: so printf is lost where dup2 puts a file of fdref at descriptor 1. Of threads one
 makes a call at a time, so where one waits the others do, which is told at once on standard error.
 
@@ -38,19 +38,25 @@ that, so may what is told of it.
 Exit status: 0 where both ended by themselves, with the same status, standard output and standard error,
 each answer that differs has a reason or may follow from one that has, and the audit finds the trace legal,
 whatever went past fdref; 1 where one of these is not so; 2 for wrong words; 3 where the program could not
-be run or compared, ended with neither, or crashed with both, as by a bad address.
+be run or compared, ended with neither, or crashed with both, as by a bad address. A crash of a process that it
+forks is not seen.
 """
 
 import argparse
 import collections
+import fcntl
 import os
 import re
 import resource
+import select
 import shutil
 import signal
 import socket
+import stat
+import struct
 import sys
 import tempfile
+import termios
 import time
 from collections.abc import Callable, Sequence
 from functools import partial
@@ -280,7 +286,8 @@ class Job:
             raise CannotJudge(f"{LEAVES_OUT}{left_out[1].decode('utf-8', 'replace')}")
         said = IS_TOLD.findall(fdref.stderr)
         if fdref.status == NOT_ASKED and said:
-            raise CannotJudge(f"the server gave no answer: {said[-1].decode('utf-8', 'replace')}")
+            lost = f"the server gave no answer: {said[-1].decode('utf-8', 'replace')}"
+            raise CannotJudge("; ".join([lost, *past.told_past(past.past_of(noted.read_bytes()))]))
         system, system_log = self.ran("system")
         return Both(system, fdref, system_log, fdref_log, trace, noted.read_bytes(), still.told)
 
@@ -344,12 +351,13 @@ def how(ended: Ended, seconds: float) -> str:
     return f"ended with status {ended.status}" if ended.status >= 0 else f"ended by signal {-ended.status}"
 
 
-def told_ends(both: Both, seconds: float, lines_of_fdref: list[Line], every: list[past.Past]) -> list[str]:
-    """How the two ended, and what they wrote otherwise, with what that may follow from."""
+def told_ends(verdict: Verdict, seconds: float) -> list[str]:
+    """How the two ended, in which calls they waited, and what they wrote otherwise, with what that may follow from."""
+    both, every = verdict.both, verdict.past
     system, fdref = how(both.system, seconds), both.still or how(both.fdref, seconds)
     lines = [f"both {system}"] if system == fdref else [f"system: {system}", f"fdref:  {fdref}"]
     if both.system.status is None and both.fdref.status is None and not both.still:
-        lines = [f"neither ended in {seconds:g} seconds: both were killed"]
+        lines = [f"neither ended in {seconds:g} seconds: both were killed", *told_waits(verdict.compared.records)]
     crash = crash_of(both)
     why = ": with the shim a bad address is no EFAULT" if crash in ("SIGSEGV", "SIGBUS") else ""
     lines += [f"a crash ({crash}) is no agreement{why}"] if crash else []
@@ -360,8 +368,16 @@ def told_ends(both: Both, seconds: float, lines_of_fdref: list[Line], every: lis
         if one != other:
             lines.append(f"standard {what} differs in {difference(one, other, ('system', 'fdref'))}")
             cause = past.cause_of_output(descriptor, every)
-            lines += [compare.clipped(past.told_cause(cause, lines_of_fdref))] if cause else []
+            lines += [compare.clipped(past.told_cause(cause, verdict.compared.lines))] if cause else []
     return lines
+
+
+def told_waits(records: list[Line]) -> list[str]:
+    """Which calls waited when a program was killed: of each process the last one, where it was not answered."""
+    calls = (line for line in records if not line.act.endswith((" exit", " close-run")))
+    last = {line.act.partition(" ")[0]: line for line in calls}
+    waits = [line for line in last.values() if line.outcome.startswith(("parked ", "part "))]
+    return [compare.clipped(f"waits: {line.act} = {line.outcome}") for line in waits]
 
 
 def told_started(started: Log) -> list[str]:
@@ -384,6 +400,8 @@ def told_finding(finding: Finding, lines: list[Line], before: int, every: list[p
     told += [told_line("system:", parting.system), told_line("fdref: ", parting.fdref)]
     cause = past.cause_of(finding, every)
     told += [compare.told_reason(finding.reason), *([past.told_cause(cause, lines)] if cause else [])]
+    if parting.is_asked_otherwise():
+        told.append("the calls differ, not the answers: it asks by a number of a process, an address or the time, perhaps")
     return [compare.clipped(line) for line in told]
 
 
@@ -397,7 +415,7 @@ def told(verdict: Verdict, seconds: float, before: int) -> str:
     """All that is said of a program."""
     findings = verdict.findings
     every = verdict.past
-    lines = told_ends(verdict.both, seconds, verdict.compared.lines, every)
+    lines = told_ends(verdict, seconds)
     calls = several(verdict.compared.fdref.total(), "call")
     processes = several(len(verdict.compared.fdref.calls), "process", "processes")
     differ = {0: "no answer differs", 1: "1 answer differs"}.get(len(findings), f"{len(findings)} answers differ")
@@ -414,6 +432,17 @@ def told(verdict: Verdict, seconds: float, before: int) -> str:
 
 
 # ---- the whole
+
+
+def has_left_input() -> bool:
+    """Whether there is input for this program, which reads none: a file, or a pipe that holds something."""
+    try:
+        mode = os.fstat(0).st_mode
+        is_ready = bool(select.select([0], [], [], 0)[0]) if stat.S_ISFIFO(mode) else stat.S_ISREG(mode)
+        size = struct.unpack("i", fcntl.ioctl(0, termios.FIONREAD, b"\0" * 4))[0] if is_ready else 0
+    except OSError:
+        return False
+    return size > 0
 
 
 def number_in(low: int, high: int) -> Callable[[str], int]:
@@ -500,6 +529,8 @@ def main(words: Sequence[str]) -> int:
             if args.keep:
                 keep(folder, args.keep)
     print(told(verdict, args.seconds, args.before))
+    if args.stdin == os.devnull and has_left_input():
+        print("judge.py: what is on standard input was not read: --stdin FILE gives it to the program", file=sys.stderr)
     if verdict.status() == 1 and not args.strict:
         print("".join(f"{line}\n" for line in told_strict(verdict.past)), end="")
     return verdict.status()

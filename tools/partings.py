@@ -64,6 +64,12 @@ class Parting(NamedTuple):
         """Whether both made the same call."""
         return self.system is not None and self.fdref is not None and call_of(self.system) == call_of(self.fdref)
 
+    def is_asked_otherwise(self) -> bool:
+        """Whether the calls are of one kind, differ in what is asked, and got the same answer."""
+        if not self.system or not self.fdref or self.is_same_call():
+            return False
+        return word_of(self.system) == word_of(self.fdref) and self.system.outcome == self.fdref.outcome
+
 
 def agrees(system: Line | None, fdref: Line | None) -> bool:
     """Whether two calls are the same and got the same answer. Of a fork any number of a child is."""

@@ -142,9 +142,10 @@ def cause_of(finding: Finding, every: list[Past]) -> Past | None:
 
 
 def cause_of_output(descriptor: str, every: list[Past]) -> Past | None:
-    """What it may follow from that something else was written to a descriptor."""
+    """What it may follow from that something else was written to a descriptor: of what has most to do with that the
+    first, since the first line that differs is told."""
     likely = [it for it in every if it.tells_otherwise() and not LOOKS.fullmatch(it.call)]
-    return last_of(likely, frozenset(), descriptor)
+    return last_of(likely[::-1], frozenset(), descriptor)
 
 
 def last_of(every: list[Past], names: frozenset[str], descriptor: str) -> Past | None:
@@ -160,7 +161,7 @@ def told_past(every: list[Past]) -> list[str]:
         told += [f"{len(said)} {one}s (first {said[0]})" if said[1:] else f"1 {one} ({said[0]})"] if said else []
     lines = [f"past fdref: {', '.join(told)}"] if told else []
     for number in sorted({it.call for it in every if it.kind == STDIO}):
-        lines.append(f"past fdref: stdio on descriptor {number}, which is a file of fdref: it fails there")
+        lines.append(f"past fdref: stdio on descriptor {number}, which is a file of fdref, where it would fail")
     lines += [f"past fdref: {it}" for it in told_threads(every)]
     return lines
 

@@ -188,7 +188,7 @@ PROGRAMS = [
             NONE,
             "may follow from stdio on descriptor 1 (past fdref, before line 7)",
             "past fdref: 1 path (stat /), 2 other calls (first posix_fadvise on descriptor 3)",
-            "past fdref: stdio on descriptor 1, which is a file of fdref: it fails there",
+            "past fdref: stdio on descriptor 1, which is a file of fdref, where it would fail",
             "audit: legal",
         ),
     ),
@@ -247,7 +247,7 @@ PROGRAMS = [
     Judged("signals", ("address",), 3, ("both ended by signal 11", BAD_ADDRESS, "1 call of 1 process")),
     Judged("signals", ("aborts",), 3, ("both ended by signal 6", "a crash (SIGABRT) is no agreement", "1 call")),
     Judged("signals", ("stops",), 0, ("both ended by signal 15", "1 call of 1 process: no answer differs")),
-    Judged("stays", ("reads",), 3, (NEITHER, "2 calls of 2 processes: no answer differs"), SOON),
+    Judged("stays", ("reads",), 3, (NEITHER, "waits: p1 read ", "2 calls of 2 processes: no answer differs"), SOON),
     Judged(
         "stays",
         ("fills",),
