@@ -184,6 +184,8 @@ def built_shim(folder: str) -> str:
 def found(program: str) -> str:
     """The path of a program, which may be one that the shell would find."""
     path = shutil.which(program)
+    if not path and os.path.isfile(program):
+        raise CannotJudge(f"{program} is a file that may not be executed")
     if not path:
         raise CannotJudge(f"no program {program}")
     return os.path.abspath(path)
@@ -494,9 +496,10 @@ def parse(words: Sequence[str]) -> argparse.Namespace:
 
 def job_of(args: argparse.Namespace, folder: str) -> Job:
     """What is asked for."""
+    words = [found(args.judged), *args.words]
     program = program_of(args.program)
     shim = os.path.abspath(args.shim) if args.shim else built_shim(folder)
-    job = Job([found(args.judged), *args.words], program, shim, folder)
+    job = Job(words, program, shim, folder)
     job.stdin, job.seconds, job.sessions, job.is_strict = args.stdin, args.seconds, args.sessions, args.strict
     job.limits = args.limits
     return job

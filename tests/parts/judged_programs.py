@@ -317,6 +317,7 @@ def cases(bench: Bench) -> Iterator[Case]:
         yield " ".join(["judge_" + judged.name, *judged.words]), partial(is_said, bench, judged)
     yield "a thread that waits, at once", partial(tells_at_once, bench)
     yield "what is kept, and standard input", partial(is_kept, bench)
+    yield "standard input that is not read", partial(tells_unread, bench)
     yield "what --strict would tell", partial(tells_of_strict, bench)
     yield "an option after the program", partial(tells_astray, bench)
     yield "the shim that is built for it", partial(builds_shim, bench)
@@ -336,6 +337,15 @@ def is_kept(bench: Bench) -> None:
         require(data in Path(into, name).read_text(encoding="ascii"), f"{name} has no write of the line")
     audit = run([bench.program, "audit", os.path.join(into, "trace")])
     same((0, b""), (audit.status, audit.stderr))
+
+
+def tells_unread(bench: Bench) -> None:
+    """Where something stands on standard input and no --stdin is given, that it was not read is told."""
+    words = [*bench.command(), "--shim", bench.shim(), bench.compiled("judge_agrees")]
+    told = "judge.py: what is on standard input was not read: --stdin FILE gives it to the program\n"
+    for given, wanted in ((A_LINE.encode(), told), (b"", "")):
+        ran = run(words, given, seconds=SECONDS)
+        same((0, wanted), (ran.status, ran.stderr.decode("utf-8")))
 
 
 def tells_at_once(bench: Bench) -> None:
@@ -418,6 +428,8 @@ def not_run(bench: Bench) -> Iterator[tuple[str, str, tuple[str, ...], tuple[str
     agrees, shim = bench.compiled("judge_agrees"), ("--shim", bench.shim())
     yield "a program that is not there", "no program ./nothing", (*shim, "./nothing"), ()
     yield "a folder", "no program /tmp", (*shim, "/tmp"), ()
+    source = str(TOP / "tests" / "c" / "judge_agrees.c")
+    yield "a source", f"{source} is a file that may not be executed", (*shim, source), ()
     compiler = "no C compiler /no/cc: $CC names another one, and --shim a built library"
     yield "no compiler", compiler, (agrees,), ("CC=/no/cc",)
     yield "a server that ends", "no server: status 1: ", ("--program", "false", *shim, agrees), ()
