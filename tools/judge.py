@@ -13,14 +13,15 @@ Where only an unproved fdref is built that one is taken, which is told.
 
 The program is run twice, each time in an empty folder and with 32 descriptors at most: once with a live
 server that answers its calls in place of the system, and once natively. A library that is loaded before
-the C library (the shim, clients/preload) makes its calls, so it need not be changed. The shim is compiled
-for this run, by $CC or cc, unless --shim names a built one. A statically linked program does not load it.
-What fdref leaves out goes past it to the system, and is not judged: paths with a slash, folders, streams
-of stdio, other programs. The shim notes what it sees of that, and it is told by kinds, each with the
-first of it; --keep has all. A difference after it is told to may follow from it: from what has the same
-name, if any, else from the last; one of what is written to a stream, from the first. Under --strict it ends the program. Calls that the C library makes
-inside are not seen: so printf is lost where dup2 puts a file of fdref at descriptor 1. Of threads one
-makes a call at a time, so where one waits the others do, which is told at once on standard error.
+the C library (the shim, clients/preload) makes its calls, so it need not be changed. The shim is
+compiled for this run, by $CC or cc, unless --shim names a built one. A statically linked program does
+not load it. What fdref leaves out goes past it to the system, and is not judged: paths with a slash,
+folders, streams of stdio, other programs. The shim notes what it sees of that, and it is told by kinds,
+each with the first of it; --keep has all. A difference after it is told to may follow from it: from what
+has the same name, if any, else from the last; one of what is written to a stream, from the first. Under
+--strict it ends the program. Calls that the C library makes inside are not seen: so printf is lost where
+dup2 puts a file of fdref at descriptor 1. Of threads one makes a call at a time, so where one waits the
+others do, which is told at once on standard error.
 
 Told is how both ended, and where they part: the first call whose answer differs and has no reason, else
 the first that differs, after some lines before it and with its reason. The reasons are those of
@@ -38,8 +39,8 @@ that, so may what is told of it.
 Exit status: 0 where both ended by themselves, with the same status, standard output and standard error,
 each answer that differs has a reason or may follow from one that has, and the audit finds the trace legal,
 whatever went past fdref; 1 where one of these is not so; 2 for wrong words; 3 where the program could not
-be run or compared, ended with neither, or crashed with both, as by a bad address. A crash of a process that it
-forks is not seen.
+be run or compared, ended with neither, or crashed with both, as by a bad address, or where a child did
+so with fdref for which it waited.
 """
 
 import argparse
@@ -316,6 +317,7 @@ class Verdict:
             raise CannotJudge(str(fault)) from None
         self.findings, self.unexplained = self.compared.findings, self.compared.unexplained
         self.past = past.with_names(past.past_of(both.past), self.compared.records, self.compared.limits)
+        self.crashes = [CRASHES[number] for number in past.signals(self.past) if number in CRASHES]
         if not self.compared.fdref.total() and not self.compared.system.total():
             none = "made none of the calls that fdref knows, or does not load the shim, as a static program"
             told = told_started(self.compared.started) + past.told_past(self.past)
@@ -332,7 +334,7 @@ class Verdict:
         """The exit status."""
         if self.unexplained or not self.audit.startswith("legal "):
             return 1
-        if not self.has_ended() or crash_of(self.both):
+        if not self.has_ended() or crash_of(self.both) or self.crashes:
             return 3
         return 0 if self.both.system == self.both.fdref else 1
 
@@ -361,8 +363,10 @@ def told_ends(verdict: Verdict, seconds: float) -> list[str]:
     if both.system.status is None and both.fdref.status is None and not both.still:
         lines = [f"neither ended in {seconds:g} seconds: both were killed", *told_waits(verdict.compared.records)]
     crash = crash_of(both)
-    why = ": with the shim a bad address is no EFAULT" if crash in ("SIGSEGV", "SIGBUS") else ""
-    lines += [f"a crash ({crash}) is no agreement{why}"] if crash else []
+    crashes = [("a crash", crash)] if crash else []
+    for who, name in crashes + [("a child's crash", name) for name in verdict.crashes]:
+        why = ": with the shim a bad address is no EFAULT" if name in ("SIGSEGV", "SIGBUS") else ""
+        lines.append(f"{who} ({name}) is no agreement{why}")
     for what, descriptor, one, other in (
         ("output", "1", both.system.stdout, both.fdref.stdout),
         ("error", "2", both.system.stderr, both.fdref.stderr),
@@ -403,7 +407,7 @@ def told_finding(finding: Finding, lines: list[Line], before: int, every: list[p
     cause = past.cause_of(finding, every)
     told += [compare.told_reason(finding.reason), *([past.told_cause(cause, lines)] if cause else [])]
     if parting.is_asked_otherwise():
-        told.append("the calls differ, not the answers: it asks by a number of a process, an address or the time, perhaps")
+        told.append("the calls differ, not the answers: by the number of a process, an address or the time, perhaps")
     return [compare.clipped(line) for line in told]
 
 

@@ -15,6 +15,8 @@ from support.runs import Line
 
 # The kinds that are counted, and what is said of one.
 CALL, STDIO, THREAD, PROGRAM, STREAM, PATH = "call", "stdio", "thread", "program", "stream", "path"
+# A child that a signal ended, whose number stands in the place of the call.
+SIGNAL = "signal"
 COUNTED = {PATH: "path", STREAM: "stream", PROGRAM: "program", CALL: "other call"}
 
 # Calls that change nothing, and tell a program nothing else than natively, or nothing that it goes by.
@@ -63,6 +65,8 @@ class Past(NamedTuple):
         parting = finding.parting
         if self.kind in (THREAD, PROGRAM):
             return True
+        if self.kind == SIGNAL:
+            return False
         if LOOKS.fullmatch(self.call):
             return False
         if self.names & finding.names or is_at(parting, self.descriptor()):
@@ -164,6 +168,11 @@ def told_past(every: list[Past]) -> list[str]:
         lines.append(f"past fdref: stdio on descriptor {number}, which is a file of fdref, where it would fail")
     lines += [f"past fdref: {it}" for it in told_threads(every)]
     return lines
+
+
+def signals(every: list[Past]) -> list[int]:
+    """The signals that ended children."""
+    return sorted({int(it.call) for it in every if it.kind == SIGNAL})
 
 
 def told_threads(every: list[Past]) -> list[str]:

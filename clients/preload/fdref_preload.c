@@ -16,7 +16,8 @@
                         after a tab its name: `! 6 p0 path open<tab>d/x`, `! 6 p0 program system<tab>./a`,
                         `! 6 p0 thread read`. In `! 6 p0 call poll<tab>3` it is a descriptor of fdref. Where
                         FDREF_STRICT would not tell it `-` stands for `!`: `- 6 p0 stream fopen<tab>/tmp/x`, and
-                        `- 6 p0 stdio 1`, as a file of fdref comes to be at descriptor 0, 1 or 2.
+                        `- 6 p0 stdio 1`, as a file of fdref comes to be at descriptor 0, 1 or 2. `- 6 p0 signal 11`
+                        is a child that a signal ended, as wait or waitpid told.
 
    Without the first two nothing is changed. Where there is no answer (no server, no place at it for one more process, a
    run that is full, a lost connection) that is told on standard error, and the program ends with status 124.
@@ -131,6 +132,7 @@
 #include <sys/types.h>
 #include <sys/uio.h>
 #include <sys/un.h>
+#include <sys/wait.h>
 #include <sys/xattr.h>
 #include <termios.h>
 #include <time.h>

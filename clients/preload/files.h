@@ -256,6 +256,33 @@ pid_t fork(void)
 
 pid_t vfork(void) { return fork(); }
 
+/* Notes a child that a signal ended, where its parent is told of it. */
+static pid_t ended_child(pid_t child, int status)
+{
+    char number[12];
+    if (child > 0 && WIFSIGNALED(status)) {
+        snprintf(number, sizeof number, "%d", WTERMSIG(status));
+        goes_past('-', "signal", number, NULL);
+    }
+    return child;
+}
+
+#define WAITS(name, parameters, words) \
+    pid_t name parameters \
+    { \
+        static __typeof__(&name) next; \
+        int own = 0, *status = given ? given : &own; \
+        pid_t child; \
+        prepare(); \
+        find(&next, #name); \
+        child = next words; \
+        return child > 0 ? ended_child(child, *status) : child; \
+    }
+WAITS(wait, (int *given), (status))
+WAITS(waitpid, (pid_t which, int *given, int options), (which, status, options))
+WAITS(wait3, (int *given, int options, struct rusage *used), (status, options, used))
+WAITS(wait4, (pid_t which, int *given, int options, struct rusage *used), (which, status, options, used))
+
 static void end_at_once(int status) __attribute__((noreturn));
 static void end_at_once(int status)
 {

@@ -100,6 +100,8 @@ pid_t __fork(void) { return fork(); }
 pid_t __libc_fork(void) { return fork(); }
 pid_t __vfork(void) { return fork(); }
 pid_t _Fork(void) { return fork(); }
+pid_t __wait(int *given) { return wait(given); }
+pid_t __waitpid(pid_t which, int *given, int options) { return waitpid(which, given, options); }
 long __sysconf(int name) { return sysconf(name); }
 
 /* What is compiled with checks of buffers has the C library check the format too. */

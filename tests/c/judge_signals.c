@@ -1,9 +1,10 @@
 /* Has a process that a signal ends.
 
-   usage: judge_signals kills|address|aborts|stops
+   usage: judge_signals kills|address|child|aborts|stops
 
    kills    has a child that reads an empty pipe, and kills it
    address  writes from an address that there is not
+   child    has a child that does so
    aborts   aborts
    stops    raises SIGTERM */
 
@@ -36,6 +37,10 @@ int main(int count, char **words)
     if (strcmp(what, "kills") == 0 && kill_child() != 0)
         return 1;
     if (strcmp(what, "address") == 0 && write(fd, (void *)(uintptr_t)count, 5) >= 0)
+        return 1;
+    if (strcmp(what, "child") == 0 && fork() == 0)
+        return write(fd, (void *)(uintptr_t)count, 5) >= 0;
+    if (strcmp(what, "child") == 0 && wait(NULL) < 0)
         return 1;
     if (strcmp(what, "aborts") == 0)
         abort();

@@ -245,6 +245,7 @@ PROGRAMS = [
     ),
     Judged("signals", ("kills",), 0, (WELL, "4 calls of 2 processes: no answer differs", "audit: legal")),
     Judged("signals", ("address",), 3, ("both ended by signal 11", BAD_ADDRESS, "1 call of 1 process")),
+    Judged("signals", ("child",), 3, (WELL, BAD_ADDRESS.replace("a crash", "a child's crash"), "3 calls of 2")),
     Judged("signals", ("aborts",), 3, ("both ended by signal 6", "a crash (SIGABRT) is no agreement", "1 call")),
     Judged("signals", ("stops",), 0, ("both ended by signal 15", "1 call of 1 process: no answer differs")),
     Judged("stays", ("reads",), 3, (NEITHER, "waits: p1 read ", "2 calls of 2 processes: no answer differs"), SOON),
