@@ -13,6 +13,7 @@ from pathlib import Path
 from typing import Any
 
 from parts.c_programs import BASES, FLAGS, INCLUDES, WARNINGS, Build, compiles
+from parts.written_traces import NOTHING
 from support import plain_model
 from support.auditing import Frames, shown
 from support.counting import Case, Failure, require, same
@@ -139,7 +140,8 @@ def is_well_formed(program: str, path: str, count: int) -> None:
     same(shown(trace), run([program, "show", path]))
     audit = run([program, "audit", path])
     is_verdict = re.fullmatch(rb"legal \d+ rest 0\n|illegal \d+ expected [^\n]+\n", audit.stdout)
-    require(is_verdict and audit.status in (0, 7) and not audit.stderr, audit.said())
+    require(is_verdict and audit.status in (0, 7), audit.said())
+    same(b"" if count else NOTHING, audit.stderr)
 
 
 def is_taken(path: str, it: fdref.Record) -> bool:
