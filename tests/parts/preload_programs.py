@@ -4,6 +4,7 @@ import errno
 import os
 import select
 import signal
+import socket
 import subprocess
 import threading
 import time
@@ -27,6 +28,7 @@ from parts.preload_builds import (
     started,
 )
 from support.counting import Case, require, same
+from support.frames import JOIN
 from support.players import until_traced
 from support.running import Ran, run
 from support.serving import A_WHILE, ALL_RECORDS, SECONDS, Process, Server, outcome_of
@@ -257,16 +259,21 @@ def is_without_server(library: Library) -> None:
 
 def is_without_a_place(program: str, library: Library) -> None:
     """So it is where the server has as many processes as it takes, for a program and for a child of one."""
-    with Server(program, 1) as server, ThreadPoolExecutor() as pool:
+    with Server(program, 1) as server, Server(program, 1) as other, ThreadPoolExecutor() as pool:
         listens(server)
-        asked = environment(library, [f"FDREF_SOCKET={server.path}"])
-        # each waits as long for its first answer as the library lets it
-        parent = pool.submit(run, [*asked, library.program("preload_forks")], seconds=3 * SECONDS)
-        until_traced(server, 1)
-        late = pool.submit(run, [*asked, library.program("preload_numbers"), "mixed"], seconds=3 * SECONDS)
-        told = "no answer: all sessions are taken, or no fdref listens there\n"
-        same(Ran(NO_ANSWER, b"", f"fdref: the child cannot be attached: {told}".encode()), parent.result())
-        same(Ran(NO_ANSWER, b"", f"fdref: {server.path}: {told}".encode()), late.result())
+        listens(other)
+        # a server ends with its only session, so that of the other one goes on until both are told
+        with socket.socket(socket.AF_UNIX) as holder:
+            holder.connect(other.path)
+            holder.sendall(JOIN)
+            until_traced(other, 1)
+            asked, asked_other = (environment(library, [f"FDREF_SOCKET={it.path}"]) for it in (server, other))
+            # each waits as long for its first answer as the library lets it
+            parent = pool.submit(run, [*asked, library.program("preload_forks")], seconds=3 * SECONDS)
+            late = pool.submit(run, [*asked_other, library.program("preload_numbers"), "mixed"], seconds=3 * SECONDS)
+            told = "no answer: all sessions are taken, or no fdref listens there\n"
+            same(Ran(NO_ANSWER, b"", f"fdref: the child cannot be attached: {told}".encode()), parent.result())
+            same(Ran(NO_ANSWER, b"", f"fdref: {other.path}: {told}".encode()), late.result())
 
 
 def is_full(program: str, library: Library) -> None:
