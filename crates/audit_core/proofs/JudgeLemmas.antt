@@ -1,5 +1,6 @@
 -- What a judge needs to know of an act before it makes it, and what one record more does to what was judged.
-use Rattle.std.proofs.Common.{◌≡◌, ◌∙◌, ℕ, ◌+◌, ◌≤◌, ◌<◌, ◌^◌, Bool, true, false, cond, leb, List, [], ◌∷◌, ◌++◌, Option, Some, length, refl, sym, ap, subst, arith, length-append}
+use Rattle.std.proofs.Common.{◌≡◌, ℕ, ◌+◌, ◌≤◌, ◌<◌, ◌^◌, Bool, true, false, cond, leb, List, [], ◌∷◌, ◌++◌, Option, Some, length, refl, sym, ap, subst, arith, length-append}
+use Rattle.std.proofs.lemmas.List.{append-nil}
 use Rattle.std.specs.Option.{option_map}
 use Rattle.slots.specs.Slots.{live}
 use Rattle.call_types.specs.declared.limits.TheConstants.{OFFSET_MAX}
@@ -16,11 +17,13 @@ use Rattle.posix_model.specs.Proved.Sound.{ActsAreSound}
 use Rattle.posix_model.specs.Proved.Laws.{StepKeepsWhole}
 use Rattle.posix_model.specs.History.{after, world_from, legal_from, empty_world}
 use Rattle.posix_model.specs.Reserve.{has_reserve, can_end, CanEndFrom}
-use Rattle.audit_core.specs.JudgeState.{JudgeState, HasJudged}
+use Rattle.audit_core.specs.JudgeState.{JudgeState, HasJudged, JudgesNext}
 use Rattle.audit_core.specs.Verdict.{ended_by, ending_from}
 use Rattle.audit_core.specs.declared.verdict.Ending.{Ending}
 use Rattle.audit_core.specs.declared.verdict.Ending.TheVariants.{Open}
-use Rattle.audit_core.specs.Proved.Judging.{CanMake, GoesOn, fresh_judge, IsAt}
+use Rattle.audit_core.specs.Proved.Judging.{CanMake, GoesOn, fresh_judge}
+use Rattle.audit_core.specs.declared.judging.Judging.{Judging}
+use Rattle.frame_codec.specs.Taking.{TakesEach}
 
 -- what an act comes to can be made
 pub can_make : ActsAreSound → StepKeepsWhole → (j : JudgeState) (actor : ℕ) (act : Act) (d : Decided) → IsWhole j.world → j.told.bounds.file_size ≤ OFFSET_MAX →
@@ -76,7 +79,7 @@ ending_from-push e [] r = refl
 ending_from-push e (x ∷ h) r = ending_from-push (ended_by x.act) h r
 
 -- what the model gives is judged with what was before it
-judged_more : (told : ToldLimits) (h : List Record) (r : Record) (a b : JudgeState) → length h < 2 ^ 64 → HasJudged told h a → GoesOn a b r → HasJudged told (h ++ r ∷ []) b
+pub judged_more : (told : ToldLimits) (h : List Record) (r : Record) (a b : JudgeState) → length h < 2 ^ 64 → HasJudged told h a → GoesOn a b r → HasJudged told (h ++ r ∷ []) b
 judged_more told h r a b few judged on =
     let outcome : outcome_of told.bounds (world_from told.bounds empty_world h) r.actor r.act ≡ Some r.outcome = rw (judged.told_is, judged.world) at on.outcome in
     let place : told_place (a.place + 1) ≡ told_place (length (h ++ r ∷ [])) = rw (length-append h (r ∷ [])) (place_more a.place (length h) judged.place) in
@@ -93,14 +96,18 @@ judged_more told h r a b few judged on =
       ending = rw on.new_is (sym (ending_from-push Open h r));
     }
 
--- one record more is judged, and one less is left
-pub one_judged : (o a b : JudgeState) (records rest : List Record) (r : Record) → IsAt o a records (r ∷ rest) → GoesOn a b r → IsAt o b records rest
-one_judged o a b records rest r at on = record {
-  judged = λ told h judged few.
-      let now = at.judged told h judged few in
-      let fewer : length now.0 < 2 ^ 64 = omega (arith, few, ap length now.1, length-append now.0 (r ∷ rest)) in
-      (now.0 ++ r ∷ [], now.1 ∙ push_front now.0 r rest, judged_more told now.0 r a b fewer now.2 on);
-}
+-- what a judge does with each record that it is handed
+abbrev pub takes : Judging → Judging → Record → Bool → Type 0
+takes old new r more = JudgesNext old.judge new.judge r new.expected more
+
+-- all records after which it wanted more are judged after those before them
+pub all_judged : (told : ToldLimits) (h values : List Record) (old new : Judging) → TakesEach takes old new values → HasJudged told h old.judge → length (h ++ values) < 2 ^ 64
+    → HasJudged told (h ++ values) new.judge
+all_judged told h [] old new same judged few = rw (append-nil h, same) judged
+all_judged told h (r ∷ values) old new each judged few =
+    let all = push_front h r values in
+    let now = each.1 told h judged (omega (arith, few, length-append h (r ∷ values))) in
+    rw all (all_judged told (h ++ r ∷ []) values each.0 new each.2 now (rw all at few))
 
 -- at first nothing is judged
 pub none_judged : (told : ToldLimits) → HasJudged told [] (fresh_judge told)

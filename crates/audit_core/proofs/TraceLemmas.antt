@@ -1,8 +1,8 @@
 -- The frames of records, and what a piece more of them tells.
-use Rattle.std.proofs.Common.{◌≡◌, ◌∙◌, ℕ, ◌+◌, ◌^◌, ◌<◌, ◌≤◌, inl, inr, List, [], ◌∷◌, ◌++◌, Option, length, refl, sym, ap, subst, arith, length-append}
+use Rattle.std.proofs.Common.{◌≡◌, ◌∙◌, ℕ, ◌+◌, ◌^◌, ◌<◌, ◌≤◌, inl, inr, List, [], ◌∷◌, ◌++◌, length, refl, sym, ap, subst, append_assoc, arith, length-append}
 use Rattle.call_types.specs.declared.act.Record.{Record}
 use Rattle.call_types.specs.declared.limits.TheConstants.{RECORD_LENGTH_MAX}
-use Rattle.call_types.specs.declared.outcome.Outcome.{Outcome}
+use Rattle.frame_codec.specs.Taking.{TakesEach, HasEnough}
 use Rattle.frame_codec.specs.Decoding.{DecoderState, told_place, Feeds}
 use Rattle.frame_codec.specs.Fields.{number_bytes}
 use Rattle.frame_codec.specs.Frames.{frame, IsFrame, AreFrames}
@@ -13,12 +13,12 @@ use Rattle.frame_codec.specs.declared.decoder.Progress.{Progress}
 use Rattle.frame_codec.specs.declared.decoder.Progress.TheVariants as steps
 use Rattle.frame_codec.specs.declared.trace.ToldLimits.{ToldLimits}
 use Rattle.audit_core.specs.JudgeState.{JudgeState, HasJudged}
-use Rattle.audit_core.specs.Proved.Judging.{JudgesAll}
+use Rattle.audit_core.proofs.JudgeLemmas.{takes, all_judged}
 use Rattle.audit_core.specs.TraceState.{BodyState, IsJudging}
 use Rattle.audit_core.specs.Proved.Taking.{BodyGoesOn, fault_at}
 use Rattle.audit_core.specs.Trace.{HasFrame, HaveFrames, Begins, IsAtFault}
 use Rattle.audit_core.specs.Verdict.{BreaksAt, IsIllegal, IsMalformedAt}
-use Rattle.audit_core.specs.declared.judge.Judged.TheVariants as judged
+use Rattle.audit_core.specs.declared.judging.Judging.{Judging}
 
 -- ---- the frames of records
 
@@ -76,23 +76,31 @@ fewer headed len few = omega (arith, few)
 few_so_far : (stream : List ℕ) (values : List Record) (f : Front stream values) → length stream < 2 ^ 64 → length values < 2 ^ 64
 few_so_far stream values f short = let few = few_in_front stream values f in omega (arith, few)
 
-pub illegal : PiecesGoOn SpellsRecord RECORD_LENGTH_MAX → (told : ToldLimits) (body piece : List ℕ) (more : List Record) (old : BodyState) (e : DecoderState) (new : JudgeState) (progress : Progress) (expected : Option Outcome)
-    → IsJudging told body old → Feeds SpellsRecord RECORD_LENGTH_MAX old.decoder e piece more progress → JudgesAll old.judge new more (judged.Differs expected)
-    → length (body ++ piece) < 2 ^ 64 → IsIllegal told (body ++ piece) new.place expected
-illegal law told body piece more old e new progress expected j fed judges short =
+-- the frames of records after those of others
+frames_join : (h more : List Record) (text after : List ℕ) → AreFrames SpellsRecord RECORD_LENGTH_MAX h text → AreFrames SpellsRecord RECORD_LENGTH_MAX more after
+    → AreFrames SpellsRecord RECORD_LENGTH_MAX (h ++ more) (text ++ after)
+frames_join [] more text after f g = subst (λ (x : List ℕ). AreFrames SpellsRecord RECORD_LENGTH_MAX more x) (ap (λ (x : List ℕ). x ++ after) (sym f)) g
+frames_join (r ∷ h) more text after f g = (f.0, f.1 ++ after, ap (λ (x : List ℕ). x ++ after) f.2 ∙ append_assoc f.0 f.1 after, f.3, frames_join h more f.1 after f.4 g)
+
+-- a piece with a record that breaks what is legal
+pub illegal : (told : ToldLimits) (body piece : List ℕ) (old : BodyState) (from to : Judging) → IsJudging told body old → from.judge ≡ old.judge
+    → HasEnough SpellsRecord RECORD_LENGTH_MAX takes (old.decoder.held ++ piece) from to → length (body ++ piece) < 2 ^ 64 → IsIllegal told (body ++ piece) to.judge.place to.expected
+illegal told body piece old from to j from_is m short =
     let records = j.records in
-    let f = front_of (body ++ piece) (records ++ more) e progress (law body piece records more old.decoder e progress j.given fed) in
-    let at = judges told records j.judged (few_so_far (body ++ piece) (records ++ more) f short) in
-    let few = few_in_front (body ++ piece) (records ++ more) f in
-    let inside = ap length at.breaks.all_are in
-    let long = length-append at.breaks.before (at.breaks.broken ∷ at.breaks.others) in
-    let below : at.place < 2 ^ 64 = omega (arith, few, inside, long, at.breaks.place_is, short) in
-    let place : at.place ≡ new.place = let is = at.told_is in omega (arith, is, below) in
+    let g = j.given in
+    let last = m.taken in
+    let is : body ++ piece ≡ (g.text ++ m.text) ++ m.rest =
+    ap (λ (x : List ℕ). x ++ piece) g.is ∙ append_assoc g.text old.decoder.held piece ∙ ap (λ (x : List ℕ). g.text ++ x) m.is ∙ sym (append_assoc g.text m.text m.rest) in
+    let frames = frames_join records m.values g.text m.text g.frames m.frames in
+    let few : length (records ++ m.values) < 2 ^ 64 = few_so_far (body ++ piece) (records ++ m.values) (record { front = g.text ++ m.text; rest = m.rest; is = is; frames = frames }) short in
+    let all : (records ++ last.before) ++ last.last ∷ [] ≡ records ++ m.values = append_assoc records last.before (last.last ∷ []) ∙ ap (λ (x : List Record). records ++ x) (sym last.are) in
+    let fewer : length (records ++ last.before) < 2 ^ 64 = omega (arith, few, ap length all, length-append (records ++ last.before) (last.last ∷ [])) in
+    let judged = all_judged told records last.before from last.mid last.each (subst (λ (x : JudgeState). HasJudged told records x) (sym from_is) j.judged) fewer in
     record {
-      h = records ++ more;
-      left = f.rest;
-      begins = begins_so (records ++ more) (body ++ piece) f.front f.rest f.is f.frames;
-      breaks = subst (λ (n : ℕ). BreaksAt told (records ++ more) n expected) place at.breaks;
+      h = records ++ m.values;
+      left = m.rest;
+      begins = begins_so (records ++ m.values) (body ++ piece) (g.text ++ m.text) m.rest is frames;
+      breaks = subst (λ (x : List Record). BreaksAt told x to.judge.place to.expected) all (last.ends told (records ++ last.before) judged fewer);
     }
 
 at_is : (at before headed out stream rest : ℕ) → at ≡ told_place before → out ≡ told_place (at + headed) → stream ≡ before + rest → headed + stream < 2 ^ 64 → out ≡ headed + before
@@ -121,13 +129,13 @@ ended told headed stream values front rest new at is frames fault at_front judge
     }
 
 -- a piece of which all records are those of a legal run
-pub same : PiecesGoOn SpellsRecord RECORD_LENGTH_MAX → (told : ToldLimits) (body piece : List ℕ) (more : List Record) (old new : BodyState) (progress : Progress)
-    → IsJudging told body old → Feeds SpellsRecord RECORD_LENGTH_MAX old.decoder new.decoder piece more progress → JudgesAll old.judge new.judge more judged.Same
+pub same : PiecesGoOn SpellsRecord RECORD_LENGTH_MAX → (told : ToldLimits) (body piece : List ℕ) (more : List Record) (old new : BodyState) (from to : Judging) (progress : Progress)
+    → IsJudging told body old → from.judge ≡ old.judge → to.judge ≡ new.judge → Feeds SpellsRecord RECORD_LENGTH_MAX old.decoder new.decoder piece more progress → TakesEach takes from to more
     → new.headed ≡ old.headed → old.headed + length (body ++ piece) < 2 ^ 64 → BodyGoesOn told (body ++ piece) new (fault_at progress old.headed)
-same law told body piece more old new progress j fed judges headed short =
+same law told body piece more old new from to progress j from_is to_is fed each headed short =
     let gave = law body piece j.records more old.decoder new.decoder progress j.given fed in
     let few = few_so_far (body ++ piece) (j.records ++ more) (front_of (body ++ piece) (j.records ++ more) new.decoder progress gave) (omega (arith, short)) in
-    by progress gave (judges told j.records j.judged few)
+    by progress gave (rw (← to_is) (all_judged told j.records more from to each (rw from_is j.judged) few))
   where
     by : (p : Progress) → Gave SpellsRecord RECORD_LENGTH_MAX (body ++ piece) (j.records ++ more) new.decoder p → HasJudged told (j.records ++ more) new.judge
         → BodyGoesOn told (body ++ piece) new (fault_at p old.headed)

@@ -14,8 +14,7 @@ use std::io::Read;
 /// How many reads an audit has.
 pub const READS_MAX: u32 = 16_777_216;
 
-/// How many bytes a read asks for. Their records take three times as much memory. Sizes from 16,384 to 65,536 were
-/// equally fast.
+/// How many bytes a read asks for. Sizes from 16,384 to 65,536 were equally fast.
 pub const READ_LENGTH: usize = 32_768;
 
 /// Why an audit has no verdict.

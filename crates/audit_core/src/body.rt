@@ -4,9 +4,10 @@ ghost use Rattle.std.specs.Prelude.{◌≡◌, ◌≤◌, true, is_some, IfOk, l
 ghost use Rattle.call_types.specs.declared.limits.TheConstants.{OFFSET_MAX};
 ghost use Rattle.audit_core.specs.Proved.Taking.{fault_at, fresh_body, TakesAfter, TakesBody};
 
-use crate::judge::{Judge, Judged};
+use crate::judge::Judge;
+use crate::judging::Judging;
 use crate::verdict::{Ending, Verdict};
-use frame_codec::decoder::{Decoder, Progress};
+use frame_codec::decoder::{Decoder, FedTo, Progress};
 use frame_codec::frame_kind::Records;
 use frame_codec::laws::pieces_go_on;
 use frame_codec::trace::ToldLimits;
@@ -19,7 +20,7 @@ pub(crate) struct Body {
     /// How many bytes the header has.
     headed: u64,
     decoder: Decoder<Records>,
-    judge: Judge,
+    judging: Judging,
 }
 
 impl Model for Body {
@@ -27,7 +28,7 @@ impl Model for Body {
 
     ghost Value = { BodyState };
 
-    ghost view = { λ b. record { headed = b.headed; decoder = b.decoder; judge = b.judge } };
+    ghost view = { λ b. record { headed = b.headed; decoder = b.decoder; judge = b.judging.judge } };
 }
 
 /// The verdict on a fault of frames, if there is one, after a header of so many bytes.
@@ -51,7 +52,11 @@ impl Body {
         Body {
             headed,
             decoder: Decoder::new(alloc),
-            judge: Judge::new(alloc, told),
+            judging: Judging {
+                alloc,
+                judge: Judge::new(alloc, told),
+                expected: None,
+            },
         }
     }
 
@@ -59,14 +64,14 @@ impl Body {
     pub(crate) fn records(&self) -> u64
         ensures { result ≡ self.now.judge.place }
     {
-        self.judge.place()
+        self.judging.judge.place()
     }
 
     /// How the whole records end.
     pub(crate) fn ending(&self) -> Ending
         ensures { result ≡ self.now.judge.ending }
     {
-        self.judge.ending()
+        self.judging.judge.ending()
     }
 
     /// How many bytes come after the last whole record.
@@ -78,20 +83,15 @@ impl Body {
 
     /// Takes the next bytes, of any length, and judges the records that they complete. Returns the verdict once no further byte can
     /// change it. After an error (memory or numbers ran out) do not go on.
-    pub(crate) fn take(
-        &mut self,
-        alloc: Global,
-        piece: &[u8],
-    ) -> Result<Option<Verdict>, AllocError>
+    pub(crate) fn take(&mut self, piece: &[u8]) -> Result<Option<Verdict>, AllocError>
         ensures { IfOk result (λ found. TakesBody piece.now self.old self.new found) }
     {
         pieces_go_on::<Records>();
-        let fed = self.decoder.feed(piece)?;
-        match self.judge.judge_all(alloc, fed.values.as_slice())? {
-            Judged::Same => Ok(fault_at(fed.progress, self.headed)),
-            Judged::Differs { expected } => Ok(Some(Verdict::Illegal {
-                place: self.judge.place(),
-                expected,
+        match self.decoder.feed_to(piece, &mut self.judging)? {
+            FedTo::All(progress) => Ok(fault_at(progress, self.headed)),
+            FedTo::Enough => Ok(Some(Verdict::Illegal {
+                place: self.judging.judge.place(),
+                expected: self.judging.expected.take(),
             })),
         }
     }
@@ -100,14 +100,13 @@ impl Body {
 /// Takes the next bytes after a header that was met, as `Body::take` does.
 pub(crate) fn take_after(
     body: &mut Option<Body>,
-    alloc: Global,
     piece: &[u8],
 ) -> Result<Option<Verdict>, AllocError>
     requires { is_some body.old ≡ true }
     ensures { IfOk result (λ found. TakesAfter piece.now body.old body.new found) }
 {
     match body {
-        Some(body) => body.take(alloc, piece),
+        Some(body) => body.take(piece),
         None => unreachable!(),
     }
 }

@@ -4,7 +4,7 @@ ghost use Rattle.std.specs.Prelude.{◌≡◌, ◌+◌, ◌≤◌, nat_le, Some,
 ghost use Rattle.call_types.specs.declared.limits.TheConstants.{OFFSET_MAX};
 ghost use Rattle.posix_model.specs.Step.{given, comes_to, stepped};
 ghost use Rattle.posix_model.specs.Reserve.{can_end};
-ghost use Rattle.audit_core.specs.Proved.Judging.{fresh_judge, in_world, Judges, CanMake, JudgesAll};
+ghost use Rattle.audit_core.specs.Proved.Judging.{fresh_judge, in_world, Judges, CanMake};
 
 use crate::state::Audited;
 use crate::verdict::{Ending, ended_by};
@@ -159,21 +159,6 @@ impl Judge {
         }
         self.place = self.place.saturating_add(1);
         self.ending = ended_by(&told.act);
-        Ok(Judged::Same)
-    }
-
-    /// Judges records in their order, up to the first that breaks what is legal. An error is as in `judge`; those before the record that
-    /// it was met at are judged.
-    pub fn judge_all(&mut self, alloc: Global, records: &[Record]) -> Result<Judged, AllocError>
-        ensures { IfOk result (λ judged. JudgesAll self.old self.new records.now judged) }
-    {
-        let mut left = records;
-        while let Some((told, rest)) = left.split_first() {
-            match self.judge(alloc, told)? {
-                Judged::Same => left = rest,
-                Judged::Differs { expected } => return Ok(Judged::Differs { expected }),
-            }
-        }
         Ok(Judged::Same)
     }
 }

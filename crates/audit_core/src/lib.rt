@@ -4,6 +4,7 @@
 pub mod audit;
 mod body;
 pub mod judge;
+mod judging;
 pub mod laws;
 mod state;
 pub mod trace;

@@ -67,7 +67,7 @@ impl TraceAudit {
         headers_go_on();
         headers_tell_limits();
         if self.body.is_some() {
-            let found = take_after(&mut self.body, alloc, piece)?;
+            let found = take_after(&mut self.body, piece)?;
             return Ok(found);
         }
         match self.front.take(piece)? {
@@ -75,7 +75,7 @@ impl TraceAudit {
             Heading::Short => Ok(None),
             Heading::Headed { told, length, rest } => {
                 let mut body = Body::new(alloc, told, length as u64);
-                let found = body.take(alloc, rest)?;
+                let found = body.take(rest)?;
                 self.body = Some(body);
                 Ok(found)
             }

@@ -9,6 +9,7 @@ pub mod FrameLaws
 pub mod KindLaws
 pub mod Completing
 pub mod Loops
+pub mod Gathering
 pub mod ReadingOn
 pub mod StreamLaws
 pub mod KindStreams

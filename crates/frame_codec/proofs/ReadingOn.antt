@@ -1,30 +1,18 @@
 -- A piece after what is held: the values of both together.
-use Rattle.std.proofs.Common.{◌≡◌, ℕ, ◌+◌, ◌^◌, ◌<◌, ◌≤◌, List, [], ◌∷◌, ◌++◌, length, take, drop, refl, sym, ap, subst, ◌∙◌, append_assoc, arith, inl, inr}
+use Rattle.std.proofs.Common.{◌≡◌, ℕ, ◌+◌, ◌≤◌, Bool, true, false, List, [], ◌∷◌, ◌++◌, length, take, drop, refl, sym, ap, subst, ◌∙◌, append_assoc, arith, inl, inr}
 use Rattle.std.specs.Int.{w32, from_be_bytes}
-use Rattle.std.proofs.lemmas.List.{length-append, length-take, length-drop, take-append-drop, take-append-le, drop-append-le, take_all}
+use Rattle.std.proofs.lemmas.List.{append-nil, length-append, length-drop, take-append-drop, take-append-le, drop-append-le, take_all}
 use Rattle.frame_codec.specs.declared.begun.Stop.{Stop}
 use Rattle.frame_codec.specs.declared.begun.Stop.TheVariants as stops
 use Rattle.frame_codec.specs.declared.decoder.Progress.{Progress}
 use Rattle.frame_codec.specs.declared.decoder.Progress.TheVariants as progress
 use Rattle.frame_codec.specs.Frames.{told_length, told_payload, IsFrame, IsShort, IsTooLong, IsMalformed, StopsWith}
-use Rattle.frame_codec.specs.Proved.Filling.{IsWhole, BeginsWith, Completes, HoldsRest, ReadsIn}
-use Rattle.frame_codec.specs.Decoding.{DecoderState, told_place, told_progress, GoesFrom, FeedsFrom, Feeds}
-
--- ---- where nothing is held
-
-pub reads_piece : {A : Type 0} (Spells : A → List ℕ → Type 0) (most : ℕ) (piece held : List ℕ) (values added : List A) (used : ℕ) (stop : Stop)
-    → values ≡ added → used < 2 ^ 64 → BeginsWith Spells most piece added used stop → HoldsRest held (drop used piece) stop → ReadsIn Spells most piece held values used stop
-reads_piece {A} Spells most piece held values added used stop e small h k =
-    subst (λ (vs : List A). ReadsIn Spells most piece held vs used stop) (sym e)
-    (record {
-      text = take used piece;
-      rest = drop used piece;
-      is = sym (take-append-drop used piece);
-      frames = h.frames;
-      stops = h.stops;
-      holds = k;
-      long = omega (arith, h.within, length-take used piece, small);
-    })
+use Rattle.frame_codec.specs.declared.decoder.FedTo.TheVariants as fed
+use Rattle.frame_codec.specs.declared.decoder.Read.{Read}
+use Rattle.frame_codec.specs.declared.decoder.Read.TheVariants as reads
+use Rattle.frame_codec.specs.Proved.Filling.{IsWhole, Completes, HoldsRest, ReadsTo, further}
+use Rattle.frame_codec.specs.Taking.{HasEnough, FeedsTo}
+use Rattle.frame_codec.specs.Decoding.{DecoderState, told_place, told_progress, GoesFrom, FeedsFrom}
 
 -- ---- more bytes change neither a length that is told nor a payload that is there
 
@@ -95,19 +83,21 @@ rest_held Spells most old new piece taken stops.Malformed h k = tt
 rest_held Spells most old new piece taken stops.TooLong h k = tt
 
 -- no frame is complete
-pub reads_none : {A : Type 0} (Spells : A → List ℕ → Type 0) (most : ℕ) (old new piece : List ℕ) (taken : ℕ) (values : List A) (stop : Stop) → values ≡ []
-    → Completes most old new piece taken → StopsWith Spells most new stop → ReadsIn Spells most (old ++ piece) new values 0 stop
-reads_none {A} Spells most old new piece taken values stop e h k =
-    subst (λ (vs : List A). ReadsIn Spells most (old ++ piece) new vs 0 stop) (sym e)
-    (record {
-      text = [];
-      rest = old ++ piece;
-      is = refl;
-      frames = refl;
-      stops = rest_stops Spells most old new piece taken stop h k;
-      holds = rest_held Spells most old new piece taken stop h k;
-      long = refl;
-    })
+pub reads_none : {A T : Type 0} (Spells : A → List ℕ → Type 0) (most : ℕ) (takes : T → T → A → Bool → Type 0) (old new piece : List ℕ) (taken : ℕ) (taker : T) (stop : Stop)
+    → Completes most old new piece taken → StopsWith Spells most new stop → ReadsTo Spells most takes (old ++ piece) new taker taker (reads.Up 0 stop)
+reads_none Spells most takes old new piece taken taker stop h k = (
+  [],
+  record {
+    text = [];
+    rest = old ++ piece;
+    is = refl;
+    frames = refl;
+    stops = rest_stops Spells most old new piece taken stop h k;
+    holds = rest_held Spells most old new piece taken stop h k;
+    long = refl;
+  },
+  refl,
+)
 
 -- the first frame is all that is held
 one_frame : {A : Type 0} (Spells : A → List ℕ → Type 0) (most : ℕ) (old new piece : List ℕ) (taken : ℕ) (value : A) (len : ℕ) → Completes most old new piece taken
@@ -126,26 +116,64 @@ one_frame Spells most old new piece taken value len h k =
           ]
     ]
 
--- the first frame, and those in the rest of the piece
-pub reads_more : {A : Type 0} (Spells : A → List ℕ → Type 0) (most : ℕ) (old new piece held : List ℕ) (taken : ℕ) (value : A) (len : ℕ) (values added : List A) (used total : ℕ) (stop : Stop)
-    → values ≡ value ∷ added → total ≡ told_place (len + used) → Completes most old new piece taken → IsWhole Spells most value len new
-    → BeginsWith Spells most (drop taken piece) added used stop → HoldsRest held (drop used (drop taken piece)) stop → ReadsIn Spells most (old ++ piece) held values total stop
-reads_more {A} Spells most old new piece held taken value len values added used total stop e sum h k m n =
-    let after = drop taken piece in
+-- the first frame
+first_frame : {A : Type 0} (Spells : A → List ℕ → Type 0) (most : ℕ) (old new piece : List ℕ) (taken : ℕ) (value : A) (len : ℕ) → Completes most old new piece taken
+    → IsWhole Spells most value len new → IsFrame Spells most value new
+first_frame Spells most old new piece taken value len h k =
     let long : length new ≡ len = one_frame Spells most old new piece taken value len h k in
-    let first : IsFrame Spells most value new = subst (λ (text : List ℕ). IsFrame Spells most value text) (take_all len new (omega arith)) k.first in
-    subst (λ (vs : List A). ReadsIn Spells most (old ++ piece) held vs total stop) (sym e)
-    (record {
-      text = new ++ take used after;
-      rest = drop used after;
-      is =
-          sym (joined most old new piece taken h) ∙ ap (λ (bytes : List ℕ). new ++ bytes) (sym (take-append-drop used after))
-          ∙ sym (append_assoc new (take used after) (drop used after));
-      frames = (new, take used after, refl, first, m.frames);
-      stops = m.stops;
-      holds = n;
-      long = omega (arith, sum, long, m.within, length-append new (take used after), length-take used after);
-    })
+    subst (λ (text : List ℕ). IsFrame Spells most value text) (take_all len new (omega arith)) k.first
+
+-- the first frame, frames in the rest of the piece, and what comes after them
+joined_more : (most : ℕ) (old new piece text rest : List ℕ) (taken : ℕ) → Completes most old new piece taken → drop taken piece ≡ text ++ rest → old ++ piece ≡ (new ++ text) ++ rest
+joined_more most old new piece text rest taken h is =
+    sym (joined most old new piece taken h) ∙ ap (λ (bytes : List ℕ). new ++ bytes) is ∙ sym (append_assoc new text rest)
+
+-- the first frame, after whose value no more is wanted
+pub enough_at_first : {A T : Type 0} (Spells : A → List ℕ → Type 0) (most : ℕ) (takes : T → T → A → Bool → Type 0) (old new piece : List ℕ) (taken : ℕ) (value : A) (len : ℕ) (before after : T)
+    → Completes most old new piece taken → IsWhole Spells most value len new → takes before after value false → HasEnough Spells most takes (old ++ piece) before after
+enough_at_first Spells most takes old new piece taken value len before after h k takes_it = record {
+  values = value ∷ [];
+  text = new;
+  rest = drop taken piece;
+  is = sym (joined most old new piece taken h);
+  frames = (new, [], sym (append-nil new), first_frame Spells most old new piece taken value len h k, refl);
+  taken = record { before = []; last = value; mid = before; are = refl; each = refl; ends = takes_it };
+}
+
+-- the first frame, and those in the rest of the piece
+pub reads_more : {A T : Type 0} (Spells : A → List ℕ → Type 0) (most : ℕ) (takes : T → T → A → Bool → Type 0) (old new piece held : List ℕ) (taken : ℕ) (value : A) (len : ℕ) (before mid after : T) (read : Read)
+    → Completes most old new piece taken → IsWhole Spells most value len new → takes before mid value true → ReadsTo Spells most takes (drop taken piece) held mid after read
+    → ReadsTo Spells most takes (old ++ piece) held before after (further read len)
+reads_more Spells most takes old new piece held taken value len before mid after (reads.Up used stop) h k takes_it m =
+    let r = m.1 in
+    let long : length new ≡ len = one_frame Spells most old new piece taken value len h k in (
+      value ∷ m.0,
+      record {
+        text = new ++ r.text;
+        rest = r.rest;
+        is = joined_more most old new piece r.text r.rest taken h r.is;
+        frames = (new, r.text, refl, first_frame Spells most old new piece taken value len h k, r.frames);
+        stops = r.stops;
+        holds = r.holds;
+        long = omega (arith, long, r.long, length-append new r.text);
+      },
+      (mid, takes_it, m.2),
+    )
+reads_more {A} Spells most takes old new piece held taken value len before mid after reads.Enough h k takes_it m = record {
+  values = value ∷ m.values;
+  text = new ++ m.text;
+  rest = m.rest;
+  is = joined_more most old new piece m.text m.rest taken h m.is;
+  frames = (new, m.text, refl, first_frame Spells most old new piece taken value len h k, m.frames);
+  taken = record {
+    before = value ∷ m.taken.before;
+    last = m.taken.last;
+    mid = m.taken.mid;
+    are = ap (λ (values : List A). value ∷ values) m.taken.are;
+    each = (mid, takes_it, m.taken.each);
+    ends = m.taken.ends;
+  };
+}
 
 -- ---- the decoder
 
@@ -154,22 +182,27 @@ goes_from new before rest stops.Short e h = (e, h)
 goes_from new before rest stops.Malformed e h = tt
 goes_from new before rest stops.TooLong e h = tt
 
-pub goes_on : {A : Type 0} (Spells : A → List ℕ → Type 0) (most : ℕ) (old new : DecoderState) (piece : List ℕ) (values : List A) (told : Progress) (used : ℕ) (stop : Stop)
-    → old.progress ≡ progress.More → ReadsIn Spells most (old.held ++ piece) new.held values used stop
-    → new.before ≡ told_place (old.before + used) → new.progress ≡ told_progress new.before stop → told ≡ new.progress → Feeds Spells most old new piece values told
-goes_on {A} Spells most old new piece values told used stop more h e p t =
-    let place : new.before ≡ told_place (old.before + length h.text) = omega (arith, e, h.long) in
-    subst (λ (so_far : Progress). FeedsFrom Spells most so_far old new piece values told) (sym more)
-    (record {
-      are = record {
-        text = h.text;
-        rest = h.rest;
-        stop = stop;
-        is = h.is;
-        frames = h.frames;
-        stops = h.stops;
-        tells = t ∙ p ∙ ap (λ (before : ℕ). told_progress before stop) place;
-      };
-      holds = goes_from new (old.before + length h.text) h.rest stop place h.holds;
-      stays = sym t;
-    })
+-- a decoder without a fault reads on
+pub goes_on : {A T : Type 0} (Spells : A → List ℕ → Type 0) (most : ℕ) (takes : T → T → A → Bool → Type 0) (old new : DecoderState) (piece : List ℕ) (before after : T) (used : ℕ) (stop : Stop)
+    → old.progress ≡ progress.More → ReadsTo Spells most takes (old.held ++ piece) new.held before after (reads.Up used stop)
+    → new.before ≡ told_place (old.before + used) → new.progress ≡ told_progress new.before stop → FeedsTo Spells most takes old new piece before after (fed.All new.progress)
+goes_on {A} Spells most takes old new piece before after used stop more m e p =
+    let h = m.1 in
+    let place : new.before ≡ told_place (old.before + length h.text) = omega (arith, e, h.long) in (
+      m.0,
+      subst (λ (so_far : Progress). FeedsFrom Spells most so_far old new piece m.0 new.progress) (sym more)
+          (record {
+            are = record {
+              text = h.text;
+              rest = h.rest;
+              stop = stop;
+              is = h.is;
+              frames = h.frames;
+              stops = h.stops;
+              tells = p ∙ ap (λ (before : ℕ). told_progress before stop) place;
+            };
+            holds = goes_from new (old.before + length h.text) h.rest stop place h.holds;
+            stays = refl;
+          }),
+      m.2,
+    )

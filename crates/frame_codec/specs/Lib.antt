@@ -7,4 +7,5 @@ pub mod Encoding
 pub mod Decoding
 pub mod Trace
 pub mod Given
+pub mod Taking
 pub mod Proved

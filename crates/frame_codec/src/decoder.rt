@@ -1,14 +1,16 @@
 //! A decoder of a stream of frames, which comes in any pieces.
 
-ghost use Rattle.std.specs.Prelude.{◌≡◌, ◌≤◌, ◌++◌, List, length, drop, vec_capacity, IfOk, OnOk, OnErr};
+ghost use Rattle.std.specs.Prelude.{◌≡◌, ◌≤◌, ◌++◌, length, vec_capacity, IfOk, OnOk, OnErr};
 ghost use Rattle.call_types.specs.Writing.{KeepsFront};
 ghost use Rattle.frame_codec.specs.Frames.{IsShort};
-ghost use Rattle.frame_codec.specs.Proved.Filling.{BeginsWith, Fills, FillsHead, Completes, HoldsRest, ReadsIn};
+ghost use Rattle.frame_codec.specs.Proved.Filling.{further, Fills, FillsHead, Completes, HoldsRest, ReadsTo};
 ghost use Rattle.frame_codec.specs.Decoding.{fresh, told_progress, Feeds};
+ghost use Rattle.frame_codec.specs.Taking.{FeedsTo};
 ghost use Rattle.frame_codec.specs.declared.decoder.Progress.TheVariants as progress;
 
 use crate::begun::{Begins, HEAD, Stop, begun, length_told};
 use crate::frame_kind::FrameKind;
+use crate::value_taker::ValueTaker;
 use std::alloc::{AllocError, Global};
 use std::marker::{Model, PhantomData};
 
@@ -30,6 +32,15 @@ pub struct Fed<V> {
     /// The values whose frames are complete now, in their order.
     pub values: Vec<V>,
     pub progress: Progress,
+}
+
+/// What became of a piece whose values a taker is handed.
+#[derive(Clone, Copy, Debug, PartialEq, Eq)]
+pub enum FedTo {
+    /// The taker took all values whose frames are complete now, and wants more.
+    All(Progress),
+    /// The taker wants no more than it took.
+    Enough,
 }
 
 /// What takes a stream of frames, piece by piece. It holds less than one frame between two pieces.
@@ -108,28 +119,6 @@ fn complete(held: &mut Vec<u8>, most: usize, piece: &[u8]) -> Result<usize, Allo
     Ok(first + second)
 }
 
-/// Appends the values of the whole frames at the start of `bytes`. Returns how many bytes these frames have, and why no
-/// further frame begins.
-fn frames_of<K: FrameKind>(
-    alloc: Global,
-    values: &mut Vec<K::Value>,
-    bytes: &[u8],
-) -> Result<(usize, Stop), AllocError>
-    ensures { IfOk result (λ found. (added : List K.Value) × (values.new.items ≡ values.old.items ++ added) × BeginsWith K.spells K.most bytes.now added found.0 found.1) }
-{
-    let mut used: usize = 0;
-    loop {
-        let (_, rest) = bytes.split_at(used);
-        match begun::<K>(alloc, rest)? {
-            Begins::Stopped(stop) => return Ok((used, stop)),
-            Begins::Whole { value, len } => {
-                values.push(value)?;
-                used += len;
-            }
-        }
-    }
-}
-
 /// Makes room for so many bytes in all. What was held is held, after an error too.
 #[cold]
 #[inline(never)]
@@ -160,93 +149,86 @@ fn keep_rest<K: FrameKind>(held: &mut Vec<u8>, stop: Stop, rest: &[u8]) -> Resul
     Ok(())
 }
 
-/// The values of the frames with which bytes begin, as above; what is left is held.
-fn read_on<K: FrameKind>(
+/// How far bytes were read.
+#[derive(Clone, Copy)]
+enum Read {
+    /// Up to where no further frame begins: how many bytes the frames before it have, and why there is none.
+    Up { used: u64, stop: Stop },
+    /// Up to a value after which its taker wanted no more.
+    Enough,
+}
+
+/// Hands the values of the frames with which bytes begin to a taker, each as soon as it is read. What is left is held.
+fn read_on<K: FrameKind, T: ValueTaker<K::Value>>(
     alloc: Global,
     held: &mut Vec<u8>,
-    values: &mut Vec<K::Value>,
+    taker: &mut T,
     bytes: &[u8],
-) -> Result<(usize, Stop), AllocError>
-    ensures ok { IfOk result (λ found. (added : List K.Value) × (values.new.items ≡ values.old.items ++ added) × BeginsWith K.spells K.most bytes.now added found.0 found.1 × HoldsRest held.new.items (drop found.0 bytes.now) found.1) }
+) -> Result<Read, AllocError>
+    ensures ok { IfOk result (λ read. ReadsTo K.spells K.most T.takes bytes.now held.new.items taker.old taker.new read) }
     ensures err { OnErr result (held.new.items ≡ held.old.items) }
 {
-    let (used, stop) = frames_of::<K>(alloc, values, bytes)?;
-    let (_, rest) = bytes.split_at(used);
-    keep_rest::<K>(held, stop, rest)?;
-    Ok((used, stop))
-}
-
-/// The values of what was held and a piece, how many bytes their frames have, and why no further one begins.
-#[derive(Drop)]
-struct Read<V> {
-    values: Vec<V>,
-    used: u64,
-    stop: Stop,
-}
-
-/// Reads a piece where nothing is held.
-fn read_piece<K: FrameKind>(
-    alloc: Global,
-    held: &mut Vec<u8>,
-    piece: &[u8],
-) -> Result<Read<K::Value>, AllocError>
-    ensures ok { IfOk result (λ read. ReadsIn K.spells K.most piece.now held.new.items read.values.items read.used read.stop) }
-    ensures err { OnErr result (held.new.items ≡ held.old.items) }
-{
-    let mut values = Vec::new(alloc);
-    let (used, stop) = read_on::<K>(alloc, held, &mut values, piece)?;
-    Ok(Read {
-        values,
-        used: used as u64,
-        stop,
-    })
-}
-
-/// Reads a piece after what is held.
-fn read_after<K: FrameKind>(
-    alloc: Global,
-    held: &mut Vec<u8>,
-    piece: &[u8],
-) -> Result<Read<K::Value>, AllocError>
-    requires { IsShort K.most held.old.items }
-    ensures ok { IfOk result (λ read. ReadsIn K.spells K.most (held.old.items ++ piece.now) held.new.items read.values.items read.used read.stop) }
-    ensures err { OnErr result (KeepsFront held.old.items held.new.items) }
-{
-    let taken = complete(held, K::most(), piece)?;
-    let mut values = Vec::new(alloc);
-    match begun::<K>(alloc, held.as_slice())? {
-        Begins::Stopped(stop) => Ok(Read {
-            values,
-            used: 0,
-            stop,
-        }),
-        Begins::Whole { value, len } => {
-            values.push(value)?;
-            let (_, after) = piece.split_at(taken);
-            let (used, stop) = read_on::<K>(alloc, held, &mut values, after)?;
-            Ok(Read {
-                values,
-                used: (len as u64).saturating_add(used as u64),
-                stop,
-            })
+    let mut used: usize = 0;
+    loop {
+        let (_, rest) = bytes.split_at(used);
+        match begun::<K>(alloc, rest) {
+            Ok(Begins::Stopped(stop)) => {
+                keep_rest::<K>(held, stop, rest)?;
+                return Ok(Read::Up {
+                    used: used as u64,
+                    stop,
+                });
+            }
+            Ok(Begins::Whole { value, len }) => {
+                if !taker.take(value)? {
+                    return Ok(Read::Enough);
+                }
+                used += len;
+            }
+            Err(fault) => return Err(fault),
         }
     }
 }
 
-/// Reads a piece after what is held, if anything is.
-fn read_in<K: FrameKind>(
+/// How far bytes were read, with a frame of so many bytes before them.
+fn further(read: Read, len: usize) -> Read
+    ensures { result ≡ further read len }
+{
+    match read {
+        Read::Up { used, stop } => Read::Up {
+            used: used.saturating_add(len as u64),
+            stop,
+        },
+        Read::Enough => Read::Enough,
+    }
+}
+
+/// Reads a piece after what is held, if anything is, as above.
+fn read_in<K: FrameKind, T: ValueTaker<K::Value>>(
     alloc: Global,
     held: &mut Vec<u8>,
+    taker: &mut T,
     piece: &[u8],
-) -> Result<Read<K::Value>, AllocError>
+) -> Result<Read, AllocError>
     requires { IsShort K.most held.old.items }
-    ensures ok { IfOk result (λ read. ReadsIn K.spells K.most (held.old.items ++ piece.now) held.new.items read.values.items read.used read.stop) }
+    ensures ok { IfOk result (λ read. ReadsTo K.spells K.most T.takes (held.old.items ++ piece.now) held.new.items taker.old taker.new read) }
     ensures err { OnErr result (KeepsFront held.old.items held.new.items) }
 {
     if held.is_empty() {
-        return read_piece::<K>(alloc, held, piece);
+        return read_on::<K, T>(alloc, held, taker, piece);
     }
-    read_after::<K>(alloc, held, piece)
+    let taken = complete(held, K::most(), piece)?;
+    match begun::<K>(alloc, held.as_slice())? {
+        Begins::Stopped(stop) => Ok(Read::Up { used: 0, stop }),
+        Begins::Whole { value, len } => {
+            if !taker.take(value)? {
+                return Ok(Read::Enough);
+            }
+            let (_, after) = piece.split_at(taken);
+            let read = read_on::<K, T>(alloc, held, taker, after)?;
+            Ok(further(read, len))
+        }
+    }
 }
 
 impl<K: FrameKind> Decoder<K> {
@@ -278,25 +260,47 @@ impl<K: FrameKind> Decoder<K> {
     }
 
     /// Takes a piece of a stream without a fault so far.
-    fn go_on(&mut self, piece: &[u8]) -> Result<Fed<K::Value>, AllocError>
+    fn go_on<T: ValueTaker<K::Value>>(
+        &mut self,
+        piece: &[u8],
+        taker: &mut T,
+    ) -> Result<FedTo, AllocError>
         requires { self.old.progress ≡ progress.More }
-        ensures fed { IfOk result (λ fed. Feeds K.spells K.most self.old self.new piece.now fed.values.items fed.progress) }
+        ensures fed { IfOk result (λ fed. FeedsTo K.spells K.most T.takes self.old self.new piece.now taker.old taker.new fed) }
         ensures err { OnErr result (self.new ≡ self.old) }
     {
         let kept = self.held.len();
-        match read_in::<K>(self.alloc, &mut self.held, piece) {
-            Ok(read) => {
-                self.before = self.before.saturating_add(read.used);
-                self.progress = progress_of(self.before, read.stop);
-                Ok(Fed {
-                    values: read.values,
-                    progress: self.progress,
-                })
+        match read_in::<K, T>(self.alloc, &mut self.held, taker, piece) {
+            Ok(Read::Up { used, stop }) => {
+                self.before = self.before.saturating_add(used);
+                self.progress = progress_of(self.before, stop);
+                Ok(FedTo::All(self.progress))
+            }
+            Ok(Read::Enough) => {
+                self.held.clear();
+                Ok(FedTo::Enough)
             }
             Err(fault) => {
                 self.held.truncate(kept);
                 Err(fault)
             }
+        }
+    }
+
+    /// Takes a piece of the stream, of any length, and hands each value to a taker as soon as its frame is complete. After a fault no
+    /// byte is read any more, and the same fault is told again. Do not go on with a stream of which the taker had enough. An error says
+    /// that memory ran out, or that the taker could not take a value: the decoder is then as it was, but the taker has what it took.
+    pub fn feed_to<T: ValueTaker<K::Value>>(
+        &mut self,
+        piece: &[u8],
+        taker: &mut T,
+    ) -> Result<FedTo, AllocError>
+        ensures fed { IfOk result (λ fed. FeedsTo K.spells K.most T.takes self.old self.new piece.now taker.old taker.new fed) }
+        ensures err { OnErr result (self.new ≡ self.old) }
+    {
+        match self.progress {
+            Progress::More => self.go_on(piece, taker),
+            fault => Ok(FedTo::All(fault)),
         }
     }
 
@@ -307,12 +311,10 @@ impl<K: FrameKind> Decoder<K> {
         ensures fed { IfOk result (λ fed. Feeds K.spells K.most self.old self.new piece.now fed.values.items fed.progress) }
         ensures err { OnErr result (self.new ≡ self.old) }
     {
-        match self.progress {
-            Progress::More => self.go_on(piece),
-            fault => Ok(Fed {
-                values: Vec::new(self.alloc),
-                progress: fault,
-            }),
+        let mut values = Vec::new(self.alloc);
+        match self.feed_to(piece, &mut values)? {
+            FedTo::All(progress) => Ok(Fed { values, progress }),
+            FedTo::Enough => unreachable!(),
         }
     }
 }

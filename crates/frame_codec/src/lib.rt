@@ -17,4 +17,5 @@ pub mod ranges;
 mod records;
 mod requests;
 pub mod trace;
+pub mod value_taker;
 pub mod written_outcomes;

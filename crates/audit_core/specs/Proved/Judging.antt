@@ -1,5 +1,5 @@
--- What is said of the next record, and of all (own).
-use Rattle.std.specs.Prelude.{◌≡◌, ◌≢◌, ℕ, ◌+◌, ◌<◌, ◌^◌, ◌⊎◌, true, false, List, Option, None, Some, length, ◌++◌}
+-- What is said of the next record (own).
+use Rattle.std.specs.Prelude.{◌≡◌, ◌≢◌, ◌+◌, ◌⊎◌, true, false, Option, None, Some}
 use Rattle.call_types.specs.declared.act.Act.{Act}
 use Rattle.call_types.specs.declared.act.Record.{Record}
 use Rattle.call_types.specs.declared.outcome.Outcome.{Outcome}
@@ -14,9 +14,9 @@ use Rattle.posix_model.specs.History.{empty_world, after}
 use Rattle.posix_model.specs.Reserve.{can_end}
 use Rattle.audit_core.specs.declared.judge.Judged.{Judged}
 use Rattle.audit_core.specs.declared.judge.Judged.TheVariants as judged
-use Rattle.audit_core.specs.Verdict.{BreaksAt, ended_by}
+use Rattle.audit_core.specs.Verdict.{ended_by}
 use Rattle.audit_core.specs.declared.verdict.Ending.TheVariants.{Open}
-use Rattle.audit_core.specs.JudgeState.{JudgeState, HasJudged}
+use Rattle.audit_core.specs.JudgeState.{JudgeState}
 
 -- before the first record
 abbrev pub fresh_judge : ToldLimits → JudgeState
@@ -61,21 +61,3 @@ pub record CanMake (j : JudgeState) (act : Act) (d : Decided) : Type 0 where
   pub puts : PutsWithin j.told.bounds.pipe_capacity j.world d.change.files
   pub whole : IsWhole j.world
   pub whole_after : IsWhole (stepped j.world (given act) d).world
-
--- the first record that breaks stands where the judge stands, up to the greatest number that can be told
-pub record StandsAt (told : ToldLimits) (h : List Record) (place_told : ℕ) (expected : Option Outcome) : Type 0 where
-  pub place : ℕ
-  pub breaks : BreaksAt told h place expected
-  pub told_is : place_told ≡ told_place place
-
--- a judge of some records has judged these too, or stands before the first of all that breaks what is legal
-abbrev pub JudgesAll : JudgeState → JudgeState → List Record → Judged → Type 0
-JudgesAll old new records judged.Same =
-    (told : ToldLimits) (h : List Record) → HasJudged told h old → length (h ++ records) < 2 ^ 64 → HasJudged told (h ++ records) new
-JudgesAll old new records (judged.Differs expected) =
-    (told : ToldLimits) (h : List Record) → HasJudged told h old → length (h ++ records) < 2 ^ 64 → StandsAt told (h ++ records) new.place expected
-
--- whatever had been judged before, the ones of all records before those that are left are judged
-pub record IsAt (old now : JudgeState) (records left : List Record) : Type 0 where
-  pub judged : (told : ToldLimits) (h : List Record) → HasJudged told h old → length (h ++ records) < 2 ^ 64
-      → (before : List Record) × (h ++ records ≡ before ++ left) × HasJudged told before now

@@ -1,11 +1,14 @@
 -- How a decoder holds the beginning of a frame, and completes it (own).
-use Rattle.std.specs.Prelude.{◌≡◌, ℕ, ◌+◌, ◌≤◌, ◌<◌, ◌⊎◌, List, [], ◌∷◌, ◌++◌, length, take, drop}
+use Rattle.std.specs.Prelude.{◌≡◌, Bool, true, ℕ, ◌+◌, ◌≤◌, ◌<◌, ◌⊎◌, List, [], ◌∷◌, ◌++◌, length, take}
 use Rattle.frame_codec.specs.Frames.{told_length, IsShort, IsTooLong, AreFrames, StopsWith, IsFrame}
 use Rattle.frame_codec.specs.declared.begun.Stop.{Stop}
 use Rattle.frame_codec.specs.declared.begun.Stop.TheVariants as stops
 use Rattle.frame_codec.specs.declared.decoder.Progress.{Progress}
 use Rattle.frame_codec.specs.declared.decoder.Progress.TheVariants as progress
+use Rattle.frame_codec.specs.declared.decoder.Read.{Read}
+use Rattle.frame_codec.specs.declared.decoder.Read.TheVariants as reads
 use Rattle.frame_codec.specs.Decoding.{told_place, DecoderState, Feeds}
+use Rattle.frame_codec.specs.Taking.{TakesAll, HasEnough}
 use Rattle.frame_codec.specs.declared.begun.Begins.{Begins}
 use Rattle.frame_codec.specs.declared.begun.Begins.TheVariants as begins
 
@@ -54,6 +57,16 @@ pub record ReadsIn {A : Type 0} (Spells : A → List ℕ → Type 0) (most : ℕ
   pub holds : HoldsRest held rest stop
   pub long : used ≡ told_place (length text)
 
+-- how far bytes were read whose values a taker is handed: up to where no further frame begins, or until it had enough
+abbrev pub ReadsTo : {A T : Type 0} → (A → List ℕ → Type 0) → ℕ → (T → T → A → Bool → Type 0) → List ℕ → List ℕ → T → T → Read → Type 0
+ReadsTo {A} Spells most takes bytes held old new (reads.Up used stop) = (values : List A) × ReadsIn Spells most bytes held values used stop × TakesAll takes old new values true
+ReadsTo Spells most takes bytes held old new reads.Enough = HasEnough Spells most takes bytes old new
+
+-- how far bytes were read, with a frame of so many bytes before them
+abbrev pub further : Read → ℕ → Read
+further (reads.Up used stop) len = reads.Up (told_place (used + len)) stop
+further reads.Enough len = reads.Enough
+
 -- pieces, one after another: all their values, and what is told at the end
 abbrev pub FeedsAll : {A : Type 0} → (A → List ℕ → Type 0) → ℕ → DecoderState → DecoderState → List (List ℕ) → List A → Progress → Type 0
 FeedsAll Spells most old new [] values told = (new ≡ old) × (values ≡ []) × (told ≡ old.progress)
@@ -72,9 +85,3 @@ pub record IsWhole {A : Type 0} (Spells : A → List ℕ → Type 0) (most : ℕ
 abbrev pub Begun : {A : Type 0} → (A → List ℕ → Type 0) → ℕ → List ℕ → Begins A → Type 0
 Begun Spells most bytes (begins.Whole value len) = IsWhole Spells most value len bytes
 Begun Spells most bytes (begins.Stopped stop) = StopsWith Spells most bytes stop
-
--- bytes that begin with the frames of these values, so many bytes of them, and after them stop so
-pub record BeginsWith {A : Type 0} (Spells : A → List ℕ → Type 0) (most : ℕ) (bytes : List ℕ) (values : List A) (used : ℕ) (stop : Stop) : Type 0 where
-  pub within : used ≤ length bytes
-  pub frames : AreFrames Spells most values (take used bytes)
-  pub stops : StopsWith Spells most (drop used bytes) stop
