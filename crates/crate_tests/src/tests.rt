@@ -5,6 +5,7 @@ mod book_rings;
 mod books;
 mod descriptions;
 mod extents;
+mod histories;
 mod migrations;
 mod names;
 mod plain;

@@ -1,6 +1,13 @@
 -- First items of one list.
-use Rattle.std.proofs.Common.{◌≡◌, ◌≤◌, List, [], ◌∷◌, ◌++◌, length, refl, arith}
+use Rattle.std.proofs.Common.{◌≡◌, ◌∙◌, ap, sym, ◌≤◌, List, [], ◌∷◌, ◌++◌, length, refl, arith}
+use Rattle.std.proofs.lemmas.List.{append_assoc}
+use Rattle.call_types.specs.declared.act.Record.{Record}
+use Rattle.run_history.specs.Fronts.{Grows}
 use mathlib.Core.List.{IsPrefix}
+
+-- what begins with all of a list begins with what that begins with
+pub grown : (xs ys : List Record) → IsPrefix xs ys → Grows xs ys
+grown xs ys p h q = (p.0 ++ q.0, sym (append_assoc xs p.0 q.0) ∙ (ap (λ (l : List Record). l ++ q.0) p.1 ∙ q.1))
 
 -- of two of them the shorter begins the longer
 pub shorter_begins : {A : Type 0} (xs ys zs : List A) → IsPrefix xs zs → IsPrefix ys zs → length xs ≤ length ys → IsPrefix xs ys

@@ -2,7 +2,7 @@
 
 ghost use Rattle.std.specs.Prelude.{◌≡◌, ◌+◌, ◌<◌, ◌^◌, ◌++◌, ◌∷◌, [], length, MatchBool};
 ghost use mathlib.Core.List.{IsPrefix};
-ghost use Rattle.run_history.specs.Fronts.{GoesOn};
+ghost use Rattle.run_history.specs.Fronts.{GoesOn, Grows};
 ghost use Rattle.run_history.specs.Law.{word_of};
 
 use crate::law::{AddsOne, CountsAll, NoGain};
@@ -22,6 +22,7 @@ impl OfHistory for Brand {
 }
 
 /// A history without records that no type names yet.
+#[derive(Drop)]
 pub struct Begun {
     word: Word<Record, u64, CountsAll>,
     seen: Seen<Record, u64, CountsAll>,
@@ -108,7 +109,7 @@ impl<H: OfHistory> Front<H> {
 
     /// Whether it has all records of another front. If not, the other one has its records, and more.
     pub fn covers(&self, other: &Front<H>) -> bool
-        ensures { MatchBool result (IsPrefix other.now self.now) (GoesOn self.now other.now) }
+        ensures { MatchBool result (Grows other.now self.now) (GoesOn self.now other.now) }
     {
         let mut both = self.seen.again();
         both.learn(&other.seen);
@@ -116,6 +117,17 @@ impl<H: OfHistory> Front<H> {
             return false;
         }
         true
+    }
+
+    /// Takes over what another front has more than this one.
+    #[tactic(auto, using(crate::proofs::Prefixes::grown))]
+    pub fn catch_up(&mut self, other: &Front<H>)
+        ensures own { Grows self.old self.new }
+        ensures others { Grows other.now self.new }
+    {
+        if !self.covers(other) {
+            *self = other.again();
+        }
     }
 
     /// Adds a record to the history where that has no more than this front, and says whether it did. Either way the front has all
